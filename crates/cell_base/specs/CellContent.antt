@@ -1,0 +1,39 @@
+-- A cell as its text, its width in columns and its attributes, and cells read as a row.
+use Rattle.std.specs.Prelude.{ℕ, Bool, true, false, ◌&&◌, ◌||◌, ◌==◌, nat_lt, nat_le, max, if◌then◌else◌, List, [], ◌∷◌}
+use Rattle.cell_base.specs.Attributes.{Attributes}
+use Rattle.cell_base.specs.Row.{Row, Narrow, LeftHalf, RightHalf, space, blank}
+
+-- the text, how many columns it takes (1 or 2), and its attributes
+pub record CellContent : Type 0 where
+  pub text : List ℕ
+  pub width : ℕ
+  pub attributes : Attributes
+
+-- C0 and DEL
+abbrev pub is_control : ℕ → Bool
+is_control byte = nat_lt byte 32 || byte == 127
+
+-- what stands in no cell as it is: the empty text, a lone control, and CR LF
+abbrev pub shows_as_space : List ℕ → Bool
+shows_as_space [] = true
+shows_as_space (a ∷ []) = is_control a
+shows_as_space (a ∷ b ∷ []) = a == 13 && b == 10
+shows_as_space (a ∷ b ∷ c ∷ rest) = false
+
+abbrev pub cell_text : List ℕ → List ℕ
+cell_text text = if shows_as_space text then space else text
+
+-- the cell of a text of some columns: none counts as one, and a space in place of the text takes one
+abbrev pub cell_of : List ℕ → ℕ → Attributes → CellContent
+cell_of text width attributes = record { text = cell_text text; width = if shows_as_space text then 1 else max 1 width; attributes = attributes }
+
+abbrev pub blank_cell : Attributes → CellContent
+blank_cell attributes = record { text = space; width = 1; attributes = attributes }
+
+-- Cells read from the left as a row. The cell that is stored behind a wide one isn't looked at, and a wide cell with none behind it counts as a blank with its attributes.
+abbrev pub row_of_cells : List CellContent → Row
+row_of_cells [] = []
+row_of_cells (cell ∷ []) = (if nat_le 2 cell.width then blank cell.attributes else Narrow cell.text cell.attributes) ∷ []
+row_of_cells (cell ∷ next ∷ cells) =
+    if nat_le 2 cell.width then LeftHalf cell.text cell.attributes ∷ RightHalf cell.attributes ∷ row_of_cells cells
+    else Narrow cell.text cell.attributes ∷ row_of_cells (next ∷ cells)

@@ -1,0 +1,71 @@
+-- The text of a link, and its reading. OSC 8 carries a link as `8;params;uri`, where the params are `key=value` joined by `:` (Koblinger, "Hyperlinks in terminal emulators"). `:` is 58, `;` is 59, `=` is 61.
+use Rattle.std.specs.Prelude.{◌≡◌, ◌⊎◌, ℕ, Bool, false, ◌&&◌, ◌==◌, if◌then◌else◌, List, [], ◌∷◌, ◌++◌, map, fold, length, Option, Some, None, Result, Ok, Err, MatchResult}
+use Rattle.std.specs.List.{slice_split, join_with_byte, before_first, after_first, list_any, list_all}
+use Rattle.std.specs.Ordering.{nat_cmp}
+use Rattle.std.specs.Cmp.Lexicographic.{slice_cmp}
+use Rattle.std.specs.BTreeMap.{insert_entry}
+use Rattle.std.specs.Str.{is_utf8}
+use Rattle.cell_base.specs.Link.{Link, Param}
+use Rattle.cell_base.specs.declared.link_error.LinkError.{LinkError}
+use Rattle.cell_base.specs.declared.link_error.LinkError.TheVariants.{PartCount, Utf8, Params, Memory}
+
+-- `key=value`
+abbrev pub param_text : Param → List ℕ
+param_text p = p.0 ++ 61 ∷ p.1
+
+-- the parameters, joined by `:`
+abbrev pub params_text : List Param → List ℕ
+params_text ps = join_with_byte 58 (map param_text ps)
+
+-- `8;params;uri`
+unfoldable pub link_text : Link → List ℕ
+link_text l = 56 ∷ 59 ∷ (params_text l.params ++ 59 ∷ l.uri)
+
+-- the text of a link or of none, which is `8;;`
+abbrev pub text_of_link : Option Link → List ℕ
+text_of_link None = 56 ∷ 59 ∷ 59 ∷ []
+text_of_link (Some l) = link_text l
+
+-- the pieces of a text between its bytes c; a text without c is one piece
+abbrev pub pieces : ℕ → List ℕ → List (List ℕ)
+pieces c text = slice_split (λ b. b == c) text
+
+-- a pair of a key and a value has a `=`, and is cut at the first one
+abbrev pub is_param : List ℕ → Bool
+is_param text = list_any (λ b. b == 61) text
+
+abbrev pub param_of : List ℕ → Param
+param_of text = (before_first (λ b. b == 61) text, after_first (λ b. b == 61) text)
+
+-- a parameter put in its place in the order of the keys' bytes; where the key is there, its value takes the other's place
+abbrev pub put_param : List Param → Param → List Param
+put_param ps p = insert_entry (slice_cmp nat_cmp) ps p.0 p.1
+
+-- the parameters in the order of their keys; of equal keys the last one's value stands
+abbrev pub by_key : List Param → List Param
+by_key ps = fold put_param [] ps
+
+-- the pairs of a text: none of the empty text
+abbrev pub param_pieces : List ℕ → List (List ℕ)
+param_pieces text = if length text == 0 then [] else pieces 58 text
+
+abbrev pub params_of : List ℕ → List Param
+params_of text = by_key (map param_of (param_pieces text))
+
+-- the link of two texts: none where both are empty
+unfoldable pub texts_reading : List ℕ → List ℕ → Result (Option Link) LinkError
+texts_reading params uri =
+    if length params == 0 && length uri == 0 then Ok None else
+    (if is_utf8 params && is_utf8 uri then
+    (if list_all is_param (param_pieces params) then
+    Ok (Some (record { params = params_of params; uri = uri; implicit = false }))
+    else Err Params) else Err Utf8)
+
+-- the link of the parts of an OSC 8, of which the first isn't looked at; those from the third on are the URI, joined by `;`
+unfoldable pub link_reading : List (List ℕ) → Result (Option Link) LinkError
+link_reading (_ ∷ params ∷ uri ∷ more) = texts_reading params (join_with_byte 59 (uri ∷ more))
+link_reading _ = Err PartCount
+
+-- r is the reading, but that want of memory may stand in place of what it reads, never in place of a refusal
+abbrev pub IsUnlessMemory : Result (Option Link) LinkError → Result (Option Link) LinkError → Type 0
+IsUnlessMemory reading r = MatchResult reading (λ link. (r ≡ Ok link) ⊎ (r ≡ Err Memory)) (λ e. r ≡ Err e)

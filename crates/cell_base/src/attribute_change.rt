@@ -1,0 +1,47 @@
+//! A change of one attribute.
+ghost use Rattle.std.specs.Prelude.{◌≡◌, IfOk};
+ghost use Rattle.cell_base.specs.Attributes.{Attributes};
+
+use crate::attributes::{Blink, Intensity, Underline};
+use crate::color::ColorAttribute;
+use crate::hyperlink::Hyperlink;
+use std::alloc::AllocError;
+use std::rc::Rc;
+
+/// A change of one attribute: what the setter of that name is given.
+#[derive(Debug, Drop, PartialEq, Eq)]
+pub enum AttributeChange {
+    Intensity(Intensity),
+    Underline(Underline),
+    Italic(bool),
+    Blink(Blink),
+    Reverse(bool),
+    StrikeThrough(bool),
+    Invisible(bool),
+    Foreground(ColorAttribute),
+    Background(ColorAttribute),
+    Hyperlink(Option<Rc<Hyperlink>>),
+}
+
+impl AttributeChange {
+    ghost use Rattle.cell_base.specs.AttributeChange.{changed_by};
+
+    /// A copy that shares the link.
+    pub fn try_clone(&self) -> Result<AttributeChange, AllocError>
+        ensures { IfOk result
+            (λ copy. (a : Attributes) → changed_by a copy ≡ changed_by a self.now) }
+    {
+        Ok(match self {
+            AttributeChange::Intensity(value) => AttributeChange::Intensity(*value),
+            AttributeChange::Underline(value) => AttributeChange::Underline(*value),
+            AttributeChange::Italic(value) => AttributeChange::Italic(*value),
+            AttributeChange::Blink(value) => AttributeChange::Blink(*value),
+            AttributeChange::Reverse(value) => AttributeChange::Reverse(*value),
+            AttributeChange::StrikeThrough(value) => AttributeChange::StrikeThrough(*value),
+            AttributeChange::Invisible(value) => AttributeChange::Invisible(*value),
+            AttributeChange::Foreground(value) => AttributeChange::Foreground(*value),
+            AttributeChange::Background(value) => AttributeChange::Background(*value),
+            AttributeChange::Hyperlink(link) => AttributeChange::Hyperlink(link.clone()?),
+        })
+    }
+}

@@ -1,0 +1,123 @@
+//! The plain values by which a cell, a cursor and a line are set.
+ghost use Rattle.std.specs.Prelude.{◌≡◌};
+ghost use Rattle.cell_base.specs.Style.{is_underlined, is_blinking_text, is_blinking_shape};
+
+/// What a cell's text is, in the order of `Ord`: output of a program, input of the user, or the
+/// prompt.
+#[derive(Debug, Clone, Copy, PartialEq, Eq, PartialOrd, Ord, Default)]
+pub enum SemanticType {
+    #[default]
+    Output,
+    Input,
+    Prompt,
+}
+
+/// How bold a text is.
+#[derive(Debug, Clone, Copy, PartialEq, Eq, Default)]
+pub enum Intensity {
+    #[default]
+    Normal,
+    Bold,
+    Half,
+}
+
+/// How a text is underlined.
+#[derive(Debug, Clone, Copy, PartialEq, Eq, Hash, Default)]
+pub enum Underline {
+    #[default]
+    None,
+    Single,
+    Double,
+    Curly,
+    Dotted,
+    Dashed,
+}
+
+impl From<Underline> for bool {
+    ghost from_gives = { λ underline answer. answer ≡ is_underlined underline };
+
+    fn from(underline: Underline) -> bool {
+        underline != Underline::None
+    }
+}
+
+/// How a text blinks.
+#[derive(Debug, Clone, Copy, PartialEq, Eq)]
+pub enum Blink {
+    None,
+    Slow,
+    Rapid,
+}
+
+impl From<Blink> for bool {
+    ghost from_gives = { λ blink answer. answer ≡ is_blinking_text blink };
+
+    fn from(blink: Blink) -> bool {
+        blink != Blink::None
+    }
+}
+
+/// Where a text stands on its line.
+#[derive(Debug, Clone, Copy, PartialEq, Eq)]
+pub enum VerticalAlign {
+    BaseLine,
+    SuperScript,
+    SubScript,
+}
+
+/// How wide and high the characters of a line are.
+#[derive(Debug, Clone, Copy, PartialEq, Eq)]
+pub enum LineAttribute {
+    DoubleHeightTopHalfLine,
+    DoubleHeightBottomHalfLine,
+    DoubleWidthLine,
+    SingleWidthLine,
+}
+
+/// A column or a row, counted from 0: by the way from the current one, from the start, or from
+/// the end.
+#[derive(Debug, Clone, Copy, PartialEq, Eq)]
+pub enum Position {
+    Relative(isize),
+    Absolute(usize),
+    EndRelative(usize),
+}
+
+/// Whether the cursor shows.
+#[derive(Debug, Clone, Copy, PartialEq, Eq, Hash, Default)]
+pub enum CursorVisibility {
+    Hidden,
+    #[default]
+    Visible,
+}
+
+/// The look of the cursor.
+#[derive(Debug, Clone, Copy, PartialEq, Eq, Hash, Default)]
+pub enum CursorShape {
+    #[default]
+    Default,
+    BlinkingBlock,
+    SteadyBlock,
+    BlinkingUnderline,
+    SteadyUnderline,
+    BlinkingBar,
+    SteadyBar,
+}
+
+impl CursorShape {
+    /// Whether a cursor of this shape blinks by its own name.
+    pub fn is_blinking(self) -> bool
+        ensures { result ≡ is_blinking_shape self }
+    {
+        matches!(
+            self,
+            CursorShape::BlinkingBlock | CursorShape::BlinkingUnderline | CursorShape::BlinkingBar
+        )
+    }
+}
+
+/// The number of a change, counted from 0.
+pub type SequenceNo = usize;
+
+/// The number before the first change.
+pub const SEQ_ZERO: SequenceNo = 0;

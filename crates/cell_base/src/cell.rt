@@ -1,0 +1,181 @@
+//! Cells: a text of one cluster with its width and attributes.
+ghost use Rattle.std.specs.Prelude.{◌≡◌, ◌≤◌, ◌↔◌, encode_utf8, IfOk, IsTrue};
+ghost use Rattle.std.specs.Borrow.{sem};
+ghost use Rattle.cell_base.specs.Attributes.{plain};
+ghost use Rattle.cell_base.specs.CellContent.{cell_of, blank_cell};
+
+use crate::cell_attributes::CellAttributes;
+use crate::cell_text::{CellText, shows_as_space};
+use crate::widths::Widths;
+use std::alloc::{AllocError, Global};
+use std::marker::Model;
+
+/// A cell: a text, which is a space or one cluster, the one or two columns that it takes, and its
+/// attributes. The empty text, a lone C0 control or DEL, and CR LF stand as a space of width 1.
+#[derive(Debug, Drop)]
+pub struct Cell {
+    text: CellText,
+    wide: bool,
+    attributes: CellAttributes,
+}
+
+impl Model for Cell {
+    ghost use Rattle.cell_base.specs.CellContent.{CellContent};
+
+    ghost Value = { CellContent };
+
+    ghost use Rattle.cell_base.specs.CellView.{content_of};
+
+    ghost view = { content_of };
+}
+
+impl Cell {
+    ghost use Rattle.cell_base.specs.CellLent.{LendsAttributes};
+
+    /// The cell of a character, with the width that `w` gives its text.
+    pub fn new<W: Widths>(
+        alloc: Global,
+        text: char,
+        attrs: CellAttributes,
+        w: &W,
+    ) -> Result<Cell, AllocError>
+        ensures { IfOk result
+            (λ c. c ≡ cell_of (encode_utf8 text) (W.width_of w.now (encode_utf8 text)) attrs) }
+    {
+        let mut buffer = [0u8; 4];
+        let text: &str = text.encode_utf8(&mut buffer);
+        Cell::new_grapheme(alloc, text, attrs, w)
+    }
+
+    /// The cell of a cluster, with the width that `w` gives it.
+    pub fn new_grapheme<W: Widths>(
+        alloc: Global,
+        text: &str,
+        attrs: CellAttributes,
+        w: &W,
+    ) -> Result<Cell, AllocError>
+        ensures { IfOk result (λ c. c ≡ cell_of text.now (W.width_of w.now text.now) attrs) }
+    {
+        let width = usize::from(w.width(text)).max(1);
+        Cell::new_grapheme_with_width(alloc, text, width, attrs)
+    }
+
+    /// The cell of a cluster that takes `width` columns.
+    pub fn new_grapheme_with_width(
+        alloc: Global,
+        text: &str,
+        width: usize,
+        attrs: CellAttributes,
+    ) -> Result<Cell, AllocError>
+        requires some { 1 ≤ width }
+        requires most { width ≤ 2 }
+        ensures { IfOk result (λ c. c ≡ cell_of text.now width attrs) }
+    {
+        let wide = width == 2 && !shows_as_space(text);
+        Ok(Cell {
+            text: CellText::new(alloc, text)?,
+            wide,
+            attributes: attrs,
+        })
+    }
+
+    /// A space with plain attributes.
+    pub fn blank() -> Cell
+        ensures { result ≡ blank_cell plain }
+    {
+        Cell::blank_with_attrs(CellAttributes::blank())
+    }
+
+    /// A space with attributes.
+    pub fn blank_with_attrs(attrs: CellAttributes) -> Cell
+        ensures { result ≡ blank_cell attrs }
+    {
+        Cell {
+            text: CellText::Space,
+            wide: false,
+            attributes: attrs,
+        }
+    }
+
+    /// The text.
+    pub fn str(&self) -> &str
+        ensures { result.now ≡ self.now.text }
+    {
+        self.text.as_str()
+    }
+
+    /// The columns that the cell takes: 1 or 2.
+    pub fn width(&self) -> usize
+        ensures { result ≡ self.now.width }
+    {
+        if self.wide { 2 } else { 1 }
+    }
+
+    /// The attributes.
+    pub fn attrs(&self) -> &CellAttributes
+        ensures { result.now ≡ self.now.attributes }
+    {
+        &self.attributes
+    }
+
+    /// The attributes, lent to be changed.
+    pub fn attrs_mut(&mut self) -> &mut CellAttributes
+        ensures* writes_back { sem 𝓛 (LendsAttributes self.entry result) }
+        ensures value { result.now ≡ self.old.attributes }
+    {
+        &mut self.attributes
+    }
+
+    // Whether text, width and attributes are the same.
+    fn is_same(&self, other: &Cell) -> bool
+        ensures { IsTrue result ↔ (self.now ≡ other.now) }
+    {
+        self.str() == other.str() && self.wide == other.wide && self.attributes == other.attributes
+    }
+
+    /// A copy that shares the link.
+    pub fn try_clone(&self) -> Result<Cell, AllocError>
+        ensures { IfOk result (λ copy. copy ≡ self.now) }
+    {
+        Ok(Cell {
+            text: self.text.try_clone()?,
+            wide: self.wide,
+            attributes: self.attributes.try_clone()?,
+        })
+    }
+}
+
+impl PartialEq for Cell {
+    ghost use Rattle.std.specs.Prelude.{◌≡◌, ◌↔◌, IsTrue};
+    ghost use Rattle.std.specs.Cmp.{partial_equiv_from_equiv};
+    ghost use Rattle.cell_base.specs.SameCell.{same_cell, same_cell_equivalence};
+
+    ghost eq = { same_cell };
+
+    ghost laws = { partial_equiv_from_equiv same_cell_equivalence };
+
+    fn eq(&self, other: &Cell) -> bool
+        ensures same { result ≡ same_cell self.now other.now }
+        ensures by_value { IsTrue result ↔ (self.now ≡ other.now) }
+    {
+        self.is_same(other)
+    }
+}
+
+impl Eq for Cell {
+    ghost use Rattle.cell_base.specs.SameCell.{same_cell_equivalence};
+
+    ghost laws = { same_cell_equivalence };
+}
+
+impl Default for Cell {
+    ghost use Rattle.std.specs.Prelude.{◌≡◌};
+    ghost use Rattle.cell_base.specs.Attributes.{plain};
+    ghost use Rattle.cell_base.specs.CellContent.{blank_cell};
+
+    ghost is_default = { λ c. c ≡ blank_cell plain };
+
+    fn default() -> Cell {
+        Cell::blank()
+    }
+}

@@ -1,0 +1,482 @@
+//! The attributes of a cell.
+ghost use Rattle.std.specs.Prelude.{◌≡◌, ◌↔◌, IfOk, IsTrue};
+ghost use Rattle.std.specs.Option.{option_map};
+ghost use Rattle.cell_base.specs.Attributes.{plain, sgr_only, style_of};
+ghost use Rattle.cell_base.specs.AttributeChange.{changed_by};
+ghost use Rattle.cell_base.specs.declared.color.ColorAttribute.{ColorAttribute};
+
+use crate::attribute_change::AttributeChange;
+use crate::attributes::{Blink, Intensity, SemanticType, Underline, VerticalAlign};
+use crate::color::ColorAttribute;
+use crate::hyperlink::Hyperlink;
+use std::alloc::AllocError;
+use std::marker::Model;
+use std::rc::Rc;
+
+// The attributes that are on or off.
+#[derive(Debug, Clone, Copy)]
+struct Flags {
+    italic: bool,
+    reverse: bool,
+    strikethrough: bool,
+    invisible: bool,
+    wrapped: bool,
+    overline: bool,
+}
+
+// The attributes that say how much.
+#[derive(Debug, Clone, Copy)]
+struct Marks {
+    intensity: Intensity,
+    underline: Underline,
+    blink: Blink,
+}
+
+// The attributes less colours and link.
+#[derive(Debug, Clone, Copy)]
+struct Style {
+    marks: Marks,
+    flags: Flags,
+    semantic_type: SemanticType,
+    vertical_align: VerticalAlign,
+}
+
+/// The attributes of a cell, compared by value, its link too.
+#[derive(Debug, Drop)]
+pub struct CellAttributes {
+    style: Style,
+    foreground: ColorAttribute,
+    background: ColorAttribute,
+    underline_color: ColorAttribute,
+    hyperlink: Option<Rc<Hyperlink>>,
+}
+
+impl Model for CellAttributes {
+    ghost use Rattle.cell_base.specs.Attributes.{Attributes};
+
+    ghost Value = { Attributes };
+
+    ghost use Rattle.cell_base.specs.AttributesView.{attributes_of};
+
+    ghost view = { attributes_of };
+}
+
+impl CellAttributes {
+    /// Plain attributes: normal, no colour set, no link.
+    pub fn blank() -> CellAttributes
+        ensures { result ≡ plain }
+    {
+        CellAttributes {
+            style: Style {
+                marks: Marks {
+                    intensity: Intensity::Normal,
+                    underline: Underline::None,
+                    blink: Blink::None,
+                },
+                flags: Flags {
+                    italic: false,
+                    reverse: false,
+                    strikethrough: false,
+                    invisible: false,
+                    wrapped: false,
+                    overline: false,
+                },
+                semantic_type: SemanticType::Output,
+                vertical_align: VerticalAlign::BaseLine,
+            },
+            foreground: ColorAttribute::Default,
+            background: ColorAttribute::Default,
+            underline_color: ColorAttribute::Default,
+            hyperlink: None,
+        }
+    }
+
+    /// How bold the text is.
+    pub fn intensity(&self) -> Intensity
+        ensures { result ≡ self.now.intensity }
+    {
+        self.style.marks.intensity
+    }
+
+    /// Sets how bold the text is, and lends the attributes on.
+    pub fn set_intensity(&mut self, value: Intensity) -> &mut CellAttributes
+        ensures chains { result.ghost_name ≡ self.entry.ghost_name }
+        ensures set { result.now ≡ record self.old { intensity = value } }
+    {
+        self.style.marks.intensity = value;
+        self
+    }
+
+    /// How the text is underlined.
+    pub fn underline(&self) -> Underline
+        ensures { result ≡ self.now.underline }
+    {
+        self.style.marks.underline
+    }
+
+    /// Sets how the text is underlined, and lends the attributes on.
+    pub fn set_underline(&mut self, value: Underline) -> &mut CellAttributes
+        ensures chains { result.ghost_name ≡ self.entry.ghost_name }
+        ensures set { result.now ≡ record self.old { underline = value } }
+    {
+        self.style.marks.underline = value;
+        self
+    }
+
+    /// How the text blinks.
+    pub fn blink(&self) -> Blink
+        ensures { result ≡ self.now.blink }
+    {
+        self.style.marks.blink
+    }
+
+    /// Sets how the text blinks, and lends the attributes on.
+    pub fn set_blink(&mut self, value: Blink) -> &mut CellAttributes
+        ensures chains { result.ghost_name ≡ self.entry.ghost_name }
+        ensures set { result.now ≡ record self.old { blink = value } }
+    {
+        self.style.marks.blink = value;
+        self
+    }
+
+    /// Whether the text is italic.
+    pub fn italic(&self) -> bool
+        ensures { result ≡ self.now.italic }
+    {
+        self.style.flags.italic
+    }
+
+    /// Sets whether the text is italic, and lends the attributes on.
+    pub fn set_italic(&mut self, value: bool) -> &mut CellAttributes
+        ensures chains { result.ghost_name ≡ self.entry.ghost_name }
+        ensures set { result.now ≡ record self.old { italic = value } }
+    {
+        self.style.flags.italic = value;
+        self
+    }
+
+    /// Whether foreground and background change places.
+    pub fn reverse(&self) -> bool
+        ensures { result ≡ self.now.reverse }
+    {
+        self.style.flags.reverse
+    }
+
+    /// Sets whether foreground and background change places, and lends the attributes on.
+    pub fn set_reverse(&mut self, value: bool) -> &mut CellAttributes
+        ensures chains { result.ghost_name ≡ self.entry.ghost_name }
+        ensures set { result.now ≡ record self.old { reverse = value } }
+    {
+        self.style.flags.reverse = value;
+        self
+    }
+
+    /// Whether the text is struck through.
+    pub fn strikethrough(&self) -> bool
+        ensures { result ≡ self.now.strikethrough }
+    {
+        self.style.flags.strikethrough
+    }
+
+    /// Sets whether the text is struck through, and lends the attributes on.
+    pub fn set_strikethrough(&mut self, value: bool) -> &mut CellAttributes
+        ensures chains { result.ghost_name ≡ self.entry.ghost_name }
+        ensures set { result.now ≡ record self.old { strikethrough = value } }
+    {
+        self.style.flags.strikethrough = value;
+        self
+    }
+
+    /// Whether the text is hidden.
+    pub fn invisible(&self) -> bool
+        ensures { result ≡ self.now.invisible }
+    {
+        self.style.flags.invisible
+    }
+
+    /// Sets whether the text is hidden, and lends the attributes on.
+    pub fn set_invisible(&mut self, value: bool) -> &mut CellAttributes
+        ensures chains { result.ghost_name ≡ self.entry.ghost_name }
+        ensures set { result.now ≡ record self.old { invisible = value } }
+    {
+        self.style.flags.invisible = value;
+        self
+    }
+
+    /// Whether the line goes on in the next row behind this cell.
+    pub fn wrapped(&self) -> bool
+        ensures { result ≡ self.now.wrapped }
+    {
+        self.style.flags.wrapped
+    }
+
+    /// Sets whether the line goes on in the next row behind this cell, and lends the attributes on.
+    pub fn set_wrapped(&mut self, value: bool) -> &mut CellAttributes
+        ensures chains { result.ghost_name ≡ self.entry.ghost_name }
+        ensures set { result.now ≡ record self.old { wrapped = value } }
+    {
+        self.style.flags.wrapped = value;
+        self
+    }
+
+    /// Whether the text has a line above it.
+    pub fn overline(&self) -> bool
+        ensures { result ≡ self.now.overline }
+    {
+        self.style.flags.overline
+    }
+
+    /// Sets whether the text has a line above it, and lends the attributes on.
+    pub fn set_overline(&mut self, value: bool) -> &mut CellAttributes
+        ensures chains { result.ghost_name ≡ self.entry.ghost_name }
+        ensures set { result.now ≡ record self.old { overline = value } }
+    {
+        self.style.flags.overline = value;
+        self
+    }
+
+    /// What the text is.
+    pub fn semantic_type(&self) -> SemanticType
+        ensures { result ≡ self.now.semantic_type }
+    {
+        self.style.semantic_type
+    }
+
+    /// Sets what the text is, and lends the attributes on.
+    pub fn set_semantic_type(&mut self, value: SemanticType) -> &mut CellAttributes
+        ensures chains { result.ghost_name ≡ self.entry.ghost_name }
+        ensures set { result.now ≡ record self.old { semantic_type = value } }
+    {
+        self.style.semantic_type = value;
+        self
+    }
+
+    /// Where the text stands on its line.
+    pub fn vertical_align(&self) -> VerticalAlign
+        ensures { result ≡ self.now.vertical_align }
+    {
+        self.style.vertical_align
+    }
+
+    /// Sets where the text stands on its line, and lends the attributes on.
+    pub fn set_vertical_align(&mut self, value: VerticalAlign) -> &mut CellAttributes
+        ensures chains { result.ghost_name ≡ self.entry.ghost_name }
+        ensures set { result.now ≡ record self.old { vertical_align = value } }
+    {
+        self.style.vertical_align = value;
+        self
+    }
+
+    /// The colour of the text.
+    pub fn foreground(&self) -> ColorAttribute
+        ensures { result ≡ self.now.foreground }
+    {
+        self.foreground
+    }
+
+    /// Sets the colour of the text, and lends the attributes on.
+    pub fn set_foreground<C: Into<ColorAttribute>>(&mut self, color: C) -> &mut CellAttributes
+        ensures chains { result.ghost_name ≡ self.entry.ghost_name }
+        ensures set { (c : ColorAttribute) × C.converts color c
+            × (result.now ≡ record self.old { foreground = c }) }
+    {
+        self.foreground = color.into();
+        self
+    }
+
+    /// The colour behind the text.
+    pub fn background(&self) -> ColorAttribute
+        ensures { result ≡ self.now.background }
+    {
+        self.background
+    }
+
+    /// Sets the colour behind the text, and lends the attributes on.
+    pub fn set_background<C: Into<ColorAttribute>>(&mut self, color: C) -> &mut CellAttributes
+        ensures chains { result.ghost_name ≡ self.entry.ghost_name }
+        ensures set { (c : ColorAttribute) × C.converts color c
+            × (result.now ≡ record self.old { background = c }) }
+    {
+        self.background = color.into();
+        self
+    }
+
+    /// The colour of the underline; `Default` is that of the text.
+    pub fn underline_color(&self) -> ColorAttribute
+        ensures { result ≡ self.now.underline_color }
+    {
+        self.underline_color
+    }
+
+    /// Sets the colour of the underline, and lends the attributes on.
+    pub fn set_underline_color<C: Into<ColorAttribute>>(&mut self, color: C) -> &mut CellAttributes
+        ensures chains { result.ghost_name ≡ self.entry.ghost_name }
+        ensures set { (c : ColorAttribute) × C.converts color c
+            × (result.now ≡ record self.old { underline_color = c }) }
+    {
+        self.underline_color = color.into();
+        self
+    }
+
+    /// The link, if the cell has one.
+    pub fn hyperlink(&self) -> Option<&Rc<Hyperlink>>
+        ensures { option_map (λ link. link.now.value) result ≡ self.now.hyperlink }
+    {
+        self.hyperlink.as_ref()
+    }
+
+    /// Sets or drops the link, and lends the attributes on.
+    pub fn set_hyperlink(&mut self, link: Option<Rc<Hyperlink>>) -> &mut CellAttributes
+        ensures chains { result.ghost_name ≡ self.entry.ghost_name }
+        ensures set { result.now ≡ record self.old { hyperlink = option_map (λ l. l.value) link } }
+    {
+        self.hyperlink = link;
+        self
+    }
+
+    /// Whether the attributes are the same but for colours and link.
+    pub fn attribute_bits_equal(&self, other: &CellAttributes) -> bool
+        ensures { IsTrue result ↔ (style_of self.now ≡ style_of other.now) }
+    {
+        same_style(&self.style, &other.style)
+    }
+
+    /// Makes the attributes plain.
+    pub fn clear(&mut self)
+        ensures { self.new ≡ plain }
+    {
+        *self = CellAttributes::blank();
+    }
+
+    /// A copy without semantic type, underline, overline, strikethrough and link: what a cell keeps
+    /// where an erased place is filled.
+    pub fn clone_sgr_only(&self) -> CellAttributes
+        ensures { result ≡ sgr_only self.now }
+    {
+        CellAttributes {
+            style: Style {
+                semantic_type: SemanticType::Output,
+                marks: Marks {
+                    underline: Underline::None,
+                    ..self.style.marks
+                },
+                flags: Flags {
+                    overline: false,
+                    strikethrough: false,
+                    ..self.style.flags
+                },
+                ..self.style
+            },
+            hyperlink: None,
+            ..*self
+        }
+    }
+
+    /// Applies one change, and drops what it replaces.
+    pub fn apply_change(&mut self, change: AttributeChange)
+        ensures { self.new ≡ changed_by self.old change }
+    {
+        match change {
+            AttributeChange::Intensity(value) => self.style.marks.intensity = value,
+            AttributeChange::Underline(value) => self.style.marks.underline = value,
+            AttributeChange::Italic(value) => self.style.flags.italic = value,
+            AttributeChange::Blink(value) => self.style.marks.blink = value,
+            AttributeChange::Reverse(value) => self.style.flags.reverse = value,
+            AttributeChange::StrikeThrough(value) => self.style.flags.strikethrough = value,
+            AttributeChange::Invisible(value) => self.style.flags.invisible = value,
+            AttributeChange::Foreground(value) => self.foreground = value,
+            AttributeChange::Background(value) => self.background = value,
+            AttributeChange::Hyperlink(value) => self.hyperlink = value,
+        }
+    }
+
+    // Whether each attribute is the same.
+    fn is_same(&self, other: &CellAttributes) -> bool
+        ensures { IsTrue result ↔ (self.now ≡ other.now) }
+    {
+        same_style(&self.style, &other.style)
+            && self.foreground == other.foreground
+            && self.background == other.background
+            && self.underline_color == other.underline_color
+            && same_hyperlink(self.hyperlink(), other.hyperlink())
+    }
+
+    /// A copy that shares the link.
+    pub fn try_clone(&self) -> Result<CellAttributes, AllocError>
+        ensures { IfOk result (λ copy. copy ≡ self.now) }
+    {
+        let hyperlink = self.hyperlink.clone()?;
+        Ok(CellAttributes { hyperlink, ..*self })
+    }
+}
+
+impl PartialEq for CellAttributes {
+    ghost use Rattle.std.specs.Prelude.{◌≡◌, ◌↔◌, IsTrue};
+    ghost use Rattle.std.specs.Cmp.{partial_equiv_from_equiv};
+    ghost use Rattle.cell_base.specs.SameAttributes.{same_attributes, same_attributes_equivalence};
+
+    ghost eq = { same_attributes };
+
+    ghost laws = { partial_equiv_from_equiv same_attributes_equivalence };
+
+    fn eq(&self, other: &CellAttributes) -> bool
+        ensures same { result ≡ same_attributes self.now other.now }
+        ensures by_value { IsTrue result ↔ (self.now ≡ other.now) }
+    {
+        self.is_same(other)
+    }
+}
+
+impl Eq for CellAttributes {
+    ghost use Rattle.cell_base.specs.SameAttributes.{same_attributes_equivalence};
+
+    ghost laws = { same_attributes_equivalence };
+}
+
+impl Default for CellAttributes {
+    ghost use Rattle.std.specs.Prelude.{◌≡◌};
+    ghost use Rattle.cell_base.specs.Attributes.{plain};
+
+    ghost is_default = { λ a. a ≡ plain };
+
+    fn default() -> CellAttributes {
+        CellAttributes::blank()
+    }
+}
+
+fn same_style(a: &Style, b: &Style) -> bool
+    ensures { IsTrue result ↔ (a.now ≡ b.now) }
+{
+    same_marks(&a.marks, &b.marks)
+        && same_flags(&a.flags, &b.flags)
+        && a.semantic_type == b.semantic_type
+        && a.vertical_align == b.vertical_align
+}
+
+fn same_marks(a: &Marks, b: &Marks) -> bool
+    ensures { IsTrue result ↔ (a.now ≡ b.now) }
+{
+    a.intensity == b.intensity && a.underline == b.underline && a.blink == b.blink
+}
+
+fn same_flags(a: &Flags, b: &Flags) -> bool
+    ensures { IsTrue result ↔ (a.now ≡ b.now) }
+{
+    a.italic == b.italic
+        && a.reverse == b.reverse
+        && a.strikethrough == b.strikethrough
+        && a.invisible == b.invisible
+        && a.wrapped == b.wrapped
+        && a.overline == b.overline
+}
+
+fn same_hyperlink(a: Option<&Rc<Hyperlink>>, b: Option<&Rc<Hyperlink>>) -> bool
+    ensures { IsTrue result
+        ↔ (option_map (λ l. l.now.value) a.entry ≡ option_map (λ l. l.now.value) b.entry) }
+{
+    match (a, b) {
+        (None, None) => true,
+        (Some(a), Some(b)) => **a == **b,
+        _ => false,
+    }
+}

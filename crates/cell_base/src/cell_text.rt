@@ -1,0 +1,55 @@
+//! The text of a cell.
+ghost use Rattle.std.specs.Prelude.{◌≡◌, IfOk, IsTrue, ◌↔◌};
+ghost use Rattle.cell_base.specs.CellContent.{cell_text, shows_as_space};
+ghost use Rattle.cell_base.specs.CellText.{text_bytes};
+
+use std::alloc::{AllocError, Global};
+
+// A space takes no memory.
+#[derive(Debug, Drop)]
+pub(crate) enum CellText {
+    Space,
+    Owned(String),
+}
+
+impl CellText {
+    // What stands in a cell for the text.
+    pub(crate) fn new(alloc: Global, text: &str) -> Result<CellText, AllocError>
+        ensures { IfOk result (λ t. text_bytes t ≡ cell_text text.now) }
+    {
+        if shows_as_space(text) || text == " " {
+            return Ok(CellText::Space);
+        }
+        Ok(CellText::Owned(String::from_str(alloc, text)?))
+    }
+
+    pub(crate) fn as_str(&self) -> &str
+        ensures { result.now ≡ text_bytes self.now }
+    {
+        match self {
+            CellText::Space => " ",
+            CellText::Owned(text) => text.as_str(),
+        }
+    }
+
+    pub(crate) fn try_clone(&self) -> Result<CellText, AllocError>
+        ensures { IfOk result (λ copy. text_bytes copy ≡ text_bytes self.now) }
+    {
+        match self {
+            CellText::Space => Ok(CellText::Space),
+            CellText::Owned(text) => Ok(CellText::Owned(text.clone()?)),
+        }
+    }
+}
+
+// Whether the text is one that no cell holds as it is.
+pub(crate) fn shows_as_space(text: &str) -> bool
+    ensures { result ≡ shows_as_space text.now }
+{
+    match text.as_bytes() {
+        [] => true,
+        [byte] => byte.is_ascii_control(),
+        [first, second] => *first == b'\r' && *second == b'\n',
+        _ => false,
+    }
+}
