@@ -1,0 +1,159 @@
+-- What tables of whole lists give reads back.
+use Rattle.std.proofs.Common.{◌≡◌, ℕ, zero, suc, ◌≤◌, ℤ, pos, negsuc, eqb, leb, Bool, true, false, not, cond, ◌||◌, List, [], ◌∷◌, Option, Some, None, option_map, option_and_then, arith, refl, sym, ap, ◌∙◌, subst}
+use Rattle.std.specs.Option.{option_map_or, option_or, option_zip}
+use Rattle.std.proofs.lemmas.Bool.{eqb-true, leb-true, le-leb, false≢true}
+use Rattle.std.proofs.Math.Dec.{eqb-suc-zero}
+use Rattle.csi_codec.specs.declared.parameters.CsiParam.{CsiParam}
+use Rattle.csi_codec.specs.declared.parameters.CsiParam.TheVariants.{Integer, P}
+use Rattle.csi_codec.specs.declared.cursors.Cursor.{Cursor}
+use Rattle.csi_codec.specs.declared.edits.Edit.{Edit}
+use Rattle.csi_codec.specs.Parameters.{word_max, or_default, place, one_slot, two_slots, count, place_pair, Lines, read_by, number_tokens, count_tokens, pair_tokens}
+use Rattle.csi_codec.specs.Cursors.{cursor_reading}
+use Rattle.csi_codec.specs.Edits.{edit_reading}
+use Rattle.csi_codec.specs.Devices.{device_reading}
+use Rattle.csi_codec.specs.Actions.{Action, cursor, edit, device, unspecified, lone_reading, standard_reading, other_reading, csi_reading}
+
+-- ---- Places and counts
+
+-- what a place can be
+abbrev pub IsPlace : ℕ → Type 0
+IsPlace n = (1 ≤ n) × (n ≤ word_max)
+
+same_place : (d n : ℕ) → Some d ≡ Some n → IsPlace d → IsPlace n
+same_place d n e h = let q : d ≡ n = cc in subst (λ (k : ℕ). IsPlace k) q h
+
+not_zero : (m : ℕ) → eqb m 0 ≡ false → 1 ≤ m
+not_zero zero r = absurd (false≢true (sym r))
+not_zero (suc m) r = omega arith
+
+after_default : (d m n : ℕ) (c : Bool) → eqb m 0 ≡ c → leb m word_max ≡ true → Some (cond c d m) ≡ Some n → IsPlace d → IsPlace n
+after_default d m n true q p e h = same_place d n e h
+after_default d m n false q p e h = same_place m n e (not_zero m q, leb-true m word_max p)
+
+chosen_place : (d m n : ℕ) (b : Bool) → leb m word_max ≡ b → option_map (or_default d) (cond b (Some m) None) ≡ Some n → IsPlace d → IsPlace n
+chosen_place d m n true p e h = after_default d m n (eqb m 0) refl p e h
+chosen_place d m n false p e h = cc
+
+place_valid : (d : ℕ) (slot : Option ℤ) (n : ℕ) → IsPlace d → place d slot ≡ Some n → IsPlace n
+place_valid d None n h e = same_place d n e h
+place_valid d (Some (negsuc m)) n h e = cc
+place_valid d (Some (pos m)) n h e = chosen_place d m n (leb m word_max) refl e h
+
+pub count_valid : (ts : List CsiParam) (n : ℕ) → count ts ≡ Some n → IsPlace n
+count_valid ts n e = by (one_slot ts) e
+  where
+    by : (slot : Option (Option ℤ)) → option_and_then (place 1) slot ≡ Some n → IsPlace n
+    by None q = cc
+    by (Some s) q = place_valid 1 s n (omega arith, omega arith) q
+
+pub place_number : (d n : ℕ) → IsPlace n → place d (Some (pos n)) ≡ Some n
+place_number d zero h = absurd (omega (arith, h.0))
+place_number d (suc n) h = rw (le-leb (suc n) word_max h.1, eqb-suc-zero n) refl
+
+-- ---- Lists that no `?` begins, under finals of lone spellings
+
+abbrev pub is_plain : List CsiParam → Bool
+is_plain [] = true
+is_plain (Integer z ∷ ts) = true
+is_plain (P b ∷ ts) = not (eqb b 63)
+
+not_true : (b : Bool) → not b ≡ true → b ≡ false
+not_true true h = cc
+not_true false h = refl
+
+plain_reading : (truncated : Bool) (final : ℕ) (ts : List CsiParam) → is_plain ts ≡ true → other_reading truncated final ts ≡ standard_reading truncated final ts
+plain_reading truncated final [] h = refl
+plain_reading truncated final (Integer z ∷ ts) h = refl
+plain_reading truncated final (P b ∷ ts) h = rw (not_true (eqb b 63) h) refl
+
+-- finals under which one spelling covers the whole list
+pub record IsLone (final : ℕ) : Type 0 where
+  pub other : eqb final 109 ≡ false
+  pub no_modes : (eqb final 104 || eqb final 108) ≡ false
+
+pub lone_back : (truncated : Bool) (final : ℕ) (ts : List CsiParam) (a : Action) → IsLone final → is_plain ts ≡ true → lone_reading final ts ≡ Some a → csi_reading ts truncated final ≡ a ∷ []
+unfolding csi_reading
+lone_back truncated final ts a l p e =
+    rw l.other (plain_reading truncated final ts p
+    ∙ rw l.no_modes (ap (λ found. option_map_or (λ known. known ∷ []) found (unspecified ts truncated final ∷ [])) e))
+
+-- ---- Lines of a table
+
+-- what holds of all that each line gives
+abbrev pub EachLine : {A : Type 0} → (A → Type 0) → Lines A → Type 0
+EachLine Q [] = Unit {0}
+EachLine Q (line ∷ lines) = ((ts : List CsiParam) (x : _) → line.1 ts ≡ Some x → Q x) × EachLine Q lines
+
+module _ {A : Type 0} (Q : A → Type 0) where
+  line_or_others : (b : Bool) (here there : Option A) (x : A) → (here ≡ Some x → Q x) → (there ≡ Some x → Q x) → cond b here there ≡ Some x → Q x
+  line_or_others true here there x h k e = h e
+  line_or_others false here there x h k e = k e
+
+  pub read_by-each : (lines : Lines A) (final : ℕ) (ts : List CsiParam) (x : A) → EachLine Q lines → read_by lines final ts ≡ Some x → Q x
+  read_by-each [] final ts x h e = cc
+  read_by-each (line ∷ lines) final ts x h e = line_or_others (eqb line.0 final) (line.1 ts) (read_by lines final ts) x (h.0 ts x) (read_by-each lines final ts x h.1) e
+
+  -- a value made of what a slot gives
+  pub made : {B : Type 0} (make : B → A) (R : B → Type 0) (found : Option B) → ((y : B) → found ≡ Some y → R y) → ((y : B) → R y → Q (make y)) → (x : A) → option_map make found ≡ Some x → Q x
+  made make R None valid h x e = cc
+  made make R (Some y) valid h x e = let q : make y ≡ x = cc in subst Q q (h y (valid y refl))
+
+count_back : (n : ℕ) → IsPlace n → count (number_tokens n) ≡ Some n
+count_back n h = place_number 1 n h
+
+count_tokens_back : (n : ℕ) → IsPlace n → count (count_tokens n) ≡ Some n
+count_tokens_back n h = by (eqb n 1) refl
+  where
+    by : (b : Bool) → eqb n 1 ≡ b → count (cond b [] (number_tokens n)) ≡ Some n
+    by true e = ap Some (sym (eqb-true n 1 e))
+    by false e = count_back n h
+
+count_tokens_plain : (n : ℕ) → is_plain (count_tokens n) ≡ true
+count_tokens_plain n = elim (eqb n 1) as (λ b. is_plain (cond b [] (number_tokens n)) ≡ true) [ true ↦ refl | false ↦ refl ]
+
+-- ---- Cursor sequences
+
+cursor_found : (final : ℕ) (ts : List CsiParam) (c : Cursor) → cursor_reading final ts ≡ Some c → lone_reading final ts ≡ Some (cursor c)
+cursor_found final ts c e = ap (λ found. option_or (option_map cursor found) (option_or (option_map edit (edit_reading final ts)) (option_map device (device_reading final ts)))) e
+
+edit_found : (final : ℕ) (ts : List CsiParam) (e : Edit) → cursor_reading final ts ≡ None → edit_reading final ts ≡ Some e → lone_reading final ts ≡ Some (edit e)
+edit_found final ts e p q = ap (λ found. option_or (option_map cursor found) (option_or (option_map edit (edit_reading final ts)) (option_map device (device_reading final ts)))) p
+    ∙ ap (λ found. option_or (option_map edit found) (option_map device (device_reading final ts))) q
+
+-- ---- One family of a table
+
+module _ (truncated : Bool) (final : ℕ) (lone : IsLone final) (make : ℕ → Cursor) (reads : (ts : List CsiParam) → cursor_reading final ts ≡ option_map make (count ts)) where
+  pub cursor_count_back : (n : ℕ) → IsPlace n → csi_reading (count_tokens n) truncated final ≡ cursor (make n) ∷ []
+  cursor_count_back n h = lone_back truncated final (count_tokens n) (cursor (make n)) lone (count_tokens_plain n)
+      (cursor_found final (count_tokens n) (make n) (reads (count_tokens n) ∙ ap (option_map make) (count_tokens_back n h)))
+
+  pub cursor_number_back : (n : ℕ) → IsPlace n → csi_reading (number_tokens n) truncated final ≡ cursor (make n) ∷ []
+  cursor_number_back n h = lone_back truncated final (number_tokens n) (cursor (make n)) lone refl
+      (cursor_found final (number_tokens n) (make n) (reads (number_tokens n) ∙ ap (option_map make) (count_back n h)))
+
+module _ (truncated : Bool) (final : ℕ) (lone : IsLone final) (make : ℕ → Edit) (no_cursor : (ts : List CsiParam) → cursor_reading final ts ≡ None) (reads : (ts : List CsiParam) → edit_reading final ts ≡ option_map make (count ts)) where
+  pub edit_count_back : (n : ℕ) → IsPlace n → csi_reading (count_tokens n) truncated final ≡ edit (make n) ∷ []
+  edit_count_back n h = lone_back truncated final (count_tokens n) (edit (make n)) lone (count_tokens_plain n)
+      (edit_found final (count_tokens n) (make n) (no_cursor (count_tokens n)) (reads (count_tokens n) ∙ ap (option_map make) (count_tokens_back n h)))
+
+-- two places
+pair_back : (d a b : ℕ) → IsPlace a → IsPlace b → place_pair d (pair_tokens a b) ≡ Some (a, b)
+pair_back d a b h k = ap (λ x. option_zip x (place d (Some (pos b)))) (place_number 1 a h) ∙ ap (λ y. option_zip (Some a) y) (place_number d b k)
+
+pub pair_valid : (d : ℕ) (ts : List CsiParam) (m : ℕ × ℕ) → IsPlace d → place_pair d ts ≡ Some m → IsPlace m.0 × IsPlace m.1
+pair_valid d ts m h e = by (two_slots ts) e
+  where
+    both : (x y : Option ℕ) → ((n : ℕ) → x ≡ Some n → IsPlace n) → ((n : ℕ) → y ≡ Some n → IsPlace n) → option_zip x y ≡ Some m → IsPlace m.0 × IsPlace m.1
+    both None y p q r = cc
+    both (Some a) None p q r = cc
+    both (Some a) (Some b) p q r = let s : (a, b) ≡ m = cc in (subst (λ (k : ℕ × ℕ). IsPlace k.0) s (p a refl), subst (λ (k : ℕ × ℕ). IsPlace k.1) s (q b refl))
+
+    by : (slots : Option (Option ℤ × Option ℤ)) → option_and_then (λ s. option_zip (place 1 s.0) (place d s.1)) slots ≡ Some m → IsPlace m.0 × IsPlace m.1
+    by None q = cc
+    by (Some s) q = both (place 1 s.0) (place d s.1) (λ n. place_valid 1 s.0 n (omega arith, omega arith)) (λ n. place_valid d s.1 n h) q
+
+module _ (truncated : Bool) (final : ℕ) (lone : IsLone final) (d : ℕ) (make : ℕ → ℕ → Cursor)
+    (reads : (a b : ℕ) → cursor_reading final (pair_tokens a b) ≡ option_map (λ m. make m.0 m.1) (place_pair d (pair_tokens a b))) where
+  pub cursor_pair_back : (a b : ℕ) → IsPlace a → IsPlace b → csi_reading (pair_tokens a b) truncated final ≡ cursor (make a b) ∷ []
+  cursor_pair_back a b h k = lone_back truncated final (pair_tokens a b) (cursor (make a b)) lone refl
+      (cursor_found final (pair_tokens a b) (make a b) (reads a b ∙ ap (option_map (λ m. make m.0 m.1)) (pair_back d a b h k)))

@@ -1,0 +1,384 @@
+-- SGR lists joined by a `;`.
+use Rattle.std.proofs.Common.{◌≡◌, ℕ, zero, suc, ◌+◌, ◌-◌, ◌<◌, ◌≤◌, ℤ, pos, negsuc, eqb, Bool, true, false, not, cond, ◌&&◌, List, [], ◌∷◌, ◌++◌, length, Option, Some, None, option_map, option_and_then, slice_get, arith, refl, sym, ap, ◌∙◌, subst}
+use Rattle.std.specs.Prelude.{is_some}
+use Rattle.std.specs.Option.{option_map_or}
+use Rattle.std.proofs.lemmas.Option.{slice_get_past}
+use Rattle.std.proofs.lemmas.Bool.{eqb-true, false≢true}
+use Rattle.std.proofs.lemmas.Bool.Decides.{eqb_tells}
+use Rattle.std.proofs.Common.{inl, inr}
+use Rattle.cell_base.specs.declared.color.ColorSpec.{ColorSpec}
+use Rattle.cell_base.specs.declared.color.ColorSpec.TheVariants as color
+use Rattle.csi_codec.specs.declared.parameters.CsiParam.{CsiParam}
+use Rattle.csi_codec.specs.declared.parameters.CsiParam.TheVariants.{Integer, P}
+use Rattle.csi_codec.specs.declared.rendition.Sgr.{Sgr}
+use Rattle.csi_codec.specs.declared.rendition.Sgr.TheVariants as value
+use Rattle.csi_codec.specs.declared.shapes.Part.{Part}
+use Rattle.csi_codec.specs.declared.shapes.Part.TheVariants.{Sign, Code, Slot}
+use Rattle.csi_codec.specs.Parameters.{is_number, number_within, semicolon_count, semicolon_at, with_semicolon}
+use Rattle.csi_codec.specs.Rendition.{is_part, stands, byte_of, byte_at, palette_at, opaque_at, colour_at, taking, Form, first_form, colour_forms, colour_form, colour_shape, underline_shape, numbered_shape, single_code, sgr_shape, sgr_piece}
+use Rattle.csi_codec.specs.Actions.{Action, sgr, unspecified, rendition_piece, pieces_from, pieces, all_sgr_tokens, is_sgr_token, csi_reading}
+use Rattle.csi_codec.specs.Laws.{is_semicolon, ends_in_semicolon, all_known, SgrListsJoin}
+use Rattle.csi_codec.proofs.SgrLemmas.{stands-length, sgr_shape_takes, Takes}
+
+-- ---- Shapes at the front of a longer list
+
+slice_get-append : (ts x : List CsiParam) (i : ℕ) → i < length ts → slice_get (ts ++ x) i ≡ slice_get ts i
+slice_get-append [] x i h = absurd (omega arith)
+slice_get-append (t ∷ ts) x zero h = refl
+slice_get-append (t ∷ ts) x (suc i) h = slice_get-append ts x i (omega arith)
+
+and_more : (a b c : Bool) → (a && b) ≡ true → (b ≡ true → c ≡ true) → (a && c) ≡ true
+and_more true b c h k = k h
+and_more false b c h k = cc
+
+-- a shape that stands goes on standing
+stands-append : (parts : List Part) (ts x : List CsiParam) → stands parts ts ≡ true → stands parts (ts ++ x) ≡ true
+stands-append [] ts x h = refl
+stands-append (part ∷ parts) [] x h = cc
+stands-append (part ∷ parts) (t ∷ ts) x h = and_more (is_part part t) (stands parts ts) (stands parts (ts ++ x)) h (stands-append parts ts x)
+
+-- no part of the shape is a `;`
+abbrev no_semicolon : List Part → Bool
+no_semicolon [] = true
+no_semicolon (Sign b ∷ parts) = not (eqb 59 b) && no_semicolon parts
+no_semicolon (Code n ∷ parts) = no_semicolon parts
+no_semicolon (Slot ∷ parts) = no_semicolon parts
+
+not_and : (a b : Bool) → (not a && b) ≡ true → (a ≡ false) × (b ≡ true)
+not_and true b h = cc
+not_and false b h = (refl, h)
+
+-- so it stands in front of a `;` only where it stands without
+stands_open : (parts : List Part) (ts x : List CsiParam) → no_semicolon parts ≡ true → stands parts (ts ++ P 59 ∷ x) ≡ stands parts ts
+stands_open [] ts x n = refl
+stands_open (Sign b ∷ parts) [] x n = rw (not_and (eqb 59 b) (no_semicolon parts) n).0 refl
+stands_open (Code c ∷ parts) [] x n = refl
+stands_open (Slot ∷ parts) [] x n = refl
+stands_open (Sign b ∷ parts) (t ∷ ts) x n = ap (λ v. is_part (Sign b) t && v) (stands_open parts ts x (not_and (eqb 59 b) (no_semicolon parts) n).1)
+stands_open (Code c ∷ parts) (t ∷ ts) x n = ap (λ v. is_part (Code c) t && v) (stands_open parts ts x n)
+stands_open (Slot ∷ parts) (t ∷ ts) x n = ap (λ v. is_part Slot t && v) (stands_open parts ts x n)
+
+-- ---- Forms of a colour
+
+-- what a form reads in a list stands in it
+abbrev Reads : Form → Type 0
+Reads form = (ts x : List CsiParam) → stands form.0 ts ≡ true → form.1 (ts ++ x) ≡ form.1 ts
+
+byte_at-append : (ts x : List CsiParam) (i : ℕ) → i < length ts → byte_at (ts ++ x) i ≡ byte_at ts i
+byte_at-append ts x i h = ap (option_and_then byte_of) (slice_get-append ts x i h)
+
+palette_reads : (parts : List Part) (i : ℕ) → i < length parts → Reads (parts, palette_at i)
+palette_reads parts i h ts x s =
+    let l : length parts ≤ length ts = stands-length parts ts s in
+    ap (option_map color.PaletteIndex) (byte_at-append ts x i (omega arith))
+
+opaque_reads : (parts : List Part) (i j k : ℕ) → i < length parts → j < length parts → k < length parts → Reads (parts, opaque_at i j k)
+opaque_reads parts i j k p q r ts x s =
+    let l : length parts ≤ length ts = stands-length parts ts s in
+    rw (byte_at-append ts x i (omega arith), byte_at-append ts x j (omega arith), byte_at-append ts x k (omega arith)) refl
+
+colour_reads : (parts : List Part) (i j k m : ℕ) → i < length parts → j < length parts → k < length parts → m < length parts → Reads (parts, colour_at i j k m)
+colour_reads parts i j k m p q r u ts x s =
+    let l : length parts ≤ length ts = stands-length parts ts s in
+    rw (byte_at-append ts x i (omega arith), byte_at-append ts x j (omega arith), byte_at-append ts x k (omega arith), byte_at-append ts x m (omega arith)) refl
+
+-- ---- The first form that stands
+
+and_left : (a b : Bool) → (a && b) ≡ true → a ≡ true
+and_left true b h = refl
+and_left false b h = cc
+
+and_right : (a b : Bool) → (a && b) ≡ true → b ≡ true
+and_right true b h = h
+and_right false b h = cc
+
+and_false : (a b : Bool) → b ≡ false → (a && b) ≡ false
+and_false true b h = h
+and_false false b h = refl
+
+sign_conflict : (t : CsiParam) → is_part (Sign 58) t ≡ true → is_part (Sign 59) t ≡ false
+sign_conflict (Integer z) h = cc
+sign_conflict (P c) h = let e : c ≡ 58 = eqb-true c 58 h in rw e refl
+
+code_conflict : (t : CsiParam) → is_part (Code 5) t ≡ true → is_part (Code 2) t ≡ false
+code_conflict (P c) h = cc
+code_conflict (Integer (negsuc m)) h = cc
+code_conflict (Integer (pos m)) h = let e : m ≡ 5 = eqb-true m 5 h in rw e refl
+
+first_conflict : (ps qs : List Part) (ts x : List CsiParam) → stands (Sign 58 ∷ ps) ts ≡ true → stands (Sign 59 ∷ qs) (ts ++ x) ≡ false
+first_conflict ps qs [] x h = cc
+first_conflict ps qs (t ∷ ts) x h = rw (sign_conflict t (and_left (is_part (Sign 58) t) (stands ps ts) h)) refl
+
+second_conflict : (ps qs : List Part) (ts x : List CsiParam) → stands (Sign 59 ∷ Code 5 ∷ ps) ts ≡ true → stands (Sign 59 ∷ Code 2 ∷ qs) (ts ++ x) ≡ false
+second_conflict ps qs [] x h = cc
+second_conflict ps qs (t ∷ []) x h = let e : false ≡ true = and_right (is_part (Sign 59) t) false h in cc
+second_conflict ps qs (t ∷ u ∷ ts) x h =
+    let r : (is_part (Code 5) u && stands ps ts) ≡ true = and_right (is_part (Sign 59) t) (is_part (Code 5) u && stands ps ts) h in
+    and_false (is_part (Sign 59) t) (is_part (Code 2) u && stands qs (ts ++ x)) (rw (code_conflict u (and_left (is_part (Code 5) u) (stands ps ts) r)) refl)
+
+-- what a list of forms finds is found again where the list goes on behind a `;`
+abbrev IsStable : List Form → Type 0
+IsStable forms = (ts x : List CsiParam) → is_some (first_form forms ts) ≡ true → first_form forms (ts ++ P 59 ∷ x) ≡ first_form forms ts
+
+colon_form-stable : (form : Form) (forms : List Form) → no_semicolon form.0 ≡ true → Reads form → IsStable forms → IsStable (form ∷ forms)
+colon_form-stable form forms n reads stable ts x h = rw (stands_open form.0 ts x n) (by (stands form.0 ts) refl h)
+  where
+    by : (b : Bool) → stands form.0 ts ≡ b → is_some (cond b (taking (length form.0) (form.1 ts)) (first_form forms ts)) ≡ true
+        → cond b (taking (length form.0) (form.1 (ts ++ P 59 ∷ x))) (first_form forms (ts ++ P 59 ∷ x)) ≡ cond b (taking (length form.0) (form.1 ts)) (first_form forms ts)
+    by true e k = ap (taking (length form.0)) (reads ts (P 59 ∷ x) e)
+    by false e k = stable ts x k
+
+none-stable : IsStable []
+none-stable ts x h = cc
+
+-- a form with `;` cannot come to stand where a later form stands
+semicolon_form-stable : (form : Form) (forms : List Form) → Reads form → IsStable forms
+    → ((ts x : List CsiParam) → is_some (first_form forms ts) ≡ true → stands form.0 (ts ++ x) ≡ false) → IsStable (form ∷ forms)
+semicolon_form-stable form forms reads stable apart ts x h = by (stands form.0 ts) refl h
+  where
+    by : (b : Bool) → stands form.0 ts ≡ b → is_some (cond b (taking (length form.0) (form.1 ts)) (first_form forms ts)) ≡ true
+        → cond (stands form.0 (ts ++ P 59 ∷ x)) (taking (length form.0) (form.1 (ts ++ P 59 ∷ x))) (first_form forms (ts ++ P 59 ∷ x)) ≡ cond b (taking (length form.0) (form.1 ts)) (first_form forms ts)
+    by true e k = rw (stands-append form.0 ts (P 59 ∷ x) e) (ap (taking (length form.0)) (reads ts (P 59 ∷ x) e))
+    by false e k = rw (apart ts (P 59 ∷ x) k) (stable ts x k)
+
+abbrev palette_form : Form
+palette_form = (Sign 58 ∷ Code 5 ∷ Sign 58 ∷ Slot ∷ [], palette_at 3)
+
+abbrev palette_semicolons : Form
+palette_semicolons = (Sign 59 ∷ Code 5 ∷ Sign 59 ∷ Slot ∷ [], palette_at 3)
+
+abbrev semicolons_rest : List Part
+semicolons_rest = Sign 59 ∷ Slot ∷ Sign 59 ∷ Slot ∷ Sign 59 ∷ Slot ∷ []
+
+palettes_apart : (ts x : List CsiParam) → is_some (first_form (palette_form ∷ palette_semicolons ∷ []) ts) ≡ true → stands (Sign 59 ∷ Code 2 ∷ semicolons_rest) (ts ++ x) ≡ false
+palettes_apart ts x h = first (stands palette_form.0 ts) refl h
+  where
+    second : (b : Bool) → stands palette_semicolons.0 ts ≡ b → is_some (cond b (taking 4 (palette_at 3 ts)) None) ≡ true → stands (Sign 59 ∷ Code 2 ∷ semicolons_rest) (ts ++ x) ≡ false
+    second true e k = second_conflict (Sign 59 ∷ Slot ∷ []) semicolons_rest ts x e
+    second false e k = cc
+
+    first : (b : Bool) → stands palette_form.0 ts ≡ b → is_some (cond b (taking 4 (palette_at 3 ts)) (first_form (palette_semicolons ∷ []) ts)) ≡ true → stands (Sign 59 ∷ Code 2 ∷ semicolons_rest) (ts ++ x) ≡ false
+    first true e k = first_conflict (Code 5 ∷ Sign 58 ∷ Slot ∷ []) (Code 2 ∷ semicolons_rest) ts x e
+    first false e k = second (stands palette_semicolons.0 ts) refl k
+
+last_form-stable : IsStable (palette_semicolons ∷ [])
+last_form-stable = semicolon_form-stable palette_semicolons [] (palette_reads palette_semicolons.0 3 (omega arith)) none-stable (λ ts x h. cc)
+
+abbrev alpha_form : Form
+alpha_form = (Sign 58 ∷ Code 6 ∷ Sign 58 ∷ Sign 58 ∷ Slot ∷ Sign 58 ∷ Slot ∷ Sign 58 ∷ Slot ∷ Sign 58 ∷ Slot ∷ [], colour_at 4 6 8 10)
+
+abbrev space_form : Form
+space_form = (Sign 58 ∷ Code 2 ∷ Sign 58 ∷ Slot ∷ Sign 58 ∷ Slot ∷ Sign 58 ∷ Slot ∷ Sign 58 ∷ Slot ∷ [], opaque_at 5 7 9)
+
+abbrev no_space_form : Form
+no_space_form = (Sign 58 ∷ Code 2 ∷ Sign 58 ∷ Sign 58 ∷ Slot ∷ Sign 58 ∷ Slot ∷ Sign 58 ∷ Slot ∷ [], opaque_at 4 6 8)
+
+abbrev bare_form : Form
+bare_form = (Sign 58 ∷ Code 2 ∷ Sign 58 ∷ Slot ∷ Sign 58 ∷ Slot ∷ Sign 58 ∷ Slot ∷ [], opaque_at 3 5 7)
+
+abbrev semicolons_form : Form
+semicolons_form = (Sign 59 ∷ Code 2 ∷ semicolons_rest, opaque_at 3 5 7)
+
+abbrev palettes : List Form
+palettes = palette_form ∷ palette_semicolons ∷ []
+
+palettes-stable : IsStable palettes
+palettes-stable = colon_form-stable palette_form (palette_semicolons ∷ []) refl (palette_reads palette_form.0 3 (omega arith)) last_form-stable
+
+semicolons-stable : IsStable (semicolons_form ∷ palettes)
+semicolons-stable = semicolon_form-stable semicolons_form palettes (opaque_reads semicolons_form.0 3 5 7 (omega arith) (omega arith) (omega arith)) palettes-stable palettes_apart
+
+bare-stable : IsStable (bare_form ∷ semicolons_form ∷ palettes)
+bare-stable = colon_form-stable bare_form (semicolons_form ∷ palettes) refl (opaque_reads bare_form.0 3 5 7 (omega arith) (omega arith) (omega arith)) semicolons-stable
+
+no_space-stable : IsStable (no_space_form ∷ bare_form ∷ semicolons_form ∷ palettes)
+no_space-stable = colon_form-stable no_space_form (bare_form ∷ semicolons_form ∷ palettes) refl (opaque_reads no_space_form.0 4 6 8 (omega arith) (omega arith) (omega arith)) bare-stable
+
+space-stable : IsStable (space_form ∷ no_space_form ∷ bare_form ∷ semicolons_form ∷ palettes)
+space-stable = colon_form-stable space_form (no_space_form ∷ bare_form ∷ semicolons_form ∷ palettes) refl (opaque_reads space_form.0 5 7 9 (omega arith) (omega arith) (omega arith)) no_space-stable
+
+pub colour_forms-stable : IsStable colour_forms
+colour_forms-stable = colon_form-stable alpha_form (space_form ∷ no_space_form ∷ bare_form ∷ semicolons_form ∷ palettes) refl (colour_reads alpha_form.0 4 6 8 10 (omega arith) (omega arith) (omega arith) (omega arith)) space-stable
+
+-- ---- Shapes
+
+abbrev with_color : (ColorSpec → Sgr) → Option (ColorSpec × ℕ) → Option (Sgr × ℕ)
+with_color target found = option_map (λ form. (target form.0, form.1 + 1)) found
+
+some_from_with : (target : ColorSpec → Sgr) (found : Option (ColorSpec × ℕ)) → is_some (with_color target found) ≡ true → is_some found ≡ true
+some_from_with target None e = cc
+some_from_with target (Some f) e = refl
+
+colour_shape-stable : (target : ColorSpec → Sgr) (ts x : List CsiParam) → is_some (colour_shape target ts) ≡ true → colour_shape target (ts ++ P 59 ∷ x) ≡ colour_shape target ts
+unfolding colour_form
+colour_shape-stable target ts x h = ap (with_color target) (colour_forms-stable ts x (some_from_with target (first_form colour_forms ts) h))
+
+underline_shape-stable : (ts x : List CsiParam) → underline_shape (ts ++ P 59 ∷ x) ≡ underline_shape ts
+underline_shape-stable [] [] = refl
+underline_shape-stable [] (Integer z ∷ x) = refl
+underline_shape-stable [] (P c ∷ x) = refl
+underline_shape-stable (Integer z ∷ ts) x = refl
+underline_shape-stable (P b ∷ []) x = refl
+underline_shape-stable (P b ∷ Integer z ∷ ts) x = refl
+underline_shape-stable (P b ∷ P c ∷ ts) x = refl
+
+module _ {A : Type 0} where
+  ways : (p q r s : Bool) (a b c d e a' b' c' d' : Option A) → is_some (cond p a (cond q b (cond r c (cond s d e)))) ≡ true
+      → (is_some a ≡ true → a' ≡ a) → (is_some b ≡ true → b' ≡ b) → (is_some c ≡ true → c' ≡ c) → d' ≡ d
+      → cond p a' (cond q b' (cond r c' (cond s d' e))) ≡ cond p a (cond q b (cond r c (cond s d e)))
+  ways true q r s a b c d e a' b' c' d' h u v w y = u h
+  ways false true r s a b c d e a' b' c' d' h u v w y = v h
+  ways false false true s a b c d e a' b' c' d' h u v w y = w h
+  ways false false false true a b c d e a' b' c' d' h u v w y = y
+  ways false false false false a b c d e a' b' c' d' h u v w y = refl
+
+numbered_shape-stable : (z : ℤ) (ts x : List CsiParam) → is_some (numbered_shape z ts) ≡ true → numbered_shape z (ts ++ P 59 ∷ x) ≡ numbered_shape z ts
+unfolding numbered_shape
+numbered_shape-stable z ts x h =
+    ways (is_number 38 z) (is_number 48 z) (is_number 58 z) (is_number 4 z) (colour_shape value.Foreground ts) (colour_shape value.Background ts) (colour_shape value.UnderlineColor ts)
+    (underline_shape ts) (taking 1 (option_and_then single_code (number_within 255 z))) (colour_shape value.Foreground (ts ++ P 59 ∷ x)) (colour_shape value.Background (ts ++ P 59 ∷ x))
+    (colour_shape value.UnderlineColor (ts ++ P 59 ∷ x)) (underline_shape (ts ++ P 59 ∷ x)) h
+    (colour_shape-stable value.Foreground ts x) (colour_shape-stable value.Background ts x) (colour_shape-stable value.UnderlineColor ts x) (underline_shape-stable ts x)
+
+-- what stands at the front stands there where the list goes on behind a `;`
+pub sgr_shape-stable : (ts x : List CsiParam) → is_some (sgr_shape ts) ≡ true → sgr_shape (ts ++ P 59 ∷ x) ≡ sgr_shape ts
+unfolding sgr_shape
+sgr_shape-stable [] x h = cc
+sgr_shape-stable (P b ∷ ts) x h = refl
+sgr_shape-stable (Integer z ∷ ts) x h = numbered_shape-stable z ts x h
+
+-- ---- Pieces
+
+abbrev ones : Bool → ℕ
+ones v = cond v 1 0
+
+one_only_if : (v : Bool) → ones v ≡ 1 → v ≡ true
+one_only_if true m = refl
+one_only_if false m = absurd (omega arith)
+
+one_is_semicolon : (t : CsiParam) → semicolon_count (Some t) ≡ 1 → is_semicolon t ≡ true
+one_is_semicolon (Integer z) k = absurd (omega arith)
+one_is_semicolon (P b) k = one_only_if (eqb b 59) k
+
+semicolon_last : (ts : List CsiParam) (n : ℕ) → n + 1 ≡ length ts → semicolon_at ts n ≡ 1 → ends_in_semicolon ts ≡ true
+semicolon_last [] n e h = absurd (omega arith)
+semicolon_last (t ∷ []) zero e h = one_is_semicolon t h
+semicolon_last (t ∷ []) (suc n) e h = absurd (omega arith)
+semicolon_last (t ∷ u ∷ ts) zero e h = absurd (omega arith)
+semicolon_last (t ∷ u ∷ ts) (suc n) e h = semicolon_last (u ∷ ts) n (omega arith) h
+
+ends-tail : (t : CsiParam) (ts : List CsiParam) → 0 < length ts → ends_in_semicolon (t ∷ ts) ≡ false → ends_in_semicolon ts ≡ false
+ends-tail t [] h e = absurd (omega arith)
+ends-tail t (u ∷ ts) h e = e
+
+semicolon_count-le : (t : Option CsiParam) → semicolon_count t ≤ 1
+semicolon_count-le None = omega arith
+semicolon_count-le (Some (Integer z)) = omega arith
+semicolon_count-le (Some (P b)) = elim (eqb b 59) as (λ v. ones v ≤ 1) [ true ↦ omega arith | false ↦ omega arith ]
+
+-- a list's actions are used up with its tokens
+from-behind : (piece : List CsiParam → Option (Action × ℕ)) (left : List CsiParam → Action) (ts b : List CsiParam) → pieces_from piece left (suc (length ts)) (ts ++ P 59 ∷ b) ≡ pieces_from piece left 0 b
+from-behind piece left [] b = refl
+from-behind piece left (t ∷ ts) b = from-behind piece left ts b
+
+from-all : (piece : List CsiParam → Option (Action × ℕ)) (left : List CsiParam → Action) (ts : List CsiParam) → pieces_from piece left (length ts) ts ≡ []
+from-all piece left [] = refl
+from-all piece left (t ∷ ts) = from-all piece left ts
+
+shorter_by : (ts : List CsiParam) (n s : ℕ) → semicolon_at ts n ≡ s → s ≤ 1 → n < length ts → ends_in_semicolon ts ≡ false → n + s < length ts
+shorter_by ts n zero q l h e = omega arith
+shorter_by ts n (suc zero) q l h e = elim (eqb_tells (n + 1) (length ts))
+    [ inl p ↦ let k : true ≡ false = sym (semicolon_last ts n p.1 q) ∙ e in absurd (false≢true (sym k)) | inr p ↦ omega (arith, p.1) ]
+shorter_by ts n (suc (suc s)) q l h e = absurd (omega arith)
+
+-- a piece whose shape ends inside the list does so too, where no `;` ends the list
+shorter : (ts : List CsiParam) (n : ℕ) → n < length ts → ends_in_semicolon ts ≡ false → n + semicolon_at ts n < length ts
+shorter ts n h e = shorter_by ts n (semicolon_at ts n) refl (semicolon_count-le (slice_get ts n)) h e
+
+slice_get-behind : (ts b : List CsiParam) (t : CsiParam) → slice_get (ts ++ t ∷ b) (length ts) ≡ Some t
+slice_get-behind [] b t = refl
+slice_get-behind (u ∷ ts) b t = slice_get-behind ts b t
+
+abbrev as_actions : Option (Sgr × ℕ) → Option (Action × ℕ)
+as_actions found = option_map (λ f. (sgr f.0, f.1)) found
+
+all_sgr_tokens-append : (a b : List CsiParam) → all_sgr_tokens a ≡ true → all_sgr_tokens b ≡ true → all_sgr_tokens (a ++ P 59 ∷ b) ≡ true
+all_sgr_tokens-append [] b h k = k
+all_sgr_tokens-append (t ∷ a) b h k = and_more (is_sgr_token t) (all_sgr_tokens a) (all_sgr_tokens (a ++ P 59 ∷ b)) h (λ e. all_sgr_tokens-append a b e k)
+
+module _ (truncated : Bool) where
+  abbrev rest_action : List CsiParam → Action
+  rest_action rest = unspecified rest truncated 109
+
+  abbrev from : ℕ → List CsiParam → List Action
+  from = pieces_from rendition_piece rest_action
+
+  abbrev follow : List CsiParam → Action × ℕ → List Action
+  follow ts f = f.0 ∷ from (f.1 - 1) ts
+
+  -- one step, over what the shape found
+  abbrev step : Option (Sgr × ℕ) → List CsiParam → List CsiParam → List Action
+  step found all ts = option_map_or (follow ts) (as_actions (with_semicolon all found)) (rest_action all ∷ [])
+
+  from-step : (t : CsiParam) (ts : List CsiParam) → from 0 (t ∷ ts) ≡ step (sgr_shape (t ∷ ts)) (t ∷ ts) ts
+  unfolding sgr_piece
+  from-step t ts = refl
+
+  abbrev Joins : List CsiParam → List CsiParam → Type 0
+  Joins ts b = (k : ℕ) → k < length ts → ends_in_semicolon ts ≡ false → all_known (from k ts) ≡ true → from k (ts ++ P 59 ∷ b) ≡ from k ts ++ from 0 b
+
+  -- a shape that ends inside the list
+  ends_inside : (t : CsiParam) (ts b : List CsiParam) (f : Sgr × ℕ) → 0 < f.1 → f.1 < length (t ∷ ts) → ends_in_semicolon (t ∷ ts) ≡ false → Joins ts b
+      → all_known (step (Some f) (t ∷ ts) ts) ≡ true
+      → step (Some f) ((t ∷ ts) ++ P 59 ∷ b) (ts ++ P 59 ∷ b) ≡ step (Some f) (t ∷ ts) ts ++ from 0 b
+  ends_inside t ts b f some h e ih known =
+      let same : semicolon_at ((t ∷ ts) ++ P 59 ∷ b) f.1 ≡ semicolon_at (t ∷ ts) f.1 = ap semicolon_count (slice_get-append (t ∷ ts) (P 59 ∷ b) f.1 h) in
+      let short : f.1 + semicolon_at (t ∷ ts) f.1 < length (t ∷ ts) = shorter (t ∷ ts) f.1 h e in
+      let positive : 0 < length ts = omega (arith, some, short) in
+      ap (λ s. sgr f.0 ∷ from (f.1 + s - 1) (ts ++ P 59 ∷ b)) same
+      ∙ ap (λ others. sgr f.0 ∷ others) (ih (f.1 + semicolon_at (t ∷ ts) f.1 - 1) (omega arith) (ends-tail t ts positive e) known)
+
+  -- a shape that ends with the list
+  ends_with : (t : CsiParam) (ts b : List CsiParam) (f : Sgr × ℕ) → f.1 ≡ suc (length ts)
+      → step (Some f) ((t ∷ ts) ++ P 59 ∷ b) (ts ++ P 59 ∷ b) ≡ step (Some f) (t ∷ ts) ts ++ from 0 b
+  ends_with t ts b f e =
+      let there : semicolon_at ((t ∷ ts) ++ P 59 ∷ b) f.1 ≡ 1 = ap (semicolon_at ((t ∷ ts) ++ P 59 ∷ b)) e ∙ ap semicolon_count (slice_get-behind ts b (P 59)) in
+      let here : semicolon_at (t ∷ ts) f.1 ≡ 0 = ap semicolon_count (slice_get_past (t ∷ ts) f.1 (omega arith)) in
+      let long : f.1 + semicolon_at ((t ∷ ts) ++ P 59 ∷ b) f.1 - 1 ≡ suc (length ts) = omega arith in
+      let whole : f.1 + semicolon_at (t ∷ ts) f.1 - 1 ≡ length ts = omega arith in
+      ap (λ k. sgr f.0 ∷ from k (ts ++ P 59 ∷ b)) long
+      ∙ ap (λ others. sgr f.0 ∷ others) (from-behind rendition_piece rest_action ts b)
+      ∙ sym (ap (λ others. sgr f.0 ∷ others ++ from 0 b) (ap (λ k. from k ts) whole ∙ from-all rendition_piece rest_action ts))
+
+  join-step : (t : CsiParam) (ts b : List CsiParam) (found : Option (Sgr × ℕ)) → sgr_shape (t ∷ ts) ≡ found → ends_in_semicolon (t ∷ ts) ≡ false → Joins ts b
+      → all_known (step found (t ∷ ts) ts) ≡ true
+      → step (sgr_shape ((t ∷ ts) ++ P 59 ∷ b)) ((t ∷ ts) ++ P 59 ∷ b) (ts ++ P 59 ∷ b) ≡ step found (t ∷ ts) ts ++ from 0 b
+  join-step t ts b None q e ih known = absurd (false≢true known)
+  join-step t ts b (Some f) q e ih known =
+      let Q : Option (Sgr × ℕ) → Type 0 = λ found. Takes (length (t ∷ ts)) found in
+      let takes : (0 < f.1) × (f.1 ≤ length (t ∷ ts)) = subst Q q (sgr_shape_takes (t ∷ ts)) in
+      let stable : sgr_shape ((t ∷ ts) ++ P 59 ∷ b) ≡ Some f = sgr_shape-stable (t ∷ ts) b (ap is_some q) ∙ q in
+      ap (λ found. step found ((t ∷ ts) ++ P 59 ∷ b) (ts ++ P 59 ∷ b)) stable
+      ∙ elim (eqb_tells f.1 (suc (length ts)))
+      [ inl p ↦ ends_with t ts b f p.1 | inr p ↦ ends_inside t ts b f takes.0 (omega (arith, takes.1, p.1)) e ih known ]
+
+  join-from : (k : ℕ) (ts b : List CsiParam) → k < length ts → ends_in_semicolon ts ≡ false → all_known (from k ts) ≡ true → from k (ts ++ P 59 ∷ b) ≡ from k ts ++ from 0 b
+  join-from k [] b h e known = absurd (omega arith)
+  join-from (suc k) (t ∷ ts) b h e known = join-from k ts b (omega arith) (ends-tail t ts (omega arith) e) known
+  join-from zero (t ∷ ts) b h e known =
+      let Q : List Action → Type 0 = λ actions. all_known actions ≡ true in
+      from-step t (ts ++ P 59 ∷ b)
+      ∙ join-step t ts b (sgr_shape (t ∷ ts)) refl e (λ j. join-from j ts b) (subst Q (from-step t ts) known)
+      ∙ ap (λ actions. actions ++ from 0 b) (sym (from-step t ts))
+
+pub sgr_lists_join-lem : SgrListsJoin
+unfolding csi_reading pieces
+sgr_lists_join-lem [] b truncated h = absurd (omega (arith, h.first_some))
+sgr_lists_join-lem (t ∷ a) [] truncated h = absurd (omega (arith, h.other_some))
+sgr_lists_join-lem (t ∷ a) (u ∷ b) truncated h =
+    let whole : all_sgr_tokens ((t ∷ a) ++ P 59 ∷ u ∷ b) ≡ true = all_sgr_tokens-append (t ∷ a) (u ∷ b) h.first_tokens h.other_tokens in
+    let known : all_known (from truncated 0 (t ∷ a)) ≡ true = ap (λ v. all_known (cond v (from truncated 0 (t ∷ a)) (unspecified (t ∷ a) truncated 109 ∷ []))) (sym h.first_tokens) ∙ h.known in
+    ap (λ v. cond v (from truncated 0 ((t ∷ a) ++ P 59 ∷ u ∷ b)) (unspecified ((t ∷ a) ++ P 59 ∷ u ∷ b) truncated 109 ∷ [])) whole
+    ∙ join-from truncated 0 (t ∷ a) (u ∷ b) h.first_some h.unended known
+    ∙ sym (ap (λ v. cond v (from truncated 0 (t ∷ a)) (unspecified (t ∷ a) truncated 109 ∷ []) ++ from truncated 0 (u ∷ b)) h.first_tokens)
+    ∙ sym (ap (λ v. cond (all_sgr_tokens (t ∷ a)) (from truncated 0 (t ∷ a)) (unspecified (t ∷ a) truncated 109 ∷ []) ++ cond v (from truncated 0 (u ∷ b)) (unspecified (u ∷ b) truncated 109 ∷ [])) h.other_tokens)

@@ -1,0 +1,12 @@
+mod SgrLemmas
+mod PieceLemmas
+mod ReadingLemmas
+mod JoinLemmas
+mod BackLemmas
+mod TableBack
+mod SgrBack
+mod ModeBack
+mod RoundTrip
+mod TextLemmas
+mod Written
+mod TextTrip

@@ -1,0 +1,92 @@
+-- Pieces: how many tokens one takes, and what the actions of a list are by its first piece.
+use Rattle.std.proofs.Common.{◌≡◌, ℕ, zero, suc, ◌+◌, ◌-◌, ◌<◌, ◌≤◌, ℤ, eqb, Bool, true, false, cond, List, [], ◌∷◌, length, drop, Option, Some, None, option_map, arith, refl, ap, ◌∙◌, subst}
+use Rattle.std.specs.Option.{option_map_or}
+use Rattle.csi_codec.specs.declared.parameters.CsiParam.{CsiParam}
+use Rattle.csi_codec.specs.declared.parameters.CsiParam.TheVariants.{Integer, P}
+use Rattle.csi_codec.specs.declared.rendition.Sgr.{Sgr}
+use Rattle.csi_codec.specs.declared.modes.Mode.{Mode}
+use Rattle.csi_codec.specs.declared.pieces.Kind.{Kind}
+use Rattle.csi_codec.specs.declared.pieces.Kind.TheVariants as kind
+use Rattle.csi_codec.specs.Parameters.{semicolon_count, semicolon_at, with_semicolon}
+use Rattle.csi_codec.specs.Modes.{private_mode_reading, mode_reading}
+use Rattle.csi_codec.specs.Rendition.{taking, sgr_shape, sgr_piece}
+use Rattle.csi_codec.specs.Actions.{Action, sgr, mode, unspecified, rendition_piece, mode_piece, piece_of, pieces_from, pieces}
+use Rattle.csi_codec.proofs.SgrLemmas.{Takes, taking-takes, sgr_shape_takes}
+
+-- ---- How many tokens a piece takes
+
+semicolon_count-le : (t : Option CsiParam) → semicolon_count t ≤ 1
+semicolon_count-le None = omega arith
+semicolon_count-le (Some (Integer z)) = omega arith
+semicolon_count-le (Some (P b)) = elim (eqb b 59) as (λ v. cond v 1 0 ≤ 1) [ true ↦ omega arith | false ↦ omega arith ]
+
+semicolon_at-fits : (ts : List CsiParam) (n : ℕ) → n ≤ length ts → n + semicolon_at ts n ≤ length ts
+semicolon_at-fits [] n h = omega arith
+semicolon_at-fits (t ∷ ts) zero h = let s : semicolon_count (Some t) ≤ 1 = semicolon_count-le (Some t) in omega arith
+semicolon_at-fits (t ∷ ts) (suc n) h = let i : n + semicolon_at ts n ≤ length ts = semicolon_at-fits ts n (omega arith) in omega arith
+
+with_semicolon-takes : {A : Type 0} (ts : List CsiParam) (found : Option (A × ℕ)) → Takes (length ts) found → Takes (length ts) (with_semicolon ts found)
+with_semicolon-takes ts None h = tt
+with_semicolon-takes ts (Some f) h = (omega (arith, h.0), semicolon_at-fits ts f.1 h.1)
+
+as_action : (n : ℕ) (found : Option (Sgr × ℕ)) → Takes n found → Takes n (option_map (λ f. (sgr f.0, f.1)) found)
+as_action n None h = tt
+as_action n (Some f) h = h
+
+rendition_piece-takes : (ts : List CsiParam) → Takes (length ts) (rendition_piece ts)
+unfolding sgr_piece
+rendition_piece-takes ts = as_action (length ts) (sgr_piece ts) (with_semicolon-takes ts (sgr_shape ts) (sgr_shape_takes ts))
+
+mode_piece-takes : (read : ℤ → Option Mode) (ts : List CsiParam) → Takes (length ts) (mode_piece read ts)
+unfolding mode_piece
+mode_piece-takes read [] = tt
+mode_piece-takes read (P b ∷ ts) = tt
+mode_piece-takes read (Integer z ∷ ts) =
+    with_semicolon-takes (Integer z ∷ ts) (taking 1 (option_map mode (read z))) (taking-takes (length (Integer z ∷ ts)) (option_map mode (read z)) (omega arith))
+
+-- a piece takes at least one token, and no more than there are
+pub piece_of-takes : (k : Kind) (final : ℕ) (ts : List CsiParam) → Takes (length ts) (piece_of k final ts)
+piece_of-takes kind.Rendition final ts = rendition_piece-takes ts
+piece_of-takes kind.PrivateModes final ts = mode_piece-takes (private_mode_reading final) ts
+piece_of-takes kind.StandardModes final ts = mode_piece-takes (mode_reading final) ts
+
+pub piece_of_takes : (k : Kind) (final : ℕ) (ts : List CsiParam) (a : Action) (n : ℕ) → piece_of k final ts ≡ Some (a, n) → (0 < n) × (n ≤ length ts)
+piece_of_takes k final ts a n e = let P : Option (Action × ℕ) → Type 0 = λ found. Takes (length ts) found in subst P e (piece_of-takes k final ts)
+
+-- ---- The first piece
+
+-- used up tokens are as good as dropped
+pub pieces_from-drop : (piece : List CsiParam → Option (Action × ℕ)) (left : List CsiParam → Action) (k : ℕ) (ts : List CsiParam) → pieces_from piece left k ts ≡ pieces_from piece left 0 (drop k ts)
+pieces_from-drop piece left zero ts = refl
+pieces_from-drop piece left (suc k) [] = refl
+pieces_from-drop piece left (suc k) (t ∷ ts) = pieces_from-drop piece left k ts
+
+-- where a piece stands it is the first action, and the others are those of what follows
+pub pieces_found : (k : Kind) (truncated : Bool) (final : ℕ) (ts : List CsiParam) (a : Action) (n : ℕ) → piece_of k final ts ≡ Some (a, n) → pieces k truncated final ts ≡ a ∷ pieces k truncated final (drop n ts)
+unfolding pieces
+pieces_found k truncated final [] a n e = let t : (0 < n) × (n ≤ 0) = piece_of_takes k final [] a n e in absurd (omega (arith, t.0, t.1))
+pieces_found k truncated final (t ∷ ts) a zero e = let h : (0 < 0) × (0 ≤ length (t ∷ ts)) = piece_of_takes k final (t ∷ ts) a zero e in absurd (omega (arith, h.0))
+pieces_found k truncated final (t ∷ ts) a (suc n) e =
+    let left : List CsiParam → Action = λ rest. unspecified rest truncated final in
+    let piece : List CsiParam → Option (Action × ℕ) = piece_of k final in
+    ap (λ found. option_map_or (λ f. f.0 ∷ pieces_from piece left (f.1 - 1) ts) found (left (t ∷ ts) ∷ [])) e
+    ∙ ap (λ m. a ∷ pieces_from piece left m ts) (sub_one n)
+    ∙ ap (λ rest. a ∷ rest) (pieces_from-drop piece left n ts)
+  where
+    sub_one : (n : ℕ) → suc n - 1 ≡ n
+    sub_one n = omega arith
+
+-- where none stands the list is left
+pub pieces_left : (k : Kind) (truncated : Bool) (final : ℕ) (ts : List CsiParam) → piece_of k final ts ≡ None → 0 < length ts → pieces k truncated final ts ≡ unspecified ts truncated final ∷ []
+unfolding pieces
+pieces_left k truncated final [] e h = absurd (omega arith)
+pieces_left k truncated final (t ∷ ts) e h =
+    let left : List CsiParam → Action = λ rest. unspecified rest truncated final in
+    let piece : List CsiParam → Option (Action × ℕ) = piece_of k final in
+    ap (λ found. option_map_or (λ f. f.0 ∷ pieces_from piece left (f.1 - 1) ts) found (left (t ∷ ts) ∷ [])) e
+
+-- an empty list has no actions
+pub pieces_none : (k : Kind) (truncated : Bool) (final : ℕ) (ts : List CsiParam) → length ts ≡ 0 → pieces k truncated final ts ≡ []
+unfolding pieces
+pieces_none k truncated final [] h = refl
+pieces_none k truncated final (t ∷ ts) h = absurd (omega arith)

@@ -1,0 +1,106 @@
+-- The text of a spellable list gives it back.
+use Rattle.std.proofs.Common.{◌≡◌, ℕ, ◌+◌, ◌-◌, ◌*◌, ◌^◌, ◌<◌, ◌≤◌, pos, negsuc, leb, min, Bool, true, false, not, cond, ◌&&◌, List, [], ◌∷◌, ◌++◌, length, Option, Some, None, arith, rules, refl, ap, ◌∙◌}
+use Rattle.std.specs.Prelude.{flat_map, unwrap_or, encode_utf8}
+use Rattle.std.specs.Char.{is_ascii_digit}
+use Rattle.std.specs.Str.{all_ascii_digits}
+use Rattle.std.specs.Fmt.{decimal}
+use Rattle.std.proofs.lemmas.Bool.{leb-true}
+use Rattle.std.proofs.lemmas.Bool.Decides.{nat_tests}
+use Rattle.std.proofs.lemmas.Str.{encode_ascii}
+use Rattle.std.proofs.lemmas.Str.Parse.{IsNumeralModel, numerals_by_fold}
+use Rattle.std.proofs.lemmas.Fmt.{digits_value-decimal, digits_decimal, decimal_is_IsNumeral}
+use Rattle.csi_codec.specs.declared.parameters.CsiParam.{CsiParam}
+use Rattle.csi_codec.specs.declared.parameters.CsiParam.TheVariants.{Integer, P}
+use Rattle.csi_codec.specs.Parameters.{token_text}
+use Rattle.csi_codec.specs.Texts.{largest_number, begun_token, tokens_behind, is_sign, begins_with_number, is_spellable, ParametersReadBack}
+
+and_left : (a b : Bool) → (a && b) ≡ true → a ≡ true
+and_left true b h = refl
+and_left false b h = cc
+
+and_right : (a b : Bool) → (a && b) ≡ true → b ≡ true
+and_right true b h = h
+and_right false b h = cc
+
+-- ---- Digits
+
+abbrev read_on : ℕ → List ℕ → ℕ
+read_on n [] = n
+read_on n (c ∷ cs) = read_on (10 * n + (c - 48)) cs
+
+own : IsNumeralModel (λ ds. all_ascii_digits ds ≡ true) (read_on 0)
+own = numerals_by_fold _ (search rules) read_on (search rules)
+
+decimal_value : (n : ℕ) → n < 2 ^ 64 → read_on 0 (decimal n) ≡ n
+decimal_value n h = search (rules, digits_value-decimal own)
+
+pub decimal_digits : (n : ℕ) → n < 2 ^ 64 → all_ascii_digits (decimal n) ≡ true
+decimal_digits n h = search (rules, digits_decimal own)
+
+behind-digits : (ds x : List ℕ) (m : ℕ) → all_ascii_digits ds ≡ true → tokens_behind (Some m) (ds ++ x) ≡ tokens_behind (Some (read_on m ds)) x
+behind-digits [] x m h = refl
+behind-digits (c ∷ cs) x m h =
+    ap (λ b. cond b (tokens_behind (Some (10 * m + (c - 48))) (cs ++ x)) (Integer (pos (min m largest_number)) ∷ P c ∷ tokens_behind None (cs ++ x))) (and_left (is_ascii_digit c) (all_ascii_digits cs) h)
+    ∙ behind-digits cs x (10 * m + (c - 48)) (and_right (is_ascii_digit c) (all_ascii_digits cs) h)
+
+some-digits : (ds x : List ℕ) → 0 < length ds → all_ascii_digits ds ≡ true → tokens_behind None (ds ++ x) ≡ tokens_behind (Some (read_on 0 ds)) x
+some-digits [] x l h = absurd (omega arith)
+some-digits (c ∷ cs) x l h =
+    ap (λ b. cond b (tokens_behind (Some (0 + (c - 48))) (cs ++ x)) (P c ∷ tokens_behind None (cs ++ x))) (and_left (is_ascii_digit c) (all_ascii_digits cs) h)
+    ∙ behind-digits cs x (0 + (c - 48)) (and_right (is_ascii_digit c) (all_ascii_digits cs) h)
+
+-- ---- Other bytes
+
+pub sign_small : (b : ℕ) → is_sign b ≡ true → b < 128
+sign_small b h = grind (arith, nat_tests)
+
+not_digit : (b : ℕ) → is_sign b ≡ true → is_ascii_digit b ≡ false
+not_digit b h = grind (arith, nat_tests)
+
+pub sign_text : (b : ℕ) → is_sign b ≡ true → encode_utf8 b ≡ b ∷ []
+sign_text b h = encode_ascii b (sign_small b h)
+
+behind-sign : (begun : Option ℕ) (b : ℕ) (x : List ℕ) → is_sign b ≡ true → tokens_behind begun (encode_utf8 b ++ x) ≡ begun_token begun ++ P b ∷ tokens_behind None x
+behind-sign begun b x h =
+    ap (λ bytes. tokens_behind begun (bytes ++ x)) (sign_text b h)
+    ∙ ap (λ v. cond v (tokens_behind (Some (10 * unwrap_or begun 0 + (b - 48))) x) (begun_token begun ++ P b ∷ tokens_behind None x)) (not_digit b h)
+
+-- ---- Lists
+
+min_large : (n : ℕ) → n ≤ largest_number → min n largest_number ≡ n
+min_large n h = omega arith
+
+not_number : (ts : List CsiParam) → not (begins_with_number ts) ≡ true → begins_with_number ts ≡ false
+not_number [] h = refl
+not_number (Integer z ∷ ts) h = cc
+not_number (P b ∷ ts) h = refl
+
+nonempty_decimal : (n : ℕ) → n < 2 ^ 64 → 0 < length (decimal n)
+nonempty_decimal n h = (decimal_is_IsNumeral n h).0.0
+
+mutual
+  pub list_back : (ts : List CsiParam) → is_spellable ts ≡ true → tokens_behind None (flat_map token_text ts) ≡ ts
+  list_back [] h = refl
+  list_back (P b ∷ ts) h =
+      behind-sign None b (flat_map token_text ts) (and_left (is_sign b) (is_spellable ts) h)
+      ∙ ap (λ us. P b ∷ us) (list_back ts (and_right (is_sign b) (is_spellable ts) h))
+  list_back (Integer (negsuc n) ∷ ts) h = cc
+  list_back (Integer (pos n) ∷ ts) h =
+      let small : n ≤ largest_number = leb-true n largest_number (and_left (leb n largest_number) (not (begins_with_number ts) && is_spellable ts) h) in
+      let others : (not (begins_with_number ts) && is_spellable ts) ≡ true = and_right (leb n largest_number) (not (begins_with_number ts) && is_spellable ts) h in
+      let fits : n < 2 ^ 64 = omega arith in
+      some-digits (decimal n) (flat_map token_text ts) (nonempty_decimal n fits) (decimal_digits n fits)
+      ∙ ap (λ k. tokens_behind (Some k) (flat_map token_text ts)) (decimal_value n fits)
+      ∙ list_behind n ts small (not_number ts (and_left (not (begins_with_number ts)) (is_spellable ts) others)) (and_right (not (begins_with_number ts)) (is_spellable ts) others)
+
+  -- behind a number
+  list_behind : (n : ℕ) (ts : List CsiParam) → n ≤ largest_number → begins_with_number ts ≡ false → is_spellable ts ≡ true → tokens_behind (Some n) (flat_map token_text ts) ≡ Integer (pos n) ∷ ts
+  list_behind n [] s b h = ap (λ k. Integer (pos k) ∷ []) (min_large n s)
+  list_behind n (Integer z ∷ ts) s b h = cc
+  list_behind n (P c ∷ ts) s b h =
+      behind-sign (Some n) c (flat_map token_text ts) (and_left (is_sign c) (is_spellable ts) h)
+      ∙ ap (λ k. Integer (pos k) ∷ P c ∷ tokens_behind None (flat_map token_text ts)) (min_large n s)
+      ∙ ap (λ us. Integer (pos n) ∷ P c ∷ us) (list_back ts (and_right (is_sign c) (is_spellable ts) h))
+
+pub parameters_read_back-lem : ParametersReadBack
+parameters_read_back-lem ts h = list_back ts h

@@ -1,0 +1,183 @@
+-- The text of each action of a spellable list reads back.
+use Rattle.std.proofs.Common.{◌≡◌, ℕ, zero, suc, ◌-◌, ◌<◌, ◌≤◌, ℤ, pos, negsuc, eqb, Bool, true, false, not, cond, ◌&&◌, ◌||◌, List, [], ◌∷◌, ◌++◌, Option, Some, None, option_map, arith, refl, ap, ◌∙◌, subst}
+use Rattle.std.specs.Prelude.{is_some, flat_map, encode_utf8}
+use Rattle.std.specs.Option.{option_map_or, option_or}
+use Rattle.std.specs.Char.{is_ascii_digit}
+use Rattle.std.specs.Str.{all_ascii_digits}
+use Rattle.std.specs.Fmt.{decimal}
+use Rattle.std.proofs.lemmas.Bool.{leb-true}
+use Rattle.std.proofs.lemmas.Bool.Decides.{nat_tests}
+use Rattle.std.proofs.lemmas.Str.{encode_ascii}
+use Rattle.csi_codec.specs.declared.parameters.CsiParam.{CsiParam}
+use Rattle.csi_codec.specs.declared.parameters.CsiParam.TheVariants.{Integer, P}
+use Rattle.csi_codec.specs.declared.rendition.Sgr.{Sgr}
+use Rattle.csi_codec.specs.declared.modes.Mode.{Mode}
+use Rattle.csi_codec.specs.declared.cursors.Cursor.{Cursor}
+use Rattle.csi_codec.specs.declared.edits.Edit.{Edit}
+use Rattle.csi_codec.specs.declared.devices.Device.{Device}
+use Rattle.csi_codec.specs.declared.pieces.Kind.{Kind}
+use Rattle.csi_codec.specs.declared.pieces.Kind.TheVariants as kind
+use Rattle.csi_codec.specs.Parameters.{token_text, with_semicolon}
+use Rattle.csi_codec.specs.Cursors.{cursor_reading}
+use Rattle.csi_codec.specs.Edits.{edit_reading}
+use Rattle.csi_codec.specs.Devices.{device_reading}
+use Rattle.csi_codec.specs.Modes.{private_mode_reading, mode_reading}
+use Rattle.csi_codec.specs.Rendition.{taking, is_between, sgr_shape, sgr_piece}
+use Rattle.csi_codec.specs.Actions.{Action, sgr, cursor, edit, mode, device, unspecified, mode_piece, piece_of, pieces_from, pieces, all_sgr_tokens, sgr_reading, modes_or, standard_reading, other_reading, csi_reading, spelling_of}
+use Rattle.csi_codec.specs.Laws.{ReadsBack, EachReadsBack}
+use Rattle.csi_codec.specs.Texts.{largest_number, is_sign, is_written_number, begins_with_number, is_spellable, all_parameter_bytes, TextReadsBack, EachTextReadsBack, TextsReadBack}
+use Rattle.csi_codec.proofs.TextLemmas.{list_back, decimal_digits, sign_text}
+use Rattle.csi_codec.proofs.Written.{IsWritten, listed_0, sgr_shape-written, cursor_reading-written, edit_reading-written, device_reading-written, private_mode-written, standard_mode-written}
+use Rattle.csi_codec.proofs.RoundTrip.{as_actions, first_of, actions_read_back-lem}
+
+and_left : (a b : Bool) → (a && b) ≡ true → a ≡ true
+and_left true b h = refl
+and_left false b h = cc
+
+and_right : (a b : Bool) → (a && b) ≡ true → b ≡ true
+and_right true b h = h
+and_right false b h = cc
+
+both_true : (a b : Bool) → a ≡ true → b ≡ true → (a && b) ≡ true
+both_true true b h k = k
+both_true false b h k = cc
+
+-- ---- Bytes
+
+sign_byte : (b : ℕ) → is_sign b ≡ true → is_between 32 63 b ≡ true
+sign_byte b h = grind (arith, nat_tests)
+
+digit_byte : (b : ℕ) → is_ascii_digit b ≡ true → is_between 32 63 b ≡ true
+digit_byte b h = grind (arith, nat_tests)
+
+bytes-append : (a b : List ℕ) → all_parameter_bytes a ≡ true → all_parameter_bytes b ≡ true → all_parameter_bytes (a ++ b) ≡ true
+bytes-append [] b h k = k
+bytes-append (x ∷ a) b h k = both_true (is_between 32 63 x) (all_parameter_bytes (a ++ b)) (and_left (is_between 32 63 x) (all_parameter_bytes a) h) (bytes-append a b (and_right (is_between 32 63 x) (all_parameter_bytes a) h) k)
+
+digit_bytes : (ds : List ℕ) → all_ascii_digits ds ≡ true → all_parameter_bytes ds ≡ true
+digit_bytes [] h = refl
+digit_bytes (d ∷ ds) h = both_true (is_between 32 63 d) (all_parameter_bytes ds) (digit_byte d (and_left (is_ascii_digit d) (all_ascii_digits ds) h)) (digit_bytes ds (and_right (is_ascii_digit d) (all_ascii_digits ds) h))
+
+spellable-tail : (t : CsiParam) (ts : List CsiParam) → is_spellable (t ∷ ts) ≡ true → is_spellable ts ≡ true
+spellable-tail (P b) ts h = and_right (is_sign b) (is_spellable ts) h
+spellable-tail (Integer z) ts h = and_right (not (begins_with_number ts)) (is_spellable ts) (and_right (is_written_number z) (not (begins_with_number ts) && is_spellable ts) h)
+
+sign_bytes : (b : ℕ) → is_sign b ≡ true → all_parameter_bytes (encode_utf8 b) ≡ true
+sign_bytes b h = ap all_parameter_bytes (sign_text b h) ∙ both_true (is_between 32 63 b) true (sign_byte b h) refl
+
+number_bytes : (z : ℤ) → is_written_number z ≡ true → all_parameter_bytes (token_text (Integer z)) ≡ true
+number_bytes (negsuc n) h = cc
+number_bytes (pos n) h = let small : n ≤ largest_number = leb-true n largest_number h in digit_bytes (decimal n) (decimal_digits n (omega arith))
+
+list_bytes : (ts : List CsiParam) → is_spellable ts ≡ true → all_parameter_bytes (flat_map token_text ts) ≡ true
+list_bytes [] h = refl
+list_bytes (P b ∷ ts) h = bytes-append (encode_utf8 b) (flat_map token_text ts) (sign_bytes b (and_left (is_sign b) (is_spellable ts) h)) (list_bytes ts (spellable-tail (P b) ts h))
+list_bytes (Integer z ∷ ts) h =
+    bytes-append (token_text (Integer z)) (flat_map token_text ts) (number_bytes z (and_left (is_written_number z) (not (begins_with_number ts) && is_spellable ts) h)) (list_bytes ts (spellable-tail (Integer z) ts h))
+
+-- ---- Each action is written
+
+abbrev EachIsWritten : List Action → Type 0
+EachIsWritten [] = Unit {0}
+EachIsWritten (a ∷ others) = IsWritten a × EachIsWritten others
+
+same_action : (x a : Action) → x ≡ a → IsWritten x → IsWritten a
+same_action x a q h = subst (λ (y : Action). IsWritten y) q h
+
+rendition-written : (found : Option (Sgr × ℕ)) (ts : List CsiParam) → ((f : Sgr × ℕ) → found ≡ Some f → IsWritten (sgr f.0)) → (a : Action) (n : ℕ)
+    → as_actions (with_semicolon ts found) ≡ Some (a, n) → IsWritten a
+rendition-written None ts h a n e = cc
+rendition-written (Some f) ts h a n e = same_action (sgr f.0) a (ap (first_of a) e) (h f refl)
+
+moded-written : (found : Option Mode) (ts : List CsiParam) → ((m : Mode) → found ≡ Some m → IsWritten (mode m)) → (a : Action) (n : ℕ)
+    → with_semicolon ts (taking 1 (option_map mode found)) ≡ Some (a, n) → IsWritten a
+moded-written None ts h a n e = cc
+moded-written (Some m) ts h a n e = same_action (mode m) a (ap (first_of a) e) (h m refl)
+
+mode_piece-written : (read : ℤ → Option Mode) → ((z : ℤ) (m : Mode) → read z ≡ Some m → IsWritten (mode m)) → (ts : List CsiParam) (a : Action) (n : ℕ) → mode_piece read ts ≡ Some (a, n) → IsWritten a
+unfolding mode_piece
+mode_piece-written read h [] a n e = cc
+mode_piece-written read h (P b ∷ ts) a n e = cc
+mode_piece-written read h (Integer z ∷ ts) a n e = moded-written (read z) (Integer z ∷ ts) (h z) a n e
+
+piece-written : (k : Kind) (final : ℕ) (ts : List CsiParam) (a : Action) (n : ℕ) → piece_of k final ts ≡ Some (a, n) → IsWritten a
+unfolding sgr_piece
+piece-written kind.Rendition final ts a n e = rendition-written (sgr_shape ts) ts (sgr_shape-written ts) a n e
+piece-written kind.PrivateModes final ts a n e = mode_piece-written (private_mode_reading final) (private_mode-written final) ts a n e
+piece-written kind.StandardModes final ts a n e = mode_piece-written (mode_reading final) (standard_mode-written final) ts a n e
+
+module _ (truncated : Bool) (final : ℕ) (low : 64 ≤ final) (high : final ≤ 126) where
+  left_written : (ts : List CsiParam) → is_spellable ts ≡ true → IsWritten (unspecified ts truncated final)
+  left_written ts h = record { params = h; low = low; high = high }
+
+  abbrev from : Kind → ℕ → List CsiParam → List Action
+  from k = pieces_from (piece_of k final) (λ rest. unspecified rest truncated final)
+
+  from_found : (k : Kind) (t : CsiParam) (ts : List CsiParam) (others : ℕ → List Action) (found : Option (Action × ℕ)) → piece_of k final (t ∷ ts) ≡ found → is_spellable (t ∷ ts) ≡ true
+      → ((j : ℕ) → EachIsWritten (others j)) → EachIsWritten (option_map_or (λ f. f.0 ∷ others (f.1 - 1)) found (unspecified (t ∷ ts) truncated final ∷ []))
+  from_found k t ts others None e h each = (left_written (t ∷ ts) h, tt)
+  from_found k t ts others (Some f) e h each = (piece-written k final (t ∷ ts) f.0 f.1 e, each (f.1 - 1))
+
+  from-each : (k : Kind) (j : ℕ) (ts : List CsiParam) → is_spellable ts ≡ true → EachIsWritten (from k j ts)
+  from-each k zero [] h = tt
+  from-each k (suc j) [] h = tt
+  from-each k (suc j) (t ∷ ts) h = from-each k j ts (spellable-tail t ts h)
+  from-each k zero (t ∷ ts) h = from_found k t ts (λ j. from k j ts) (piece_of k final (t ∷ ts)) refl h (λ j. from-each k j ts (spellable-tail t ts h))
+
+  pieces-written : (k : Kind) (ts : List CsiParam) → is_spellable ts ≡ true → EachIsWritten (pieces k truncated final ts)
+  unfolding pieces
+  pieces-written k ts h = from-each k 0 ts h
+
+  chosen : (b : Bool) (x y : List Action) → EachIsWritten x → EachIsWritten y → EachIsWritten (cond b x y)
+  chosen true x y h k = h
+  chosen false x y h k = k
+
+  modes-written : (k : Kind) (ts whole : List CsiParam) → is_spellable ts ≡ true → is_spellable whole ≡ true → EachIsWritten (modes_or k truncated final ts whole)
+  modes-written k ts whole h w = chosen (is_some (piece_of k final ts)) _ _ (pieces-written k ts h) (left_written whole w, tt)
+
+  lone_by : (ts : List CsiParam) (c : Option Cursor) (e : Option Edit) (d : Option Device) → cursor_reading final ts ≡ c → edit_reading final ts ≡ e → device_reading final ts ≡ d → is_spellable ts ≡ true
+      → EachIsWritten (option_map_or (λ known. known ∷ []) (option_or (option_map cursor c) (option_or (option_map edit e) (option_map device d))) (unspecified ts truncated final ∷ []))
+  lone_by ts (Some c) e d p q r h = (cursor_reading-written final ts c p, tt)
+  lone_by ts None (Some e) d p q r h = (edit_reading-written final ts e q, tt)
+  lone_by ts None None (Some d) p q r h = (device_reading-written final ts d r, tt)
+  lone_by ts None None None p q r h = (left_written ts h, tt)
+
+  standard-written : (ts : List CsiParam) → is_spellable ts ≡ true → EachIsWritten (standard_reading truncated final ts)
+  standard-written ts h = chosen (eqb final 104 || eqb final 108) _ _ (modes-written kind.StandardModes ts ts h h)
+      (lone_by ts (cursor_reading final ts) (edit_reading final ts) (device_reading final ts) refl refl refl h)
+
+  other-written : (ts : List CsiParam) → is_spellable ts ≡ true → EachIsWritten (other_reading truncated final ts)
+  other-written [] h = standard-written [] h
+  other-written (Integer z ∷ ts) h = standard-written (Integer z ∷ ts) h
+  other-written (P b ∷ ts) h = chosen (eqb b 63) _ _ (modes-written kind.PrivateModes ts (P b ∷ ts) (spellable-tail (P b) ts h) h) (standard-written (P b ∷ ts) h)
+
+  sgr-written : (ts : List CsiParam) → is_spellable ts ≡ true → EachIsWritten (sgr_reading truncated final ts)
+  sgr-written [] h = (listed_0, tt)
+  sgr-written (t ∷ ts) h = chosen (all_sgr_tokens (t ∷ ts)) _ _ (pieces-written kind.Rendition (t ∷ ts) h) (left_written (t ∷ ts) h, tt)
+
+  reading-written : (ts : List CsiParam) → is_spellable ts ≡ true → EachIsWritten (csi_reading ts truncated final)
+  unfolding csi_reading
+  reading-written ts h = chosen (eqb final 109) _ _ (sgr-written ts h) (other-written ts h)
+
+-- ---- The text of one action, and of each
+
+text_back : (truncated : Bool) (a : Action) → ReadsBack truncated a → IsWritten a → TextReadsBack truncated a
+text_back truncated a back written =
+    let small : (spelling_of a).control < 128 = omega (arith, written.high) in
+    record {
+      body = flat_map token_text (spelling_of a).params;
+      final = (spelling_of a).control;
+      text = ap (λ bytes. 27 ∷ 91 ∷ (flat_map token_text (spelling_of a).params ++ bytes)) (encode_ascii (spelling_of a).control small);
+      bytes = list_bytes (spelling_of a).params written.params;
+      low = written.low;
+      high = written.high;
+      action = ap (λ ts. csi_reading ts truncated (spelling_of a).control) (list_back (spelling_of a).params written.params) ∙ back;
+    }
+
+each_text : (ts : List CsiParam) (truncated : Bool) (final : ℕ) (actions : List Action) → EachReadsBack ts truncated final actions → EachIsWritten actions → EachTextReadsBack ts truncated final actions
+each_text ts truncated final [] b w = tt
+each_text ts truncated final (a ∷ others) b w = (λ x. text_back truncated a (b.0 x) w.0, each_text ts truncated final others b.1 w.1)
+
+pub texts_read_back-lem : TextsReadBack
+texts_read_back-lem ts truncated final h low high =
+    each_text ts truncated final (csi_reading ts truncated final) (actions_read_back-lem ts truncated final) (reading-written truncated final low high ts h)

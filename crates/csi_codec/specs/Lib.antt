@@ -1,0 +1,17 @@
+pub mod Parameters
+pub mod Cursors
+pub mod Edits
+pub mod Devices
+pub mod Modes
+pub mod Rendition
+pub mod Escapes
+pub mod Places
+pub mod Cracking
+pub mod Rests
+pub mod Actions
+pub mod Known
+pub mod Sequences
+pub mod Parsing
+pub mod Laws
+pub mod Texts
+pub mod CrackedView

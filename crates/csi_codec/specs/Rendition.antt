@@ -1,0 +1,276 @@
+-- SGR: the shapes of a piece with their values, and what is written.
+-- ECMA-48 8.3.117; ISO 8613-6 13.1.8 for 38, 48 and the forms with colons; xterm: Character Attributes (SGR).
+use Rattle.std.specs.Prelude.{ℕ, ℤ, pos, List, [], ◌∷◌, length, Bool, true, false, ◌&&◌, Option, Some, None, nat_le, nat_lt, ◌==◌, ◌+◌, ◌-◌, if◌then◌else◌, option_map, option_and_then, slice_get}
+use Rattle.csi_codec.specs.Parameters.{is_number, number_within, with_semicolon, Spelled, spelled, number_tokens}
+use Rattle.csi_codec.specs.declared.parameters.CsiParam.{CsiParam}
+use Rattle.csi_codec.specs.declared.parameters.CsiParam.TheVariants.{Integer, P}
+use Rattle.csi_codec.specs.declared.shapes.Part.{Part}
+use Rattle.csi_codec.specs.declared.shapes.Part.TheVariants.{Sign, Code, Slot}
+use Rattle.csi_codec.specs.declared.rendition.Sgr.{Sgr}
+use Rattle.csi_codec.specs.declared.rendition.Sgr.TheVariants as sgr
+use Rattle.csi_codec.specs.declared.rendition.Font.TheVariants as font
+use Rattle.cell_base.specs.declared.color.ColorSpec.{ColorSpec}
+use Rattle.cell_base.specs.declared.color.ColorSpec.TheVariants as color
+use Rattle.cell_base.specs.declared.color.SrgbaTuple.{SrgbaTuple}
+use Rattle.cell_base.specs.declared.attributes.Intensity.TheVariants as intensity
+use Rattle.cell_base.specs.declared.attributes.Underline.{Underline}
+use Rattle.cell_base.specs.declared.attributes.Underline.TheVariants as underline
+use Rattle.cell_base.specs.declared.attributes.Blink.TheVariants as blink
+use Rattle.cell_base.specs.declared.attributes.VerticalAlign.TheVariants as align
+
+-- ---- Shapes
+
+-- whether a token is what a part of a shape asks for: that byte, that number, or any number
+abbrev pub is_part : Part → CsiParam → Bool
+is_part (Sign b) (P c) = c == b
+is_part (Sign b) (Integer z) = false
+is_part (Code n) (P c) = false
+is_part (Code n) (Integer z) = is_number n z
+is_part Slot (P c) = false
+is_part Slot (Integer z) = true
+
+-- whether a shape stands at the front of a list
+abbrev pub stands : List Part → List CsiParam → Bool
+stands [] ts = true
+stands (part ∷ parts) [] = false
+stands (part ∷ parts) (t ∷ ts) = is_part part t && stands parts ts
+
+-- the number at a place of the list, if it is one and 0 to 255
+abbrev pub byte_of : CsiParam → Option ℕ
+byte_of (Integer z) = number_within 255 z
+byte_of (P b) = None
+
+abbrev pub byte_at : List CsiParam → ℕ → Option ℕ
+byte_at ts i = option_and_then byte_of (slice_get ts i)
+
+-- ---- Colours behind 38, 48 and 58
+
+abbrev pub colour : ℕ → ℕ → ℕ → ℕ → ColorSpec
+colour r g b a = color.TrueColor (record { 0 = r; 1 = g; 2 = b; 3 = a })
+
+-- the palette entry whose index is at a place
+abbrev pub palette_at : ℕ → List CsiParam → Option ColorSpec
+palette_at i ts = option_map color.PaletteIndex (byte_at ts i)
+
+-- the opaque colour whose channels are at three places
+abbrev pub opaque_at : ℕ → ℕ → ℕ → List CsiParam → Option ColorSpec
+opaque_at i j k ts = option_and_then (λ r. option_and_then (λ g. option_map (λ b. colour r g b 255) (byte_at ts k)) (byte_at ts j)) (byte_at ts i)
+
+-- the colour whose channels are at four places
+abbrev pub colour_at : ℕ → ℕ → ℕ → ℕ → List CsiParam → Option ColorSpec
+colour_at i j k l ts = option_and_then (λ r. option_and_then (λ g. option_and_then (λ b. option_map (λ a. colour r g b a) (byte_at ts l)) (byte_at ts k)) (byte_at ts j)) (byte_at ts i)
+
+-- a form of a colour: its shape, and its value where the shape stands
+abbrev pub Form : Type 0
+Form = List Part × (List CsiParam → Option ColorSpec)
+
+-- the parts of a shape: `:` and `;`
+abbrev pub colon : Part
+colon = Sign 58
+
+abbrev pub semicolon : Part
+semicolon = Sign 59
+
+-- the forms, the longest first
+abbrev pub colour_forms : List Form
+colour_forms =
+    -- :6::r:g:b:a
+    (colon ∷ Code 6 ∷ colon ∷ colon ∷ Slot ∷ colon ∷ Slot ∷ colon ∷ Slot ∷ colon ∷ Slot ∷ [], colour_at 4 6 8 10)
+    -- :2:i:r:g:b, where the colour space i is not looked at
+    ∷ (colon ∷ Code 2 ∷ colon ∷ Slot ∷ colon ∷ Slot ∷ colon ∷ Slot ∷ colon ∷ Slot ∷ [], opaque_at 5 7 9)
+    -- :2::r:g:b
+    ∷ (colon ∷ Code 2 ∷ colon ∷ colon ∷ Slot ∷ colon ∷ Slot ∷ colon ∷ Slot ∷ [], opaque_at 4 6 8)
+    -- :2:r:g:b
+    ∷ (colon ∷ Code 2 ∷ colon ∷ Slot ∷ colon ∷ Slot ∷ colon ∷ Slot ∷ [], opaque_at 3 5 7)
+    -- ;2;r;g;b
+    ∷ (semicolon ∷ Code 2 ∷ semicolon ∷ Slot ∷ semicolon ∷ Slot ∷ semicolon ∷ Slot ∷ [], opaque_at 3 5 7)
+    -- :5:n
+    ∷ (colon ∷ Code 5 ∷ colon ∷ Slot ∷ [], palette_at 3)
+    -- ;5;n
+    ∷ (semicolon ∷ Code 5 ∷ semicolon ∷ Slot ∷ [], palette_at 3)
+    ∷ []
+
+-- a value, and how many tokens it takes
+abbrev pub taking : {A : Type 0} → ℕ → Option A → Option (A × ℕ)
+taking n value = option_map (λ v. (v, n)) value
+
+-- the first form that stands decides
+abbrev pub first_form : List Form → List CsiParam → Option (ColorSpec × ℕ)
+first_form [] ts = None
+first_form (form ∷ forms) ts = if stands form.0 ts then taking (length form.0) (form.1 ts) else first_form forms ts
+
+unfoldable pub colour_form : List CsiParam → Option (ColorSpec × ℕ)
+colour_form ts = first_form colour_forms ts
+
+-- ---- Lone numbers
+
+-- the value of a number that stands alone
+abbrev pub single_codes : List (ℕ × Sgr)
+single_codes =
+    (0, sgr.Reset)
+    ∷ (1, sgr.Intensity intensity.Bold)
+    ∷ (2, sgr.Intensity intensity.Half)
+    ∷ (22, sgr.Intensity intensity.Normal)
+    ∷ (24, sgr.Underline underline.None)
+    ∷ (4, sgr.Underline underline.Single)
+    ∷ (21, sgr.Underline underline.Double)
+    ∷ (5, sgr.Blink blink.Slow)
+    ∷ (6, sgr.Blink blink.Rapid)
+    ∷ (25, sgr.Blink blink.None)
+    ∷ (3, sgr.Italic true)
+    ∷ (23, sgr.Italic false)
+    ∷ (7, sgr.Inverse true)
+    ∷ (27, sgr.Inverse false)
+    ∷ (8, sgr.Invisible true)
+    ∷ (28, sgr.Invisible false)
+    ∷ (9, sgr.StrikeThrough true)
+    ∷ (29, sgr.StrikeThrough false)
+    ∷ (53, sgr.Overline true)
+    ∷ (55, sgr.Overline false)
+    ∷ (10, sgr.Font font.Default)
+    ∷ (73, sgr.VerticalAlign align.SuperScript)
+    ∷ (74, sgr.VerticalAlign align.SubScript)
+    ∷ (75, sgr.VerticalAlign align.BaseLine)
+    ∷ (39, sgr.Foreground color.Default)
+    ∷ (49, sgr.Background color.Default)
+    ∷ (59, sgr.UnderlineColor color.Default)
+    ∷ []
+
+-- the value listed for a number, or another one
+abbrev pub listed_or : {A : Type 0} → List (ℕ × A) → ℕ → Option A → Option A
+listed_or [] n other = other
+listed_or (line ∷ lines) n other = if line.0 == n then Some line.1 else listed_or lines n other
+
+abbrev pub is_between : ℕ → ℕ → ℕ → Bool
+is_between low high n = nat_le low n && nat_le n high
+
+-- fonts 11 to 19, and the first sixteen colours of the palette
+abbrev pub ranged_code : ℕ → Option Sgr
+ranged_code n =
+    if is_between 11 19 n then Some (sgr.Font (font.Alternate (n - 10)))
+    else (if is_between 30 37 n then Some (sgr.Foreground (color.PaletteIndex (n - 30)))
+    else (if is_between 40 47 n then Some (sgr.Background (color.PaletteIndex (n - 40)))
+    else (if is_between 90 97 n then Some (sgr.Foreground (color.PaletteIndex (n - 82)))
+    else (if is_between 100 107 n then Some (sgr.Background (color.PaletteIndex (n - 92)))
+    else None))))
+
+unfoldable pub single_code : ℕ → Option Sgr
+single_code n = listed_or single_codes n (ranged_code n)
+
+-- ---- Underlines behind 4:
+
+abbrev pub underline_numbered : ℤ → Option Underline
+underline_numbered z =
+    if is_number 0 z then Some underline.None
+    else (if is_number 1 z then Some underline.Single
+    else (if is_number 2 z then Some underline.Double
+    else (if is_number 3 z then Some underline.Curly
+    else (if is_number 4 z then Some underline.Dotted
+    else (if is_number 5 z then Some underline.Dashed
+    else None)))))
+
+-- 4:k where there is such an underline, or else 4 alone; the tokens are counted with the 4
+abbrev pub underline_or_single : Option Underline → Option (Sgr × ℕ)
+underline_or_single None = Some (sgr.Underline underline.Single, 1)
+underline_or_single (Some line) = Some (sgr.Underline line, 3)
+
+abbrev pub underline_shape : List CsiParam → Option (Sgr × ℕ)
+underline_shape (P b ∷ Integer z ∷ ts) = underline_or_single (if b == 58 then underline_numbered z else None)
+underline_shape _ = underline_or_single None
+
+-- ---- Pieces
+
+-- a colour behind its number; the tokens are counted with the number
+abbrev pub colour_shape : (ColorSpec → Sgr) → List CsiParam → Option (Sgr × ℕ)
+colour_shape target ts = option_map (λ form. (target form.0, form.1 + 1)) (colour_form ts)
+
+-- the longest shape that begins with a number
+unfoldable pub numbered_shape : ℤ → List CsiParam → Option (Sgr × ℕ)
+numbered_shape z ts =
+    if is_number 38 z then colour_shape sgr.Foreground ts
+    else (if is_number 48 z then colour_shape sgr.Background ts
+    else (if is_number 58 z then colour_shape sgr.UnderlineColor ts
+    else (if is_number 4 z then underline_shape ts
+    else taking 1 (option_and_then single_code (number_within 255 z)))))
+
+-- the longest shape at the front of a list, and how many tokens it takes; a lone `;` is a reset
+unfoldable pub sgr_shape : List CsiParam → Option (Sgr × ℕ)
+sgr_shape [] = None
+sgr_shape (P b ∷ ts) = taking 1 (if b == 59 then Some sgr.Reset else None)
+sgr_shape (Integer z ∷ ts) = numbered_shape z ts
+
+-- a piece: the longest shape, and the `;` right behind it
+unfoldable pub sgr_piece : List CsiParam → Option (Sgr × ℕ)
+sgr_piece ts = with_semicolon ts (sgr_shape ts)
+
+-- ---- Writing
+
+-- a channel or an index
+abbrev pub number : ℕ → CsiParam
+number n = Integer (pos n)
+
+-- :5:n
+abbrev pub palette_tokens : ℕ → ℕ → List CsiParam
+palette_tokens target n = number target ∷ P 58 ∷ number 5 ∷ P 58 ∷ number n ∷ []
+
+-- :2::r:g:b
+abbrev pub opaque_tokens : ℕ → ℕ → ℕ → ℕ → List CsiParam
+opaque_tokens target r g b = number target ∷ P 58 ∷ number 2 ∷ P 58 ∷ P 58 ∷ number r ∷ P 58 ∷ number g ∷ P 58 ∷ number b ∷ []
+
+-- :6::r:g:b:a
+abbrev pub alpha_tokens : ℕ → ℕ → ℕ → ℕ → ℕ → List CsiParam
+alpha_tokens target r g b a = number target ∷ P 58 ∷ number 6 ∷ P 58 ∷ P 58 ∷ number r ∷ P 58 ∷ number g ∷ P 58 ∷ number b ∷ P 58 ∷ number a ∷ []
+
+-- with its alpha where the colour isn't opaque
+abbrev pub colour_tokens : ℕ → SrgbaTuple → List CsiParam
+colour_tokens target c = if c.3 == 255 then opaque_tokens target c.0 c.1 c.2 else alpha_tokens target c.0 c.1 c.2 c.3
+
+-- a colour whose default is `off`, and whose first sixteen entries are short: low 0 to 7, bright 8 to 15
+abbrev pub short_colour_tokens : ℕ → ℕ → ℕ → ℕ → ColorSpec → List CsiParam
+short_colour_tokens target off low bright color.Default = number_tokens off
+short_colour_tokens target off low bright (color.PaletteIndex n) =
+    if nat_lt n 8 then number_tokens (low + n) else (if nat_lt n 16 then number_tokens (bright + n) else palette_tokens target n)
+short_colour_tokens target off low bright (color.TrueColor c) = colour_tokens target c
+
+abbrev pub underline_colour_tokens : ColorSpec → List CsiParam
+underline_colour_tokens color.Default = number_tokens 59
+underline_colour_tokens (color.PaletteIndex n) = palette_tokens 58 n
+underline_colour_tokens (color.TrueColor c) = colour_tokens 58 c
+
+abbrev pub underline_tokens : Underline → List CsiParam
+underline_tokens underline.None = number_tokens 24
+underline_tokens underline.Single = number_tokens 4
+underline_tokens underline.Double = number_tokens 21
+underline_tokens underline.Curly = number 4 ∷ P 58 ∷ number 3 ∷ []
+underline_tokens underline.Dotted = number 4 ∷ P 58 ∷ number 4 ∷ []
+underline_tokens underline.Dashed = number 4 ∷ P 58 ∷ number 5 ∷ []
+
+-- on or off
+abbrev pub switch : ℕ → ℕ → Bool → List CsiParam
+switch on off value = number_tokens (if value then on else off)
+
+abbrev pub sgr_tokens : Sgr → List CsiParam
+sgr_tokens sgr.Reset = number_tokens 0
+sgr_tokens (sgr.Intensity intensity.Bold) = number_tokens 1
+sgr_tokens (sgr.Intensity intensity.Half) = number_tokens 2
+sgr_tokens (sgr.Intensity intensity.Normal) = number_tokens 22
+sgr_tokens (sgr.Underline line) = underline_tokens line
+sgr_tokens (sgr.Blink blink.Slow) = number_tokens 5
+sgr_tokens (sgr.Blink blink.Rapid) = number_tokens 6
+sgr_tokens (sgr.Blink blink.None) = number_tokens 25
+sgr_tokens (sgr.Italic on) = switch 3 23 on
+sgr_tokens (sgr.Inverse on) = switch 7 27 on
+sgr_tokens (sgr.Invisible on) = switch 8 28 on
+sgr_tokens (sgr.StrikeThrough on) = switch 9 29 on
+sgr_tokens (sgr.Overline on) = switch 53 55 on
+sgr_tokens (sgr.Font font.Default) = number_tokens 10
+sgr_tokens (sgr.Font (font.Alternate n)) = number_tokens (10 + n)
+sgr_tokens (sgr.VerticalAlign align.SuperScript) = number_tokens 73
+sgr_tokens (sgr.VerticalAlign align.SubScript) = number_tokens 74
+sgr_tokens (sgr.VerticalAlign align.BaseLine) = number_tokens 75
+sgr_tokens (sgr.Foreground c) = short_colour_tokens 38 39 30 82 c
+sgr_tokens (sgr.Background c) = short_colour_tokens 48 49 40 92 c
+sgr_tokens (sgr.UnderlineColor c) = underline_colour_tokens c
+
+unfoldable pub sgr_spelling : Sgr → Spelled
+sgr_spelling value = spelled (sgr_tokens value) 109  -- m: SGR, ECMA-48 8.3.117

@@ -1,0 +1,41 @@
+-- What a CSI value shows, what its iterator hands out, and the text of an action.
+use Rattle.std.specs.Prelude.{◌≡◌, ℕ, List, [], ◌∷◌, Option, Some, None, Result, Ok, Err}
+use Rattle.std.specs.declared.alloc.AllocError.{AllocError}
+use Rattle.csi_codec.specs.Parameters.{spelled_text}
+use Rattle.csi_codec.specs.Actions.{Action, sgr, cursor, edit, mode, device, unspecified, spelling_of}
+use Rattle.csi_codec.specs.declared.parameters.Unspecified.{Unspecified}
+use Rattle.csi_codec.specs.declared.sequences.CSI.{CSI}
+use Rattle.csi_codec.specs.declared.sequences.CSI.TheVariants as csi
+
+-- a CSI value without where it lies in memory
+abbrev pub rest_of : Unspecified → Action
+rest_of left = unspecified left.params.items left.parameters_truncated left.control
+
+abbrev pub action_of : CSI → Action
+action_of (csi.Sgr value) = sgr value
+action_of (csi.Cursor value) = cursor value
+action_of (csi.Edit value) = edit value
+action_of (csi.Mode value) = mode value
+action_of (csi.Device value) = device value.value
+action_of (csi.Unspecified left) = rest_of left.value
+
+-- requests and what is left are boxed, and so need memory
+abbrev pub NeedsMemory : Action → Type 0
+NeedsMemory (device value) = Unit {0}
+NeedsMemory (unspecified params truncated final) = Unit {0}
+NeedsMemory _ = ⊥
+
+abbrev pub FirstNeedsMemory : List Action → Type 0
+FirstNeedsMemory [] = ⊥
+FirstNeedsMemory (first ∷ others) = NeedsMemory first
+
+-- one step of the iterator: the first of the actions that are left, or nothing where none is left;
+-- where memory was refused no action is left
+abbrev pub HandsOut : List Action → Option (Result CSI AllocError) → List Action → Type 0
+HandsOut before None after = (before ≡ []) × (after ≡ [])
+HandsOut before (Some (Ok value)) after = before ≡ action_of value ∷ after
+HandsOut before (Some (Err error)) after = (after ≡ []) × FirstNeedsMemory before
+
+-- ECMA-48 5.4: ESC [, the parameters side by side, and the final byte
+abbrev pub csi_text : Action → List ℕ
+csi_text action = 27 ∷ 91 ∷ spelled_text (spelling_of action)

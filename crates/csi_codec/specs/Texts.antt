@@ -1,0 +1,79 @@
+-- Parameter bytes and the tokens that they spell.
+use Rattle.std.specs.Prelude.{◌≡◌, ◌≤◌, ℕ, ℤ, pos, negsuc, ◌+◌, ◌-◌, ◌*◌, min, Bool, true, false, not, ◌&&◌, ◌||◌, List, [], ◌∷◌, ◌++◌, Option, Some, None, unwrap_or, nat_le, if◌then◌else◌, flat_map}
+use Rattle.std.specs.Char.{is_ascii_digit}
+use Rattle.csi_codec.specs.declared.parameters.CsiParam.{CsiParam}
+use Rattle.csi_codec.specs.declared.parameters.CsiParam.TheVariants.{Integer, P}
+use Rattle.csi_codec.specs.Parameters.{token_text}
+use Rattle.csi_codec.specs.Rendition.{is_between}
+use Rattle.csi_codec.specs.Actions.{Action, csi_reading}
+use Rattle.csi_codec.specs.Laws.{is_exempt}
+use Rattle.csi_codec.specs.Sequences.{csi_text}
+
+-- the largest number of a token, the largest i64
+abbrev pub largest_number : ℕ
+largest_number = 9223372036854775807
+
+-- the number whose digits have begun, cut at the largest
+abbrev pub begun_token : Option ℕ → List CsiParam
+begun_token None = []
+begun_token (Some n) = Integer (pos (min n largest_number)) ∷ []
+
+-- the tokens of the bytes behind the digits that have begun
+abbrev pub tokens_behind : Option ℕ → List ℕ → List CsiParam
+tokens_behind begun [] = begun_token begun
+tokens_behind begun (b ∷ bs) =
+    if is_ascii_digit b then tokens_behind (Some (10 * unwrap_or begun 0 + (b - 48))) bs
+    else begun_token begun ++ P b ∷ tokens_behind None bs
+
+-- ECMA-48 5.4.2: a run of digits is a number, cut at the largest; any other byte is itself
+abbrev pub tokens_of : List ℕ → List CsiParam
+tokens_of bytes = tokens_behind None bytes
+
+-- ---- Lists that bytes can spell
+
+-- ECMA-48 5.4: intermediate bytes, and parameter bytes but for digits
+abbrev pub is_sign : ℕ → Bool
+is_sign b = is_between 32 47 b || is_between 58 63 b
+
+abbrev pub is_written_number : ℤ → Bool
+is_written_number (pos n) = nat_le n largest_number
+is_written_number (negsuc n) = false
+
+abbrev pub begins_with_number : List CsiParam → Bool
+begins_with_number [] = false
+begins_with_number (Integer z ∷ ts) = true
+begins_with_number (P b ∷ ts) = false
+
+-- no negative number, no two numbers side by side, and such bytes
+abbrev pub is_spellable : List CsiParam → Bool
+is_spellable [] = true
+is_spellable (P b ∷ ts) = is_sign b && is_spellable ts
+is_spellable (Integer z ∷ ts) = is_written_number z && (not (begins_with_number ts) && is_spellable ts)
+
+-- a spellable list is what its text spells
+abbrev pub ParametersReadBack : Type 0
+ParametersReadBack = (ts : List CsiParam) → is_spellable ts ≡ true → tokens_of (flat_map token_text ts) ≡ ts
+
+-- the bytes between ESC [ and the final byte
+abbrev pub all_parameter_bytes : List ℕ → Bool
+all_parameter_bytes [] = true
+all_parameter_bytes (b ∷ bs) = is_between 32 63 b && all_parameter_bytes bs
+
+-- the text of an action is one sequence, whose tokens mean that action under the same flag
+pub record TextReadsBack (truncated : Bool) (a : Action) : Type 0 where
+  pub body : List ℕ
+  pub final : ℕ
+  pub text : csi_text a ≡ 27 ∷ 91 ∷ (body ++ final ∷ [])
+  pub bytes : all_parameter_bytes body ≡ true
+  pub low : 64 ≤ final
+  pub high : final ≤ 126
+  pub action : csi_reading (tokens_of body) truncated final ≡ a ∷ []
+
+abbrev pub EachTextReadsBack : List CsiParam → Bool → ℕ → List Action → Type 0
+EachTextReadsBack ts truncated final [] = Unit {0}
+EachTextReadsBack ts truncated final (a ∷ others) = (is_exempt ts final a ≡ false → TextReadsBack truncated a) × EachTextReadsBack ts truncated final others
+
+-- the printed actions of a spellable list with a final byte from @ to ~ read back under the same flag, but for the exception
+abbrev pub TextsReadBack : Type 0
+TextsReadBack = (ts : List CsiParam) (truncated : Bool) (final : ℕ) → is_spellable ts ≡ true → 64 ≤ final → final ≤ 126
+    → EachTextReadsBack ts truncated final (csi_reading ts truncated final)

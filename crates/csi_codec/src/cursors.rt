@@ -1,0 +1,292 @@
+//! Sequences that move the cursor, set tab stops and margins, and report or save a place.
+ghost use Rattle.std.specs.Prelude.{◌≡◌, Some};
+ghost use Rattle.csi_codec.specs.Cursors.{
+  cursor_style_named,
+  cursor_style_number,
+  tabulation_clear_named,
+  tabulation_clear_number,
+  tabulation_control_named,
+  tabulation_control_number,
+  cursor_reading,
+  cursor_spelling,
+  position_request,
+  save_or_margins,
+};
+ghost use Rattle.csi_codec.specs.Parameters.{spelled_text};
+
+use crate::one_based::OneBased;
+use crate::parameters::{
+    CsiParam, count, one_place, one_slot, place_pair, slot_and_space, slot_number,
+};
+use crate::spelling::{Spelling, count_spelling, number_spelling, pair_spelling};
+use std::fmt;
+
+/// The look of the cursor (DECSCUSR of xterm's control sequences).
+#[derive(Clone, Copy, Debug, PartialEq, Eq, Default)]
+pub enum CursorStyle {
+    #[default]
+    Default = 0,
+    BlinkingBlock = 1,
+    SteadyBlock = 2,
+    BlinkingUnderline = 3,
+    SteadyUnderline = 4,
+    BlinkingBar = 5,
+    SteadyBar = 6,
+}
+
+impl CursorStyle {
+    /// The style of this number (0 to 6), if there is one.
+    pub fn from_i64(value: i64) -> Option<Self>
+        ensures { result ≡ cursor_style_named value }
+    {
+        match value {
+            0 => Some(Self::Default),
+            1 => Some(Self::BlinkingBlock),
+            2 => Some(Self::SteadyBlock),
+            3 => Some(Self::BlinkingUnderline),
+            4 => Some(Self::SteadyUnderline),
+            5 => Some(Self::BlinkingBar),
+            6 => Some(Self::SteadyBar),
+            _ => None,
+        }
+    }
+
+    /// The number of this style.
+    pub fn to_u16(self) -> u16
+        ensures { result ≡ cursor_style_number self }
+    {
+        self as u16
+    }
+}
+
+/// Which tab stops TBC clears (ECMA-48 8.3.154).
+#[derive(Clone, Copy, Debug, PartialEq, Eq)]
+pub enum TabulationClear {
+    ClearCharacterTabStopAtActivePosition = 0,
+    ClearLineTabStopAtActiveLine = 1,
+    ClearCharacterTabStopsAtActiveLine = 2,
+    ClearAllCharacterTabStops = 3,
+    ClearAllLineTabStops = 4,
+    ClearAllTabStops = 5,
+}
+
+impl TabulationClear {
+    /// The extent of this number (0 to 5), if there is one.
+    pub fn from_i64(value: i64) -> Option<Self>
+        ensures { result ≡ tabulation_clear_named value }
+    {
+        match value {
+            0 => Some(Self::ClearCharacterTabStopAtActivePosition),
+            1 => Some(Self::ClearLineTabStopAtActiveLine),
+            2 => Some(Self::ClearCharacterTabStopsAtActiveLine),
+            3 => Some(Self::ClearAllCharacterTabStops),
+            4 => Some(Self::ClearAllLineTabStops),
+            5 => Some(Self::ClearAllTabStops),
+            _ => None,
+        }
+    }
+
+    /// The number of this extent.
+    pub fn to_u16(self) -> u16
+        ensures { result ≡ tabulation_clear_number self }
+    {
+        self as u16
+    }
+}
+
+/// What CTC does to tab stops (ECMA-48 8.3.17).
+#[derive(Clone, Copy, Debug, PartialEq, Eq)]
+pub enum CursorTabulationControl {
+    SetCharacterTabStopAtActivePosition = 0,
+    SetLineTabStopAtActiveLine = 1,
+    ClearCharacterTabStopAtActivePosition = 2,
+    ClearLineTabstopAtActiveLine = 3,
+    ClearAllCharacterTabStopsAtActiveLine = 4,
+    ClearAllCharacterTabStops = 5,
+    ClearAllLineTabStops = 6,
+}
+
+impl CursorTabulationControl {
+    /// The control of this number (0 to 6), if there is one.
+    pub fn from_i64(value: i64) -> Option<Self>
+        ensures { result ≡ tabulation_control_named value }
+    {
+        match value {
+            0 => Some(Self::SetCharacterTabStopAtActivePosition),
+            1 => Some(Self::SetLineTabStopAtActiveLine),
+            2 => Some(Self::ClearCharacterTabStopAtActivePosition),
+            3 => Some(Self::ClearLineTabstopAtActiveLine),
+            4 => Some(Self::ClearAllCharacterTabStopsAtActiveLine),
+            5 => Some(Self::ClearAllCharacterTabStops),
+            6 => Some(Self::ClearAllLineTabStops),
+            _ => None,
+        }
+    }
+
+    /// The number of this control.
+    pub fn to_u16(self) -> u16
+        ensures { result ≡ tabulation_control_number self }
+    {
+        self as u16
+    }
+}
+
+/// A cursor sequence. Counts and places are `u32` or count from 1; see the variants' standards in the table of
+/// spellings.
+#[derive(Clone, Copy, Debug, PartialEq, Eq)]
+pub enum Cursor {
+    Up(u32),
+    Down(u32),
+    Right(u32),
+    Left(u32),
+    NextLine(u32),
+    PrecedingLine(u32),
+    CharacterAbsolute(OneBased),
+    CharacterPositionAbsolute(OneBased),
+    LinePositionAbsolute(u32),
+    CharacterPositionForward(u32),
+    CharacterPositionBackward(u32),
+    LinePositionForward(u32),
+    LinePositionBackward(u32),
+    Position { line: OneBased, col: OneBased },
+    CharacterAndLinePosition { line: OneBased, col: OneBased },
+    ActivePositionReport { line: OneBased, col: OneBased },
+    ForwardTabulation(u32),
+    BackwardTabulation(u32),
+    LineTabulation(u32),
+    TabulationClear(TabulationClear),
+    TabulationControl(CursorTabulationControl),
+    SetTopAndBottomMargins { top: OneBased, bottom: OneBased },
+    SetLeftAndRightMargins { left: OneBased, right: OneBased },
+    SaveCursor,
+    RestoreCursor,
+    RequestActivePositionReport,
+    CursorStyle(CursorStyle),
+}
+
+impl fmt::Display for Cursor {
+    ghost output = { λ cursor. Some (spelled_text (cursor_spelling cursor)) };
+
+    fn fmt<W: fmt::Write>(&self, f: &mut fmt::Formatter<W>) -> fmt::Result {
+        self.spelling().fmt(f)
+    }
+}
+
+impl Cursor {
+    /// The parameters and the final byte that are written for it.
+    #[tactic(auto, unfolding(crate::specs::Cursors::cursor_spelling))]
+    pub(crate) fn spelling(self) -> Spelling
+        ensures { result ≡ cursor_spelling self }
+    {
+        match self {
+            Cursor::Up(n) => count_spelling(n, 'A'),
+            Cursor::Down(n) => count_spelling(n, 'B'),
+            Cursor::Right(n) => count_spelling(n, 'C'),
+            Cursor::Left(n) => count_spelling(n, 'D'),
+            Cursor::NextLine(n) => count_spelling(n, 'E'),
+            Cursor::PrecedingLine(n) => count_spelling(n, 'F'),
+            Cursor::CharacterAbsolute(n) => number_spelling(n.as_one_based(), 'G'),
+            Cursor::CharacterPositionAbsolute(n) => number_spelling(n.as_one_based(), '`'),
+            Cursor::LinePositionAbsolute(n) => number_spelling(n, 'd'),
+            Cursor::CharacterPositionForward(n) => count_spelling(n, 'a'),
+            Cursor::CharacterPositionBackward(n) => count_spelling(n, 'j'),
+            Cursor::LinePositionForward(n) => count_spelling(n, 'e'),
+            Cursor::LinePositionBackward(n) => count_spelling(n, 'k'),
+            Cursor::Position { line, col } => pair_spelling(line, col, 'H'),
+            Cursor::CharacterAndLinePosition { line, col } => pair_spelling(line, col, 'f'),
+            Cursor::ActivePositionReport { line, col } => pair_spelling(line, col, 'R'),
+            Cursor::ForwardTabulation(n) => count_spelling(n, 'I'),
+            Cursor::BackwardTabulation(n) => count_spelling(n, 'Z'),
+            Cursor::LineTabulation(n) => count_spelling(n, 'Y'),
+            Cursor::TabulationClear(known) => number_spelling(u32::from(known.to_u16()), 'g'),
+            Cursor::TabulationControl(known) => number_spelling(u32::from(known.to_u16()), 'W'),
+            Cursor::SetTopAndBottomMargins { top, bottom } => pair_spelling(top, bottom, 'r'),
+            Cursor::SetLeftAndRightMargins { left, right } => pair_spelling(left, right, 's'),
+            Cursor::SaveCursor => Spelling::new(&[], 's'),
+            Cursor::RestoreCursor => Spelling::new(&[], 'u'),
+            Cursor::RequestActivePositionReport => number_spelling(6, 'n'),
+            Cursor::CursorStyle(style) => style_spelling(style),
+        }
+    }
+}
+
+#[tactic(auto, unfolding(crate::specs::Cursors::cursor_spelling))]
+fn style_spelling(style: CursorStyle) -> Spelling
+    ensures { result ≡ cursor_spelling (Cursor.CursorStyle style) }
+{
+    let number = CsiParam::Integer(i64::from(style.to_u16()));
+    Spelling::new(&[number, CsiParam::P(b' ')], 'q')
+}
+
+/// What a whole list before a final byte spells, if it is a cursor sequence.
+#[tactic(auto, unfolding(crate::specs::Cursors::cursor_reading))]
+pub(crate) fn cursor_reading(params: &[CsiParam], control: char) -> Option<Cursor>
+    ensures { result ≡ cursor_reading control params.now }
+{
+    match control {
+        'A' => Some(Cursor::Up(count(params)?)),
+        'B' => Some(Cursor::Down(count(params)?)),
+        'C' => Some(Cursor::Right(count(params)?)),
+        'D' => Some(Cursor::Left(count(params)?)),
+        'E' => Some(Cursor::NextLine(count(params)?)),
+        'F' => Some(Cursor::PrecedingLine(count(params)?)),
+        'G' => Some(Cursor::CharacterAbsolute(one_place(params)?)),
+        '`' => Some(Cursor::CharacterPositionAbsolute(one_place(params)?)),
+        'd' => Some(Cursor::LinePositionAbsolute(count(params)?)),
+        'a' => Some(Cursor::CharacterPositionForward(count(params)?)),
+        'j' => Some(Cursor::CharacterPositionBackward(count(params)?)),
+        'e' => Some(Cursor::LinePositionForward(count(params)?)),
+        'k' => Some(Cursor::LinePositionBackward(count(params)?)),
+        'H' => {
+            let (line, col) = place_pair(1, params)?;
+            Some(Cursor::Position { line, col })
+        }
+        'f' => {
+            let (line, col) = place_pair(1, params)?;
+            Some(Cursor::CharacterAndLinePosition { line, col })
+        }
+        'R' => {
+            let (line, col) = place_pair(1, params)?;
+            Some(Cursor::ActivePositionReport { line, col })
+        }
+        'I' => Some(Cursor::ForwardTabulation(count(params)?)),
+        'Z' => Some(Cursor::BackwardTabulation(count(params)?)),
+        'Y' => Some(Cursor::LineTabulation(count(params)?)),
+        'g' => Some(Cursor::TabulationClear(TabulationClear::from_i64(slot_number(one_slot(
+            params,
+        )?))?)),
+        'W' => Some(Cursor::TabulationControl(CursorTabulationControl::from_i64(slot_number(
+            one_slot(params)?,
+        ))?)),
+        'r' => {
+            let (top, bottom) = place_pair(u32::MAX, params)?;
+            Some(Cursor::SetTopAndBottomMargins { top, bottom })
+        }
+        's' => save_or_margins(params),
+        'u' if params.is_empty() => Some(Cursor::RestoreCursor),
+        'n' => position_request(params),
+        'q' => Some(Cursor::CursorStyle(CursorStyle::from_i64(slot_number(slot_and_space(
+            params,
+        )?))?)),
+        _ => None,
+    }
+}
+
+fn save_or_margins(params: &[CsiParam]) -> Option<Cursor>
+    ensures { result ≡ save_or_margins params.now }
+{
+    if params.is_empty() {
+        return Some(Cursor::SaveCursor);
+    }
+    let (left, right) = place_pair(u32::MAX, params)?;
+    Some(Cursor::SetLeftAndRightMargins { left, right })
+}
+
+fn position_request(params: &[CsiParam]) -> Option<Cursor>
+    ensures { result ≡ position_request params.now }
+{
+    match params {
+        [CsiParam::Integer(6)] => Some(Cursor::RequestActivePositionReport),
+        _ => None,
+    }
+}

@@ -1,0 +1,141 @@
+//! Sequences that erase, insert, delete, scroll and repeat.
+ghost use Rattle.std.specs.Prelude.{◌≡◌, Some};
+ghost use Rattle.csi_codec.specs.Edits.{
+  erase_in_line_named,
+  erase_in_line_number,
+  erase_in_display_named,
+  erase_in_display_number,
+  edit_reading,
+  edit_spelling,
+};
+ghost use Rattle.csi_codec.specs.Parameters.{spelled_text};
+
+use crate::parameters::{CsiParam, count, one_slot, slot_number};
+use crate::spelling::{Spelling, count_spelling, erase_spelling};
+use std::fmt;
+
+/// How much of its line EL erases (ECMA-48 8.3.41).
+#[derive(Clone, Copy, Debug, PartialEq, Eq)]
+pub enum EraseInLine {
+    EraseToEndOfLine = 0,
+    EraseToStartOfLine = 1,
+    EraseLine = 2,
+}
+
+impl EraseInLine {
+    /// The extent of this number (0 to 2), if there is one.
+    pub fn from_i64(value: i64) -> Option<Self>
+        ensures { result ≡ erase_in_line_named value }
+    {
+        match value {
+            0 => Some(Self::EraseToEndOfLine),
+            1 => Some(Self::EraseToStartOfLine),
+            2 => Some(Self::EraseLine),
+            _ => None,
+        }
+    }
+
+    /// The number of this extent.
+    pub fn to_u16(self) -> u16
+        ensures { result ≡ erase_in_line_number self }
+    {
+        self as u16
+    }
+}
+
+/// How much of the display ED erases (ECMA-48 8.3.39; 3 is xterm's).
+#[derive(Clone, Copy, Debug, PartialEq, Eq)]
+pub enum EraseInDisplay {
+    EraseToEndOfDisplay = 0,
+    EraseToStartOfDisplay = 1,
+    EraseDisplay = 2,
+    EraseScrollback = 3,
+}
+
+impl EraseInDisplay {
+    /// The extent of this number (0 to 3), if there is one.
+    pub fn from_i64(value: i64) -> Option<Self>
+        ensures { result ≡ erase_in_display_named value }
+    {
+        match value {
+            0 => Some(Self::EraseToEndOfDisplay),
+            1 => Some(Self::EraseToStartOfDisplay),
+            2 => Some(Self::EraseDisplay),
+            3 => Some(Self::EraseScrollback),
+            _ => None,
+        }
+    }
+
+    /// The number of this extent.
+    pub fn to_u16(self) -> u16
+        ensures { result ≡ erase_in_display_number self }
+    {
+        self as u16
+    }
+}
+
+/// An edit of what is shown. Counts are of characters, lines or rows.
+#[derive(Clone, Copy, Debug, PartialEq, Eq)]
+pub enum Edit {
+    InsertCharacter(u32),
+    DeleteCharacter(u32),
+    InsertLine(u32),
+    DeleteLine(u32),
+    EraseCharacter(u32),
+    ScrollUp(u32),
+    ScrollDown(u32),
+    Repeat(u32),
+    EraseInDisplay(EraseInDisplay),
+    EraseInLine(EraseInLine),
+}
+
+impl fmt::Display for Edit {
+    ghost output = { λ edit. Some (spelled_text (edit_spelling edit)) };
+
+    fn fmt<W: fmt::Write>(&self, f: &mut fmt::Formatter<W>) -> fmt::Result {
+        self.spelling().fmt(f)
+    }
+}
+
+impl Edit {
+    /// The parameters and the final byte that are written for it.
+    #[tactic(auto, unfolding(crate::specs::Edits::edit_spelling))]
+    pub(crate) fn spelling(self) -> Spelling
+        ensures { result ≡ edit_spelling self }
+    {
+        match self {
+            Edit::InsertCharacter(n) => count_spelling(n, '@'),
+            Edit::DeleteCharacter(n) => count_spelling(n, 'P'),
+            Edit::InsertLine(n) => count_spelling(n, 'L'),
+            Edit::DeleteLine(n) => count_spelling(n, 'M'),
+            Edit::EraseCharacter(n) => count_spelling(n, 'X'),
+            Edit::ScrollUp(n) => count_spelling(n, 'S'),
+            Edit::ScrollDown(n) => count_spelling(n, 'T'),
+            Edit::Repeat(n) => count_spelling(n, 'b'),
+            Edit::EraseInDisplay(extent) => erase_spelling(extent.to_u16(), 'J'),
+            Edit::EraseInLine(extent) => erase_spelling(extent.to_u16(), 'K'),
+        }
+    }
+}
+
+/// What a whole list before a final byte spells, if it is an edit.
+#[tactic(auto, unfolding(crate::specs::Edits::edit_reading))]
+pub(crate) fn edit_reading(params: &[CsiParam], control: char) -> Option<Edit>
+    ensures { result ≡ edit_reading control params.now }
+{
+    match control {
+        '@' => Some(Edit::InsertCharacter(count(params)?)),
+        'P' => Some(Edit::DeleteCharacter(count(params)?)),
+        'L' => Some(Edit::InsertLine(count(params)?)),
+        'M' => Some(Edit::DeleteLine(count(params)?)),
+        'X' => Some(Edit::EraseCharacter(count(params)?)),
+        'S' => Some(Edit::ScrollUp(count(params)?)),
+        'T' => Some(Edit::ScrollDown(count(params)?)),
+        'b' => Some(Edit::Repeat(count(params)?)),
+        'J' => Some(Edit::EraseInDisplay(EraseInDisplay::from_i64(slot_number(one_slot(
+            params,
+        )?))?)),
+        'K' => Some(Edit::EraseInLine(EraseInLine::from_i64(slot_number(one_slot(params)?))?)),
+        _ => None,
+    }
+}

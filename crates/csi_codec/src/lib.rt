@@ -1,0 +1,33 @@
+//! CSI, SGR and ESC sequences both ways: what a list of parameters with its final byte means, and the exact
+//! bytes of every action.
+#![tactic(auto)]
+
+mod cracking;
+mod cursors;
+mod devices;
+mod edits;
+mod escapes;
+pub mod laws;
+mod modes;
+mod one_based;
+mod parameters;
+mod pieces;
+mod rendering;
+mod rendition;
+mod sequences;
+mod shapes;
+mod spelling;
+
+pub use cracking::Cracked;
+pub use cursors::{Cursor, CursorStyle, CursorTabulationControl, TabulationClear};
+pub use devices::Device;
+pub use edits::{Edit, EraseInDisplay, EraseInLine};
+pub use escapes::{Esc, EscCode};
+pub use modes::{DecPrivateMode, DecPrivateModeCode, Mode, TerminalMode, TerminalModeCode};
+pub use one_based::OneBased;
+pub use parameters::{CrackError, CsiParam, Unspecified};
+pub use rendition::{Font, Sgr};
+pub use sequences::{CSI, CSIParser};
+
+#[cfg(test)]
+mod tests;

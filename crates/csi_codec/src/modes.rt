@@ -1,0 +1,277 @@
+//! Modes by number, and the sequences that set, reset, save and restore them.
+ghost use Rattle.std.specs.Prelude.{◌≡◌, Some};
+ghost use Rattle.csi_codec.specs.Modes.{
+  dec_private_mode_named,
+  dec_private_mode_number,
+  terminal_mode_named,
+  terminal_mode_number,
+  dec_mode_of,
+  dec_mode_code,
+  ansi_mode_of,
+  ansi_mode_code,
+  private_mode_reading,
+  mode_reading,
+  mode_spelling,
+};
+ghost use Rattle.csi_codec.specs.Parameters.{number_within, private_tokens, spelled, spelled_text};
+
+use crate::parameters::{CsiParam, number_within};
+use crate::spelling::{Spelling, number_spelling};
+use std::fmt;
+
+/// A private mode that has a name (xterm: DECSET, DECRST).
+#[derive(Clone, Copy, Debug, PartialEq, Eq)]
+pub enum DecPrivateModeCode {
+    ApplicationCursorKeys = 1,
+    DecAnsiMode = 2,
+    Select132Columns = 3,
+    SmoothScroll = 4,
+    ReverseVideo = 5,
+    OriginMode = 6,
+    AutoWrap = 7,
+    AutoRepeat = 8,
+    StartBlinkingCursor = 12,
+    ShowCursor = 25,
+    ReverseWraparound = 45,
+    EnableAlternateScreen = 47,
+    LeftRightMarginMode = 69,
+    SixelDisplayMode = 80,
+    MouseTracking = 1000,
+    HighlightMouseTracking = 1001,
+    ButtonEventMouse = 1002,
+    AnyEventMouse = 1003,
+    FocusTracking = 1004,
+    Utf8Mouse = 1005,
+    SGRMouse = 1006,
+    SGRPixelsMouse = 1016,
+    XTermMetaSendsEscape = 1036,
+    XTermAltSendsEscape = 1039,
+    OptEnableAlternateScreen = 1047,
+    SaveCursor = 1048,
+    ClearAndEnableAlternateScreen = 1049,
+    UsePrivateColorRegistersForEachGraphic = 1070,
+    BracketedPaste = 2004,
+    SynchronizedOutput = 2026,
+    GraphemeClustering = 2027,
+    MinTTYApplicationEscapeKeyMode = 7727,
+    SixelScrollsRight = 8452,
+    Win32InputMode = 9001,
+}
+
+impl DecPrivateModeCode {
+    /// The private mode of this number (behind the `?`), if there is one.
+    pub fn from_i64(value: i64) -> Option<Self>
+        ensures { result ≡ dec_private_mode_named value }
+    {
+        match value {
+            1 => Some(Self::ApplicationCursorKeys),
+            2 => Some(Self::DecAnsiMode),
+            3 => Some(Self::Select132Columns),
+            4 => Some(Self::SmoothScroll),
+            5 => Some(Self::ReverseVideo),
+            6 => Some(Self::OriginMode),
+            7 => Some(Self::AutoWrap),
+            8 => Some(Self::AutoRepeat),
+            12 => Some(Self::StartBlinkingCursor),
+            25 => Some(Self::ShowCursor),
+            45 => Some(Self::ReverseWraparound),
+            47 => Some(Self::EnableAlternateScreen),
+            69 => Some(Self::LeftRightMarginMode),
+            80 => Some(Self::SixelDisplayMode),
+            1000 => Some(Self::MouseTracking),
+            1001 => Some(Self::HighlightMouseTracking),
+            1002 => Some(Self::ButtonEventMouse),
+            1003 => Some(Self::AnyEventMouse),
+            1004 => Some(Self::FocusTracking),
+            1005 => Some(Self::Utf8Mouse),
+            1006 => Some(Self::SGRMouse),
+            1016 => Some(Self::SGRPixelsMouse),
+            1036 => Some(Self::XTermMetaSendsEscape),
+            1039 => Some(Self::XTermAltSendsEscape),
+            1047 => Some(Self::OptEnableAlternateScreen),
+            1048 => Some(Self::SaveCursor),
+            1049 => Some(Self::ClearAndEnableAlternateScreen),
+            1070 => Some(Self::UsePrivateColorRegistersForEachGraphic),
+            2004 => Some(Self::BracketedPaste),
+            2026 => Some(Self::SynchronizedOutput),
+            2027 => Some(Self::GraphemeClustering),
+            7727 => Some(Self::MinTTYApplicationEscapeKeyMode),
+            8452 => Some(Self::SixelScrollsRight),
+            9001 => Some(Self::Win32InputMode),
+            _ => None,
+        }
+    }
+
+    /// The number of this private mode.
+    pub fn to_u16(self) -> u16
+        ensures { result ≡ dec_private_mode_number self }
+    {
+        self as u16
+    }
+}
+
+/// A mode of the standard that has a name (ECMA-48 7, and 8.3.125 SM).
+#[derive(Clone, Copy, Debug, PartialEq, Eq)]
+pub enum TerminalModeCode {
+    KeyboardAction = 2,
+    Insert = 4,
+    BiDirectionalSupportMode = 8,
+    SendReceive = 12,
+    AutomaticNewline = 20,
+    ShowCursor = 25,
+}
+
+impl TerminalModeCode {
+    /// The mode of this number (without a `?`), if there is one.
+    pub fn from_i64(value: i64) -> Option<Self>
+        ensures { result ≡ terminal_mode_named value }
+    {
+        match value {
+            2 => Some(Self::KeyboardAction),
+            4 => Some(Self::Insert),
+            8 => Some(Self::BiDirectionalSupportMode),
+            12 => Some(Self::SendReceive),
+            20 => Some(Self::AutomaticNewline),
+            25 => Some(Self::ShowCursor),
+            _ => None,
+        }
+    }
+
+    /// The number of this mode.
+    pub fn to_u16(self) -> u16
+        ensures { result ≡ terminal_mode_number self }
+    {
+        self as u16
+    }
+}
+
+/// A private mode: by its name, or by a number that has none.
+#[derive(Clone, Copy, Debug, PartialEq, Eq)]
+pub enum DecPrivateMode {
+    Code(DecPrivateModeCode),
+    Unspecified(u16),
+}
+
+/// A mode of the standard: by its name, or by a number that has none.
+#[derive(Clone, Copy, Debug, PartialEq, Eq)]
+pub enum TerminalMode {
+    Code(TerminalModeCode),
+    Unspecified(u16),
+}
+
+/// What becomes of a mode.
+#[derive(Clone, Copy, Debug, PartialEq, Eq)]
+pub enum Mode {
+    SetDecPrivateMode(DecPrivateMode),
+    ResetDecPrivateMode(DecPrivateMode),
+    SaveDecPrivateMode(DecPrivateMode),
+    RestoreDecPrivateMode(DecPrivateMode),
+    SetMode(TerminalMode),
+    ResetMode(TerminalMode),
+}
+
+impl fmt::Display for Mode {
+    ghost output = { λ mode. Some (spelled_text (mode_spelling mode)) };
+
+    fn fmt<W: fmt::Write>(&self, f: &mut fmt::Formatter<W>) -> fmt::Result {
+        self.spelling().fmt(f)
+    }
+}
+
+impl Mode {
+    /// The parameters and the final byte that are written for it.
+    #[tactic(auto, unfolding(crate::specs::Modes::mode_spelling))]
+    pub(crate) fn spelling(self) -> Spelling
+        ensures { result ≡ mode_spelling self }
+    {
+        match self {
+            Mode::SetDecPrivateMode(mode) => private_spelling(mode, 'h'),
+            Mode::ResetDecPrivateMode(mode) => private_spelling(mode, 'l'),
+            Mode::SaveDecPrivateMode(mode) => private_spelling(mode, 's'),
+            Mode::RestoreDecPrivateMode(mode) => private_spelling(mode, 'r'),
+            Mode::SetMode(mode) => number_spelling(u32::from(mode.number()), 'h'),
+            Mode::ResetMode(mode) => number_spelling(u32::from(mode.number()), 'l'),
+        }
+    }
+}
+
+fn private_spelling(mode: DecPrivateMode, control: char) -> Spelling
+    ensures { result ≡ spelled (private_tokens (dec_mode_code mode)) control }
+{
+    let number = CsiParam::Integer(i64::from(mode.number()));
+    Spelling::new(&[CsiParam::P(b'?'), number], control)
+}
+
+impl DecPrivateMode {
+    fn number(self) -> u16
+        ensures { result ≡ dec_mode_code self }
+    {
+        match self {
+            DecPrivateMode::Code(code) => code.to_u16(),
+            DecPrivateMode::Unspecified(number) => number,
+        }
+    }
+
+    fn of_number(number: u16) -> Self
+        ensures { result ≡ dec_mode_of number }
+    {
+        match DecPrivateModeCode::from_i64(i64::from(number)) {
+            Some(code) => DecPrivateMode::Code(code),
+            None => DecPrivateMode::Unspecified(number),
+        }
+    }
+}
+
+impl TerminalMode {
+    fn number(self) -> u16
+        ensures { result ≡ ansi_mode_code self }
+    {
+        match self {
+            TerminalMode::Code(code) => code.to_u16(),
+            TerminalMode::Unspecified(number) => number,
+        }
+    }
+
+    fn of_number(number: u16) -> Self
+        ensures { result ≡ ansi_mode_of number }
+    {
+        match TerminalModeCode::from_i64(i64::from(number)) {
+            Some(code) => TerminalMode::Code(code),
+            None => TerminalMode::Unspecified(number),
+        }
+    }
+}
+
+/// What a number behind `?` spells before a final byte.
+#[tactic(auto, unfolding(crate::specs::Modes::private_mode_reading))]
+pub(crate) fn private_mode_reading(value: i64, control: char) -> Option<Mode>
+    ensures { result ≡ private_mode_reading control value }
+{
+    let mode = DecPrivateMode::of_number(mode_number(value)?);
+    match control {
+        'h' => Some(Mode::SetDecPrivateMode(mode)),
+        'l' => Some(Mode::ResetDecPrivateMode(mode)),
+        's' => Some(Mode::SaveDecPrivateMode(mode)),
+        'r' => Some(Mode::RestoreDecPrivateMode(mode)),
+        _ => None,
+    }
+}
+
+/// What a number spells before a final byte.
+#[tactic(auto, unfolding(crate::specs::Modes::mode_reading))]
+pub(crate) fn mode_reading(value: i64, control: char) -> Option<Mode>
+    ensures { result ≡ mode_reading control value }
+{
+    let mode = TerminalMode::of_number(mode_number(value)?);
+    match control {
+        'h' => Some(Mode::SetMode(mode)),
+        'l' => Some(Mode::ResetMode(mode)),
+        _ => None,
+    }
+}
+
+fn mode_number(value: i64) -> Option<u16>
+    ensures { result ≡ number_within 65535 value }
+{
+    Some(number_within(65535, value)? as u16)
+}

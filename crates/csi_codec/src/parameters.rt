@@ -1,0 +1,182 @@
+//! Tokens of a CSI list, the slots that a list can have, and how tokens are written.
+ghost use Rattle.std.specs.Prelude.{◌≡◌, ◌≤◌, Some, IfOk};
+ghost use Rattle.csi_codec.specs.Parameters.{number_within, token_text, spelled, spelled_text, one_slot, two_slots, slot_and_space, place, slot_number, count, place_pair, semicolon_at};
+ghost use Rattle.csi_codec.specs.Rests.{IsSameRest};
+
+use crate::one_based::OneBased;
+use std::alloc::AllocError;
+use std::fmt;
+use thiserror::Error;
+
+/// One token of the list between `ESC [` and the final byte: a run of digits, or any other byte.
+#[derive(Clone, Copy, Debug, PartialEq, Eq)]
+pub enum CsiParam {
+    Integer(i64),
+    P(u8),
+}
+
+impl fmt::Display for CsiParam {
+    ghost output = { λ token. Some (token_text token) };
+
+    fn fmt<W: fmt::Write>(&self, f: &mut fmt::Formatter<W>) -> fmt::Result {
+        match *self {
+            CsiParam::Integer(number) => write!(f, "{number}"),
+            CsiParam::P(byte) => {
+                let character = char::from(byte);
+                write!(f, "{character}")
+            }
+        }
+    }
+}
+
+/// What is left of a list that has no reading, with the flag and the final byte that it was read under.
+#[derive(Debug, PartialEq, Eq, Drop)]
+pub struct Unspecified {
+    pub params: Vec<CsiParam>,
+    pub parameters_truncated: bool,
+    pub control: char,
+}
+
+impl fmt::Display for Unspecified {
+    ghost output = { λ left. Some (spelled_text (spelled left.params.items left.control)) };
+
+    fn fmt<W: fmt::Write>(&self, f: &mut fmt::Formatter<W>) -> fmt::Result {
+        for token in self.params.iter() {
+            write!(f, "{token}")?;
+        }
+        let control = self.control;
+        write!(f, "{control}")
+    }
+}
+
+impl Unspecified {
+    /// A copy.
+    pub fn try_clone(&self) -> Result<Self, AllocError>
+        ensures { IfOk result (λ copy. IsSameRest copy self.now) }
+    {
+        Ok(Unspecified {
+            params: self.params.clone()?,
+            parameters_truncated: self.parameters_truncated,
+            control: self.control,
+        })
+    }
+}
+
+/// Why a list is no spelling.
+#[derive(Clone, Copy, Debug, PartialEq, Eq, Error)]
+pub enum CrackError {
+    /// The parameters do not spell what was asked for.
+    #[error("not a spelling")]
+    NotASpelling,
+    /// Memory was refused.
+    #[error("out of memory")]
+    Memory,
+}
+
+/// The number if it is from 0 to `top`.
+pub(crate) fn number_within(top: u32, value: i64) -> Option<u32>
+    ensures { result ≡ number_within top value }
+{
+    if 0 <= value && value <= i64::from(top) {
+        Some(value as u32)
+    } else {
+        None
+    }
+}
+
+/// The number in a slot, where an absent one is 0.
+pub(crate) fn slot_number(slot: Option<i64>) -> i64
+    ensures { result ≡ slot_number slot }
+{
+    slot.unwrap_or(0)
+}
+
+/// The place in a slot where absent and 0 stand for `default`, if a parameter can hold it.
+pub(crate) fn place(default: u32, slot: Option<i64>) -> Option<OneBased>
+    requires { 1 ≤ default }
+    ensures { result ≡ place default slot }
+{
+    let Some(value) = slot else {
+        return Some(OneBased::new(default));
+    };
+    match number_within(u32::MAX, value)? {
+        0 => Some(OneBased::new(default)),
+        number => Some(OneBased::new(number)),
+    }
+}
+
+/// The slot of a list that is empty or one number.
+pub(crate) fn one_slot(params: &[CsiParam]) -> Option<Option<i64>>
+    ensures { result ≡ one_slot params.now }
+{
+    match params {
+        [] => Some(None),
+        [CsiParam::Integer(value)] => Some(Some(*value)),
+        _ => None,
+    }
+}
+
+/// The two slots of a list with at most one number on each side of a `;`.
+pub(crate) fn two_slots(params: &[CsiParam]) -> Option<(Option<i64>, Option<i64>)>
+    ensures { result ≡ two_slots params.now }
+{
+    match params {
+        [] | [CsiParam::P(b';')] => Some((None, None)),
+        [CsiParam::Integer(a)] | [CsiParam::Integer(a), CsiParam::P(b';')] => Some((
+            Some(*a),
+            None,
+        )),
+        [CsiParam::P(b';'), CsiParam::Integer(b)] => Some((None, Some(*b))),
+        [
+            CsiParam::Integer(a),
+            CsiParam::P(b';'),
+            CsiParam::Integer(b),
+        ] => { Some((Some(*a), Some(*b))) }
+        _ => None,
+    }
+}
+
+/// The slot of a list that is at most one number, and a space behind it.
+pub(crate) fn slot_and_space(params: &[CsiParam]) -> Option<Option<i64>>
+    ensures { result ≡ slot_and_space params.now }
+{
+    match params {
+        [CsiParam::P(b' ')] => Some(None),
+        [CsiParam::Integer(value), CsiParam::P(b' ')] => Some(Some(*value)),
+        _ => None,
+    }
+}
+
+/// The lone place that a list spells, where absent and 0 are 1.
+pub(crate) fn one_place(params: &[CsiParam]) -> Option<OneBased>
+    ensures { result ≡ count params.now }
+{
+    place(1, one_slot(params)?)
+}
+
+/// The count that a list spells, where absent and 0 are 1.
+pub(crate) fn count(params: &[CsiParam]) -> Option<u32>
+    ensures { result ≡ count params.now }
+{
+    Some(one_place(params)?.as_one_based())
+}
+
+/// The two places that a list spells, where absent and 0 are 1, or `default` for the second.
+pub(crate) fn place_pair(default: u32, params: &[CsiParam]) -> Option<(OneBased, OneBased)>
+    requires { 1 ≤ default }
+    ensures { result ≡ place_pair default params.now }
+{
+    let (a, b) = two_slots(params)?;
+    Some((place(1, a)?, place(default, b)?))
+}
+
+/// 1 where a `;` stands at a place of the list, else 0.
+pub(crate) fn semicolon_at(params: &[CsiParam], place: usize) -> usize
+    ensures same { result ≡ semicolon_at params.now place }
+    ensures small { result ≤ 1 }
+{
+    match params.get(place).copied() {
+        Some(CsiParam::P(b';')) => 1,
+        _ => 0,
+    }
+}
