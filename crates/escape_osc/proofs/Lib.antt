@@ -1,0 +1,11 @@
+pub mod Base64Lemmas
+pub mod C1Lemmas
+pub mod Cases
+pub mod CopyLemmas
+pub mod EqualCommands
+pub mod PartsLemmas
+pub mod ReadBack
+pub mod ReadingLemmas
+pub mod SelectionLemmas
+pub mod ShowLemmas
+pub mod SplitLemmas

@@ -1,0 +1,86 @@
+-- Facts on what the parts of a command's text print.
+use Rattle.std.proofs.Common.{◌≡◌, ℕ, Bool, true, false, ◌+◌, ◌<◌, ◌≤◌, ◌==◌, List, [], ◌∷◌, ◌++◌, length, get_or, take, drop, map, Vec, Global, arith, append_assoc, append-nil, refl, ap, sym, ◌∙◌, if◌then◌else◌}
+use Rattle.std.proofs.lemmas.List.{take_more, take_all, flat_map_more, at_drop_more, at_drop_all}
+use Rattle.std.proofs.lemmas.Str.{utf8_lossy_chunk, utf8_lossy_last_chunk}
+use Rattle.std.specs.Str.Lossy.{utf8_lossy, utf8_valid_len, utf8_invalid_len}
+use Rattle.std.proofs.Output.{has_written_append, has_written_of_eq}
+use Rattle.std.specs.Fmt.{HasWritten}
+use Rattle.std.specs.declared.fmt.Formatter.{Formatter}
+use Rattle.std.specs.List.{flat_map}
+use Rattle.std.specs.Char.{encode_utf8}
+use Rattle.std.specs.Int.RustNames.{bit_and}
+use Rattle.escape_osc.specs.declared.selection.Selection.{Selection}
+use Rattle.escape_osc.specs.declared.show.TheConstants.{LETTERS}
+use Rattle.escape_osc.specs.Parts.{semicolon, joined}
+use Rattle.escape_osc.proofs.ReadingLemmas.{behind, joined-cons}
+use Rattle.escape_osc.specs.ShownParts.{replacement_of}
+use Rattle.escape_osc.specs.Selection.{bits_of, letters_of}
+
+-- what a row of the letters' table gives
+abbrev pub row_letter : ℕ → (ℕ × Selection) → List ℕ
+row_letter bits row = if bit_and bits (bits_of row.1) == bits_of row.1 then encode_utf8 row.0 else []
+
+abbrev pub row_letters : ℕ → List (ℕ × Selection) → List ℕ
+row_letters bits rows = flat_map (row_letter bits) rows
+
+-- the whole table gives the letters of a selection
+pub row_letters-LETTERS : (bits : ℕ) → row_letters bits LETTERS ≡ letters_of bits
+unfolding letters_of encode_utf8
+row_letters-LETTERS bits = refl
+
+pub row_letters_next : (bits : ℕ) (rows : List (ℕ × Selection)) (i : ℕ) (d : ℕ × Selection) → i < length rows
+    → row_letters bits (take (i + 1) rows) ≡ row_letters bits (take i rows) ++ row_letter bits (get_or rows i d)
+row_letters_next bits rows i d below =
+    ap (row_letters bits) (take_more rows i d below) ∙ sym (flat_map_more (row_letter bits) [] (take i rows) (get_or rows i d))
+
+pub row_letters_end : (bits : ℕ) (i : ℕ) → 13 ≤ i → row_letters bits (take i LETTERS) ≡ letters_of bits
+row_letters_end bits i h = ap (row_letters bits) (take_all i LETTERS h) ∙ row_letters-LETTERS bits
+
+-- the two steps of a walk over the table, by whether the letter's selection is held
+module _ {W : Type 0} (took : W → List ℕ → W → Type 0) where
+  pub letter_written : (f g h : Formatter W) (bits : ℕ) (rows : List (ℕ × Selection)) (i : ℕ) (d : ℕ × Selection) (held : Bool) → i < length rows
+      → held ≡ (bit_and bits (bits_of (get_or rows i d).1) == bits_of (get_or rows i d).1) → held ≡ true
+      → HasWritten took f (row_letters bits (take i rows)) g → HasWritten took g (encode_utf8 (get_or rows i d).0) h
+      → HasWritten took f (row_letters bits (take (i + 1) rows)) h
+  letter_written f g h bits rows i d held below test is before now =
+      let same : row_letter bits (get_or rows i d) ≡ encode_utf8 (get_or rows i d).0 = rw (sym test ∙ is) refl in
+      has_written_of_eq took f _ _ h (ap (λ text. row_letters bits (take i rows) ++ text) (sym same) ∙ sym (row_letters_next bits rows i d below))
+      (has_written_append took f _ g _ h before now)
+
+  pub letter_skipped : (f g : Formatter W) (bits : ℕ) (rows : List (ℕ × Selection)) (i : ℕ) (d : ℕ × Selection) (held : Bool) → i < length rows
+      → held ≡ (bit_and bits (bits_of (get_or rows i d).1) == bits_of (get_or rows i d).1) → held ≡ false
+      → HasWritten took f (row_letters bits (take i rows)) g → HasWritten took f (row_letters bits (take (i + 1) rows)) g
+  letter_skipped f g bits rows i d held below test is before =
+      let same : row_letter bits (get_or rows i d) ≡ [] = rw (sym test ∙ is) refl in
+      has_written_of_eq took f _ _ g (sym (row_letters_next bits rows i d below ∙ ap (λ text. row_letters bits (take i rows) ++ text) same ∙ append-nil _)) before
+
+-- the text of bytes is that of their first chunk and of the rest
+pub utf8_lossy-chunk : (bytes valid invalid rest : List ℕ) → bytes ≡ valid ++ (invalid ++ rest) → length valid ≡ utf8_valid_len bytes
+    → length invalid ≡ utf8_invalid_len (drop (utf8_valid_len bytes) bytes) → (length invalid ≡ 0 → length rest ≡ 0)
+    → utf8_lossy bytes ≡ valid ++ (replacement_of invalid ++ utf8_lossy rest)
+utf8_lossy-chunk bytes valid [] rest parts front back last = utf8_lossy_last_chunk bytes valid [] rest parts front refl (last refl)
+utf8_lossy-chunk bytes valid (b ∷ invalid) rest parts front back last = utf8_lossy_chunk bytes valid (b ∷ invalid) rest parts front back (omega arith)
+
+-- the steps of a walk over parts
+pub lossy_behind_next : (parts : List (Vec ℕ Global)) (i : ℕ) (part : Vec ℕ Global) → i < length parts → part ≡ get_or parts i part
+    → behind (map utf8_lossy (map (λ v. v.items) (drop i parts))) ≡ semicolon ∷ utf8_lossy part.items ++ behind (map utf8_lossy (map (λ v. v.items) (drop (i + 1) parts)))
+lossy_behind_next parts i part below item =
+    at_drop_more (λ ps. behind (map utf8_lossy (map (λ (v : Vec ℕ Global). v.items) ps))) parts i part below
+    ∙ ap (λ (v : Vec ℕ Global). semicolon ∷ (utf8_lossy v.items ++ behind (map utf8_lossy (map (λ v. v.items) (drop (i + 1) parts))))) (sym item)
+
+pub lossy_behind_end : (parts : List (Vec ℕ Global)) (i : ℕ) → length parts ≤ i → behind (map utf8_lossy (map (λ v. v.items) (drop i parts))) ≡ []
+lossy_behind_end parts i h = at_drop_all (λ ps. behind (map utf8_lossy (map (λ (v : Vec ℕ Global). v.items) ps))) parts i h
+
+pub lossy_start : (parts rest : List (Vec ℕ Global)) (first : Vec ℕ Global) (text : List ℕ) → text ≡ first.items → parts ≡ first ∷ rest
+    → utf8_lossy text ++ behind (map utf8_lossy (map (λ v. v.items) rest)) ≡ joined (map utf8_lossy (map (λ v. v.items) parts))
+lossy_start parts rest first text same split =
+    ap (λ t. utf8_lossy t ++ behind (map utf8_lossy (map (λ (v : Vec ℕ Global). v.items) rest))) same
+    ∙ sym (joined-cons (utf8_lossy first.items) (map utf8_lossy (map (λ v. v.items) rest)))
+    ∙ ap (λ ps. joined (map utf8_lossy (map (λ (v : Vec ℕ Global). v.items) ps))) (sym split)
+
+pub lossy_next : (done text : List ℕ) (parts : List (Vec ℕ Global)) (i : ℕ) (part : Vec ℕ Global) → i < length parts → part ≡ get_or parts i part → text ≡ part.items
+    → (done ++ semicolon ∷ utf8_lossy text) ++ behind (map utf8_lossy (map (λ v. v.items) (drop (i + 1) parts))) ≡ done ++ behind (map utf8_lossy (map (λ v. v.items) (drop i parts)))
+lossy_next done text parts i part below item same =
+    append_assoc done _ _
+    ∙ ap (λ t. done ++ semicolon ∷ (utf8_lossy t ++ behind (map utf8_lossy (map (λ (v : Vec ℕ Global). v.items) (drop (i + 1) parts))))) same
+    ∙ ap (λ t. done ++ t) (sym (lossy_behind_next parts i part below item))

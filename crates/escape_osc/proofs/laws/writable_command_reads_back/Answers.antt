@@ -1,0 +1,4 @@
+use Rattle.escape_osc.proofs.laws.writable_command_reads_back.Goals as goal
+
+pub returns : goal.returns
+returns c = λ command writable. writable.reads_back
