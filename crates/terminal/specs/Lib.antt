@@ -1,0 +1,12 @@
+pub mod Decoded
+pub mod Kind
+pub mod ColumnView
+pub mod ScreenView
+pub mod History
+pub mod Meaning
+pub mod Bytes
+pub mod TerminalView
+pub mod Watched
+pub mod WatchedView
+pub mod Shown
+pub mod Fed

@@ -1,0 +1,17 @@
+-- A reader or a writer that is watched.
+use Rattle.std.specs.Prelude.{◌≡◌, ℕ, ◌+◌, ◌^◌, ◌-◌, min, Bool, true, false, ◌||◌, ◌&&◌, ◌==◌, not, List, length, Result, Ok, Err, is_err}
+
+-- what is watched, whether it has failed, and how often it was read
+pub record Watched (T : Type 0) : Type 0 where
+  pub inner : T
+  pub has_failed : Bool
+  pub reads : ℕ
+
+-- one more, up to the greatest number of 64 bits
+abbrev pub counted : ℕ → ℕ
+counted reads = min (reads + 1) (2 ^ 64 - 1)
+
+-- a write is a fault where it is refused, and where it takes none of some bytes
+abbrev pub is_fault : {E : Type 0} → List ℕ → Result ℕ E → Bool
+is_fault bytes (Ok count) = (count == 0) && not (length bytes == 0)
+is_fault bytes (Err error) = true

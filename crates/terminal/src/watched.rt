@@ -1,0 +1,104 @@
+ghost use Rattle.std.specs.Prelude.{◌≡◌, ◌||◌, false, is_err};
+ghost use Rattle.std.specs.Io.{ReadsAtMost, WritesAtMost};
+ghost use Rattle.std.specs.Io.KnownBytes.{ReadConsumes, WriteAppends, Keeps};
+ghost use Rattle.terminal.specs.Watched.{counted, is_fault};
+
+use std::io;
+use std::io::{Read, Write};
+use std::marker::Model;
+
+/// A reader or a writer that remembers whether it has failed, and how often it was read.
+#[derive(Drop)]
+pub struct Watched<T> {
+    inner: T,
+    has_failed: bool,
+    reads: u64,
+}
+
+impl<T> Model for Watched<T> {
+    ghost use Rattle.terminal.specs.Watched.{Watched as Value_of};
+
+    ghost Value = { Value_of T };
+
+    ghost use Rattle.terminal.specs.WatchedView.{watched_of};
+
+    ghost view = { watched_of };
+}
+
+impl<T> Watched<T> {
+    /// Watches a reader or a writer.
+    pub fn new(inner: T) -> Watched<T>
+        ensures { result ≡ record { inner = inner; has_failed = false; reads = 0 } }
+    {
+        Watched {
+            inner,
+            has_failed: false,
+            reads: 0,
+        }
+    }
+
+    /// Whether a read, a write or a flush was a fault. A write that takes none of some bytes is
+    /// one.
+    pub fn failed(&self) -> bool
+        ensures { result ≡ self.now.has_failed }
+    {
+        self.has_failed
+    }
+
+    /// How often it was read, up to `u64::MAX`.
+    pub fn reads(&self) -> u64
+        ensures { result ≡ self.now.reads }
+    {
+        self.reads
+    }
+}
+
+impl<T: Read> Watched<T> {
+    /// Reads as the reader does.
+    pub fn read(&mut self, buffer: &mut [u8]) -> io::Result<usize>
+        ensures bound { ReadsAtMost result buffer.new }
+        ensures bytes { ReadConsumes (T.remaining self.old.inner) (T.remaining self.new.inner) result buffer.new }
+        ensures failed { self.new.has_failed ≡ (self.old.has_failed || is_err result) }
+        ensures reads { self.new.reads ≡ counted self.old.reads }
+    {
+        self.reads = self.reads.saturating_add(1);
+        let result = self.inner.read(buffer);
+        if result.is_err() {
+            self.has_failed = true;
+        }
+        result
+    }
+}
+
+impl<T: Write> Watched<T> {
+    /// Writes as the writer does.
+    pub fn write(&mut self, bytes: &[u8]) -> io::Result<usize>
+        ensures bound { WritesAtMost result bytes.now }
+        ensures bytes { WriteAppends (T.contents self.old.inner) (T.contents self.new.inner) result bytes.now }
+        ensures failed { self.new.has_failed ≡ (self.old.has_failed || is_fault bytes.now result) }
+        ensures reads { self.new.reads ≡ self.old.reads }
+    {
+        let result = self.inner.write(bytes);
+        let is_fault = match result {
+            Ok(count) => count == 0 && !bytes.is_empty(),
+            Err(_) => true,
+        };
+        if is_fault {
+            self.has_failed = true;
+        }
+        result
+    }
+
+    /// Flushes the writer.
+    pub fn flush(&mut self) -> io::Result<()>
+        ensures bytes { Keeps (T.contents self.old.inner) (T.contents self.new.inner) }
+        ensures failed { self.new.has_failed ≡ (self.old.has_failed || is_err result) }
+        ensures reads { self.new.reads ≡ self.old.reads }
+    {
+        let result = self.inner.flush();
+        if result.is_err() {
+            self.has_failed = true;
+        }
+        result
+    }
+}
