@@ -1,0 +1,110 @@
+ghost use Rattle.std.specs.Prelude.{◌≡◌, ◌≤◌};
+
+use crate::options;
+use crate::options::Options;
+use clap::Error;
+use clap::error::ErrorKind;
+use std::alloc::Global;
+use std::convert::AsStr;
+use std::io;
+use std::io::{Read, Write};
+use terminal::{ProgramWidth, RunError, TerminalError, Watched, show};
+
+const FAULT: u8 = 1;
+
+const BAD_WORDS: u8 = 2;
+
+/// Writes a line on what went wrong. That it can't be written is dropped.
+pub fn tell<F: Write>(faults: &mut F, fault: &str) -> u8
+    ensures { result ≡ FAULT }
+{
+    let _ = write_line(faults, fault);
+    FAULT
+}
+
+fn write_line<F: Write>(faults: &mut F, fault: &str) -> io::Result<()> {
+    faults.write_all(b"relay: ")?;
+    faults.write_all(fault.as_bytes())?;
+    faults.write_all(b"\n")?;
+    faults.flush()
+}
+
+/// Writes why the words are no command line. That it can't be written is dropped.
+pub fn refuse<F: Write>(faults: &mut F, text: &str) -> u8
+    ensures { result ≡ BAD_WORDS }
+{
+    let _ = faults.write_all(text.as_bytes());
+    let _ = faults.flush();
+    BAD_WORDS
+}
+
+fn fault_of(error: RunError) -> &'static str {
+    match error {
+        RunError::Read => "cannot read",
+        RunError::Write => "cannot write",
+        RunError::TooLong => "input too long",
+        RunError::Terminal(TerminalError::Number) => "numbers used up",
+        RunError::Terminal(TerminalError::Memory) => "out of memory",
+        RunError::Terminal(TerminalError::Failed) => "out of memory",
+    }
+}
+
+// Help and the version go to the writer, and what is wrong with the words to faults.
+fn explain<T: Write, F: Write>(alloc: Global, error: &Error, writer: &mut T, faults: &mut F) -> u8
+    ensures { result ≤ 2 }
+{
+    if error.kind() == ErrorKind::OutOfMemory {
+        return tell(faults, "out of memory");
+    }
+    let Ok(text) = error.to_string(alloc) else {
+        return tell(faults, "out of memory");
+    };
+    if error.use_stderr() {
+        return refuse(faults, text.as_str());
+    }
+    if writer.write_all(text.as_bytes()).is_err() || writer.flush().is_err() {
+        return tell(faults, "cannot write");
+    }
+    0
+}
+
+// Runs what the options ask for.
+fn run<R: Read, T: Write>(
+    alloc: Global,
+    options: Options,
+    reader: &mut R,
+    writer: &mut T,
+) -> Result<(), RunError> {
+    let mut reader = Watched::new(reader);
+    let mut writer = Watched::new(writer);
+    show(
+        alloc,
+        &mut reader,
+        &mut writer,
+        options.width,
+        options.height,
+        ProgramWidth,
+    )
+}
+
+/// The program on its words, of which the first is its name, and on its streams. It answers the
+/// status: 0, or 1 with one line on `faults`, or 2 with a text on `faults` for a bad command line.
+/// Help and the version are written to `writer`, with status 0.
+pub fn serve<S: AsStr, R: Read, T: Write, F: Write>(
+    alloc: Global,
+    words: &[S],
+    reader: &mut R,
+    writer: &mut T,
+    faults: &mut F,
+) -> u8
+    ensures { result ≤ 2 }
+{
+    let options = match options::read(alloc, words) {
+        Ok(options) => options,
+        Err(error) => return explain(alloc, &error, writer, faults),
+    };
+    match run(alloc, options, reader, writer) {
+        Ok(()) => 0,
+        Err(error) => tell(faults, fault_of(error)),
+    }
+}
