@@ -1,6 +1,7 @@
 //! A filter that keeps the screen of an application from the bytes on its standard input.
 #![tactic(auto)]
 
+mod laws;
 mod options;
 mod service;
 #[cfg(test)]

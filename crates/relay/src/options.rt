@@ -1,4 +1,6 @@
-ghost use Rattle.std.specs.Prelude.{◌<◌, ◌≤◌};
+ghost use Rattle.std.specs.Prelude.{◌≡◌, ◌<◌, ◌≤◌, false, IfOk, map};
+ghost use Rattle.clap.specs.Words.{FailsBy, app_of, found_of, one_text, rule_of};
+ghost use Rattle.relay.specs.CommandLine.{chosen, command_line, named, number_rule, flag_rule, faults_in, number_or, width_in, height_in, every_in};
 
 use clap::{Arg, ArgAction, ArgMatches, Command, Error, value_parser};
 use std::alloc::{AllocError, Global};
@@ -22,51 +24,102 @@ pub struct Options {
 
 const MOST: u32 = 4096;
 
-fn command<'a>(alloc: Global) -> Result<Command<'a>, AllocError> {
-    let width = Arg::new(alloc, "width")
-        .long("width")
+// An option whose value is a number from 1 to the most.
+fn number_option<'a>(
+    alloc: Global,
+    name: &'a str,
+    default: &'a str,
+    most: u32,
+    help: &'a str,
+) -> Arg<'a>
+    ensures rule { rule_of result ≡ number_rule name.entry.now default.entry.now most }
+    ensures local { result.global ≡ false }
+{
+    let numbers = value_parser!(u32).range(1..=i64::from(most));
+    Arg::new(alloc, name)
+        .long(name)
         .value_name("N")
-        .value_parser(value_parser!(u32).range(1..=4096))
-        .default_value("80")
-        .help("Columns of the screen, 1 to 4096");
-    let height = Arg::new(alloc, "height")
-        .long("height")
-        .value_name("N")
-        .value_parser(value_parser!(u32).range(1..=4096))
-        .default_value("24")
-        .help("Rows of the screen, 1 to 4096");
-    let every = Arg::new(alloc, "every")
-        .long("every")
-        .value_name("N")
-        .value_parser(value_parser!(u32).range(1..=4294967295))
-        .default_value("4096")
-        .help("Bytes between two updates, 1 to 4294967295");
-    let show = Arg::new(alloc, "show")
-        .long("show")
+        .value_parser(numbers)
+        .default_value(default)
+        .help(help)
+}
+
+fn flag_option<'a>(alloc: Global, name: &'a str, help: &'a str) -> Arg<'a>
+    ensures rule { rule_of result ≡ flag_rule name.entry.now }
+    ensures local { result.global ≡ false }
+{
+    Arg::new(alloc, name)
+        .long(name)
         .action(ArgAction::SetTrue)
-        .help("Write the rows of the screen once, at the end of the input");
+        .help(help)
+}
+
+fn named_command<'a>(alloc: Global) -> Command<'a>
+    ensures { app_of result ≡ named }
+{
     Command::new(alloc, "relay")
         .about("Keeps the screen of an application from the bytes on standard input")
         .version("0.1.0")
+}
+
+fn command<'a>(alloc: Global) -> Result<Command<'a>, AllocError>
+    ensures { IfOk result (λ c. app_of c ≡ command_line) }
+{
+    let width = number_option(
+        alloc,
+        "width",
+        "80",
+        MOST,
+        "Columns of the screen, 1 to 4096",
+    );
+    let height = number_option(alloc, "height", "24", MOST, "Rows of the screen, 1 to 4096");
+    let every = number_option(
+        alloc,
+        "every",
+        "4096",
+        u32::MAX,
+        "Bytes between two updates, 1 to 4294967295",
+    );
+    let show = flag_option(
+        alloc,
+        "show",
+        "Write the rows of the screen once, at the end of the input",
+    );
+    named_command(alloc)
         .arg(width)?
         .arg(height)?
         .arg(every)?
         .arg(show)
 }
 
-// A number that the command line's parser has found in its range.
-fn number(matches: &ArgMatches<'_>, name: &str, default: u32, most: u32) -> usize
+// The number that was read, where it is from 1 to the most.
+fn chosen(number: Option<u32>, default: u32, most: u32) -> u32
     requires { (0 < default) × (default ≤ most) }
-    ensures { (0 < result) × (result ≤ most) }
+    ensures range { (0 < result) × (result ≤ most) }
+    ensures choice { result ≡ chosen default most number }
 {
-    match matches.get_one::<u32>(name) {
-        Some(number) if 0 < number && number <= most => number as usize,
-        _ => default as usize,
+    match number {
+        Some(number) if 0 < number && number <= most => number,
+        _ => default,
     }
 }
 
+// A number that the command line's parser has found in its range.
+fn number(matches: &ArgMatches<'_>, name: &str, default: u32, most: u32) -> usize
+    requires { (0 < default) × (default ≤ most) }
+    ensures range { (0 < result) × (result ≤ most) }
+    ensures read { result ≡ number_or default most (one_text (found_of matches.now) name.now) }
+{
+    chosen(matches.get_one::<u32>(name), default, most) as usize
+}
+
 /// Reads a command line, of which the first word is the program's name.
-pub fn read<'a, S: AsStr>(alloc: Global, words: &'a [S]) -> Result<Options, Error> {
+pub fn read<'a, S: AsStr>(alloc: Global, words: &'a [S]) -> Result<Options, Error>
+    ensures width { IfOk result (λ options. options.width ≡ width_in (map S.text words.entry.now)) }
+    ensures height { IfOk result (λ options. options.height ≡ height_in (map S.text words.entry.now)) }
+    ensures every { IfOk result (λ options. options.every ≡ every_in (map S.text words.entry.now)) }
+    ensures faults { FailsBy (faults_in (map S.text words.entry.now)) result }
+{
     let matches = command(alloc)?.try_get_matches_from(words)?;
     Ok(Options {
         width: number(&matches, "width", 80, MOST),

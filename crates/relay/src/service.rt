@@ -1,4 +1,7 @@
-ghost use Rattle.std.specs.Prelude.{◌≡◌, ◌≤◌};
+ghost use Rattle.std.specs.Prelude.{◌≡◌, ◌≢◌, ◌⊎◌, ◌≤◌, [], map};
+ghost use Rattle.std.specs.Io.KnownBytes.{Keeps};
+ghost use Rattle.clap.specs.Words.{IsAmong, kind_of};
+ghost use Rattle.relay.specs.CommandLine.{faults_in};
 
 use crate::options;
 use crate::options::Options;
@@ -51,7 +54,10 @@ fn fault_of(error: RunError) -> &'static str {
 
 // Help and the version go to the writer, and what is wrong with the words to faults.
 fn explain<T: Write, F: Write>(alloc: Global, error: &Error, writer: &mut T, faults: &mut F) -> u8
-    ensures { result ≤ 2 }
+    ensures status { result ≤ 2 }
+    ensures memory { kind_of error.now ≡ ErrorKind.OutOfMemory → result ≡ FAULT }
+    ensures asked { result ≡ 0 → (kind_of error.now ≡ ErrorKind.DisplayHelp) ⊎ (kind_of error.now ≡ ErrorKind.DisplayVersion) }
+    ensures quiet { result ≡ 0 → Keeps (F.contents faults.old) (F.contents faults.new) }
 {
     if error.kind() == ErrorKind::OutOfMemory {
         return tell(faults, "out of memory");
@@ -97,7 +103,13 @@ pub fn serve<S: AsStr, R: Read, T: Write, F: Write>(
     writer: &mut T,
     faults: &mut F,
 ) -> u8
-    ensures { result ≤ 2 }
+    ensures status { result ≤ 2 }
+    // A command line that can be run is never refused.
+    ensures runs { faults_in (map S.text words.now) ≡ [] → result ≤ 1 }
+    // Other words have status 0 only where they ask for help or for the version.
+    ensures asked { result ≡ 0 → faults_in (map S.text words.now) ≢ []
+        → IsAmong ErrorKind.DisplayHelp (faults_in (map S.text words.now)) ⊎ IsAmong ErrorKind.DisplayVersion (faults_in (map S.text words.now)) }
+    ensures quiet { result ≡ 0 → Keeps (F.contents faults.old) (F.contents faults.new) }
 {
     let options = match options::read(alloc, words) {
         Ok(options) => options,
