@@ -10,3 +10,5 @@ mod RoundTrip
 mod TextLemmas
 mod Written
 mod TextTrip
+mod FrontLemmas
+mod FrontTrip

@@ -69,7 +69,7 @@ number_bytes : (z : ℤ) → is_written_number z ≡ true → all_parameter_byte
 number_bytes (negsuc n) h = cc
 number_bytes (pos n) h = let small : n ≤ largest_number = leb-true n largest_number h in digit_bytes (decimal n) (decimal_digits n (omega arith))
 
-list_bytes : (ts : List CsiParam) → is_spellable ts ≡ true → all_parameter_bytes (flat_map token_text ts) ≡ true
+pub list_bytes : (ts : List CsiParam) → is_spellable ts ≡ true → all_parameter_bytes (flat_map token_text ts) ≡ true
 list_bytes [] h = refl
 list_bytes (P b ∷ ts) h = bytes-append (encode_utf8 b) (flat_map token_text ts) (sign_bytes b (and_left (is_sign b) (is_spellable ts) h)) (list_bytes ts (spellable-tail (P b) ts h))
 list_bytes (Integer z ∷ ts) h =
@@ -77,7 +77,7 @@ list_bytes (Integer z ∷ ts) h =
 
 -- ---- Each action is written
 
-abbrev EachIsWritten : List Action → Type 0
+abbrev pub EachIsWritten : List Action → Type 0
 EachIsWritten [] = Unit {0}
 EachIsWritten (a ∷ others) = IsWritten a × EachIsWritten others
 
@@ -155,7 +155,7 @@ module _ (truncated : Bool) (final : ℕ) (low : 64 ≤ final) (high : final ≤
   sgr-written [] h = (listed_0, tt)
   sgr-written (t ∷ ts) h = chosen (all_sgr_tokens (t ∷ ts)) _ _ (pieces-written kind.Rendition (t ∷ ts) h) (left_written (t ∷ ts) h, tt)
 
-  reading-written : (ts : List CsiParam) → is_spellable ts ≡ true → EachIsWritten (csi_reading ts truncated final)
+  pub reading-written : (ts : List CsiParam) → is_spellable ts ≡ true → EachIsWritten (csi_reading ts truncated final)
   unfolding csi_reading
   reading-written ts h = chosen (eqb final 109) _ _ (sgr-written ts h) (other-written ts h)
 

@@ -15,3 +15,6 @@ pub mod Parsing
 pub mod Laws
 pub mod Texts
 pub mod CrackedView
+pub mod Fronts
+pub mod Keeping
+pub mod FrontView

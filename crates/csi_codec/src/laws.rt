@@ -1,4 +1,5 @@
 //! Laws of the readings: functions without a body, each ensuring one.
+ghost use Rattle.csi_codec.specs.Fronts.{OneFront, TextsAreFronts};
 ghost use Rattle.csi_codec.specs.Laws.{ActionsReadBack, SgrListsJoin};
 ghost use Rattle.csi_codec.specs.Texts.{ParametersReadBack, TextsReadBack};
 
@@ -23,4 +24,16 @@ pub fn parameters_read_back()
 /// what is left of modes behind some that stand, where it begins with `?` or stands under `s` or `r`.
 pub fn texts_read_back()
     ensures { TextsReadBack }
+{}
+
+/// At most one sequence stands at the front of some bytes.
+pub fn one_front()
+    ensures { OneFront }
+{}
+
+/// The text of an action is one sequence and nothing behind it, and spells the parameters and the final byte that are
+/// written for the action: so it is for each action of a spellable list of at most 256 tokens with a final byte from
+/// `@` to `~`.
+pub fn texts_are_fronts()
+    ensures { TextsAreFronts }
 {}

@@ -7,6 +7,7 @@ mod cursors;
 mod devices;
 mod edits;
 mod escapes;
+mod fronts;
 pub mod laws;
 mod modes;
 mod one_based;
@@ -23,6 +24,7 @@ pub use cursors::{Cursor, CursorStyle, CursorTabulationControl, TabulationClear}
 pub use devices::Device;
 pub use edits::{Edit, EraseInDisplay, EraseInLine};
 pub use escapes::{Esc, EscCode};
+pub use fronts::{CsiFront, read_csi};
 pub use modes::{DecPrivateMode, DecPrivateModeCode, Mode, TerminalMode, TerminalModeCode};
 pub use one_based::OneBased;
 pub use parameters::{CrackError, CsiParam, Unspecified};

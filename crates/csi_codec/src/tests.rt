@@ -9,6 +9,7 @@ pub(crate) type Row = (&'static str, char, &'static str, &'static str);
 
 mod colors;
 mod cursors;
+mod fronts;
 mod others;
 
 // Parameters, the final byte, and the texts of all actions.

@@ -1,0 +1,7 @@
+-- The bytes so far, and those of what is left, are the whole.
+use Rattle.std.proofs.Common.{◌≡◌, ◌+◌, drop}
+use Rattle.csi_codec.specs.Keeping.{parameter_len}
+use Rattle.csi_codec.proofs.fronts.parameter_len.Given as goal
+
+abbrev pub invariant-loop-len : goal.invariant-loop-len
+invariant-loop-len l = l.len + parameter_len (drop l.len l.bytes) ≡ parameter_len l.bytes

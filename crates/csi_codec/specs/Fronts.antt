@@ -1,0 +1,57 @@
+-- A control sequence at the front of some bytes.
+-- ECMA-48 5.4: CSI, parameter and intermediate bytes (20h to 3Fh), and a final byte (40h to 7Eh).
+use Rattle.std.specs.Prelude.{◌≡◌, ℕ, ◌≤◌, Bool, true, false, nat_lt, List, [], ◌∷◌, ◌++◌, length, take}
+use Rattle.csi_codec.specs.declared.parameters.CsiParam.{CsiParam}
+use Rattle.csi_codec.specs.Parameters.{Spelled}
+use Rattle.csi_codec.specs.Actions.{Action, csi_reading, spelling_of}
+use Rattle.csi_codec.specs.Sequences.{csi_text}
+use Rattle.csi_codec.specs.Texts.{tokens_of, is_spellable, all_parameter_bytes}
+
+-- how many tokens of a sequence are kept
+abbrev pub most_tokens : ℕ
+most_tokens = 256
+
+-- the tokens that are kept, whether there were more, the final byte, and the bytes behind it
+pub record Front : Type 0 where
+  pub params : List CsiParam
+  pub truncated : Bool
+  pub control : ℕ
+  pub rest : List ℕ
+
+-- the bytes are ESC [, parameter and intermediate bytes, a final byte, and the rest
+pub record IsSequence (bytes body : List ℕ) (control : ℕ) (rest : List ℕ) : Type 0 where
+  pub text : bytes ≡ 27 ∷ 91 ∷ (body ++ control ∷ rest)
+  pub parameters : all_parameter_bytes body ≡ true
+  pub low : 64 ≤ control
+  pub high : control ≤ 126
+
+-- this sequence stands at the front of the bytes: of the tokens that its bytes spell the first ones are kept
+pub record HasFront (bytes : List ℕ) (front : Front) : Type 0 where
+  pub body : List ℕ
+  pub sequence : IsSequence bytes body front.control front.rest
+  pub kept : front.params ≡ take most_tokens (tokens_of body)
+  pub dropped : front.truncated ≡ nat_lt most_tokens (length (tokens_of body))
+
+-- no sequence stands at the front of the bytes
+abbrev pub HasNoFront : List ℕ → Type 0
+HasNoFront bytes = (body : List ℕ) (control : ℕ) (rest : List ℕ) → IsSequence bytes body control rest → ⊥
+
+-- ---- Laws
+
+-- at most one sequence stands at the front of some bytes
+abbrev pub OneFront : Type 0
+OneFront = (bytes : List ℕ) (a b : Front) → HasFront bytes a → HasFront bytes b → a ≡ b
+
+-- parameters and a final byte as a sequence with nothing behind it, and with no token dropped
+abbrev pub whole_front : Spelled → Front
+whole_front s = record { params = s.params; truncated = false; control = s.control; rest = [] }
+
+-- the text of an action is one sequence, of the parameters and the final byte that are written for it
+abbrev pub EachTextIsFront : List Action → Type 0
+EachTextIsFront [] = Unit {0}
+EachTextIsFront (a ∷ others) = HasFront (csi_text a) (whole_front (spelling_of a)) × EachTextIsFront others
+
+-- so are the texts of all actions of a spellable list, of no more tokens than are kept, with a final byte from @ to ~
+abbrev pub TextsAreFronts : Type 0
+TextsAreFronts = (ts : List CsiParam) (truncated : Bool) (final : ℕ) → is_spellable ts ≡ true → length ts ≤ most_tokens → 64 ≤ final → final ≤ 126
+    → EachTextIsFront (csi_reading ts truncated final)
