@@ -1,0 +1,216 @@
+-- The plain reading of characters, ill-formed pieces and controls.
+use Rattle.std.proofs.Common.{◌≡◌, ◌≢◌, ℕ, ◌+◌, ◌/◌, ◌<◌, ◌≤◌, inl, inr, Bool, true, false, List, [], ◌∷◌, ◌++◌, refl, sym, ap, subst, ◌∙◌, arith, append_assoc}
+use Rattle.std.specs.Prelude.{◌==◌, ◌&&◌, ◌||◌, nat_le, nat_lt, is_none}
+use Rattle.std.specs.Char.{IsScalar}
+use Rattle.std.specs.Str.{is_utf8}
+use Rattle.std.specs.Str.Lossy.{utf8_error_len}
+use Rattle.std.proofs.lemmas.Bool.Decides.{nat_tests}
+use Rattle.std.proofs.lemmas.Str.{encode_same, encode_ascii}
+use lib.Utf8.{encode, low_scalar}
+use Rattle.escape_framing.specs.Segment.{Begun, Segment, Character, IllFormed, Control, IsPrintable, IsControl, BeginsCharacter, IsBegun, IsUnfinished, IsSegment}
+use Rattle.escape_framing.specs.Decode.{waits, ends, ends_before, segment_of, first_byte, in_character, next_byte, read_on}
+use Rattle.escape_framing.specs.Existence.Utf8Lemmas.{Spelled, in_one, in_two, in_three, in_four, spelled, append_nil, not_shorter}
+use Rattle.escape_framing.specs.Existence.OutcomeLemmas.{Outcome, whole, begun, broken, outcome, some_bytes}
+use Rattle.escape_framing.specs.Existence.StepLemmas.{ascii_bytes, char_of}
+use Rattle.escape_framing.proofs.ReadLemmas.{after, step_waits, step_ends, step_ends_before}
+
+same_char : (c d : ℕ) → encode c ≡ encode d → c ≡ d
+same_char c d e = (encode_same c d [] [] (ap (λ l. l ++ []) e)).0
+
+-- ---- one byte behind the first ones of a character
+
+-- one byte that is no front of a character is not ESC, and ESC is no front of a longer one
+one_is_all : (c : ℕ) (more : List ℕ) → IsScalar c → encode c ≡ 0x1B ∷ more → more ≢ [] → ⊥
+one_is_all c more s e n = by_kind (spelled c s)
+  where
+    by_kind : Spelled c → ⊥
+    by_kind (in_one l h) = n (let k : c ∷ [] ≡ 0x1B ∷ more = sym h ∙ e in let m : [] ≡ more = cc in sym m)
+    by_kind (in_two g l h) = let k = sym h ∙ e in let m : 192 + c / 64 ≡ 0x1B = cc in omega arith
+    by_kind (in_three g l t h) = let k = sym h ∙ e in let m : 224 + c / 4096 ≡ 0x1B = cc in omega arith
+    by_kind (in_four g l h) = let k = sym h ∙ e in let m : 240 + c / 262144 ≡ 0x1B = cc in omega arith
+
+is_byte : (b x : ℕ) → (b == x) ≡ true → x ≡ b
+is_byte b x h = grind (arith, nat_tests)
+
+-- a byte that leaves a character begun waits
+waits_first : (b : ℕ) → IsBegun (b ∷ []) → is_utf8 (b ∷ []) ≡ false → is_none (utf8_error_len (b ∷ [])) ≡ true → first_byte b ≡ waits (Begun (b ∷ []))
+unfolding first_byte
+waits_first b (c, more, s, e, n, m) u v = by_test (b == 0x1B) refl
+  where
+    by_test : (t : Bool) → (b == 0x1B) ≡ t → first_byte b ≡ waits (Begun (b ∷ []))
+    by_test true h = absurd (one_is_all c more s (e ∙ ap (λ (x : ℕ). x ∷ more) (sym (is_byte b 0x1B h))) m)
+    by_test false h = rw (h, u, v) refl
+
+pub waits_begun : (p : List ℕ) (b : ℕ) → IsUnfinished (Begun p) → IsBegun (p ++ b ∷ []) → next_byte (Begun p) b ≡ waits (Begun (p ++ b ∷ []))
+unfolding next_byte in_character
+waits_begun p b g (c, more, s, e, n, m) = by_outcome p (c, more, s, e, n, m) (outcome p b g)
+  where
+    by_outcome : (p : List ℕ) → IsBegun (p ++ b ∷ []) → Outcome p b → next_byte (Begun p) b ≡ waits (Begun (p ++ b ∷ []))
+    by_outcome p (c, more, s, e, n, m) (whole d t k u) = absurd (not_shorter d c [] more (e ∙ ap (λ l. l ++ more) (sym (append_nil (encode d) ∙ k))) m)
+    by_outcome p (c, more, s, e, n, m) (broken f u v) = absurd (f (c, more, s, e))
+    by_outcome [] h (begun k u v) = waits_first b h u v
+    by_outcome (x ∷ p) h (begun k u v) = rw (u, v) refl
+
+not_nil : (p : List ℕ) (b : ℕ) → p ++ b ∷ [] ≢ []
+not_nil [] b h = cc
+not_nil (x ∷ p) b h = cc
+
+-- the first bytes of a character are read as they stand
+reads_front : (p q rest : List ℕ) → IsUnfinished (Begun p) → (c : ℕ) (more : List ℕ) → IsScalar c → encode c ≡ (p ++ q) ++ more → more ≢ [] → read_on (Begun p) (q ++ rest) ≡ read_on (Begun (p ++ q)) rest
+reads_front p [] rest g c more s e m = ap (λ l. read_on (Begun l) rest) (sym (append_nil p))
+reads_front p (b ∷ q) rest g c more s e m =
+    let split : (p ++ b ∷ []) ++ q ≡ p ++ b ∷ q = append_assoc p (b ∷ []) q in
+    let h : IsBegun (p ++ b ∷ []) = (c, q ++ more, s, e ∙ ap (λ l. l ++ more) (sym split) ∙ append_assoc (p ++ b ∷ []) q more, not_nil p b, some q) in
+    step_waits (Begun p) (Begun (p ++ b ∷ [])) b (q ++ rest) (waits_begun p b g h)
+    ∙ reads_front (p ++ b ∷ []) q rest (inr h) c more s (e ∙ ap (λ l. l ++ more) (sym split)) m
+    ∙ ap (λ l. read_on (Begun l) rest) split
+  where
+    some : (q : List ℕ) → q ++ more ≢ []
+    some [] h = m h
+    some (x ∷ q) h = cc
+
+pub reads_begun : (bytes rest : List ℕ) → IsUnfinished (Begun bytes) → read_on (Begun []) (bytes ++ rest) ≡ read_on (Begun bytes) rest
+reads_begun bytes rest (inl e) = ap (λ l. read_on (Begun []) (l ++ rest)) e ∙ ap (λ l. read_on (Begun l) rest) (sym e)
+reads_begun bytes rest (inr (c, more, s, e, n, m)) = reads_front [] bytes rest (inl refl) c more s e m
+
+-- ---- a whole character
+
+-- a list that isn't empty, cut before its last
+record Last (xs : List ℕ) : Type 0 where
+  front : List ℕ
+  last : ℕ
+  is : xs ≡ front ++ last ∷ []
+
+last_of : (x : ℕ) (xs : List ℕ) → Last (x ∷ xs)
+last_of x [] = record { front = []; last = x; is = refl }
+last_of x (y ∷ xs) = let l = last_of y xs in record { front = x ∷ l.front; last = l.last; is = ap (λ m. x ∷ m) l.is }
+
+last_byte : (c : ℕ) → Last (encode c)
+last_byte c = by_list (encode c) refl
+  where
+    by_list : (xs : List ℕ) → encode c ≡ xs → Last (encode c)
+    by_list [] e = absurd (some_bytes c [] (append_nil (encode c) ∙ e))
+    by_list (x ∷ xs) e = subst Last (sym e) (last_of x xs)
+
+pub plain_segment : (bytes : List ℕ) (c : ℕ) → IsPrintable c → segment_of bytes c ≡ Character c
+plain_segment bytes c (inl p) =
+    let e : (nat_le 0x80 c && nat_le c 0x9F) ≡ false = low c p.1 in
+    let f : (nat_lt c 0x20 || (c == 0x7F)) ≡ false = plain c p.0 p.1 in rw (e, f) refl
+  where
+    low : (c : ℕ) → c ≤ 0x7E → (nat_le 0x80 c && nat_le c 0x9F) ≡ false
+    low c h = grind (arith, nat_tests)
+
+    plain : (c : ℕ) → 0x20 ≤ c → c ≤ 0x7E → (nat_lt c 0x20 || (c == 0x7F)) ≡ false
+    plain c h k = grind (arith, nat_tests)
+plain_segment bytes c (inr p) =
+    let e : (nat_le 0x80 c && nat_le c 0x9F) ≡ false = high c p in
+    let f : (nat_lt c 0x20 || (c == 0x7F)) ≡ false = plain c p in rw (e, f) refl
+  where
+    high : (c : ℕ) → 0x9F < c → (nat_le 0x80 c && nat_le c 0x9F) ≡ false
+    high c h = grind (arith, nat_tests)
+
+    plain : (c : ℕ) → 0x9F < c → (nat_lt c 0x20 || (c == 0x7F)) ≡ false
+    plain c h = grind (arith, nat_tests)
+
+pub control_segment : (bytes : List ℕ) (c : ℕ) → IsControl c → segment_of bytes c ≡ Control c
+control_segment bytes c (inl p) =
+    let e : (nat_le 0x80 c && nat_le c 0x9F) ≡ false = low c p.0 in
+    let f : (nat_lt c 0x20 || (c == 0x7F)) ≡ true = is_control c p.0 in rw (e, f) refl
+  where
+    low : (c : ℕ) → c < 0x20 → (nat_le 0x80 c && nat_le c 0x9F) ≡ false
+    low c h = grind (arith, nat_tests)
+
+    is_control : (c : ℕ) → c < 0x20 → (nat_lt c 0x20 || (c == 0x7F)) ≡ true
+    is_control c h = grind (arith, nat_tests)
+control_segment bytes c (inr p) = ap (λ (x : ℕ). segment_of bytes x) p ∙ ap Control (sym p)
+
+-- the last byte of a character ends it
+pub ends_first : (c b : ℕ) → IsScalar c → encode c ≡ b ∷ [] → c ≢ 0x1B → is_utf8 (b ∷ []) ≡ true → first_byte b ≡ ends (segment_of (b ∷ []) c)
+unfolding first_byte
+ends_first c b s e n u = by_test (b == 0x1B) refl
+  where
+    by_test : (t : Bool) → (b == 0x1B) ≡ t → first_byte b ≡ ends (segment_of (b ∷ []) c)
+    by_test true h = absurd (n (same_char c 0x1B (e ∙ ap (λ (x : ℕ). x ∷ []) (sym (is_byte b 0x1B h)) ∙ sym (encode_ascii 0x1B (omega arith)))))
+    by_test false h = rw (h, u, char_of c (b ∷ []) s e) refl
+
+pub ends_character : (c b : ℕ) (p : List ℕ) → IsScalar c → encode c ≡ p ++ b ∷ [] → c ≢ 0x1B → IsUnfinished (Begun p) → next_byte (Begun p) b ≡ ends (segment_of (p ++ b ∷ []) c)
+unfolding next_byte in_character
+ends_character c b p s e n g = by_outcome p e (outcome p b g)
+  where
+    by_outcome : (p : List ℕ) → encode c ≡ p ++ b ∷ [] → Outcome p b → next_byte (Begun p) b ≡ ends (segment_of (p ++ b ∷ []) c)
+    by_outcome p e (begun (d, more, t, h, k, m) u v) = absurd (not_shorter c d [] more (h ∙ ap (λ l. l ++ more) (sym (append_nil (encode c) ∙ e))) m)
+    by_outcome p e (broken f u v) = absurd (f (c, [], s, e ∙ sym (append_nil (p ++ b ∷ []))))
+    by_outcome [] e (whole d t h u) = ends_first c b s e n u
+    by_outcome (x ∷ p) e (whole d t h u) = rw (u, char_of c (x ∷ p ++ b ∷ []) s e) refl
+
+reads_scalar : (c : ℕ) (f : List ℕ) → IsScalar c → c ≢ 0x1B → read_on (Begun []) (encode c ++ f) ≡ after (segment_of (encode c) c) (read_on (Begun []) f)
+reads_scalar c f s n =
+    let l = last_byte c in
+    let g : IsUnfinished (Begun l.front) = front l.front l.last l.is in
+    ap (λ m. read_on (Begun []) (m ++ f)) l.is
+    ∙ ap (read_on (Begun [])) (append_assoc l.front (l.last ∷ []) f)
+    ∙ reads_begun l.front (l.last ∷ f) g
+    ∙ step_ends (Begun l.front) (segment_of (encode c) c) l.last f (ends_character c l.last l.front s l.is n g ∙ ap (λ m. ends (segment_of m c)) (sym l.is))
+  where
+    front : (p : List ℕ) (b : ℕ) → encode c ≡ p ++ b ∷ [] → IsUnfinished (Begun p)
+    front [] b e = inl refl
+    front (x ∷ p) b e = inr (c, b ∷ [], s, e, λ h. cc, λ h. cc)
+
+pub reads_character : (c : ℕ) (f : List ℕ) → IsSegment (Character c) f → read_on (Begun []) (encode c ++ f) ≡ after (Character c) (read_on (Begun []) f)
+reads_character c f h = reads_scalar c f h.0 (no_escape h.1) ∙ ap (λ (s : Segment). after s (read_on (Begun []) f)) (plain_segment (encode c) c h.1)
+  where
+    no_escape : IsPrintable c → c ≢ 0x1B
+    no_escape (inl p) e = omega arith
+    no_escape (inr p) e = omega arith
+
+pub reads_control : (b : ℕ) (f : List ℕ) → IsSegment (Control b) f → read_on (Begun []) (b ∷ f) ≡ after (Control b) (read_on (Begun []) f)
+reads_control b f h =
+    let l = small h in
+    let s : IsScalar b = low_scalar b (omega arith) in
+    ap (λ m. read_on (Begun []) (m ++ f)) (sym (ascii_bytes b s l)) ∙ reads_scalar b f s (no_escape h) ∙ ap (λ (s : Segment). after s (read_on (Begun []) f)) (control_segment (encode b) b h)
+  where
+    small : IsControl b → b < 128
+    small (inl k) = let l = k.0 in omega arith
+    small (inr e) = omega arith
+
+    no_escape : IsControl b → b ≢ 0x1B
+    no_escape (inl k) e = k.1 e
+    no_escape (inr k) e = omega arith
+
+-- ---- an ill-formed piece
+
+pub breaks_first : (b : ℕ) → (BeginsCharacter (b ∷ []) → ⊥) → first_byte b ≡ ends (IllFormed (b ∷ []))
+unfolding first_byte
+breaks_first b n = by_test (b == 0x1B) refl
+  where
+    by_outcome : (b == 0x1B) ≡ false → Outcome [] b → first_byte b ≡ ends (IllFormed (b ∷ []))
+    by_outcome h (whole c s e u) = absurd (n (c, [], s, e))
+    by_outcome h (begun (c, more, s, e, k, m) u v) = absurd (n (c, more, s, e))
+    by_outcome h (broken f u v) = rw (h, u, v) refl
+
+    by_test : (t : Bool) → (b == 0x1B) ≡ t → first_byte b ≡ ends (IllFormed (b ∷ []))
+    by_test true h = absurd (n (b, [], low_scalar b (let k = is_byte b 0x1B h in omega arith), encode_ascii b (let k = is_byte b 0x1B h in omega arith)))
+    by_test false h = by_outcome h (outcome [] b (inl refl))
+
+stray : (b : ℕ) (f : List ℕ) → (BeginsCharacter (b ∷ []) → ⊥) → read_on (Begun []) (b ∷ f) ≡ after (IllFormed (b ∷ [])) (read_on (Begun []) f)
+unfolding next_byte in_character
+stray b f n = step_ends (Begun []) (IllFormed (b ∷ [])) b f (breaks_first b n)
+
+pub breaks : (p : List ℕ) (b : ℕ) → IsBegun p → (BeginsCharacter (p ++ b ∷ []) → ⊥) → next_byte (Begun p) b ≡ ends_before (IllFormed p) (first_byte b)
+unfolding next_byte in_character
+breaks [] b (c, more, s, e, n, m) f = absurd (n refl)
+breaks (x ∷ p) b g f = by_outcome (outcome (x ∷ p) b (inr g))
+  where
+    by_outcome : Outcome (x ∷ p) b → next_byte (Begun (x ∷ p)) b ≡ ends_before (IllFormed (x ∷ p)) (first_byte b)
+    by_outcome (whole c s e u) = absurd (f (c, [], s, e ∙ sym (append_nil (x ∷ p ++ b ∷ []))))
+    by_outcome (begun (c, more, s, e, k, m) u v) = absurd (f (c, more, s, e))
+    by_outcome (broken h u v) = rw (u, v) refl
+
+pub reads_ill_formed : (p f : List ℕ) → IsSegment (IllFormed p) f → read_on (Begun []) (p ++ f) ≡ after (IllFormed p) (read_on (Begun []) f)
+reads_ill_formed p f (inl (b, e, n)) =
+    ap (λ l. read_on (Begun []) (l ++ f)) e ∙ stray b f (subst (λ l. BeginsCharacter l → ⊥) e n) ∙ ap (λ l. after (IllFormed l) (read_on (Begun []) f)) (sym e)
+reads_ill_formed p f (inr (g, (next, others, e, n))) =
+    reads_begun p f (inr g)
+    ∙ ap (read_on (Begun p)) e
+    ∙ step_ends_before (Begun p) (IllFormed p) next others (breaks p next g n)
+    ∙ ap (λ l. after (IllFormed p) (read_on (Begun []) l)) (sym e)

@@ -1,0 +1,17 @@
+pub mod ReadLemmas
+pub mod SequenceReading
+pub mod CharacterReading
+pub mod UniqueLemmas
+pub mod ParameterLemmas
+pub mod KeptLemmas
+pub mod HeldLemmas
+pub mod PlacedLemmas
+pub mod FirstLemmas
+pub mod BegunLemmas
+pub mod KindLemmas
+pub mod CharacterLemmas
+pub mod WaitingLemmas
+pub mod FeedLemmas
+pub mod LengthenedLemmas
+pub mod UndecidedLemmas
+pub mod IdleLemmas

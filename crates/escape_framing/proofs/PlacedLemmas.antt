@@ -1,0 +1,142 @@
+-- More bytes take no dispatch back, and each dispatch stands behind the byte that decides it.
+use Rattle.std.proofs.Common.{◌≡◌, ℕ, zero, suc, ◌+◌, ◌≤◌, Some, List, [], ◌∷◌, ◌++◌, length, take, drop, map, refl, sym, ap, subst, ◌∙◌, arith, append_assoc, length-append}
+use Rattle.std.specs.List.{slice_get}
+use Rattle.std.proofs.lemmas.List.{append-nil, map-append, take_at, take-append-le, take-append-drop, drop_at}
+use Rattle.std.proofs.lemmas.Option.{slice_get_past}
+use Rattle.escape_framing.specs.Dispatch.{Dispatch}
+use Rattle.escape_framing.specs.Decode.{read_on}
+use Rattle.escape_framing.specs.Cut.{the_cut, dispatches, newly_decided}
+use Rattle.escape_framing.specs.Placed.{IsPlaced, placed_from, placed_dispatches}
+use Rattle.escape_framing.proofs.HeldLemmas.{decided_append, newly_handed}
+
+-- ---- more bytes
+
+decided_none : dispatches [] ≡ []
+unfolding the_cut read_on
+decided_none = refl
+
+pub dispatches_grow : (s x : List ℕ) → dispatches (s ++ x) ≡ dispatches s ++ newly_decided s x
+dispatches_grow s x = decided_append s x ∙ ap (λ l. dispatches s ++ l) (sym (newly_handed s x))
+
+pub newly_join : (s x y : List ℕ) → newly_decided s (x ++ y) ≡ newly_decided s x ++ newly_decided (s ++ x) y
+newly_join s x y =
+    let two : dispatches (s ++ (x ++ y)) ≡ dispatches s ++ (newly_decided s x ++ newly_decided (s ++ x) y)
+    = ap dispatches (sym (append_assoc s x y)) ∙ dispatches_grow (s ++ x) y ∙ ap (λ l. l ++ newly_decided (s ++ x) y) (dispatches_grow s x) ∙ append_assoc (dispatches s) _ _ in
+    ap (λ l. drop (length (dispatches s)) l) two ∙ drop_at (dispatches s) _ _ refl
+
+-- ---- the elements of two lists that are joined
+
+module _ {X : Type 0} where
+  at_front : (xs ys : List X) (i : ℕ) (x : X) → slice_get xs i ≡ Some x → slice_get (xs ++ ys) i ≡ Some x
+  at_front [] ys i x h = cc
+  at_front (y ∷ xs) ys zero x h = h
+  at_front (y ∷ xs) ys (suc i) x h = at_front xs ys i x h
+
+  at_behind : (xs ys : List X) (i j : ℕ) → j ≡ length xs + i → slice_get (xs ++ ys) j ≡ slice_get ys i
+  at_behind [] ys i j e = ap (λ (n : ℕ). slice_get ys n) (let k : j ≡ i = omega arith in k)
+  at_behind (x ∷ xs) ys i zero e = absurd (omega arith)
+  at_behind (x ∷ xs) ys i (suc j) e = at_behind xs ys i j (omega arith)
+
+-- an element of two lists that are joined is of the one or of the other
+data OfOne {X : Type 0} (xs ys : List X) (i : ℕ) (x : X) : Type 0 where
+  here : slice_get xs i ≡ Some x → OfOne xs ys i x
+  there : (j : ℕ) → i ≡ length xs + j → slice_get ys j ≡ Some x → OfOne xs ys i x
+
+of_one : {X : Type 0} (xs ys : List X) (i : ℕ) (x : X) → slice_get (xs ++ ys) i ≡ Some x → OfOne xs ys i x
+of_one [] ys i x h = there i (omega arith) h
+of_one (y ∷ xs) ys zero x h = here h
+of_one (y ∷ xs) ys (suc i) x h = one_on (of_one xs ys i x h)
+  where
+    one_on : OfOne xs ys i x → OfOne (y ∷ xs) ys (suc i) x
+    one_on (here k) = here k
+    one_on (there j e k) = there j (omega arith) k
+
+-- ---- places
+
+-- the dispatches, all at one place
+abbrev put_at : ℕ → List Dispatch → List (ℕ × Dispatch)
+put_at n xs = map (λ a. (n, a)) xs
+
+length-put : (n : ℕ) (xs : List Dispatch) → length (put_at n xs) ≡ length xs
+length-put n [] = refl
+length-put n (x ∷ xs) = ap suc (length-put n xs)
+
+at_place : (n : ℕ) (xs : List Dispatch) (i place : ℕ) (dispatch : Dispatch) → slice_get (put_at n xs) i ≡ Some (place, dispatch) → (n ≡ place) × (slice_get xs i ≡ Some dispatch)
+at_place n [] i place dispatch h = cc
+at_place n (x ∷ xs) zero place dispatch h =
+    let k : (n, x) ≡ (place, dispatch) = cc in (ap (λ (p : ℕ × Dispatch). p.0) k, ap (λ (p : ℕ × Dispatch). Some p.1) k)
+at_place n (x ∷ xs) (suc i) place dispatch h = at_place n xs i place dispatch h
+
+-- what is decided stands there, whatever follows
+stands : (s x more : List ℕ) (i : ℕ) (dispatch : Dispatch) → slice_get (newly_decided s x) i ≡ Some dispatch
+    → slice_get (dispatches ((s ++ x) ++ more)) (length (dispatches s) + i) ≡ Some dispatch
+stands s x more i dispatch h =
+    let grown : dispatches ((s ++ x) ++ more) ≡ dispatches s ++ (newly_decided s x ++ newly_decided (s ++ x) more)
+    = dispatches_grow (s ++ x) more ∙ ap (λ l. l ++ newly_decided (s ++ x) more) (dispatches_grow s x) ∙ append_assoc (dispatches s) _ _ in
+    ap (λ l. slice_get l (length (dispatches s) + i)) grown ∙ at_behind (dispatches s) _ i _ refl ∙ at_front (newly_decided s x) _ i dispatch h
+
+-- a front decides no more than the whole
+front_decides : (s : List ℕ) (n : ℕ) → length (dispatches (take n s)) ≤ length (dispatches s)
+front_decides s n =
+    let grown = ap length (ap dispatches (sym (take-append-drop n s)) ∙ dispatches_grow (take n s) (drop n s)) in
+    omega (arith, grown, length-append (dispatches (take n s)) (newly_decided (take n s) (drop n s)))
+
+placed_here : (front bytes : List ℕ) (b i : ℕ) (dispatch : Dispatch) → slice_get (newly_decided front (b ∷ [])) i ≡ Some dispatch
+    → IsPlaced (front ++ b ∷ bytes) (length (dispatches front) + i) (length front + 1) dispatch
+placed_here front bytes b i dispatch h = record {
+  within = omega (arith, length-append front (b ∷ bytes));
+  decided = λ more. ap (λ l. slice_get (dispatches (l ++ more)) (length (dispatches front) + i)) so_far ∙ stands front (b ∷ []) more i dispatch h;
+  least = λ fewer l always. too_early fewer (omega arith) (always []);
+}
+  where
+    so_far : take (length front + 1) (front ++ b ∷ bytes) ≡ front ++ b ∷ []
+    so_far = ap (λ l. take (length front + 1) l) (sym (append_assoc front (b ∷ []) bytes)) ∙ take_at (front ++ b ∷ []) bytes (length front + 1) (length-append front (b ∷ []))
+
+    too_early : (fewer : ℕ) → fewer ≤ length front → slice_get (dispatches (take fewer (front ++ b ∷ bytes) ++ [])) (length (dispatches front) + i) ≡ Some dispatch → ⊥
+    too_early fewer l e =
+        let same : take fewer (front ++ b ∷ bytes) ++ [] ≡ take fewer front = append-nil _ ∙ take-append-le fewer front (b ∷ bytes) l in
+        let few : length (dispatches (take fewer front)) ≤ length (dispatches front) + i = omega (arith, front_decides front fewer) in
+        let none = sym (slice_get_past (dispatches (take fewer front)) (length (dispatches front) + i) few) ∙ ap (λ l. slice_get (dispatches l) (length (dispatches front) + i)) (sym same) ∙ e in cc
+
+placing : (bytes front : List ℕ) (i place : ℕ) (dispatch : Dispatch) → slice_get (placed_from front bytes) i ≡ Some (place, dispatch)
+    → IsPlaced (front ++ bytes) (length (dispatches front) + i) place dispatch
+placing [] front i place dispatch h = cc
+placing (b ∷ bytes) front i place dispatch h =
+    by_part (λ j k. placing bytes (front ++ b ∷ []) j place dispatch k) (of_one (put_at (length front + 1) (newly_decided front (b ∷ []))) (placed_from (front ++ b ∷ []) bytes) i (place, dispatch) h)
+  where
+    by_part : ((j : ℕ) → slice_get (placed_from (front ++ b ∷ []) bytes) j ≡ Some (place, dispatch) → IsPlaced ((front ++ b ∷ []) ++ bytes) (length (dispatches (front ++ b ∷ [])) + j) place dispatch)
+        → OfOne (put_at (length front + 1) (newly_decided front (b ∷ []))) (placed_from (front ++ b ∷ []) bytes) i (place, dispatch)
+        → IsPlaced (front ++ b ∷ bytes) (length (dispatches front) + i) place dispatch
+    by_part later (here k) =
+        let p = at_place (length front + 1) (newly_decided front (b ∷ [])) i place dispatch k in
+        subst (λ (n : ℕ). IsPlaced (front ++ b ∷ bytes) (length (dispatches front) + i) n dispatch) p.0 (placed_here front bytes b i dispatch p.1)
+    by_part later (there j e k) =
+        let index : length (dispatches (front ++ b ∷ [])) + j ≡ length (dispatches front) + i
+        = omega (arith, ap length (dispatches_grow front (b ∷ [])), length-append (dispatches front) (newly_decided front (b ∷ [])), length-put (length front + 1) (newly_decided front (b ∷ []))) in
+        subst (λ (n : ℕ). IsPlaced (front ++ b ∷ bytes) n place dispatch) index
+        (subst (λ l. IsPlaced l (length (dispatches (front ++ b ∷ [])) + j) place dispatch) (append_assoc front (b ∷ []) bytes) (later j k))
+
+pub all_placed : (stream : List ℕ) (index place : ℕ) (dispatch : Dispatch) → slice_get (placed_dispatches stream) index ≡ Some (place, dispatch) → IsPlaced stream index place dispatch
+all_placed stream index place dispatch h =
+    let start : length (dispatches []) + index ≡ index = omega (arith, ap length decided_none) in
+    subst (λ (n : ℕ). IsPlaced stream n place dispatch) start (placing stream [] index place dispatch h)
+
+-- ---- all of them
+
+without : (n : ℕ) (xs : List Dispatch) → map (λ (p : ℕ × Dispatch). p.1) (put_at n xs) ≡ xs
+without n [] = refl
+without n (x ∷ xs) = ap (λ l. x ∷ l) (without n xs)
+
+collected : (bytes front : List ℕ) → dispatches front ++ map (λ (p : ℕ × Dispatch). p.1) (placed_from front bytes) ≡ dispatches (front ++ bytes)
+collected [] front = append-nil (dispatches front) ∙ ap dispatches (sym (append-nil front))
+collected (b ∷ bytes) front =
+    let new = newly_decided front (b ∷ []) in
+    let rest = placed_from (front ++ b ∷ []) bytes in
+    ap (λ l. dispatches front ++ l) (map-append (λ (p : ℕ × Dispatch). p.1) (put_at (length front + 1) new) rest ∙ ap (λ l. l ++ map (λ (p : ℕ × Dispatch). p.1) rest) (without (length front + 1) new))
+    ∙ sym (append_assoc (dispatches front) new _)
+    ∙ ap (λ l. l ++ map (λ (p : ℕ × Dispatch). p.1) rest) (sym (dispatches_grow front (b ∷ [])))
+    ∙ collected bytes (front ++ b ∷ [])
+    ∙ ap dispatches (append_assoc front (b ∷ []) bytes)
+
+pub all_collected : (stream : List ℕ) → map (λ (p : ℕ × Dispatch). p.1) (placed_dispatches stream) ≡ dispatches stream
+all_collected stream = ap (λ l. l ++ map (λ (p : ℕ × Dispatch). p.1) (placed_dispatches stream)) (sym decided_none) ∙ collected stream []

@@ -1,0 +1,335 @@
+-- From what is held a stream can go on in two ways whose next dispatches differ.
+use Rattle.std.proofs.Common.{◌≡◌, ◌≢◌, ℕ, ◌-◌, ◌+◌, ◌/◌, ◌<◌, ◌≤◌, ◌⊎◌, inl, inr, ⊎_elim, Bool, true, false, List, [], ◌∷◌, ◌++◌, refl, sym, ap, subst, ◌∙◌, arith, append_assoc}
+use Rattle.std.specs.Prelude.{◌==◌}
+use Rattle.std.specs.Char.{IsScalar}
+use Rattle.std.specs.List.{flat_map}
+use Rattle.std.proofs.lemmas.Bool.Decides.{nat_tests}
+use lib.Utf8.{encode, low_scalar}
+use Rattle.escape_framing.specs.SevenBit.{is_c1, seven_bit}
+use Rattle.escape_framing.specs.Bytes.{is_control, is_stop, is_embedded, is_parameter, is_cut}
+use Rattle.escape_framing.specs.Segment.{Tail, Begun, OpenEscape, OpenControlSequence, OpenCommand, OpenHeader, OpenDevice, OpenString, IsBegun, IsUnfinished}
+use Rattle.escape_framing.specs.Decode.{Reading, next_byte, ends, read_on}
+use Rattle.escape_framing.specs.Dispatch.{Dispatch, Print, Control, Data, Exit, dispatches_of}
+use Rattle.escape_framing.specs.Held.{Kept, InCharacter, InCommand, InDevice, InString, kept_of, Step, steps, before, character_step, command_step, header_step, device_step, string_step, kept_step, Held, Handed, interrupted, fresh_step, waiting_step, held_step, nothing_held, hand_out}
+use Rattle.escape_framing.specs.Undecided.{IsUndecided}
+use Rattle.escape_framing.specs.Existence.Utf8Lemmas.{order, Spelled, in_one, in_two, in_three, in_four, spelled, front_of_one, front_of_two, front_of_three, two, three, scalar_high}
+use Rattle.escape_framing.proofs.CharacterReading.{plain_segment, waits_begun, ends_character}
+use Rattle.escape_framing.proofs.FirstLemmas.{first_control, first_waits}
+use Rattle.escape_framing.proofs.HeldLemmas.{Inner, inner, interrupted_character, c2_begins, At, at_rest, at_c2, unfinished, at_all, newly_handed}
+use Rattle.escape_framing.proofs.SequenceReading.{cut_is_no_parameter, neither}
+use Rattle.escape_framing.proofs.WaitingLemmas.{escape_cut, control_sequence_cut}
+
+-- two ways to go on from what is held
+record Differs (h : Held) : Type 0 where
+  one : List ℕ
+  other : List ℕ
+  first : Dispatch
+  second : Dispatch
+  behind_first : List Dispatch
+  behind_second : List Dispatch
+  gives_first : (hand_out h one).dispatches ≡ first ∷ behind_first
+  gives_second : (hand_out h other).dispatches ≡ second ∷ behind_second
+  differ : first ≢ second
+
+abbrev at_rest_with : Kept → Held
+at_rest_with kept = record { kept = kept; waiting = false }
+
+abbrev at_c2_with : Kept → Held
+at_c2_with kept = record { kept = kept; waiting = true }
+
+-- ---- one byte
+
+hand_rest : (kept : Kept) (b : ℕ) (bytes : List ℕ) (s : Step) → (b == 0xC2) ≡ false → kept_step kept b ≡ s → (hand_out (at_rest_with kept) (b ∷ bytes)).dispatches ≡ s.dispatches ++ (hand_out (at_rest_with s.kept) bytes).dispatches
+unfolding hand_out held_step fresh_step
+hand_rest kept b bytes s e f = rw e (ap (λ (x : Step). x.dispatches ++ (hand_out (at_rest_with x.kept) bytes).dispatches) f)
+
+-- a byte behind a C2 that makes no pair, where the C2 by itself does this
+hand_c2 : (kept : Kept) (b : ℕ) (c s : Step) → is_c1 0xC2 b ≡ false → (b == 0xC2) ≡ false → kept_step kept 0xC2 ≡ c → kept_step c.kept b ≡ s → (hand_out (at_c2_with kept) (b ∷ [])).dispatches ≡ (c.dispatches ++ s.dispatches) ++ []
+unfolding hand_out held_step waiting_step fresh_step
+hand_c2 kept b c s e f g h =
+    rw (e, f) (ap (λ (x : Step). (x.dispatches ++ (kept_step x.kept b).dispatches) ++ []) g ∙ ap (λ (x : Step). (c.dispatches ++ x.dispatches) ++ []) h)
+
+-- a byte behind a C2 that makes a pair
+hand_pair : (kept : Kept) (b : ℕ) → is_c1 0xC2 b ≡ true → (hand_out (at_c2_with kept) (b ∷ [])).dispatches ≡ ((kept_step kept 0x1B).dispatches ++ (kept_step (kept_step kept 0x1B).kept (b - 0x40)).dispatches) ++ []
+unfolding hand_out held_step waiting_step
+hand_pair kept b e = rw e refl
+
+-- CAN and SUB
+cancel : character_step [] 0x18 ≡ steps (Control 0x18 ∷ []) (InCharacter [])
+cancel = first_control 0x18 (inl (omega arith)) (λ e. absurd (omega arith))
+
+substitute : character_step [] 0x1A ≡ steps (Control 0x1A ∷ []) (InCharacter [])
+substitute = first_control 0x1A (inl (omega arith)) (λ e. absurd (omega arith))
+
+-- what CAN and SUB end without a dispatch of its own
+record Cancels (kept : Kept) : Type 0 where
+  at_cancel : kept_step kept 0x18 ≡ character_step [] 0x18
+  at_substitute : kept_step kept 0x1A ≡ character_step [] 0x1A
+
+numbers : (a b : ℕ) → a ≢ b → Control a ≢ Control b
+numbers a b n e = n (let k : a ≡ b = cc in k)
+
+datums : (a b : ℕ) → a ≢ b → Data a ≢ Data b
+datums a b n e = n (let k : a ≡ b = cc in k)
+
+characters : (a b : ℕ) → a ≢ b → Print a ≢ Print b
+characters a b n e = n (let k : a ≡ b = cc in k)
+
+by_cancel : (kept : Kept) → Cancels kept → Differs (at_rest_with kept)
+by_cancel kept c = record {
+  one = 0x18 ∷ [];
+  other = 0x1A ∷ [];
+  first = Control 0x18;
+  second = Control 0x1A;
+  behind_first = _;
+  behind_second = _;
+  gives_first = hand_rest kept 0x18 [] _ refl (c.at_cancel ∙ cancel);
+  gives_second = hand_rest kept 0x1A [] _ refl (c.at_substitute ∙ substitute);
+  differ = numbers 0x18 0x1A (λ e. absurd (omega arith));
+}
+
+cut_by_cancel : (is_cut 0x18 ≡ true) × (is_cut 0x1A ≡ true) × (is_cut 0xC2 ≡ true)
+unfolding is_cut is_stop
+cut_by_cancel = (refl, refl, refl)
+
+header_cut : (h : List ℕ) (b : ℕ) → is_cut b ≡ true → header_step h b ≡ character_step [] b
+unfolding header_step
+header_cut h b k = let n = neither (is_embedded b) (is_parameter b) (cut_is_no_parameter b k) in rw (n.0, n.1, k) refl
+
+command_cancel : (body : List ℕ) → Cancels (InCommand body)
+unfolding command_step is_stop
+command_cancel body = record { at_cancel = refl; at_substitute = refl }
+
+string_cancel : Cancels InString
+unfolding string_step is_stop
+string_cancel = record { at_cancel = refl; at_substitute = refl }
+
+command_c2 : (body : List ℕ) → kept_step (InCommand body) 0xC2 ≡ steps [] (InCommand (body ++ 0xC2 ∷ []))
+unfolding command_step is_stop is_control
+command_c2 body = refl
+
+string_c2 : kept_step InString 0xC2 ≡ steps [] InString
+unfolding string_step is_stop
+string_c2 = refl
+
+device_data : (b : ℕ) → is_stop b ≡ false → kept_step InDevice b ≡ steps (Data b ∷ []) InDevice
+unfolding device_step
+device_data b e = rw e refl
+
+no_stops : (is_stop 0x61 ≡ false) × (is_stop 0x62 ≡ false) × (is_stop 0xC2 ≡ false)
+unfolding is_stop
+no_stops = (refl, refl, refl)
+
+device_escape : (kept_step InDevice 0x1B).dispatches ≡ Exit ∷ (character_step [] 0x1B).dispatches
+unfolding device_step is_stop
+device_escape = refl
+
+-- ---- a character that has begun
+
+hand_nil : (h : Held) → (hand_out h []).dispatches ≡ []
+unfolding hand_out
+hand_nil h = refl
+
+character_of : (p : List ℕ) (b : ℕ) (r : Reading) → next_byte (Begun p) b ≡ r → character_step p b ≡ steps (flat_map dispatches_of r.segments) (kept_of r.tail)
+unfolding character_step next_byte
+character_of p b r e = ap (λ (x : Reading). steps (flat_map dispatches_of x.segments) (kept_of x.tail)) e
+
+whole_step : (p : List ℕ) (b c : ℕ) → IsUnfinished (Begun p) → IsScalar c → 0x9F < c → encode c ≡ p ++ b ∷ [] → character_step p b ≡ steps (Print c ∷ []) (InCharacter [])
+whole_step p b c g s l e = character_of p b _ (ends_character c b p s e (λ k. absurd (omega arith)) g ∙ ap ends (plain_segment (p ++ b ∷ []) c (inr l)))
+
+not_nil : (p : List ℕ) (b : ℕ) → p ++ b ∷ [] ≢ []
+not_nil [] b h = cc
+not_nil (x ∷ p) b h = cc
+
+begun_by : (p : List ℕ) (b d : ℕ) (q : List ℕ) (c : ℕ) → IsScalar c → encode c ≡ p ++ b ∷ d ∷ q → IsBegun (p ++ b ∷ [])
+begun_by p b d q c s e = (c, d ∷ q, s, e ∙ sym (append_assoc p (b ∷ []) (d ∷ q)), not_nil p b, λ h. cc)
+
+more_step : (p : List ℕ) (b d : ℕ) (q : List ℕ) (c : ℕ) → IsUnfinished (Begun p) → IsScalar c → encode c ≡ p ++ b ∷ d ∷ q → character_step p b ≡ steps [] (InCharacter (p ++ b ∷ []))
+more_step p b d q c g s e = character_of p b _ (waits_begun p b g (begun_by p b d q c s e))
+
+inner_of : (p : List ℕ) (b : ℕ) (q : List ℕ) (c : ℕ) → p ≢ [] → IsScalar c → encode c ≡ p ++ b ∷ q → Inner b
+inner_of [] b q c n s e = absurd (n refl)
+inner_of (x ∷ p) b q c n s e = inner c x b p q s e
+
+no_lead : (b : ℕ) → Inner b → (b == 0xC2) ≡ false
+no_lead b i = let h = i.most in grind (arith, nat_tests)
+
+-- the rest of a character hands it out
+completes : (q p : List ℕ) (c : ℕ) → IsUnfinished (Begun p) → p ≢ [] → q ≢ [] → IsScalar c → 0x9F < c → encode c ≡ p ++ q → (hand_out (at_rest_with (InCharacter p)) q).dispatches ≡ Print c ∷ []
+completes [] p c g n m s l e = absurd (m refl)
+completes (b ∷ []) p c g n m s l e =
+    hand_rest (InCharacter p) b [] (steps (Print c ∷ []) (InCharacter [])) (no_lead b (inner_of p b [] c n s e)) (whole_step p b c g s l e) ∙ ap (λ ds. Print c ∷ ds) (hand_nil _)
+completes (b ∷ d ∷ q) p c g n m s l e =
+    hand_rest (InCharacter p) b (d ∷ q) (steps [] (InCharacter (p ++ b ∷ []))) (no_lead b (inner_of p b (d ∷ q) c n s e)) (more_step p b d q c g s e)
+    ∙ completes (d ∷ q) (p ++ b ∷ []) c (inr (begun_by p b d q c s e)) (not_nil p b) (λ h. cc) s l (e ∙ sym (append_assoc p (b ∷ []) (d ∷ q)))
+
+-- a character that has begun can become one other than U+FFFD
+record Becomes (p : List ℕ) : Type 0 where
+  c : ℕ
+  more : List ℕ
+  scalar : IsScalar c
+  high : 0x9F < c
+  other : c ≢ 0xFFFD
+  is : encode c ≡ p ++ more
+  some : more ≢ []
+
+becomes : (p : List ℕ) → IsBegun p → Becomes p
+becomes p (c, more, s, e, n, m) = by_size (order 0x9F c)
+  where
+    by_kind : c ≤ 0x9F → Spelled c → Becomes p
+    by_kind l (in_one k h) = absurd (front_of_one c p more (sym h ∙ e) n m)
+    by_kind l (in_two g k h) =
+        let is : p ≡ (192 + c / 64) ∷ [] = front_of_two _ _ p more (sym h ∙ e) n m in
+        let lead : 192 + c / 64 ≡ 0xC2 = omega arith in
+        record {
+          c = 0xA9;
+          more = 0xA9 ∷ [];
+          scalar = low_scalar 0xA9 (omega arith);
+          high = omega arith;
+          other = λ k. absurd (omega arith);
+          is = two 0xA9 (omega arith) (omega arith) ∙ ap (λ (b : ℕ). b ∷ 0xA9 ∷ []) (sym lead) ∙ ap (λ l. l ++ 0xA9 ∷ []) (sym is);
+          some = λ h. cc;
+        }
+    by_kind l (in_three g k t h) = absurd (omega arith)
+    by_kind l (in_four g k h) = absurd (omega arith)
+
+    beside : 0xFFFD ≡ c → Becomes p
+    beside k = ⊎_elim (λ is. record { c = 0xFFFC; more = 0xBF ∷ 0xBC ∷ []; scalar = scalar_high 0xFFFC (omega arith) (omega arith); high = omega arith; other = λ h. absurd (omega arith); is = spelled_so ∙ ap (λ l. l ++ 0xBF ∷ 0xBC ∷ []) (sym is); some = λ h. cc })
+        (λ is. record { c = 0xFFFC; more = 0xBC ∷ []; scalar = scalar_high 0xFFFC (omega arith) (omega arith); high = omega arith; other = λ h. absurd (omega arith); is = spelled_so ∙ ap (λ l. l ++ 0xBC ∷ []) (sym is); some = λ h. cc })
+        (front_of_three 0xEF 0xBF 0xBD p more (sym (ap encode (sym k) ∙ three 0xFFFD (omega arith) (omega arith)) ∙ e) n m)
+      where
+        spelled_so : encode 0xFFFC ≡ 0xEF ∷ 0xBF ∷ 0xBC ∷ []
+        spelled_so = three 0xFFFC (omega arith) (omega arith)
+
+    itself : 0x9F < c → c ≢ 0xFFFD → Becomes p
+    itself l k = record { c = c; more = more; scalar = s; high = l; other = k; is = e; some = m }
+
+    by_order : 0x9F < c → (c < 0xFFFD) ⊎ (0xFFFD ≤ c) → (0xFFFD < c) ⊎ (c ≤ 0xFFFD) → Becomes p
+    by_order l (inl a) b = itself l (λ k. omega arith)
+    by_order l (inr a) (inl b) = itself l (λ k. omega arith)
+    by_order l (inr a) (inr b) = beside (omega arith)
+
+    by_size : (0x9F < c) ⊎ (c ≤ 0x9F) → Becomes p
+    by_size (inl l) = by_order l (order c 0xFFFD) (order 0xFFFD c)
+    by_size (inr l) = by_kind l (spelled c s)
+
+broken_by : (x : ℕ) (p : List ℕ) (b : ℕ) → IsBegun (x ∷ p) → (Inner b → ⊥) → character_step (x ∷ p) b ≡ before (Print 0xFFFD ∷ []) (character_step [] b)
+broken_by x p b g n = sym (interrupted_character x b p g n)
+
+low : Inner 0x18 → ⊥
+low i = let h = i.least in omega arith
+
+begun_differs : (x : ℕ) (p : List ℕ) → IsBegun (x ∷ p) → Differs (at_rest_with (InCharacter (x ∷ p)))
+begun_differs x p g =
+    let k = becomes (x ∷ p) g in
+    record {
+      one = k.more;
+      other = 0x18 ∷ [];
+      first = Print k.c;
+      second = Print 0xFFFD;
+      behind_first = [];
+      behind_second = _;
+      gives_first = completes k.more (x ∷ p) k.c (inr g) (λ h. cc) k.some k.scalar k.high k.is;
+      gives_second = hand_rest (InCharacter (x ∷ p)) 0x18 [] _ refl (broken_by x p 0x18 g low ∙ ap (before (Print 0xFFFD ∷ [])) cancel);
+      differ = characters k.c 0xFFFD k.other;
+    }
+
+-- ---- all that can be held
+
+rest_differs : (t : Tail) → IsUnfinished t → Differs (at_rest_with (kept_of t))
+rest_differs (Begun []) g = by_cancel (InCharacter []) (record { at_cancel = refl; at_substitute = refl })
+rest_differs (Begun (x ∷ p)) (inl e) = cc
+rest_differs (Begun (x ∷ p)) (inr g) = begun_differs x p g
+rest_differs (OpenEscape body) g = by_cancel _ (record { at_cancel = escape_cut _ 0x18 cut_by_cancel.0; at_substitute = escape_cut _ 0x1A cut_by_cancel.1 })
+rest_differs (OpenControlSequence o body) g = by_cancel _ (record { at_cancel = control_sequence_cut _ 0x18 cut_by_cancel.0; at_substitute = control_sequence_cut _ 0x1A cut_by_cancel.1 })
+rest_differs (OpenCommand o body) g = by_cancel _ (command_cancel _)
+rest_differs (OpenHeader o header) g = by_cancel _ (record { at_cancel = header_cut _ 0x18 cut_by_cancel.0; at_substitute = header_cut _ 0x1A cut_by_cancel.1 })
+rest_differs (OpenDevice o header f body) g = record {
+  one = 0x61 ∷ [];
+  other = 0x62 ∷ [];
+  first = Data 0x61;
+  second = Data 0x62;
+  behind_first = _;
+  behind_second = _;
+  gives_first = hand_rest InDevice 0x61 [] _ refl (device_data 0x61 no_stops.0);
+  gives_second = hand_rest InDevice 0x62 [] _ refl (device_data 0x62 no_stops.1);
+  differ = datums 0x61 0x62 (λ k. absurd (omega arith));
+}
+rest_differs (OpenString o x body) g = by_cancel _ string_cancel
+
+-- where the C2 begins a character
+lead_differs : (kept : Kept) → kept_step kept 0xC2 ≡ steps [] (InCharacter (0xC2 ∷ [])) → Differs (at_c2_with kept)
+lead_differs kept e = record {
+  one = 0xA9 ∷ [];
+  other = 0x18 ∷ [];
+  first = Print 0xA9;
+  second = Print 0xFFFD;
+  behind_first = _;
+  behind_second = _;
+  gives_first = hand_c2 kept 0xA9 _ _ refl refl e (whole_step (0xC2 ∷ []) 0xA9 0xA9 (inr c2_begins) (low_scalar 0xA9 (omega arith)) (omega arith) (two 0xA9 (omega arith) (omega arith)));
+  gives_second = hand_c2 kept 0x18 _ _ refl refl e (broken_by 0xC2 [] 0x18 c2_begins low ∙ ap (before (Print 0xFFFD ∷ [])) cancel);
+  differ = characters 0xA9 0xFFFD (λ k. absurd (omega arith));
+}
+
+cancelled_c2 : (kept behind_c2 : Kept) → kept_step kept 0xC2 ≡ steps [] behind_c2 → Cancels behind_c2 → Differs (at_c2_with kept)
+cancelled_c2 kept behind_c2 e c = record {
+  one = 0x18 ∷ [];
+  other = 0x1A ∷ [];
+  first = Control 0x18;
+  second = Control 0x1A;
+  behind_first = _;
+  behind_second = _;
+  gives_first = hand_c2 kept 0x18 _ _ refl refl e (c.at_cancel ∙ cancel);
+  gives_second = hand_c2 kept 0x1A _ _ refl refl e (c.at_substitute ∙ substitute);
+  differ = numbers 0x18 0x1A (λ k. absurd (omega arith));
+}
+
+c2_first : character_step [] 0xC2 ≡ steps [] (InCharacter (0xC2 ∷ []))
+c2_first = first_waits 0xC2 (omega arith) (omega arith)
+
+exit_is_no_data : (b : ℕ) → Exit ≢ Data b
+exit_is_no_data b e = cc
+
+c2_differs : (t : Tail) → IsUnfinished t → Differs (at_c2_with (interrupted (kept_of t)).kept)
+c2_differs (Begun []) g = lead_differs (InCharacter []) c2_first
+c2_differs (Begun (x ∷ p)) g = lead_differs (InCharacter []) c2_first
+c2_differs (OpenEscape body) g = lead_differs _ (escape_cut _ 0xC2 cut_by_cancel.2 ∙ c2_first)
+c2_differs (OpenControlSequence o body) g = lead_differs _ (control_sequence_cut _ 0xC2 cut_by_cancel.2 ∙ c2_first)
+c2_differs (OpenCommand o body) g = cancelled_c2 _ _ (command_c2 _) (command_cancel _)
+c2_differs (OpenHeader o header) g = lead_differs _ (header_cut _ 0xC2 cut_by_cancel.2 ∙ c2_first)
+c2_differs (OpenDevice o header f body) g = record {
+  one = 0x9C ∷ [];
+  other = 0x61 ∷ [];
+  first = Exit;
+  second = Data 0xC2;
+  behind_first = _;
+  behind_second = _;
+  gives_first = hand_pair InDevice 0x9C refl ∙ ap (λ ds. (ds ++ (kept_step (kept_step InDevice 0x1B).kept 0x5C).dispatches) ++ []) device_escape;
+  gives_second = hand_c2 InDevice 0x61 _ _ refl refl (device_data 0xC2 no_stops.2) (device_data 0x61 no_stops.0);
+  differ = exit_is_no_data 0xC2;
+}
+c2_differs (OpenString o x body) g = cancelled_c2 _ _ string_c2 string_cancel
+
+held_differs : (s : List ℕ) (h : Handed) → At s h → Differs h.held
+held_differs s h (at_rest o r w) =
+    let t = (read_on (Begun []) (seven_bit s)).tail in
+    subst (λ (k : Kept). Differs (record { kept = k; waiting = h.held.waiting })) r.keeps
+    (subst (λ (w : Bool). Differs (record { kept = kept_of t; waiting = w })) (sym w) (rest_differs t (unfinished (seven_bit s))))
+held_differs s h (at_c2 v ds kept form o r e) =
+    subst (λ (n : Handed). Differs n.held) (sym e)
+    (subst (λ (k : Kept). Differs (at_c2_with (interrupted k).kept)) r.keeps (c2_differs (read_on (Begun []) v).tail (unfinished v)))
+
+pub undecided : (stream : List ℕ) → IsUndecided stream
+undecided stream =
+    let d = held_differs stream (hand_out nothing_held stream) (at_all stream) in
+    record {
+      one = d.one;
+      other = d.other;
+      first = d.first;
+      second = d.second;
+      behind_first = d.behind_first;
+      behind_second = d.behind_second;
+      gives_first = newly_handed stream d.one ∙ d.gives_first;
+      gives_second = newly_handed stream d.other ∙ d.gives_second;
+      differ = d.differ;
+    }

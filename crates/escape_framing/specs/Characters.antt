@@ -1,0 +1,47 @@
+-- What the characters' private steps show.
+use Rattle.std.specs.Prelude.{◌≡◌, ℕ, true, false, List, [], ◌∷◌, ◌++◌, slice_index, is_none, if◌then◌else◌}
+use Rattle.std.specs.Str.{is_utf8, chars}
+use Rattle.std.specs.Str.Lossy.{utf8_error_len}
+use Rattle.escape_framing.specs.Segment.{Begun, IsUnfinished}
+use Rattle.escape_framing.specs.Decode.{segment_of}
+use Rattle.escape_framing.specs.Dispatch as dispatch
+use Rattle.escape_framing.specs.Dispatch.{Dispatch, dispatches_of}
+use Rattle.escape_framing.specs.Held.{Kept, InCharacter, InEscape, Step, steps}
+use Rattle.escape_framing.specs.declared.characters.Kind.{Kind}
+use Rattle.escape_framing.specs.declared.characters.Kind.TheVariants as kind
+use Rattle.escape_framing.specs.declared.characters.Own.{Own}
+use Rattle.escape_framing.specs.declared.characters.Own.TheVariants as own
+use Rattle.escape_framing.specs.declared.characters.CharacterStep.{CharacterStep}
+
+-- the bytes are the first ones of a character, and one byte more
+abbrev pub IsBehindBegun : List ℕ → Type 0
+IsBehindBegun bytes = (front : List ℕ) × (b : ℕ) × IsUnfinished (Begun front) × (bytes ≡ front ++ b ∷ [])
+
+abbrev pub IsKind : List ℕ → Kind → Type 0
+IsKind bytes (kind.Whole c) = (is_utf8 bytes ≡ true) × (slice_index (chars bytes) 0 ≡ c)
+IsKind bytes kind.Begun = (is_utf8 bytes ≡ false) × (is_none (utf8_error_len bytes) ≡ true)
+IsKind bytes kind.Broken = (is_utf8 bytes ≡ false) × (is_none (utf8_error_len bytes) ≡ false)
+
+-- what a byte hands out by itself, and what is kept, where these bytes are the first ones of its character
+abbrev pub own_step : Own → List ℕ → Step
+own_step own.Waits bytes = steps [] (InCharacter bytes)
+own_step own.Escape bytes = steps [] (InEscape [])
+own_step (own.Print c) bytes = steps (dispatch.Print c ∷ []) (InCharacter [])
+own_step (own.Control b) bytes = steps (dispatch.Control b ∷ []) (InCharacter [])
+own_step own.Stray bytes = steps (dispatch.Print 0xFFFD ∷ []) (InCharacter [])
+
+-- what a whole character hands out
+abbrev pub segment_step : List ℕ → ℕ → Step
+segment_step bytes c = steps (dispatches_of (segment_of bytes c)) (InCharacter [])
+
+-- what ESC leaves
+abbrev pub own_kept : Own → List ℕ → Kept
+own_kept own.Escape bytes = InEscape []
+own_kept _ bytes = InCharacter bytes
+
+abbrev pub own_dispatches : Own → List Dispatch
+own_dispatches o = (own_step o []).dispatches
+
+-- what a byte hands out behind what it breaks, where these bytes are kept
+abbrev pub step_of : CharacterStep → List ℕ → Step
+step_of s bytes = steps ((if s.broken then dispatch.Print 0xFFFD ∷ [] else []) ++ own_dispatches s.own) (own_kept s.own bytes)

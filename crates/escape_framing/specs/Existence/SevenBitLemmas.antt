@@ -1,0 +1,120 @@
+-- No C1 control stands in a seven-bit form, and what one byte more makes of it.
+use Rattle.std.proofs.Common.{◌≡◌, ℕ, ◌-◌, Bool, true, false, List, [], ◌∷◌, ◌++◌, refl, ap}
+use Rattle.std.proofs.Common.{arith}
+use Rattle.std.proofs.lemmas.Bool.Decides.{nat_tests}
+use Rattle.std.specs.Prelude.{◌==◌, ◌&&◌, not, if◌then◌else◌}
+use Rattle.escape_framing.specs.SevenBit.{is_c1, seven_bit}
+
+-- no two neighbours are a C1 control
+abbrev pub no_pair : List ℕ → Bool
+no_pair [] = true
+no_pair (b ∷ []) = true
+no_pair (b ∷ c ∷ bytes) = not (is_c1 b c) && no_pair (c ∷ bytes)
+
+pub both : (x y : Bool) → (x && y) ≡ true → (x ≡ true) × (y ≡ true)
+both true y h = (refl, h)
+both false y h = cc
+
+pub not_true : (x : Bool) → not x ≡ true → x ≡ false
+not_true true h = cc
+not_true false h = refl
+
+pub no_pair_behind : (xs ys : List ℕ) → no_pair (xs ++ ys) ≡ true → no_pair ys ≡ true
+no_pair_behind [] ys h = h
+no_pair_behind (x ∷ []) [] h = refl
+no_pair_behind (x ∷ []) (y ∷ ys) h = (both (not (is_c1 x y)) _ h).1
+no_pair_behind (x ∷ z ∷ xs) ys h = no_pair_behind (z ∷ xs) ys (both (not (is_c1 x z)) _ h).1
+
+pub no_pair_front : (xs ys : List ℕ) → no_pair (xs ++ ys) ≡ true → no_pair xs ≡ true
+no_pair_front [] ys h = refl
+no_pair_front (x ∷ []) ys h = refl
+no_pair_front (x ∷ z ∷ xs) ys h =
+    let k = both (not (is_c1 x z)) _ h in rw (k.0, no_pair_front (z ∷ xs) ys k.1) refl
+
+low_opens_none : (x y : ℕ) → (x == 0xC2) ≡ false → is_c1 x y ≡ false
+low_opens_none x y h = rw h refl
+
+stop_is_no_second : (x : ℕ) → is_c1 x 0x1B ≡ false
+stop_is_no_second x = by_test (x == 0xC2)
+  where
+    by_test : (t : Bool) → (t && false) ≡ false
+    by_test true = refl
+    by_test false = refl
+
+cons_low : (x : ℕ) (l : List ℕ) → (x == 0xC2) ≡ false → no_pair l ≡ true → no_pair (x ∷ l) ≡ true
+cons_low x [] e h = refl
+cons_low x (y ∷ l) e h = rw (low_opens_none x y e) h
+
+-- the first byte of a pair's form is ESC, and else the byte itself
+cons_form : (x y : ℕ) (l : List ℕ) → is_c1 x y ≡ false → no_pair (seven_bit (y ∷ l)) ≡ true → no_pair (x ∷ seven_bit (y ∷ l)) ≡ true
+cons_form x y [] e h = rw e refl
+cons_form x y (z ∷ l) e h = by_test (is_c1 y z) refl
+  where
+    by_test : (t : Bool) → is_c1 y z ≡ t → no_pair (x ∷ seven_bit (y ∷ z ∷ l)) ≡ true
+    by_test true k = rw (k, stop_is_no_second x) (rw k at h)
+    by_test false k = rw (k, e) (rw k at h)
+
+pub no_pair_form : (s : List ℕ) → no_pair (seven_bit s) ≡ true
+no_pair_form [] = refl
+no_pair_form (b ∷ []) = refl
+no_pair_form (b ∷ c ∷ s) = by_test (is_c1 b c) refl (no_pair_form s) (no_pair_form (c ∷ s))
+  where
+    small : is_c1 b c ≡ true → ((c - 0x40) == 0xC2) ≡ false
+    small h = grind (arith, nat_tests)
+
+    by_test : (t : Bool) → is_c1 b c ≡ t → no_pair (seven_bit s) ≡ true → no_pair (seven_bit (c ∷ s)) ≡ true → no_pair (seven_bit (b ∷ c ∷ s)) ≡ true
+    by_test true e p q = rw e (cons_low (c - 0x40) (seven_bit s) (small e) p)
+    by_test false e p q = rw e (cons_form b c s e q)
+
+-- the stream ends in a C2 that nothing has followed
+abbrev pub opens : List ℕ → Bool
+opens [] = false
+opens (b ∷ []) = b == 0xC2
+opens (b ∷ c ∷ bytes) = if is_c1 b c then opens bytes else opens (c ∷ bytes)
+
+-- the byte makes a pair with the stream's last
+abbrev pub pairs : List ℕ → ℕ → Bool
+pairs s b = opens s && is_c1 0xC2 b
+
+pub seven_bit_plain : (s : List ℕ) (b : ℕ) → pairs s b ≡ false → seven_bit (s ++ b ∷ []) ≡ seven_bit s ++ b ∷ []
+seven_bit_plain [] b h = refl
+seven_bit_plain (x ∷ []) b h = rw h refl
+seven_bit_plain (x ∷ y ∷ s) b h = by_test (is_c1 x y) refl (seven_bit_plain s b) (seven_bit_plain (y ∷ s) b)
+  where
+    by_test : (t : Bool) → is_c1 x y ≡ t → (pairs s b ≡ false → seven_bit (s ++ b ∷ []) ≡ seven_bit s ++ b ∷ [])
+        → (pairs (y ∷ s) b ≡ false → seven_bit (y ∷ s ++ b ∷ []) ≡ seven_bit (y ∷ s) ++ b ∷ [])
+        → seven_bit (x ∷ y ∷ s ++ b ∷ []) ≡ seven_bit (x ∷ y ∷ s) ++ b ∷ []
+    by_test true e p q = rw e (ap (λ l. 0x1B ∷ (y - 0x40) ∷ l) (p (rw e at h)))
+    by_test false e p q = rw e (ap (λ l. x ∷ l) (q (rw e at h)))
+
+pub record Pairs (s : List ℕ) (b : ℕ) : Type 0 where
+  pub front : List ℕ
+  pub before : seven_bit s ≡ front ++ 0xC2 ∷ []
+  pub after : seven_bit (s ++ b ∷ []) ≡ front ++ 0x1B ∷ (b - 0x40) ∷ []
+
+is_c2 : (x b : ℕ) → is_c1 x b ≡ true → x ≡ 0xC2
+is_c2 x b h = grind (arith, nat_tests)
+
+pub seven_bit_pair : (s : List ℕ) (b : ℕ) → pairs s b ≡ true → Pairs s b
+seven_bit_pair [] b h = cc
+seven_bit_pair (x ∷ []) b h = record { front = []; before = ap (λ y. y ∷ []) (is_c2 x b h); after = rw h refl }
+seven_bit_pair (x ∷ y ∷ s) b h = by_test (is_c1 x y) refl (seven_bit_pair s b) (seven_bit_pair (y ∷ s) b)
+  where
+    by_test : (t : Bool) → is_c1 x y ≡ t → (pairs s b ≡ true → Pairs s b) → (pairs (y ∷ s) b ≡ true → Pairs (y ∷ s) b) → Pairs (x ∷ y ∷ s) b
+    by_test true e m n =
+        let p = m (rw e at h) in
+        record { front = 0x1B ∷ (y - 0x40) ∷ p.front; before = rw e (ap (λ l. 0x1B ∷ (y - 0x40) ∷ l) p.before); after = rw e (ap (λ l. 0x1B ∷ (y - 0x40) ∷ l) p.after) }
+    by_test false e m n =
+        let p = n (rw e at h) in
+        record { front = x ∷ p.front; before = rw e (ap (λ l. x ∷ l) p.before); after = rw e (ap (λ l. x ∷ l) p.after) }
+
+pub opens_more : (s : List ℕ) (b : ℕ) → opens (s ++ b ∷ []) ≡ (if pairs s b then false else b == 0xC2)
+opens_more [] b = refl
+opens_more (x ∷ []) b = refl
+opens_more (x ∷ y ∷ s) b = by_test (is_c1 x y) refl (opens_more s b) (opens_more (y ∷ s) b)
+  where
+    by_test : (t : Bool) → is_c1 x y ≡ t → opens (s ++ b ∷ []) ≡ (if pairs s b then false else b == 0xC2)
+        → opens (y ∷ s ++ b ∷ []) ≡ (if pairs (y ∷ s) b then false else b == 0xC2)
+        → opens (x ∷ y ∷ s ++ b ∷ []) ≡ (if pairs (x ∷ y ∷ s) b then false else b == 0xC2)
+    by_test true e p q = rw e p
+    by_test false e p q = rw e q

@@ -1,0 +1,17 @@
+pub mod SevenBit
+pub mod Bytes
+pub mod Segment
+pub mod Lengthened
+pub mod Decode
+pub mod Existence
+pub mod Dispatch
+pub mod Cut
+pub mod Placed
+pub mod Parameters
+pub mod Held
+pub mod Characters
+pub mod Undecided
+pub mod Decides
+pub mod Framing
+pub mod FramerView
+pub mod Dispatched

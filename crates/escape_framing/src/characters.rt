@@ -1,0 +1,152 @@
+//! The characters of a stream, byte by byte.
+ghost use Rattle.std.specs.Prelude.{◌≡◌, ◌↔◌, IsTrue, ℕ, ◌+◌, ◌≤◌, List, [], ◌∷◌, ◌++◌, take};
+ghost use Rattle.escape_framing.specs.Segment.{IsUnfinished, Begun};
+ghost use Rattle.escape_framing.specs.Held.{character_step};
+ghost use Rattle.escape_framing.specs.Characters.{IsBehindBegun, IsKind, own_step, segment_step, step_of};
+
+use std::marker::Model;
+use std::str;
+
+/// What bytes are that the first ones of a character and one byte more make.
+#[derive(Clone, Copy)]
+enum Kind {
+    Whole(char),
+    Begun,
+    Broken,
+}
+
+/// What a byte is behind what it may have broken.
+#[derive(Clone, Copy)]
+pub(crate) enum Own {
+    /// More bytes of its character are to come.
+    Waits,
+    /// ESC.
+    Escape,
+    Print(char),
+    Control(u8),
+    /// Part of no character.
+    Stray,
+}
+
+/// What a byte does to the characters: whether it breaks one that has begun, and what it is itself.
+#[derive(Clone, Copy)]
+pub(crate) struct CharacterStep {
+    pub broken: bool,
+    pub own: Own,
+}
+
+fn kind_of(bytes: &[u8]) -> Kind
+    requires { IsBehindBegun bytes.now }
+    ensures { IsKind bytes.now result }
+{
+    match str::from_utf8(bytes) {
+        Ok(text) => match text.chars().next() {
+            Some(c) => Kind::Whole(c),
+            None => Kind::Broken,
+        },
+        Err(error) => match error.error_len() {
+            None => Kind::Begun,
+            Some(_) => Kind::Broken,
+        },
+    }
+}
+
+// A byte that nothing waits for.
+fn first(byte: u8) -> Own
+    ensures { own_step result (byte ∷ []) ≡ character_step [] byte }
+{
+    match byte {
+        0x1b => Own::Escape,
+        0x20..=0x7e => Own::Print(byte as char),
+        0x00..=0x1f | 0x7f => Own::Control(byte),
+        0xc2..=0xf4 => Own::Waits,
+        _ => Own::Stray,
+    }
+}
+
+// A whole character of two bytes or more.
+fn whole(c: char) -> Own
+    ensures { (bytes : List ℕ) → own_step result [] ≡ segment_step bytes c }
+{
+    match c {
+        '\u{80}'..='\u{9f}' => Own::Stray,
+        '\0'..='\u{1f}' | '\u{7f}' => Own::Control(c as u8),
+        _ => Own::Print(c),
+    }
+}
+
+/// The first bytes of a character, or none.
+#[derive(Drop)]
+pub(crate) struct Characters {
+    bytes: [u8; 4],
+    count: usize,
+}
+
+// Clauses see the bytes.
+impl Model for Characters {
+    ghost Value = { List ℕ };
+
+    ghost view = { λ d. take d.count d.bytes };
+
+    ghost invariant = { λ d. (d.count ≤ 3) × IsUnfinished (Begun (take d.count d.bytes)) };
+}
+
+impl Characters {
+    /// No bytes.
+    pub fn new() -> Characters
+        ensures { result ≡ [] }
+    {
+        Characters {
+            bytes: [0; 4],
+            count: 0,
+        }
+    }
+
+    /// Whether there are none.
+    pub fn is_empty(&self) -> bool
+        ensures { IsTrue result ↔ (self.now ≡ []) }
+    {
+        self.count == 0
+    }
+
+    /// Reads one byte more.
+    pub fn next(&mut self, byte: u8) -> CharacterStep
+        ensures { step_of result self.new ≡ character_step self.old byte }
+    {
+        let count = self.count;
+        if count == 0 {
+            let own = first(byte);
+            if let Own::Waits = own {
+                self.bytes[0] = byte;
+                self.count = 1;
+            }
+            return CharacterStep { broken: false, own };
+        }
+        self.bytes[count] = byte;
+        match kind_of(&self.bytes[..count + 1]) {
+            Kind::Whole(c) => {
+                self.count = 0;
+                CharacterStep {
+                    broken: false,
+                    own: whole(c),
+                }
+            }
+            Kind::Begun => {
+                self.count = count + 1;
+                CharacterStep {
+                    broken: false,
+                    own: Own::Waits,
+                }
+            }
+            Kind::Broken => {
+                let own = first(byte);
+                self.count = 0;
+                if let Own::Waits = own {
+                    self.bytes[0] = byte;
+                    self.count = 1;
+                }
+                CharacterStep { broken: true, own }
+            }
+        }
+    }
+}

@@ -1,0 +1,604 @@
+//! The framer: from bytes to dispatches.
+ghost use Rattle.std.specs.Prelude.{◌≡◌, ◌↔◌, ℕ, Bool, true, false, IsTrue, IsErrOf, IfOk, OnErr, List, [], ◌∷◌, ◌++◌, take, is_err};
+ghost use Rattle.escape_framing.specs.Bytes.{is_control as in_controls, is_stop as in_stops, is_embedded as in_embedded, is_intermediate as in_intermediates, is_parameter as in_parameters, is_opener as in_openers, is_cut as in_cuts};
+ghost use Rattle.escape_framing.specs.Dispatch.{controls_in, Escape};
+ghost use Rattle.escape_framing.specs.Parameters.{Parameters as Tokens, no_parameters};
+ghost use Rattle.escape_framing.specs.Held.{InCharacter, InEscape, InControlSequence, InCommand, InHeader, InDevice, InString, character_step, escape_step, final_step, opened, control_sequence_step, command_step, header_step, device_step, string_step, kept_step, interrupted, fresh_step, waiting_step, held_step, nothing_held, held_of};
+ghost use Rattle.escape_framing.specs.Characters.{own_dispatches};
+ghost use Rattle.escape_framing.specs.FramerView.{bytes_in};
+ghost use Rattle.escape_framing.specs.Decides.{Decides};
+ghost use Rattle.escape_framing.specs.Dispatched.{optional, dispatches_in, handed_in, Shows, TakesMemory};
+
+use crate::characters::{Characters, Own};
+use crate::dispatch::Dispatch;
+use crate::error::FramerError;
+use crate::parameters::Parameters;
+use csi_codec::CsiParam;
+use std::alloc::{AllocError, Global};
+use std::marker::Model;
+use std::mem;
+
+const BEL: u8 = 0x07;
+
+const CANCEL: u8 = 0x18;
+
+const SUBSTITUTE: u8 = 0x1a;
+
+const ESCAPE: u8 = 0x1b;
+
+const DELETE: u8 = 0x7f;
+
+// The first byte of the UTF-8 of a C1 control.
+const C1_LEAD: u8 = 0xc2;
+
+/// The intermediate bytes of an escape sequence, of more than two the first two.
+#[derive(Clone, Copy)]
+enum Intermediates {
+    Zero,
+    One(u8),
+    More(u8, u8),
+}
+
+/// What is open.
+#[derive(Clone, Copy)]
+enum State {
+    Characters,
+    Escape(Intermediates),
+    ControlSequence,
+    Command,
+    Header,
+    Device,
+    String,
+}
+
+/// What a byte hands out: what it ends, and what it is itself.
+#[derive(Drop)]
+struct Handed {
+    ended: Option<Dispatch>,
+    own: Option<Dispatch>,
+}
+
+// ---- Classes of bytes
+
+#[tactic(auto, unfolding(crate::specs::Bytes::is_control))]
+fn is_control(byte: u8) -> bool
+    ensures { result ≡ in_controls byte }
+{
+    byte < 0x20 || byte == DELETE
+}
+
+#[tactic(auto, unfolding(crate::specs::Bytes::is_stop))]
+fn is_stop(byte: u8) -> bool
+    ensures { result ≡ in_stops byte }
+{
+    byte == CANCEL || byte == SUBSTITUTE || byte == ESCAPE
+}
+
+#[tactic(auto, unfolding(crate::specs::Bytes::is_embedded))]
+fn is_embedded(byte: u8) -> bool
+    ensures { result ≡ in_embedded byte }
+{
+    is_control(byte) && !is_stop(byte)
+}
+
+#[tactic(auto, unfolding(crate::specs::Bytes::is_intermediate))]
+fn is_intermediate(byte: u8) -> bool
+    ensures { result ≡ in_intermediates byte }
+{
+    0x20 <= byte && byte <= 0x2f
+}
+
+#[tactic(auto, unfolding(crate::specs::Bytes::is_parameter))]
+fn is_parameter(byte: u8) -> bool
+    ensures { result ≡ in_parameters byte }
+{
+    0x20 <= byte && byte <= 0x3f
+}
+
+#[tactic(auto, unfolding(crate::specs::Bytes::is_cut))]
+fn is_cut(byte: u8) -> bool
+    ensures { result ≡ in_cuts byte }
+{
+    is_stop(byte) || 0x80 <= byte
+}
+
+#[tactic(auto, unfolding(crate::specs::Bytes::is_opener, crate::specs::Bytes::is_string_opener))]
+fn is_opener(byte: u8) -> bool
+    ensures { result ≡ in_openers byte }
+{
+    byte == b'[' || byte == b']' || byte == b'P' || byte == b'X' || byte == b'^' || byte == b'_'
+}
+
+// ---- What is handed out
+
+fn nothing() -> Handed
+    ensures { (p : Tokens) → handed_in p result ≡ [] }
+{
+    Handed {
+        ended: None,
+        own: None,
+    }
+}
+
+// A control within a sequence; DEL does nothing there.
+fn embedded(byte: u8) -> Handed
+    ensures { (p : Tokens) → handed_in p result ≡ controls_in (byte ∷ []) }
+{
+    let own = if byte < 0x20 {
+        Some(Dispatch::Control(byte))
+    } else {
+        None
+    };
+    Handed { ended: None, own }
+}
+
+fn own_dispatch(own: Own) -> Option<Dispatch>
+    ensures { (p : Tokens) → optional p result ≡ own_dispatches own }
+{
+    match own {
+        Own::Waits | Own::Escape => None,
+        Own::Print(c) => Some(Dispatch::Print(c)),
+        Own::Control(byte) => Some(Dispatch::Control(byte)),
+        Own::Stray => Some(Dispatch::Print('\u{fffd}')),
+    }
+}
+
+fn escape(intermediate: Option<u8>, control: u8) -> Handed
+    ensures { (p : Tokens) → handed_in p result ≡ Escape intermediate control ∷ [] }
+{
+    Handed {
+        ended: None,
+        own: Some(Dispatch::Escape {
+            intermediate,
+            control,
+        }),
+    }
+}
+
+// One intermediate byte more.
+fn with_intermediate(intermediates: Intermediates, byte: u8) -> Intermediates
+    ensures { bytes_in result ≡ take 2 (bytes_in intermediates ++ byte ∷ []) }
+{
+    match intermediates {
+        Intermediates::Zero => Intermediates::One(byte),
+        Intermediates::One(first) => Intermediates::More(first, byte),
+        Intermediates::More(first, second) => Intermediates::More(first, second),
+    }
+}
+
+// ---- The framer
+
+/// Reads a stream of bytes, in any pieces, and hands out its dispatches as soon as the bytes decide them. It keeps only
+/// what is unfinished.
+#[derive(Drop)]
+pub struct Framer {
+    alloc: Global,
+    state: State,
+    waiting: bool,
+    failed: bool,
+    characters: Characters,
+    parameters: Parameters,
+    text: Vec<u8>,
+}
+
+// Clauses see what is held of the stream, the parameters that are lent, and whether memory was refused.
+impl Model for Framer {
+    ghost use Rattle.escape_framing.specs.Framing.{Framing};
+
+    ghost Value = { Framing };
+
+    ghost use Rattle.escape_framing.specs.FramerView.{framing_of};
+
+    ghost view = { framing_of };
+}
+
+impl Framer {
+    /// A framer at a stream's start; it takes no memory.
+    pub fn new(alloc: Global) -> Framer
+        ensures held { result.held ≡ nothing_held }
+        ensures parameters { result.parameters ≡ no_parameters }
+        ensures failed { result.failed ≡ false }
+    {
+        Framer {
+            alloc,
+            state: State::Characters,
+            waiting: false,
+            failed: false,
+            characters: Characters::new(),
+            parameters: Parameters::new(),
+            text: Vec::new(alloc),
+        }
+    }
+
+    /// The tokens of the last control sequence, at most 256, until the next byte is fed.
+    pub fn parameters(&self) -> &[CsiParam]
+        ensures { result.now ≡ self.now.parameters.tokens }
+    {
+        self.parameters.tokens()
+    }
+
+    /// Whether the last control sequence had more tokens.
+    pub fn parameters_truncated(&self) -> bool
+        ensures { result ≡ self.now.parameters.truncated }
+    {
+        self.parameters.is_truncated()
+    }
+
+    /// Whether a call was refused memory.
+    pub fn is_failed(&self) -> bool
+        ensures { result ≡ self.now.failed }
+    {
+        self.failed
+    }
+
+    /// Whether nothing is unfinished: every byte that was read belongs to a whole segment.
+    pub fn is_idle(&self) -> bool
+        ensures { IsTrue result ↔ (self.now.held ≡ nothing_held) }
+    {
+        let between = matches!(self.state, State::Characters);
+        between && self.characters.is_empty() && !self.waiting
+    }
+
+    // A byte behind the first ones of a character.
+    fn in_character(&mut self, byte: u8) -> Handed
+        ensures shows { (bytes : List ℕ) → self.old.held.kept ≡ InCharacter bytes → Shows byte (character_step bytes byte) result self.new.parameters }
+        ensures held { (bytes : List ℕ) → self.old.held.kept ≡ InCharacter bytes → self.new.held ≡ record self.old.held { kept = (character_step bytes byte).kept } }
+        ensures failed { self.new.failed ≡ self.old.failed }
+    {
+        let step = self.characters.next(byte);
+        if let Own::Escape = step.own {
+            self.state = State::Escape(Intermediates::Zero);
+        }
+        let ended = if step.broken {
+            Some(Dispatch::Print('\u{fffd}'))
+        } else {
+            None
+        };
+        Handed {
+            ended,
+            own: own_dispatch(step.own),
+        }
+    }
+
+    // A byte that nothing waits for.
+    fn restart(&mut self, byte: u8) -> Handed
+        ensures shows { Shows byte (character_step [] byte) result self.new.parameters }
+        ensures held { self.new.held ≡ record self.old.held { kept = (character_step [] byte).kept } }
+        ensures failed { self.new.failed ≡ self.old.failed }
+    {
+        self.rest();
+        self.in_character(byte)
+    }
+
+    // Nothing is open.
+    fn rest(&mut self)
+        ensures held { self.new.held ≡ record self.old.held { kept = InCharacter [] } }
+        ensures parameters { self.new.parameters ≡ self.old.parameters }
+        ensures failed { self.new.failed ≡ self.old.failed }
+    {
+        self.state = State::Characters;
+        self.characters = Characters::new();
+    }
+
+    // CAN, SUB or ESC, with nothing open.
+    #[tactic(auto, unfolding(crate::specs::Bytes::is_stop), using(crate::proofs::FirstLemmas::first_escape, crate::proofs::FirstLemmas::first_control))]
+    fn stop(&mut self, byte: u8) -> Option<Dispatch>
+        requires { in_stops byte ≡ true }
+        ensures shows { (p : Tokens) → optional p result ≡ (character_step [] byte).dispatches }
+        ensures held { self.new.held ≡ record self.old.held { kept = (character_step [] byte).kept } }
+        ensures failed { self.new.failed ≡ self.old.failed }
+    {
+        if byte == ESCAPE {
+            self.state = State::Escape(Intermediates::Zero);
+            None
+        } else {
+            self.rest();
+            Some(Dispatch::Control(byte))
+        }
+    }
+
+    // A byte that opens something behind ESC.
+    #[tactic(auto, unfolding(crate::specs::Held::opened))]
+    fn open(&mut self, byte: u8)
+        ensures held { self.new.held ≡ record self.old.held { kept = opened byte } }
+        ensures failed { self.new.failed ≡ self.old.failed }
+    {
+        match byte {
+            b'[' => {
+                self.parameters.clear();
+                self.state = State::ControlSequence;
+            }
+            b']' => {
+                self.text.clear();
+                self.state = State::Command;
+            }
+            b'P' => {
+                self.text.clear();
+                self.state = State::Header;
+            }
+            _ => self.state = State::String,
+        }
+    }
+
+    // The final byte of an escape sequence, or a byte that opens something longer.
+    #[tactic(auto, unfolding(crate::specs::Dispatch::escape_dispatch))]
+    fn in_escape_final(&mut self, intermediates: Intermediates, byte: u8) -> Handed
+        ensures shows { (p : Tokens) → handed_in p result ≡ (final_step (bytes_in intermediates) byte).dispatches }
+        ensures held { self.new.held ≡ record self.old.held { kept = (final_step (bytes_in intermediates) byte).kept } }
+        ensures failed { self.new.failed ≡ self.old.failed }
+    {
+        match intermediates {
+            Intermediates::Zero if is_opener(byte) => {
+                self.open(byte);
+                nothing()
+            }
+            Intermediates::Zero => {
+                self.rest();
+                escape(None, byte)
+            }
+            Intermediates::One(first) => {
+                self.rest();
+                escape(Some(first), byte)
+            }
+            Intermediates::More(_, _) => {
+                self.rest();
+                nothing()
+            }
+        }
+    }
+
+    // A byte behind ESC and intermediate bytes.
+    #[tactic(auto, unfolding(crate::specs::Held::escape_step))]
+    fn in_escape(&mut self, intermediates: Intermediates, byte: u8) -> Handed
+        requires { self.old.held.kept ≡ InEscape (bytes_in intermediates) }
+        ensures shows { Shows byte (escape_step (bytes_in intermediates) byte) result self.new.parameters }
+        ensures held { self.new.held ≡ record self.old.held { kept = (escape_step (bytes_in intermediates) byte).kept } }
+        ensures failed { self.new.failed ≡ self.old.failed }
+    {
+        if is_embedded(byte) {
+            embedded(byte)
+        } else if is_intermediate(byte) {
+            self.state = State::Escape(with_intermediate(intermediates, byte));
+            nothing()
+        } else if is_cut(byte) {
+            self.restart(byte)
+        } else {
+            self.in_escape_final(intermediates, byte)
+        }
+    }
+
+    // A byte behind ESC [ and parameter bytes.
+    #[tactic(auto, unfolding(crate::specs::Held::control_sequence_step))]
+    fn in_control_sequence(&mut self, byte: u8) -> Handed
+        requires { self.old.held.kept ≡ InControlSequence self.old.parameters }
+        ensures shows { Shows byte (control_sequence_step self.old.parameters byte) result self.new.parameters }
+        ensures held { self.new.held ≡ record self.old.held { kept = (control_sequence_step self.old.parameters byte).kept } }
+        ensures failed { self.new.failed ≡ self.old.failed }
+    {
+        if is_embedded(byte) {
+            embedded(byte)
+        } else if is_parameter(byte) {
+            self.parameters.push(byte);
+            nothing()
+        } else if is_cut(byte) {
+            self.restart(byte)
+        } else {
+            self.rest();
+            Handed {
+                ended: None,
+                own: Some(Dispatch::ControlSequence { control: byte }),
+            }
+        }
+    }
+
+    // A byte of an operating system command.
+    #[tactic(auto, unfolding(crate::specs::Held::command_step))]
+    fn in_command(&mut self, byte: u8) -> Result<Handed, AllocError>
+        ensures shows { IfOk result (λ h. (body : List ℕ) → self.old.held.kept ≡ InCommand body → Shows byte (command_step body byte) h self.new.parameters) }
+        ensures held { IfOk result (λ h. (body : List ℕ) → self.old.held.kept ≡ InCommand body → self.new.held ≡ record self.old.held { kept = (command_step body byte).kept }) }
+        ensures failed { IfOk result (λ h. self.new.failed ≡ self.old.failed) }
+    {
+        if byte == BEL {
+            let body = mem::replace(&mut self.text, Vec::new(self.alloc));
+            self.rest();
+            Ok(Handed {
+                ended: None,
+                own: Some(Dispatch::OperatingSystemCommand(body)),
+            })
+        } else if is_stop(byte) {
+            let body = mem::replace(&mut self.text, Vec::new(self.alloc));
+            let own = self.stop(byte);
+            let ended = if byte == ESCAPE {
+                Some(Dispatch::OperatingSystemCommand(body))
+            } else {
+                None
+            };
+            Ok(Handed { ended, own })
+        } else if is_control(byte) {
+            Ok(nothing())
+        } else {
+            self.text.push(byte)?;
+            Ok(nothing())
+        }
+    }
+
+    // A byte of the header of a device control string.
+    #[tactic(auto, unfolding(crate::specs::Held::header_step))]
+    fn in_header(&mut self, byte: u8) -> Result<Handed, AllocError>
+        ensures shows { IfOk result (λ h. (header : List ℕ) → self.old.held.kept ≡ InHeader header → Shows byte (header_step header byte) h self.new.parameters) }
+        ensures held { IfOk result (λ h. (header : List ℕ) → self.old.held.kept ≡ InHeader header → self.new.held ≡ record self.old.held { kept = (header_step header byte).kept }) }
+        ensures failed { IfOk result (λ h. self.new.failed ≡ self.old.failed) }
+    {
+        if is_embedded(byte) {
+            Ok(nothing())
+        } else if is_parameter(byte) {
+            self.text.push(byte)?;
+            Ok(nothing())
+        } else if is_cut(byte) {
+            Ok(self.restart(byte))
+        } else {
+            let header = mem::replace(&mut self.text, Vec::new(self.alloc));
+            self.state = State::Device;
+            Ok(Handed {
+                ended: None,
+                own: Some(Dispatch::Enter { header, byte }),
+            })
+        }
+    }
+
+    // A byte of the data of a device control string.
+    #[tactic(auto, unfolding(crate::specs::Held::device_step))]
+    fn in_device(&mut self, byte: u8) -> Handed
+        requires { self.old.held.kept ≡ InDevice }
+        ensures shows { Shows byte (device_step byte) result self.new.parameters }
+        ensures held { self.new.held ≡ record self.old.held { kept = (device_step byte).kept } }
+        ensures failed { self.new.failed ≡ self.old.failed }
+    {
+        if is_stop(byte) {
+            Handed {
+                ended: Some(Dispatch::Exit),
+                own: self.stop(byte),
+            }
+        } else {
+            Handed {
+                ended: None,
+                own: Some(Dispatch::Data(byte)),
+            }
+        }
+    }
+
+    // A byte of a string that does nothing.
+    #[tactic(auto, unfolding(crate::specs::Held::string_step))]
+    fn in_string(&mut self, byte: u8) -> Handed
+        requires { self.old.held.kept ≡ InString }
+        ensures shows { Shows byte (string_step byte) result self.new.parameters }
+        ensures held { self.new.held ≡ record self.old.held { kept = (string_step byte).kept } }
+        ensures failed { self.new.failed ≡ self.old.failed }
+    {
+        if is_stop(byte) {
+            Handed {
+                ended: None,
+                own: self.stop(byte),
+            }
+        } else {
+            nothing()
+        }
+    }
+
+    // A byte of the seven-bit form.
+    fn step(&mut self, byte: u8) -> Result<Handed, AllocError>
+        ensures shows { IfOk result (λ h. Shows byte (kept_step self.old.held.kept byte) h self.new.parameters) }
+        ensures held { IfOk result (λ h. self.new.held ≡ record self.old.held { kept = (kept_step self.old.held.kept byte).kept }) }
+        ensures failed { IfOk result (λ h. self.new.failed ≡ self.old.failed) }
+        ensures memory { OnErr result (TakesMemory self.old.held.kept) }
+    {
+        match self.state {
+            State::Characters => Ok(self.in_character(byte)),
+            State::Escape(intermediates) => Ok(self.in_escape(intermediates, byte)),
+            State::ControlSequence => Ok(self.in_control_sequence(byte)),
+            State::Command => self.in_command(byte),
+            State::Header => self.in_header(byte),
+            State::Device => Ok(self.in_device(byte)),
+            State::String => Ok(self.in_string(byte)),
+        }
+    }
+
+    // A C2 ends a character that has begun.
+    fn interrupt(&mut self) -> Handed
+        ensures shows { (p : Tokens) → handed_in p result ≡ (interrupted self.old.held.kept).dispatches }
+        ensures held { self.new.held ≡ record self.old.held { kept = (interrupted self.old.held.kept).kept } }
+        ensures failed { self.new.failed ≡ self.old.failed }
+    {
+        match self.state {
+            State::Characters if !self.characters.is_empty() => {
+                self.rest();
+                Handed {
+                    ended: Some(Dispatch::Print('\u{fffd}')),
+                    own: None,
+                }
+            }
+            _ => nothing(),
+        }
+    }
+
+    // A byte where no C2 waits.
+    #[tactic(auto, unfolding(crate::specs::Held::fresh_step))]
+    fn fresh(&mut self, byte: u8) -> Result<Handed, AllocError>
+        requires { self.old.held.waiting ≡ false }
+        ensures shows { IfOk result (λ h. handed_in self.new.parameters h ≡ (fresh_step self.old.held.kept byte).dispatches) }
+        ensures held { IfOk result (λ h. self.new.held ≡ (fresh_step self.old.held.kept byte).held) }
+        ensures failed { IfOk result (λ h. self.new.failed ≡ self.old.failed) }
+        ensures memory { OnErr result (TakesMemory self.old.held.kept) }
+    {
+        if byte == C1_LEAD {
+            self.waiting = true;
+            Ok(self.interrupt())
+        } else {
+            self.step(byte)
+        }
+    }
+
+    // A byte behind a C2.
+    #[tactic(auto, unfolding(crate::specs::Held::waiting_step))]
+    fn behind_lead(&mut self, byte: u8) -> Result<[Option<Dispatch>; 4], AllocError>
+        requires { self.old.held.waiting ≡ false }
+        ensures shows { IfOk result (λ ds. dispatches_in self.new.parameters ds ≡ (waiting_step self.old.held.kept byte).dispatches) }
+        ensures held { IfOk result (λ ds. self.new.held ≡ (waiting_step self.old.held.kept byte).held) }
+        ensures failed { IfOk result (λ ds. self.new.failed ≡ self.old.failed) }
+        ensures memory { OnErr result (TakesMemory self.old.held.kept) }
+    {
+        if 0x80 <= byte && byte <= 0x9f {
+            let first = self.step(ESCAPE)?;
+            let second = self.step(byte - 0x40)?;
+            Ok([first.ended, first.own, second.ended, second.own])
+        } else {
+            let first = self.step(C1_LEAD)?;
+            let second = self.fresh(byte)?;
+            Ok([first.ended, first.own, second.ended, second.own])
+        }
+    }
+
+    // A byte of the stream.
+    #[tactic(auto, unfolding(crate::specs::Held::held_step))]
+    fn advance(&mut self, byte: u8) -> Result<[Option<Dispatch>; 4], AllocError>
+        ensures shows { IfOk result (λ ds. dispatches_in self.new.parameters ds ≡ (held_step self.old.held byte).dispatches) }
+        ensures held { IfOk result (λ ds. self.new.held ≡ (held_step self.old.held byte).held) }
+        ensures failed { IfOk result (λ ds. self.new.failed ≡ self.old.failed) }
+        ensures memory { OnErr result (TakesMemory self.old.held.kept) }
+    {
+        if self.waiting {
+            self.waiting = false;
+            self.behind_lead(byte)
+        } else {
+            let handed = self.fresh(byte)?;
+            Ok([handed.ended, handed.own, None, None])
+        }
+    }
+
+    /// Reads one byte more, 00h to FFh, and hands out the dispatches that it decides, in order, with gaps: four at most.
+    /// The tokens of a control sequence are lent by `parameters`. Memory is taken for the body of an operating system
+    /// command and the header of a device control string alone; a framer that was refused memory answers `Failed`.
+    pub fn feed(&mut self, byte: u8) -> Result<[Option<Dispatch>; 4], FramerError>
+        // Where a stream has been read, in any pieces, the dispatches that the byte decides are handed out.
+        ensures decided { IfOk result (λ ds. (stream : List ℕ) → self.old.held ≡ held_of stream → Decides stream byte (dispatches_in self.new.parameters ds) self.new.held) }
+        // What is handed out, and what is held, in any case.
+        ensures dispatches { IfOk result (λ ds. dispatches_in self.new.parameters ds ≡ (held_step self.old.held byte).dispatches) }
+        ensures held { IfOk result (λ ds. self.new.held ≡ (held_step self.old.held byte).held) }
+        // A call fails where an earlier one was refused memory, and only then is that its error.
+        ensures failed { IsErrOf result FramerError.Failed ↔ (self.old.failed ≡ true) }
+        ensures memory { IsErrOf result FramerError.Memory → TakesMemory self.old.held.kept }
+        // A framer has failed once it was refused memory.
+        ensures after { self.new.failed ≡ is_err result }
+    {
+        if self.failed {
+            return Err(FramerError::Failed);
+        }
+        match self.advance(byte) {
+            Ok(dispatches) => Ok(dispatches),
+            Err(_) => {
+                self.failed = true;
+                Err(FramerError::Memory)
+            }
+        }
+    }
+}

@@ -1,0 +1,53 @@
+//! Laws of the definitions: a stream has one cut, each dispatch has its place, and pieces join.
+ghost use Rattle.std.specs.Prelude.{◌≡◌, ◌≢◌, ℕ, List, [], ◌++◌, map};
+ghost use Rattle.std.specs.List.{slice_get};
+ghost use Rattle.escape_framing.specs.Segment.{Segment, Tail, Begun, IsCut};
+ghost use Rattle.escape_framing.specs.Lengthened.{IsOpen, IsLengthened};
+ghost use Rattle.escape_framing.specs.Dispatch.{Dispatch};
+ghost use Rattle.escape_framing.specs.Cut.{the_cut, tail_of, dispatches, newly_decided};
+ghost use Rattle.escape_framing.specs.Held.{nothing_held, hand_out, held_of};
+ghost use Rattle.escape_framing.specs.Undecided.{IsUndecided};
+ghost use Rattle.escape_framing.specs.Placed.{IsPlaced, placed_dispatches};
+
+/// A law, which needs no call: each stream has a cut, and no other than the one that is read.
+pub fn one_cut()
+    ensures cut { (stream : List ℕ) → IsCut stream (the_cut stream).segments (tail_of stream) }
+    ensures only { (stream : List ℕ) (segments : List Segment) (tail : Tail) → IsCut stream segments tail → (segments ≡ (the_cut stream).segments) × (tail ≡ tail_of stream) }
+{}
+
+/// A law, which needs no call: bytes are open, as a stream's last can be, exactly where there are none, or some
+/// continuation makes a longer segment of them.
+pub fn open_bytes()
+    ensures lengthened { (bytes : List ℕ) → IsLengthened bytes → IsOpen bytes }
+    ensures open_ones { (bytes : List ℕ) → bytes ≢ [] → IsOpen bytes → IsLengthened bytes }
+{}
+
+/// A law, which needs no call: the placed dispatches are the stream's dispatches, each with the least count of bytes
+/// that decides it however the stream goes on.
+pub fn places()
+    ensures placed { (stream : List ℕ) (index place : ℕ) (dispatch : Dispatch) → slice_get (placed_dispatches stream) index ≡ Some (place, dispatch) → IsPlaced stream index place dispatch }
+    ensures all { (stream : List ℕ) → map (λ (p : ℕ × Dispatch). p.1) (placed_dispatches stream) ≡ dispatches stream }
+{}
+
+/// A law, which needs no call: pieces decide what their concatenation decides, in the same order.
+pub fn pieces_join()
+    ensures { (stream x y : List ℕ) → newly_decided stream (x ++ y) ≡ newly_decided stream x ++ newly_decided (stream ++ x) y }
+{}
+
+/// A law, which needs no call: what is held of a stream, and no more of it, decides what more bytes hand out.
+pub fn held_is_enough()
+    ensures decides { (stream more : List ℕ) → newly_decided stream more ≡ (hand_out (held_of stream) more).dispatches }
+    ensures goes_on { (stream more : List ℕ) → held_of (stream ++ more) ≡ (hand_out (held_of stream) more).held }
+{}
+
+/// A law, which needs no call: a dispatch comes as soon as the bytes so far decide it, since behind those that a stream
+/// decides two continuations have different ones.
+pub fn as_soon_as_decided()
+    ensures { (stream : List ℕ) → IsUndecided stream }
+{}
+
+/// A law, which needs no call: nothing is held of a stream exactly where its segments are all of it.
+pub fn idle_streams()
+    ensures idle { (stream : List ℕ) → held_of stream ≡ nothing_held → tail_of stream ≡ Begun [] }
+    ensures whole { (stream : List ℕ) → tail_of stream ≡ Begun [] → held_of stream ≡ nothing_held }
+{}

@@ -1,0 +1,15 @@
+//! Framing of escape streams: how a stream of bytes is cut into segments, and the dispatches that these decide.
+#![tactic(auto)]
+
+mod characters;
+pub mod dispatch;
+pub mod error;
+pub mod framer;
+pub mod laws;
+mod parameters;
+#[cfg(test)]
+mod tests;
+
+pub use dispatch::Dispatch;
+pub use error::FramerError;
+pub use framer::Framer;

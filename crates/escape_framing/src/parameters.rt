@@ -1,0 +1,126 @@
+//! The tokens of a control sequence, as its bytes come.
+ghost use Rattle.std.specs.Prelude.{◌≡◌, ℕ, ◌<◌, ◌≤◌, Some, None, IsSome, IsTrue, false};
+ghost use Rattle.std.specs.Char.{IsAsciiDigit};
+ghost use Rattle.escape_framing.specs.Parameters.{no_parameters, with_token, with_number, with_byte};
+ghost use Rattle.escape_framing.specs.Parameters.{next_number as number_behind};
+
+use csi_codec::CsiParam;
+use std::marker::Model;
+
+/// How many tokens of a control sequence are kept.
+const MOST_TOKENS: usize = 256;
+
+/// The largest number of a token.
+const LARGEST_NUMBER: u64 = 9_223_372_036_854_775_807;
+
+// The number whose digits have begun, with one digit more, cut at the largest.
+fn next_number(number: Option<u64>, byte: u8) -> u64
+    requires { IsAsciiDigit byte }
+    ensures { result ≡ number_behind number byte }
+{
+    number
+        .unwrap_or(0)
+        .saturating_mul(10)
+        .saturating_add(u64::from(byte - b'0'))
+        .min(LARGEST_NUMBER)
+}
+
+/// The first tokens of a control sequence.
+#[derive(Drop)]
+pub(crate) struct Parameters {
+    tokens: [CsiParam; 256],
+    count: usize,
+    truncated: bool,
+    number: Option<u64>,
+}
+
+// Clauses see the tokens that are kept, whether there were more, and the number whose digits have begun.
+impl Model for Parameters {
+    ghost use Rattle.std.specs.Prelude.{◌≡◌, ◌<◌, ◌≤◌, IsSome, false, take};
+    ghost use Rattle.escape_framing.specs.Parameters.{Parameters as Shown};
+
+    ghost Value = { Shown };
+
+    ghost view = { λ p. record { tokens = take p.count p.tokens; truncated = p.truncated; number = p.number } };
+
+    ghost invariant = { λ p. (p.count ≤ 256) × (IsSome p.number → p.truncated ≡ false → 0 < p.count) };
+}
+
+impl Parameters {
+    /// No tokens.
+    pub fn new() -> Parameters
+        ensures { result ≡ no_parameters }
+    {
+        Parameters {
+            tokens: [CsiParam::P(0); 256],
+            count: 0,
+            truncated: false,
+            number: None,
+        }
+    }
+
+    /// Forgets all tokens.
+    pub fn clear(&mut self)
+        ensures { self.new ≡ no_parameters }
+    {
+        self.count = 0;
+        self.truncated = false;
+        self.number = None;
+    }
+
+    /// The tokens that are kept, at most 256.
+    pub fn tokens(&self) -> &[CsiParam]
+        ensures { result.now ≡ self.now.tokens }
+    {
+        &self.tokens[..self.count]
+    }
+
+    /// Whether there were more tokens.
+    pub fn is_truncated(&self) -> bool
+        ensures { result ≡ self.now.truncated }
+    {
+        self.truncated
+    }
+
+    // One token more, where there is room.
+    fn add(&mut self, token: CsiParam, number: Option<u64>)
+        ensures { self.new ≡ with_token self.old token number }
+    {
+        if self.count < MOST_TOKENS {
+            self.tokens[self.count] = token;
+            self.count += 1;
+        } else {
+            self.truncated = true;
+        }
+        self.number = number;
+    }
+
+    // The last token is another number, if it was kept.
+    fn renumber(&mut self, number: u64)
+        requires begun { IsSome self.old.number }
+        requires fits { number ≤ LARGEST_NUMBER }
+        ensures { self.new ≡ with_number self.old number }
+    {
+        if !self.truncated {
+            self.tokens[self.count - 1] = CsiParam::Integer(number as i64);
+        }
+        self.number = Some(number);
+    }
+
+    /// Reads one parameter byte.
+    #[tactic(auto, unfolding(crate::specs::Parameters::with_byte))]
+    pub fn push(&mut self, byte: u8)
+        ensures { self.new ≡ with_byte self.old byte }
+    {
+        if byte.is_ascii_digit() {
+            let number = next_number(self.number, byte);
+            if self.number.is_some() {
+                self.renumber(number);
+            } else {
+                self.add(CsiParam::Integer(number as i64), Some(number));
+            }
+        } else {
+            self.add(CsiParam::P(byte), None);
+        }
+    }
+}
