@@ -1,0 +1,46 @@
+use Rattle.std.proofs.Common.{◌≡◌, ℕ, Bool, List, Option, ◌∙◌, ◌++◌, ◌∷◌, [], true, length, sym, ap}
+use Rattle.std.specs.Prelude.{map, filter, vec_len, if◌then◌else◌}
+use Rattle.cell_base.specs.CellContent.{CellContent, row_of_cells}
+use Rattle.cell_base.specs.Row.{Row}
+use Rattle.cell_line.specs.LineContent.{LineContent, line_of, cell_columns}
+use Rattle.cell_line.specs.ReadCells.{read_from, read_left}
+use Rattle.cell_line.specs.VisibleCells.{VisibleCell, contents, row_end_wrapped}
+use Rattle.cell_line.specs.Wrapped.{breaks, rows_from}
+use Rattle.cell_line.specs.Zones.{is_kept_by}
+use Rattle.cell_line.proofs.CellLemmas.{length-row}
+use Rattle.cell_line.proofs.ReadLemmas.{placed, rows_read}
+use Rattle.cell_line.proofs.wrap.fill_rows.Goals as goal
+
+pub loop-column-preserved-in_ok-place : goal.loop-column-preserved-in_ok-place
+loop-column-preserved-in_ok-place c =
+    let lines = c.loop-column.lines.items in
+    let row : Row = row_of_cells c.loop-column.open.items in
+    let width = c.args.width in
+    let p : ℕ → Bool = is_kept_by c.last_text-last.result in
+    let v : VisibleCell = record { column = c.in-Some.column; cell = c.in-Some.cell.now } in
+    let left : List VisibleCell = filter (λ w. p w.column) (read_left c.next.new.self) in
+    let rest : Row → List Row = λ r. rows_from width r (contents left) in
+    let there : vec_len c.loop-column.open ≡ length row = c.loop-column.open.ok.0 ∙ sym (length-row c.loop-column.open.items) in
+    let copy : c.in_ok-try_clone.field-0 ≡ c.in-Some.cell.now = c.in_ok-try_clone.ensures in
+    let kept : p c.in-Some.column ≡ true = sym c.is_kept.ensures ∙ c.if-is_kept.true in
+    record {
+      whole = c.in_ok-place.ensures.whole;
+      lines =
+          placed (breaks width (length row) c.in-Some.cell.now) lines c.place.new.lines.items (row_end_wrapped true row) (row_of_cells c.place.new.row.items) (cell_columns c.in-Some.cell.now) (row ++ cell_columns c.in-Some.cell.now) c.args.seqno rest
+          (c.in_ok-place.ensures.lines ∙ (λ i. if breaks width (there i) (copy i) then lines ++ line_of c.args.seqno (row_end_wrapped true row) ∷ [] else lines))
+          (c.in_ok-place.ensures.row ∙ (λ i. if breaks width (there i) (copy i) then cell_columns (copy i) else row ++ cell_columns (copy i)))
+          ∙ ap (λ (ws : List VisibleCell). lines ++ map (line_of c.args.seqno) (rows_from width row (contents ws))) (sym (ap (λ t. if t then v ∷ left else left) kept) ∙ sym (ap (filter (λ w. p w.column)) c.in-Some.ensures.steps))
+          ∙ c.loop-column.invariant.lines;
+    }
+
+pub returns : goal.returns
+returns c =
+    let lines = c.loop-column.lines.items in
+    let row : Row = row_of_cells c.loop-column.open.items in
+    let width = c.args.width in
+    let p : ℕ → Bool = is_kept_by c.last_text-last.result in
+    c.in_ok-push.ensures.items ∙ ap (λ (l : LineContent). lines ++ l ∷ []) c.from_cells.ensures
+    ∙ ap (λ (ws : List VisibleCell). lines ++ map (line_of c.args.seqno) (rows_from width row (contents (filter (λ w. p w.column) ws)))) (sym c.in-None.ensures.steps.0)
+    ∙ c.loop-column.invariant.lines
+    ∙ ap (λ (o : Option ℕ). map (line_of c.args.seqno) (rows_from width [] (contents (filter (λ w. is_kept_by o w.column) (read_from 0 c.args.cells.now))))) c.last_text-last.ensures
+    ∙ ap (map (line_of c.args.seqno)) (rows_read width c.args.cells.now c.requires)

@@ -1,0 +1,18 @@
+use Rattle.std.proofs.Common.{◌≡◌, ◌++◌, [], false}
+use Rattle.std.specs.Prelude.{map, filter}
+use Rattle.cell_base.specs.CellContent.{row_of_cells}
+use Rattle.cell_line.specs.CellList.{ends_halved}
+use Rattle.cell_line.specs.LineContent.{line_of}
+use Rattle.cell_line.specs.ReadCells.{read_from, read_left}
+use Rattle.cell_line.specs.VisibleCells.{contents}
+use Rattle.cell_line.specs.Wrapped.{rows_from}
+use Rattle.cell_line.specs.Zones.{is_kept_by}
+use Rattle.cell_line.proofs.wrap.fill_rows.Given as goal
+
+-- the lines so far, and then those of the open row and what is left, are the whole
+abbrev pub invariant-loop-column : goal.invariant-loop-column
+invariant-loop-column l = record {
+  whole : ends_halved l.open.items ≡ false;
+  lines : l.lines.items ++ map (line_of l.seqno) (rows_from l.width (row_of_cells l.open.items) (contents (filter (λ v. is_kept_by l.last v.column) (read_left l.column-iterator))))
+      ≡ map (line_of l.seqno) (rows_from l.width [] (contents (filter (λ v. is_kept_by l.last v.column) (read_from 0 l.cells))));
+}

@@ -1,0 +1,11 @@
+use Rattle.std.proofs.Common.{◌≡◌, Some}
+use Rattle.std.specs.Prelude.{fold, if◌then◌else◌}
+use Rattle.cell_base.specs.CellContent.{row_of_cells}
+use Rattle.cell_line.specs.CellRefView.{cells_left}
+use Rattle.cell_line.specs.VisibleCells.{visible_cells, is_space}
+use Rattle.cell_line.specs.Wrapped.{last_text}
+use Rattle.cell_line.proofs.wrap.last_text.Given as goal
+
+-- the answer so far, and then what is left, are the whole
+abbrev pub invariant-loop-cell : goal.invariant-loop-cell
+invariant-loop-cell l = fold (λ last v. if is_space v then last else Some v.column) l.last (cells_left l.cell-iterator) ≡ last_text (visible_cells (row_of_cells l.cells))

@@ -1,0 +1,12 @@
+pub mod CellList
+pub mod CellRefView
+pub mod LineContent
+pub mod LineEdits
+pub mod LineView
+pub mod Links
+pub mod ReadCells
+pub mod RowEdits
+pub mod SameLine
+pub mod VisibleCells
+pub mod Wrapped
+pub mod Zones

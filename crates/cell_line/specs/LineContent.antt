@@ -1,0 +1,53 @@
+-- A line as a value, and what its makers and its number and bits say.
+use Rattle.std.specs.Prelude.{ℕ, Bool, true, false, ◌||◌, ◌==◌, nat_lt, nat_le, max, List, [], ◌∷◌, map, replicate}
+use Rattle.std.specs.List.{flat_map}
+use Rattle.cell_base.specs.declared.attributes.LineAttribute.{LineAttribute}
+use Rattle.cell_base.specs.declared.attributes.LineAttribute.TheVariants.{SingleWidthLine, DoubleWidthLine, DoubleHeightTopHalfLine, DoubleHeightBottomHalfLine}
+use Rattle.cell_base.specs.Attributes.{Attributes, plain}
+use Rattle.cell_base.specs.CellContent.{CellContent, cell_of, row_of_cells}
+use Rattle.cell_base.specs.Cluster.{clusters}
+use Rattle.cell_base.specs.Row.{Row, columns_of, plain_row}
+
+-- the number of its last change, its bits (a line of single width has none), and its columns
+pub record LineContent : Type 0 where
+  pub number : ℕ
+  pub bits : LineAttribute
+  pub columns : Row
+
+-- a line with no bits
+abbrev pub line_of : ℕ → Row → LineContent
+line_of number columns = record { number = number; bits = SingleWidthLine; columns = columns }
+
+-- other columns, and the number of a change if that is the later one
+abbrev pub changed : LineContent → ℕ → Row → LineContent
+changed line number columns = record line { number = max line.number number; columns = columns }
+
+-- the columns of a cell: two where it is wide
+abbrev pub cell_columns : CellContent → Row
+cell_columns cell = columns_of cell.text (nat_le 2 cell.width) cell.attributes
+
+-- a cell for each cluster of a text
+abbrev pub text_cells : (List ℕ → ℕ) → List ℕ → Attributes → List CellContent
+text_cells width_of text attributes = map (λ cluster. cell_of cluster (width_of cluster) attributes) (clusters text)
+
+abbrev pub text_row : (List ℕ → ℕ) → List ℕ → Attributes → Row
+text_row width_of text attributes = flat_map cell_columns (text_cells width_of text attributes)
+
+-- ---- number
+
+-- a line that never got a number counts as changed
+abbrev pub is_changed_since : LineContent → ℕ → Bool
+is_changed_since line number = line.number == 0 || nat_lt number line.number
+
+-- ---- bits
+
+abbrev pub is_attribute : LineAttribute → LineAttribute → Bool
+is_attribute SingleWidthLine SingleWidthLine = true
+is_attribute DoubleWidthLine DoubleWidthLine = true
+is_attribute DoubleHeightTopHalfLine DoubleHeightTopHalfLine = true
+is_attribute DoubleHeightBottomHalfLine DoubleHeightBottomHalfLine = true
+is_attribute _ _ = false
+
+-- other bits, and the number of a change
+abbrev pub with_bits : LineContent → ℕ → LineAttribute → LineContent
+with_bits line number bits = record line { number = max line.number number; bits = bits }

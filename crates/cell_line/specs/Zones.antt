@@ -1,0 +1,43 @@
+-- The zones of a row: neighbouring cells of one semantic type.
+use Rattle.std.specs.Prelude.{ℕ, Bool, true, false, not, nat_le, min, List, [], ◌∷◌, Option, Some, None, filter, fold, if◌then◌else◌}
+use Rattle.std.specs.declared.ops.Range.{Range}
+use Rattle.cell_base.specs.declared.attributes.SemanticType.{SemanticType}
+use Rattle.cell_base.specs.declared.attributes.SemanticType.TheVariants.{Output, Input, Prompt}
+use Rattle.cell_base.specs.declared.ranges.ZoneRange.{ZoneRange}
+use Rattle.cell_base.specs.Attributes.{plain}
+use Rattle.cell_base.specs.CellContent.{blank_cell}
+use Rattle.cell_base.specs.SameCell.{same_cell}
+use Rattle.cell_line.specs.VisibleCells.{VisibleCell}
+
+abbrev pub same_type : SemanticType → SemanticType → Bool
+same_type Output Output = true
+same_type Input Input = true
+same_type Prompt Prompt = true
+same_type _ _ = false
+
+-- a column of a zone stops at 65,535
+abbrev pub zone_column : ℕ → ℕ
+zone_column column = min column 65535
+
+abbrev pub zone_from : VisibleCell → ZoneRange
+zone_from v = record { semantic_type = v.cell.attributes.semantic_type; range = record { start = zone_column v.column; «end» = zone_column v.column } }
+
+-- a cell joins the last zone if it has its type, and begins a zone of its own if not; a zone reaches from its first cell's column to its last one's
+abbrev pub joined_zone : List ZoneRange → VisibleCell → List ZoneRange
+joined_zone [] v = zone_from v ∷ []
+joined_zone (z ∷ []) v =
+    if same_type z.semantic_type v.cell.attributes.semantic_type then record z { range = record z.range { «end» = zone_column v.column } } ∷ [] else z ∷ zone_from v ∷ []
+joined_zone (z ∷ y ∷ zs) v = z ∷ joined_zone (y ∷ zs) v
+
+-- the column of the last cell that isn't a plain blank
+abbrev pub last_kept : List VisibleCell → Option ℕ
+last_kept cells = fold (λ last v. if same_cell v.cell (blank_cell plain) then last else Some v.column) None cells
+
+-- whether a column is none behind the last one; every one is where there is no last one
+abbrev pub is_kept_by : Option ℕ → ℕ → Bool
+is_kept_by None column = true
+is_kept_by (Some last) column = nat_le column last
+
+-- the zones of the cells up to the last that isn't a plain blank, or of all if there is none
+abbrev pub zones : List VisibleCell → List ZoneRange
+zones cells = fold joined_zone [] (filter (λ v. is_kept_by (last_kept cells) v.column) cells)

@@ -1,0 +1,19 @@
+//! Lines: rows of cells with a number and bits, and every call that editors of lines use.
+#![tactic(auto)]
+
+mod cell_ref;
+mod line;
+mod query;
+mod read_cells;
+mod row;
+mod text;
+mod visible_cells;
+mod wrap;
+mod zones;
+
+pub use cell_ref::CellRef;
+pub use line::Line;
+pub use visible_cells::VisibleCellIter;
+
+#[cfg(test)]
+mod tests;

@@ -1,0 +1,598 @@
+//! A row of columns with a number and bits.
+ghost use Rattle.std.specs.Prelude.{◌≡◌, true, ℕ, ◌≤◌, ◌-◌, ◌==◌, ◌&&◌, ◌++◌, [], length, map, replicate, min, nat_lt, IfOk, OnOk, IsTrue, ◌↔◌, string_bytes, if◌then◌else◌};
+ghost use Rattle.std.specs.Cow.{cow_str_bytes};
+ghost use Rattle.std.specs.Option.{option_map};
+ghost use Rattle.cell_base.specs.declared.attributes.LineAttribute.TheVariants.{SingleWidthLine, DoubleWidthLine, DoubleHeightTopHalfLine, DoubleHeightBottomHalfLine};
+ghost use Rattle.cell_base.specs.Attributes.{plain};
+ghost use Rattle.cell_base.specs.CellContent.{row_of_cells, cell_of, blank_cell};
+ghost use Rattle.cell_base.specs.Row.{plain_row, blank};
+ghost use Rattle.cell_line.specs.LineContent.{LineContent, line_of, changed, is_changed_since, is_attribute, with_bits, text_row, text_cells};
+ghost use Rattle.cell_line.specs.RowEdits.{cut, cut_front, resized, with_cell, removed, erased, erased_within, with_inserted, overlaid, filled};
+ghost use Rattle.cell_base.specs.SameCell.{same_cell};
+ghost use Rattle.cell_line.specs.VisibleCells.{visible_cells, cell_at, cells_between, texts_joined, has_link, is_whitespace_row, ends_wrapped, row_end_wrapped, row_of_visible};
+ghost use Rattle.cell_line.specs.LineEdits.{pruned, filled_line};
+ghost use Rattle.cell_line.specs.Links.{without_implicit, column_with, without_implicit_links};
+ghost use Rattle.cell_line.specs.Wrapped.{wrapped};
+ghost use Rattle.cell_line.specs.Zones.{zones};
+ghost use Rattle.cell_line.specs.CellRefView.{shown_by, cells_left};
+
+use crate::cell_ref::CellRef;
+use crate::visible_cells::VisibleCellIter;
+use crate::{query, row, text, wrap, zones};
+use cell_base::{Cell, CellAttributes, LineAttribute, SEQ_ZERO, SequenceNo, Widths, ZoneRange};
+use std::alloc::{AllocError, Global};
+use std::borrow::CowStr;
+use std::marker::Model;
+use std::ops::Range;
+
+/// A row of columns with the number of its last change and its bits. A column has a text of its
+/// own, or is one of the two halves of a wide cell; columns count from 0. Where an edit leaves a
+/// half of a wide cell alone, that half becomes a blank with the wide cell's attributes.
+///
+/// Calls that change a line are given the number of the change, and the line keeps the greatest.
+/// A call that is refused memory leaves a line whose columns aren't said.
+#[derive(Debug, Drop)]
+pub struct Line {
+    alloc: Global,
+    number: SequenceNo,
+    bits: LineAttribute,
+    cells: Vec<Cell>,
+}
+
+impl Model for Line {
+    ghost use Rattle.cell_line.specs.LineContent.{LineContent};
+
+    ghost Value = { LineContent };
+
+    ghost use Rattle.cell_line.specs.LineView.{content_of};
+
+    ghost view = { content_of };
+}
+
+impl Line {
+    /// A line of `width` such cells, read from the left.
+    pub fn with_width_and_cell(
+        alloc: Global,
+        width: usize,
+        cell: Cell,
+        seqno: SequenceNo,
+    ) -> Result<Line, AllocError>
+        ensures { IfOk result (λ line. line ≡ line_of seqno (row_of_cells (replicate width cell))) }
+    {
+        let mut cells = Vec::new(alloc);
+        row::push_copies(&mut cells, width, &cell)?;
+        Ok(Line::from_cells(alloc, cells, seqno))
+    }
+
+    /// The cells read from the left: the one stored behind a wide one isn't looked at, and a wide
+    /// cell with none behind it counts as a blank with its attributes.
+    pub fn from_cells(alloc: Global, cells: Vec<Cell>, seqno: SequenceNo) -> Line
+        ensures { result ≡ line_of seqno (row_of_cells cells.items) }
+    {
+        Line {
+            alloc,
+            number: seqno,
+            bits: LineAttribute::SingleWidthLine,
+            cells,
+        }
+    }
+
+    /// A line of no columns.
+    pub fn new(alloc: Global, seqno: SequenceNo) -> Line
+        ensures { result ≡ line_of seqno [] }
+    {
+        Line::from_cells(alloc, Vec::new(alloc), seqno)
+    }
+
+    /// A line of plain blanks.
+    #[tactic(auto, using(crate::proofs::CutLemmas::row_of_blanks))]
+    pub fn with_width(alloc: Global, width: usize, seqno: SequenceNo) -> Result<Line, AllocError>
+        ensures { IfOk result (λ line. line ≡ line_of seqno (plain_row width)) }
+    {
+        let mut cells = Vec::new(alloc);
+        row::push_blanks(&mut cells, width)?;
+        Ok(Line::from_cells(alloc, cells, seqno))
+    }
+
+    /// Makes the line as wide as that: columns at its end go, or plain blanks come.
+    pub fn resize(&mut self, width: usize, seqno: SequenceNo) -> Result<(), AllocError>
+        ensures { OnOk result (self.new ≡ changed self.old seqno (resized width self.old.columns)) }
+    {
+        row::resize(&mut self.cells, width)?;
+        self.update_last_change_seqno(seqno);
+        Ok(())
+    }
+
+    /// Makes the line so many blanks with these attributes, at normal size.
+    #[tactic(auto, using(crate::proofs::CutLemmas::row_of_blanks_with))]
+    pub fn resize_and_clear(
+        &mut self,
+        width: usize,
+        seqno: SequenceNo,
+        blank_attr: CellAttributes,
+    ) -> Result<(), AllocError>
+        ensures { OnOk result (self.new ≡ with_bits (changed self.old seqno (replicate width (blank blank_attr))) seqno SingleWidthLine) }
+    {
+        self.cells.clear();
+        row::push_copies(&mut self.cells, width, &Cell::blank_with_attrs(blank_attr))?;
+        self.bits = LineAttribute::SingleWidthLine;
+        self.update_last_change_seqno(seqno);
+        Ok(())
+    }
+
+    /// How many columns there are.
+    pub fn len(&self) -> usize
+        ensures { result ≡ length self.now.columns }
+    {
+        self.cells.len()
+    }
+
+    /// Whether the line changed after the change with this number, or never got a number.
+    pub fn changed_since(&self, seqno: SequenceNo) -> bool
+        ensures { result ≡ is_changed_since self.now seqno }
+    {
+        self.number == SEQ_ZERO || self.number > seqno
+    }
+
+    /// The number of the last change.
+    pub fn current_seqno(&self) -> SequenceNo
+        ensures { result ≡ self.now.number }
+    {
+        self.number
+    }
+
+    /// Gives the line the number of a change.
+    pub fn update_last_change_seqno(&mut self, seqno: SequenceNo)
+        ensures { self.new ≡ changed self.old seqno self.old.columns }
+    {
+        self.number = self.number.max(seqno);
+    }
+
+    /// Whether the line is shown at normal size: it has no bits.
+    pub fn is_single_width(&self) -> bool
+        ensures { result ≡ is_attribute self.now.bits SingleWidthLine }
+    {
+        self.bits == LineAttribute::SingleWidthLine
+    }
+
+    /// Whether the line is shown at double width alone.
+    pub fn is_double_width(&self) -> bool
+        ensures { result ≡ is_attribute self.now.bits DoubleWidthLine }
+    {
+        self.bits == LineAttribute::DoubleWidthLine
+    }
+
+    /// Whether the line is the top half of one shown at double width and height.
+    pub fn is_double_height_top(&self) -> bool
+        ensures { result ≡ is_attribute self.now.bits DoubleHeightTopHalfLine }
+    {
+        self.bits == LineAttribute::DoubleHeightTopHalfLine
+    }
+
+    /// Whether the line is the bottom half of one shown at double width and height.
+    pub fn is_double_height_bottom(&self) -> bool
+        ensures { result ≡ is_attribute self.now.bits DoubleHeightBottomHalfLine }
+    {
+        self.bits == LineAttribute::DoubleHeightBottomHalfLine
+    }
+
+    /// Shows the line at normal size.
+    pub fn set_single_width(&mut self, seqno: SequenceNo)
+        ensures { self.new ≡ with_bits self.old seqno SingleWidthLine }
+    {
+        self.bits = LineAttribute::SingleWidthLine;
+        self.update_last_change_seqno(seqno);
+    }
+
+    /// Shows the line at double width.
+    pub fn set_double_width(&mut self, seqno: SequenceNo)
+        ensures { self.new ≡ with_bits self.old seqno DoubleWidthLine }
+    {
+        self.bits = LineAttribute::DoubleWidthLine;
+        self.update_last_change_seqno(seqno);
+    }
+
+    /// Shows the line as the top half of one at double width and height.
+    pub fn set_double_height_top(&mut self, seqno: SequenceNo)
+        ensures { self.new ≡ with_bits self.old seqno DoubleHeightTopHalfLine }
+    {
+        self.bits = LineAttribute::DoubleHeightTopHalfLine;
+        self.update_last_change_seqno(seqno);
+    }
+
+    /// Shows the line as the bottom half of one at double width and height.
+    pub fn set_double_height_bottom(&mut self, seqno: SequenceNo)
+        ensures { self.new ≡ with_bits self.old seqno DoubleHeightBottomHalfLine }
+    {
+        self.bits = LineAttribute::DoubleHeightBottomHalfLine;
+        self.update_last_change_seqno(seqno);
+    }
+
+    /// Cuts the line at a column, or at its end if that comes first, and answers what stood from
+    /// there on, with the same bits.
+    pub fn split_off(&mut self, idx: usize, seqno: SequenceNo) -> Result<Line, AllocError>
+        ensures kept { OnOk result (self.new ≡ record self.old { columns = cut (min idx (length self.old.columns)) self.old.columns }) }
+        ensures rest { IfOk result (λ rest. rest ≡ record self.old { number = seqno; columns = cut_front (min idx (length self.old.columns)) self.old.columns }) }
+    {
+        let at = idx.min(self.cells.len());
+        let cells = row::split_off(&mut self.cells, at)?;
+        Ok(Line {
+            alloc: self.alloc,
+            number: seqno,
+            bits: self.bits,
+            cells,
+        })
+    }
+
+    /// Puts the columns of another line behind those of this one.
+    pub fn append_line(&mut self, other: Line, seqno: SequenceNo) -> Result<(), AllocError>
+        ensures { OnOk result (self.new ≡ changed self.old seqno (self.old.columns ++ other.columns)) }
+    {
+        row::append(&mut self.cells, other.cells)?;
+        self.update_last_change_seqno(seqno);
+        Ok(())
+    }
+
+    /// Sets a cell, whose columns are `idx` and, if it is wide, the next one. Plain blanks come
+    /// before it where the line doesn't reach so far.
+    pub fn set_cell(&mut self, idx: usize, cell: Cell, seqno: SequenceNo) -> Result<(), AllocError>
+        ensures { OnOk result (self.new ≡ changed self.old seqno (with_cell self.old.columns idx cell)) }
+    {
+        row::set_cell(&mut self.cells, idx, cell)?;
+        self.update_last_change_seqno(seqno);
+        Ok(())
+    }
+
+    /// The same as `set_cell`.
+    pub fn set_cell_clearing_image_placements(
+        &mut self,
+        idx: usize,
+        cell: Cell,
+        seqno: SequenceNo,
+    ) -> Result<(), AllocError>
+        ensures { OnOk result (self.new ≡ changed self.old seqno (with_cell self.old.columns idx cell)) }
+    {
+        self.set_cell(idx, cell, seqno)
+    }
+
+    /// Sets the cell of a cluster that takes `width` columns.
+    pub fn set_cell_grapheme(
+        &mut self,
+        idx: usize,
+        text: &str,
+        width: usize,
+        attr: CellAttributes,
+        seqno: SequenceNo,
+    ) -> Result<(), AllocError>
+        requires some { 1 ≤ width }
+        requires most { width ≤ 2 }
+        ensures { OnOk result (self.new ≡ changed self.old seqno (with_cell self.old.columns idx (cell_of text.now width attr))) }
+    {
+        let cell = Cell::new_grapheme_with_width(self.alloc, text, width, attr)?;
+        self.set_cell(idx, cell, seqno)
+    }
+
+    /// Inserts a cell before column `x`, behind plain blanks where the line doesn't reach so far.
+    /// The column left of `right_margin`, which counts from 1, goes before that.
+    pub fn insert_cell(
+        &mut self,
+        x: usize,
+        cell: Cell,
+        right_margin: usize,
+        seqno: SequenceNo,
+    ) -> Result<(), AllocError>
+        requires { 1 ≤ right_margin }
+        ensures { OnOk result (self.new ≡ changed self.old seqno (with_inserted self.old.columns x cell right_margin)) }
+    {
+        row::insert_cell(&mut self.cells, x, cell, right_margin)?;
+        self.update_last_change_seqno(seqno);
+        Ok(())
+    }
+
+    /// Removes a column and adds a plain blank; past the end nothing changes.
+    pub fn erase_cell(&mut self, x: usize, seqno: SequenceNo) -> Result<(), AllocError>
+        ensures { OnOk result (self.new ≡ (if nat_lt x (length self.old.columns) then changed self.old seqno (erased x self.old.columns) else self.old)) }
+    {
+        if x < self.len() {
+            row::erase_column(&mut self.cells, x)?;
+            self.update_last_change_seqno(seqno);
+        }
+        Ok(())
+    }
+
+    /// Removes a column; past the end nothing changes.
+    pub fn remove_cell(&mut self, x: usize, seqno: SequenceNo) -> Result<(), AllocError>
+        ensures { OnOk result (self.new ≡ (if nat_lt x (length self.old.columns) then changed self.old seqno (removed x self.old.columns) else self.old)) }
+    {
+        if x < self.len() {
+            row::remove_column(&mut self.cells, x)?;
+            self.update_last_change_seqno(seqno);
+        }
+        Ok(())
+    }
+
+    /// Removes a column if it is there, and then inserts a blank left of `right_margin`, which
+    /// counts from 1, if the line reaches to it.
+    pub fn erase_cell_with_margin(
+        &mut self,
+        x: usize,
+        right_margin: usize,
+        seqno: SequenceNo,
+        blank_attr: CellAttributes,
+    ) -> Result<(), AllocError>
+        requires { 1 ≤ right_margin }
+        ensures { OnOk result (self.new ≡ changed self.old seqno (erased_within self.old.columns x right_margin blank_attr)) }
+    {
+        row::erase_within(&mut self.cells, x, right_margin, blank_attr)?;
+        self.update_last_change_seqno(seqno);
+        Ok(())
+    }
+
+    /// A line with a cell for each cluster of a text, as UAX 29 cuts it.
+    pub fn from_text<W: Widths>(
+        alloc: Global,
+        s: &str,
+        attrs: &CellAttributes,
+        seqno: SequenceNo,
+        w: &W,
+    ) -> Result<Line, AllocError>
+        ensures { IfOk result (λ line. line ≡ line_of seqno (text_row (W.width_of w.now) s.now attrs.now)) }
+    {
+        let cells = text::cells_of_text(alloc, s, attrs, w)?;
+        Ok(Line::from_cells(alloc, cells, seqno))
+    }
+
+    /// A plain line with a cell for each cluster of a text, as UAX 29 cuts it, and number 0.
+    pub fn try_from_text<W: Widths>(alloc: Global, s: &str, w: &W) -> Result<Line, AllocError>
+        ensures { IfOk result (λ line. line ≡ line_of 0 (text_row (W.width_of w.now) s.now plain)) }
+    {
+        Line::from_text(alloc, s, &CellAttributes::blank(), SEQ_ZERO, w)
+    }
+
+    /// Sets a cell for each cluster of a text, as UAX 29 cuts it, side by side from `start_idx` on.
+    pub fn overlay_text_with_attribute<W: Widths>(
+        &mut self,
+        start_idx: usize,
+        text: &str,
+        attr: CellAttributes,
+        seqno: SequenceNo,
+        w: &W,
+    ) -> Result<(), AllocError>
+        ensures { OnOk result (self.new ≡ changed self.old seqno (overlaid self.old.columns start_idx (text_cells (W.width_of w.now) text.now attr))) }
+    {
+        text::overlay(self.alloc, &mut self.cells, start_idx, text, &attr, w)?;
+        self.update_last_change_seqno(seqno);
+        Ok(())
+    }
+
+    /// The visible cells, each with its first column, in order.
+    pub fn visible_cells(&self) -> VisibleCellIter<'_>
+        ensures { cells_left result ≡ visible_cells self.now.columns }
+    {
+        VisibleCellIter::new(&self.cells)
+    }
+
+    /// The visible cell that begins at a column.
+    pub fn get_cell(&self, cell_index: usize) -> Option<CellRef<'_>>
+        ensures { option_map shown_by result ≡ cell_at cell_index self.now.columns }
+    {
+        query::cell_at(&self.cells, cell_index)
+    }
+
+    /// The texts of the visible cells, joined.
+    pub fn as_str(&self) -> Result<CowStr<'_>, AllocError>
+        ensures { IfOk result (λ text. cow_str_bytes text ≡ texts_joined (visible_cells self.now.columns)) }
+    {
+        let mut text = String::new(self.alloc);
+        query::push_all_texts(&mut text, &self.cells)?;
+        Ok(CowStr::Owned(text))
+    }
+
+    /// The texts of the visible cells that begin in a range of columns, joined.
+    pub fn columns_as_str(&self, range: Range<usize>) -> Result<String, AllocError>
+        ensures { IfOk result (λ text. string_bytes text ≡ texts_joined (cells_between range.start range.end self.now.columns)) }
+    {
+        let mut text = String::new(self.alloc);
+        query::push_texts(&mut text, &self.cells, range.start, range.end)?;
+        Ok(text)
+    }
+
+    /// The visible cells that begin in a range of columns, whole, as a line at normal size with this
+    /// line's number.
+    pub fn columns_as_line(&self, range: Range<usize>) -> Result<Line, AllocError>
+        ensures { IfOk result (λ line. line ≡ line_of self.now.number (row_of_visible (cells_between range.start range.end self.now.columns))) }
+    {
+        let cells = wrap::between(self.alloc, &self.cells, range.start, range.end)?;
+        Ok(Line::from_cells(self.alloc, cells, self.number))
+    }
+
+    /// The line in rows of at most `width` columns, each a line at normal size; a wide cell alone may
+    /// pass it. Spaces at the end go. The line goes on behind each row but the last. A line of spaces
+    /// stays as it is. If memory is refused the line is dropped.
+    pub fn wrap(self, width: usize, seqno: SequenceNo) -> Result<Vec<Line>, AllocError>
+        ensures { IfOk result (λ lines. lines.items ≡ wrapped self width seqno) }
+    {
+        if self.is_whitespace() {
+            let mut lines = Vec::new(self.alloc);
+            lines.push(self)?;
+            return Ok(lines);
+        }
+        wrap::rows(self.alloc, &self.cells, width, seqno)
+    }
+
+    /// Whether a cell has a link.
+    pub fn has_hyperlink(&self) -> bool
+        ensures { result ≡ has_link self.now.columns }
+    {
+        query::has_link(&self.cells)
+    }
+
+    /// Whether each visible cell is a space, of whatever attributes.
+    pub fn is_whitespace(&self) -> bool
+        ensures { result ≡ is_whitespace_row self.now.columns }
+    {
+        query::is_whitespace(&self.cells)
+    }
+
+    /// Whether the line goes on behind its last visible cell; false where there is none.
+    pub fn last_cell_was_wrapped(&self) -> bool
+        ensures { result ≡ ends_wrapped (visible_cells self.now.columns) }
+    {
+        query::ends_wrapped(&self.cells)
+    }
+
+    /// Makes the line small for keeping. It reads as before.
+    pub fn compress_for_scrollback(&mut self) -> Result<(), AllocError>
+        ensures { OnOk result (self.new ≡ self.old) }
+    {
+        Ok(())
+    }
+
+    /// The same as `from_text`, with the last visible cell one behind which the line goes on.
+    pub fn from_text_with_wrapped_last_col<W: Widths>(
+        alloc: Global,
+        s: &str,
+        attrs: &CellAttributes,
+        seqno: SequenceNo,
+        w: &W,
+    ) -> Result<Line, AllocError>
+        ensures { IfOk result (λ line. line ≡ line_of seqno (row_end_wrapped true (text_row (W.width_of w.now) s.now attrs.now))) }
+    {
+        let mut cells = text::cells_of_text(alloc, s, attrs, w)?;
+        row::set_end_wrapped(&mut cells, true);
+        Ok(Line::from_cells(alloc, cells, seqno))
+    }
+
+    /// Removes the plain blanks at the end, unless no column would be left: then nothing changes.
+    #[tactic(auto, using(crate::proofs::EndLemmas::left_none, crate::proofs::EndLemmas::left_some))]
+    pub fn prune_trailing_blanks(&mut self, seqno: SequenceNo) -> Result<(), AllocError>
+        ensures { OnOk result (self.new ≡ pruned self.old seqno) }
+    {
+        if row::prune(&mut self.cells)? {
+            self.update_last_change_seqno(seqno);
+        }
+        Ok(())
+    }
+
+    /// Sets a cell at each column of a range in turn, and then removes the plain blanks at the end.
+    /// Nothing changes where a plain blank is set on a line of no columns.
+    pub fn fill_range(
+        &mut self,
+        cols: Range<usize>,
+        cell: &Cell,
+        seqno: SequenceNo,
+    ) -> Result<(), AllocError>
+        ensures { OnOk result (self.new ≡ filled_line self.old cols.start cols.end cell.now seqno) }
+    {
+        if self.fills_nothing(cell) {
+            return Ok(());
+        }
+        self.fill_columns(cols, cell, seqno)?;
+        self.prune_trailing_blanks(seqno)?;
+        Ok(())
+    }
+
+    // Whether the cell is a plain blank and the line has no columns.
+    fn fills_nothing(&self, cell: &Cell) -> bool
+        ensures { result ≡ (length self.now.columns == 0 && same_cell cell.now (blank_cell plain)) }
+    {
+        self.len() == 0 && *cell == Cell::blank()
+    }
+
+    // Sets a cell at each column of a range in turn.
+    fn fill_columns(
+        &mut self,
+        cols: Range<usize>,
+        cell: &Cell,
+        seqno: SequenceNo,
+    ) -> Result<(), AllocError>
+        ensures { OnOk result (self.new ≡ changed self.old seqno (filled self.old.columns cols.start (cols.end - cols.start) cell.now)) }
+    {
+        row::fill(&mut self.cells, cols.start, cols.end, cell)?;
+        self.update_last_change_seqno(seqno);
+        Ok(())
+    }
+
+    /// Drops the links that were found in a text from every cell; nothing changes where there is
+    /// none.
+    pub fn invalidate_implicit_hyperlinks(&mut self, seqno: SequenceNo) -> Result<(), AllocError>
+        ensures { OnOk result (self.new ≡ without_implicit_links self.old seqno) }
+    {
+        if query::has_implicit_link(&self.cells) {
+            self.drop_implicit_links();
+            self.update_last_change_seqno(seqno);
+        }
+        Ok(())
+    }
+
+    // Drops the links that were found in a text.
+    fn drop_implicit_links(&mut self)
+        ensures { self.new ≡ record self.old { columns = map (column_with without_implicit) self.old.columns } }
+    {
+        row::drop_implicit_links(&mut self.cells);
+    }
+
+    /// The zones: neighbouring visible cells of one semantic type, each from its first cell's
+    /// column to its last one's. Plain blanks behind all other cells are in no zone, unless there
+    /// is nothing else. A column past 65,535 stays there.
+    pub fn semantic_zone_ranges(&self) -> Result<Vec<ZoneRange>, AllocError>
+        ensures { IfOk result (λ found. found.items ≡ zones (visible_cells self.now.columns)) }
+    {
+        zones::zones(self.alloc, &self.cells)
+    }
+
+    /// Sets whether the line goes on behind its last visible cell, if there is one.
+    pub fn set_last_cell_was_wrapped(
+        &mut self,
+        wrapped: bool,
+        seqno: SequenceNo,
+    ) -> Result<(), AllocError>
+        ensures { OnOk result (self.new ≡ changed self.old seqno (row_end_wrapped wrapped self.old.columns)) }
+    {
+        row::set_end_wrapped(&mut self.cells, wrapped);
+        self.update_last_change_seqno(seqno);
+        Ok(())
+    }
+
+    // Whether number, bits and columns are the same.
+    fn is_same(&self, other: &Line) -> bool
+        ensures { IsTrue result ↔ (self.now ≡ other.now) }
+    {
+        if self.number != other.number {
+            return false;
+        }
+        if self.bits != other.bits {
+            return false;
+        }
+        query::same_columns(&self.cells, &other.cells)
+    }
+
+    /// A copy.
+    pub fn try_clone(&self) -> Result<Line, AllocError>
+        ensures { IfOk result (λ copy. copy ≡ self.now) }
+    {
+        Ok(Line {
+            alloc: self.alloc,
+            number: self.number,
+            bits: self.bits,
+            cells: row::copy(self.alloc, &self.cells)?,
+        })
+    }
+}
+
+impl PartialEq for Line {
+    ghost use Rattle.std.specs.Prelude.{◌≡◌, ◌↔◌, IsTrue};
+    ghost use Rattle.std.specs.Cmp.{partial_equiv_from_equiv};
+    ghost use Rattle.cell_line.specs.SameLine.{same_line, same_line_equivalence};
+
+    ghost eq = { same_line };
+
+    ghost laws = { partial_equiv_from_equiv same_line_equivalence };
+
+    fn eq(&self, other: &Line) -> bool
+        ensures same { result ≡ same_line self.now other.now }
+        ensures by_value { IsTrue result ↔ (self.now ≡ other.now) }
+    {
+        self.is_same(other)
+    }
+}

@@ -1,0 +1,140 @@
+//! What is asked of the cells of a line, which are read from the left.
+ghost use Rattle.std.specs.Prelude.{◌≡◌, ◌↔◌, ◌++◌, not, IsTrue, OnOk, filter, string_bytes};
+ghost use Rattle.std.specs.List.{list_any, list_all};
+ghost use Rattle.std.specs.Str.{bytes_eq};
+ghost use Rattle.std.specs.Option.{option_map};
+ghost use Rattle.cell_base.specs.Attributes.{plain};
+ghost use Rattle.cell_base.specs.CellContent.{row_of_cells};
+ghost use Rattle.cell_base.specs.Row.{space};
+ghost use Rattle.cell_base.specs.SameAttributes.{same_attributes};
+ghost use Rattle.cell_line.specs.VisibleCells.{visible_cells, contents, cell_at, cells_between, texts_joined, has_link, is_whitespace_row, ends_wrapped};
+ghost use Rattle.cell_line.specs.CellRefView.{shown_by};
+ghost use Rattle.cell_line.specs.Links.{has_implicit_link};
+
+use crate::cell_ref::CellRef;
+use crate::row::has_implicit;
+use crate::visible_cells::VisibleCellIter;
+use cell_base::Cell;
+use std::alloc::AllocError;
+
+// Whether the text is one space.
+pub(crate) fn is_space(text: &str) -> bool
+    ensures { result ≡ bytes_eq text.now space }
+{
+    text == " "
+}
+
+// The cell that begins at the column.
+pub(crate) fn cell_at(cells: &[Cell], column: usize) -> Option<CellRef<'_>>
+    ensures { option_map shown_by result ≡ cell_at column (row_of_cells cells.now) }
+{
+    for cell in VisibleCellIter::new(cells) {
+        if cell.cell_index() == column {
+            return Some(cell);
+        }
+    }
+    None
+}
+
+// The texts of the cells that begin from `start` on and before `end` go behind the text.
+pub(crate) fn push_texts(
+    text: &mut String,
+    cells: &[Cell],
+    start: usize,
+    end: usize,
+) -> Result<(), AllocError>
+    ensures { OnOk result (string_bytes text.new ≡ string_bytes text.old ++ texts_joined (cells_between start end (row_of_cells cells.now))) }
+{
+    for cell in VisibleCellIter::new(cells) {
+        let column = cell.cell_index();
+        if start <= column && column < end {
+            text.push_str(cell.str())?;
+        }
+    }
+    Ok(())
+}
+
+// The texts of the cells go behind the text.
+pub(crate) fn push_all_texts(text: &mut String, cells: &[Cell]) -> Result<(), AllocError>
+    ensures { OnOk result (string_bytes text.new ≡ string_bytes text.old ++ texts_joined (visible_cells (row_of_cells cells.now))) }
+{
+    for cell in VisibleCellIter::new(cells) {
+        text.push_str(cell.str())?;
+    }
+    Ok(())
+}
+
+// Whether a cell has a link.
+pub(crate) fn has_link(cells: &[Cell]) -> bool
+    ensures { result ≡ has_link (row_of_cells cells.now) }
+{
+    for cell in VisibleCellIter::new(cells) {
+        if cell.attrs().hyperlink().is_some() {
+            return true;
+        }
+    }
+    false
+}
+
+// Whether a cell has a link that was found in a text.
+pub(crate) fn has_implicit_link(cells: &[Cell]) -> bool
+    ensures { result ≡ has_implicit_link (row_of_cells cells.now) }
+{
+    for cell in VisibleCellIter::new(cells) {
+        if has_implicit(cell.attrs()) {
+            return true;
+        }
+    }
+    false
+}
+
+// Whether each text is one space.
+pub(crate) fn is_whitespace(cells: &[Cell]) -> bool
+    ensures { result ≡ is_whitespace_row (row_of_cells cells.now) }
+{
+    for cell in VisibleCellIter::new(cells) {
+        if !is_space(cell.str()) {
+            return false;
+        }
+    }
+    true
+}
+
+// Whether the line goes on behind the last cell.
+pub(crate) fn ends_wrapped(cells: &[Cell]) -> bool
+    ensures { result ≡ ends_wrapped (visible_cells (row_of_cells cells.now)) }
+{
+    let mut wrapped = false;
+    for cell in VisibleCellIter::new(cells) {
+        wrapped = cell.attrs().wrapped();
+    }
+    wrapped
+}
+
+// Whether the visible cells have the same contents, each in turn.
+fn same_contents(cells: &[Cell], other: &[Cell]) -> bool
+    ensures { IsTrue result ↔ (contents (visible_cells (row_of_cells cells.now)) ≡ contents (visible_cells (row_of_cells other.now))) }
+{
+    let mut theirs = VisibleCellIter::new(other);
+    for cell in VisibleCellIter::new(cells) {
+        match theirs.next() {
+            None => return false,
+            Some(their_cell) => {
+                if !cell.same_contents(&their_cell) {
+                    return false;
+                }
+            }
+        }
+    }
+    match theirs.next() {
+        None => true,
+        Some(_) => false,
+    }
+}
+
+// Whether the columns are the same.
+pub(crate) fn same_columns(cells: &[Cell], other: &[Cell]) -> bool
+    ensures { IsTrue result ↔ (row_of_cells cells.now ≡ row_of_cells other.now) }
+{
+    same_contents(cells, other)
+}

@@ -1,0 +1,150 @@
+//! Parts of a line: its cells in a range, and its cells in rows of a width.
+ghost use Rattle.std.specs.Prelude.{◌≡◌, ◌++◌, [], ◌∷◌, length, map, false, true, vec_len, IfOk, OnOk, filter, if◌then◌else◌};
+ghost use Rattle.cell_base.specs.CellContent.{row_of_cells};
+ghost use Rattle.cell_line.specs.CellList.{ends_halved};
+ghost use Rattle.cell_line.specs.LineContent.{line_of, cell_columns};
+ghost use Rattle.cell_line.specs.VisibleCells.{visible_cells, cells_between, row_of_visible, row_end_wrapped, contents};
+ghost use Rattle.cell_line.specs.Wrapped.{breaks, rows_from, last_text, texts_kept};
+
+use crate::line::Line;
+use crate::query::is_space;
+use crate::read_cells::ReadCells;
+use crate::row::{close_end, column_count, copy, push_cell, set_end_wrapped};
+use crate::visible_cells::VisibleCellIter;
+use crate::zones::is_kept;
+use cell_base::{Cell, SequenceNo};
+use std::alloc::{AllocError, Global};
+use std::mem;
+
+// The cells that begin from `start` on and before `end`.
+pub(crate) fn between(
+    alloc: Global,
+    cells: &[Cell],
+    start: usize,
+    end: usize,
+) -> Result<Vec<Cell>, AllocError>
+    ensures { IfOk result (λ kept. row_of_cells kept.items ≡ row_of_visible (cells_between start end (row_of_cells cells.now))) }
+{
+    let mut whole = copy(alloc, cells)?;
+    close_end(&mut whole)?;
+    copy_between(alloc, &whole, start, end)
+}
+
+fn copy_between(
+    alloc: Global,
+    cells: &[Cell],
+    start: usize,
+    end: usize,
+) -> Result<Vec<Cell>, AllocError>
+    requires { ends_halved cells.now ≡ false }
+    ensures { IfOk result (λ kept. row_of_cells kept.items ≡ row_of_visible (cells_between start end (row_of_cells cells.now))) }
+{
+    let mut kept = Vec::new(alloc);
+    for (column, cell) in ReadCells::new(cells) {
+        if start <= column && column < end {
+            push_cell(&mut kept, cell.try_clone()?)?;
+        }
+    }
+    Ok(kept)
+}
+
+// The column of the last cell whose text isn't one space.
+fn last_text(cells: &[Cell]) -> Option<usize>
+    ensures { result ≡ last_text (visible_cells (row_of_cells cells.now)) }
+{
+    let mut last = None;
+    for cell in VisibleCellIter::new(cells) {
+        if !is_space(cell.str()) {
+            last = Some(cell.cell_index());
+        }
+    }
+    last
+}
+
+// Whether the cell doesn't fit behind the columns that are there.
+fn breaks(width: usize, there: usize, cell: &Cell) -> bool
+    ensures { result ≡ breaks width there cell.now }
+{
+    there > 0 && there as u128 + column_count(cell) as u128 > width as u128
+}
+
+// The open row becomes a line behind which another goes on.
+fn close_row(
+    alloc: Global,
+    lines: &mut Vec<Line>,
+    row: &mut Vec<Cell>,
+    seqno: SequenceNo,
+) -> Result<(), AllocError>
+    ensures lines { OnOk result (lines.new.items ≡ lines.old.items ++ line_of seqno (row_end_wrapped true (row_of_cells row.old.items)) ∷ []) }
+    ensures row { OnOk result (row.new.items ≡ []) }
+{
+    let mut full = mem::replace(row, Vec::new(alloc));
+    set_end_wrapped(&mut full, true);
+    lines.push(Line::from_cells(alloc, full, seqno))?;
+    Ok(())
+}
+
+// The cell goes into the open row, or begins a new one where it doesn't fit.
+fn place(
+    alloc: Global,
+    lines: &mut Vec<Line>,
+    row: &mut Vec<Cell>,
+    cell: Cell,
+    width: usize,
+    seqno: SequenceNo,
+) -> Result<(), AllocError>
+    requires { ends_halved row.old.items ≡ false }
+    ensures whole { OnOk result (ends_halved row.new.items ≡ false) }
+    ensures lines { OnOk result (lines.new.items ≡ (if breaks width (vec_len row.old) cell then lines.old.items ++ line_of seqno (row_end_wrapped true (row_of_cells row.old.items)) ∷ [] else lines.old.items)) }
+    ensures row { OnOk result (row_of_cells row.new.items ≡ (if breaks width (vec_len row.old) cell then cell_columns cell else row_of_cells row.old.items ++ cell_columns cell)) }
+{
+    if breaks(width, row.len(), &cell) {
+        close_row(alloc, lines, row, seqno)?;
+        push_cell(row, cell)?;
+        return Ok(());
+    }
+    push_cell(row, cell)?;
+    Ok(())
+}
+
+// The cells up to the last that isn't one space, in rows of a width.
+pub(crate) fn rows(
+    alloc: Global,
+    cells: &[Cell],
+    width: usize,
+    seqno: SequenceNo,
+) -> Result<Vec<Line>, AllocError>
+    ensures { IfOk result (λ lines. lines.items ≡ map (line_of seqno) (rows_from width [] (contents (texts_kept (visible_cells (row_of_cells cells.now)))))) }
+{
+    let mut whole = copy(alloc, cells)?;
+    close_end(&mut whole)?;
+    fill_rows(alloc, &whole, width, seqno)
+}
+
+fn fill_rows(
+    alloc: Global,
+    cells: &[Cell],
+    width: usize,
+    seqno: SequenceNo,
+) -> Result<Vec<Line>, AllocError>
+    requires { ends_halved cells.now ≡ false }
+    ensures { IfOk result (λ lines. lines.items ≡ map (line_of seqno) (rows_from width [] (contents (texts_kept (visible_cells (row_of_cells cells.now)))))) }
+{
+    let last = last_text(cells);
+    let mut lines = Vec::new(alloc);
+    let mut open = Vec::new(alloc);
+    for (column, cell) in ReadCells::new(cells) {
+        if is_kept(last, column) {
+            place(
+                alloc,
+                &mut lines,
+                &mut open,
+                cell.try_clone()?,
+                width,
+                seqno,
+            )?;
+        }
+    }
+    lines.push(Line::from_cells(alloc, open, seqno))?;
+    Ok(lines)
+}
