@@ -1,3 +1,5 @@
 pub mod ReadLemmas
 pub mod UniqueLemmas
 pub mod PlacedLemmas
+mod StreamLemmas
+mod ReadFormLemmas

@@ -5,3 +5,9 @@ pub mod Action
 pub mod Existence
 pub mod Cut
 pub mod Placed
+pub mod Controls
+pub mod StreamAction
+pub mod StreamActionView
+pub mod Joining
+pub mod StreamText
+pub mod StreamWritable

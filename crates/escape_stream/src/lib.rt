@@ -1,4 +1,20 @@
 //! Escape streams: how a stream of bytes is cut into segments, and the actions that these decide.
 #![tactic(auto)]
 
+mod action;
+mod control;
+mod device;
+mod encoding;
+pub mod encoding_laws;
+mod error;
 pub mod laws;
+
+pub use action::Action;
+pub use control::ControlCode;
+pub use device::{DeviceControlMode, EnterDeviceControlMode};
+pub use encoding::encode;
+pub use error::ParseError;
+pub use escape_osc::{OperatingSystemCommand, Selection};
+
+#[cfg(test)]
+mod tests;

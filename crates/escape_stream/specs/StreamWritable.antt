@@ -1,0 +1,126 @@
+-- Lists of actions that a byte stream can carry: what is written for them reads back.
+use Rattle.std.specs.Prelude.{◌≡◌, ◌≢◌, ℕ, ◌≤◌, ◌<◌, ◌⊎◌, List, [], ◌∷◌, ◌++◌, All, map, Option, None, Some, Bool, false, not, ◌&&◌, if◌then◌else◌}
+use Rattle.std.specs.Str.{IsUtf8, chars}
+use Rattle.std.specs.Char.{IsScalar}
+use Rattle.csi_codec.specs.Actions.{csi_reading}
+use Rattle.csi_codec.specs.Actions as codec
+use Rattle.csi_codec.specs.Sequences.{csi_text}
+use Rattle.csi_codec.specs.Fronts.{Front, HasFront}
+use Rattle.csi_codec.specs.Escapes.{esc_reading}
+use Rattle.csi_codec.specs.declared.escapes.EscCode.TheVariants as code
+use Rattle.csi_codec.specs.declared.escapes.Esc.{Esc}
+use Rattle.csi_codec.specs.declared.escapes.Esc.TheVariants as pair
+use Rattle.escape_osc.specs.Writable as osc
+use Rattle.escape_stream.specs.Segment.{IsPrintable, IsControl}
+use Rattle.escape_stream.specs.StreamAction.{StreamAction, print, print_string, control, enter, data_byte, exit, command, csi, esc}
+use Rattle.escape_stream.specs.StreamText.{closes_string, is_string_terminator, stream_text}
+
+-- a text of printable characters, not empty
+pub record IsPrintableText (text : List ℕ) : Type 0 where
+  pub utf8 : IsUtf8 text
+  pub some : text ≢ []
+  pub printable : All IsPrintable (chars text)
+
+-- the text of the CSI action is one sequence and nothing behind it, and its tokens mean that action alone
+pub record IsReadBack (a : codec.Action) : Type 0 where
+  pub front : Front
+  pub stands : HasFront (csi_text a) front
+  pub whole : front.rest ≡ []
+  pub action : csi_reading front.params front.truncated front.control ≡ a ∷ []
+
+-- the byte behind ESC opens a control sequence or a string: [ ] P X ^ _
+abbrev pub IsOpener : ℕ → Type 0
+IsOpener b = (b ≡ 91) ⊎ (b ≡ 93) ⊎ (b ≡ 80) ⊎ (b ≡ 88) ⊎ (b ≡ 94) ⊎ (b ≡ 95)
+
+-- bytes that an ESC pair can have: at most one intermediate, 20h to 2Fh, and a final byte, 30h to 7Eh
+abbrev pub ArePairBytes : Option ℕ → ℕ → Type 0
+ArePairBytes None final = (48 ≤ final) × (final ≤ 126) × (IsOpener final → ⊥)
+ArePairBytes (Some between) final = (32 ≤ between) × (between ≤ 47) × (48 ≤ final) × (final ≤ 126)
+
+-- the ESC pair is the reading of such bytes
+pub record IsReadPair (e : Esc) : Type 0 where
+  pub intermediate : Option ℕ
+  pub final : ℕ
+  pub bytes : ArePairBytes intermediate final
+  pub reading : e ≡ esc_reading intermediate final
+
+-- an action outside of device control strings that reads back by itself
+abbrev pub IsWritableAction : StreamAction → Type 0
+IsWritableAction (print character) = IsScalar character × IsPrintable character
+IsWritableAction (print_string text) = IsPrintableText text
+IsWritableAction (control number) = IsControl number × (number ≢ 27)
+IsWritableAction (command c) = osc.IsWritable c
+IsWritableAction (csi a) = IsReadBack a
+IsWritableAction (esc e) = IsReadPair e
+IsWritableAction (enter header byte) = ⊥
+IsWritableAction (data_byte byte) = ⊥
+IsWritableAction exit = ⊥
+
+-- the header of a device control string, 20h to 3Fh, and its final byte, 40h to 7Eh
+pub record IsOpening (header : List ℕ) (byte : ℕ) : Type 0 where
+  pub header_bytes : All (λ b. (32 ≤ b) × (b ≤ 63)) header
+  pub low : 64 ≤ byte
+  pub high : byte ≤ 126
+
+-- a byte of the data behind another: not CAN, SUB or ESC, and with the one before it no C1 control in UTF-8
+pub record IsDataByte (before byte : ℕ) : Type 0 where
+  pub byte_range : byte < 256
+  pub not_cancel : byte ≢ 24
+  pub not_substitute : byte ≢ 26
+  pub not_escape : byte ≢ 27
+  pub not_c1 : before ≡ 194 → 128 ≤ byte → byte ≤ 159 → ⊥
+
+-- actions behind the data byte of a device control string, or outside of one: each device control string stands as its
+-- opening, its data and its end
+abbrev pub IsWritableBehind : Option ℕ → List StreamAction → Type 0
+IsWritableBehind None [] = Unit {0}
+IsWritableBehind None (enter header byte ∷ others) = IsOpening header byte × IsWritableBehind (Some byte) others
+IsWritableBehind None (a ∷ others) = IsWritableAction a × IsWritableBehind None others
+IsWritableBehind (Some before) [] = ⊥
+IsWritableBehind (Some before) (data_byte byte ∷ others) = IsDataByte before byte × IsWritableBehind (Some byte) others
+IsWritableBehind (Some before) (exit ∷ others) = IsWritableBehind None others
+IsWritableBehind (Some before) (a ∷ others) = ⊥
+
+-- a list of actions that reads back from its bytes
+abbrev pub IsWritable : List StreamAction → Type 0
+IsWritable actions = IsWritableBehind None actions
+
+-- ---- What is read back
+
+-- the characters of a text, one by one; every other action by itself
+abbrev pub characters_of : StreamAction → List StreamAction
+characters_of (print_string text) = map print (chars text)
+characters_of (print character) = print character ∷ []
+characters_of (control number) = control number ∷ []
+characters_of (enter header byte) = enter header byte ∷ []
+characters_of (data_byte byte) = data_byte byte ∷ []
+characters_of exit = exit ∷ []
+characters_of (command c) = command c ∷ []
+characters_of (csi a) = csi a ∷ []
+characters_of (esc e) = esc e ∷ []
+
+abbrev pub string_terminator : StreamAction
+string_terminator = esc (pair.Code code.StringTerminator)
+
+-- the string terminator that closes a string, where the action behind it is none
+abbrev pub terminator_before : Bool → Bool → List StreamAction
+terminator_before closed stands = if closed && not stands then string_terminator ∷ [] else []
+
+-- a list as its bytes read: prints as characters, and a string terminator behind each operating system command and
+-- each end of a device control string that has none
+abbrev pub read_form_behind : Bool → List StreamAction → List StreamAction
+read_form_behind closed [] = terminator_before closed false
+read_form_behind closed (a ∷ others) = terminator_before closed (is_string_terminator a) ++ characters_of a ++ read_form_behind (closes_string a) others
+
+abbrev pub read_form : List StreamAction → List StreamAction
+read_form actions = read_form_behind false actions
+
+-- every text is UTF-8
+abbrev pub HasTexts : List StreamAction → Type 0
+HasTexts [] = Unit {0}
+HasTexts (print_string text ∷ others) = IsUtf8 text × HasTexts others
+HasTexts (a ∷ others) = HasTexts others
+
+-- a list as its bytes read has the same bytes
+abbrev pub ReadFormsEncodeAlike : Type 0
+ReadFormsEncodeAlike = (actions : List StreamAction) → HasTexts actions → stream_text (read_form actions) ≡ stream_text actions
