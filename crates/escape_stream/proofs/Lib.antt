@@ -3,3 +3,5 @@ pub mod UniqueLemmas
 pub mod PlacedLemmas
 mod StreamLemmas
 mod ReadFormLemmas
+pub mod PendingLemmas
+pub mod FirstLemmas

@@ -11,3 +11,6 @@ pub mod StreamActionView
 pub mod Joining
 pub mod StreamText
 pub mod StreamWritable
+pub mod StreamActions
+pub mod Parsing
+pub mod Pending

@@ -11,7 +11,7 @@ use Rattle.csi_codec.specs.declared.escapes.EscCode.TheVariants as code
 use Rattle.csi_codec.specs.declared.escapes.Esc.{Esc}
 use Rattle.csi_codec.specs.declared.escapes.Esc.TheVariants as pair
 use Rattle.escape_osc.specs.Writable as osc
-use Rattle.escape_stream.specs.Segment.{IsPrintable, IsControl}
+use Rattle.escape_framing.specs.Segment.{IsPrintable, IsControl}
 use Rattle.escape_stream.specs.StreamAction.{StreamAction, print, print_string, control, enter, data_byte, exit, command, csi, esc}
 use Rattle.escape_stream.specs.StreamText.{closes_string, is_string_terminator, stream_text}
 
@@ -48,7 +48,7 @@ pub record IsReadPair (e : Esc) : Type 0 where
 abbrev pub IsWritableAction : StreamAction → Type 0
 IsWritableAction (print character) = IsScalar character × IsPrintable character
 IsWritableAction (print_string text) = IsPrintableText text
-IsWritableAction (control number) = IsControl number × (number ≢ 27)
+IsWritableAction (control number) = IsControl number
 IsWritableAction (command c) = osc.IsWritable c
 IsWritableAction (csi a) = IsReadBack a
 IsWritableAction (esc e) = IsReadPair e

@@ -8,6 +8,8 @@ mod encoding;
 pub mod encoding_laws;
 mod error;
 pub mod laws;
+mod parser;
+mod pending;
 
 pub use action::Action;
 pub use control::ControlCode;
@@ -15,6 +17,7 @@ pub use device::{DeviceControlMode, EnterDeviceControlMode};
 pub use encoding::encode;
 pub use error::ParseError;
 pub use escape_osc::{OperatingSystemCommand, Selection};
+pub use parser::Parser;
 
 #[cfg(test)]
 mod tests;

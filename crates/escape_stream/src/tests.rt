@@ -7,6 +7,8 @@ use std::process::Abort;
 use std::rc::Rc;
 use std::test::Fail;
 
+mod parsing;
+
 const TERMINATOR: Action = Action::Esc(Esc::Code(EscCode::StringTerminator));
 
 fn text(alloc: Global, s: &str) -> Result<Action, AllocError> {

@@ -1,0 +1,53 @@
+-- What a parser that has read a stream hands out.
+use Rattle.std.specs.Prelude.{◌≡◌, ◌≢◌, ℕ, ◌<◌, ◌≤◌, Option, Some, None, List, [], ◌∷◌, ◌++◌, length, take}
+use Rattle.std.specs.List.{FoldsTo}
+use Rattle.escape_framing.specs.Segment.{Begun}
+use Rattle.escape_framing.specs.Cut.{tail_of}
+use Rattle.escape_stream.specs.declared.action.Action.{Action}
+use Rattle.escape_stream.specs.StreamAction.{StreamAction}
+use Rattle.escape_stream.specs.StreamActionView.{value_of}
+use Rattle.escape_stream.specs.StreamActions.{newly_decided_actions}
+
+-- a step of a callback, by the value of the action that it was called at
+abbrev pub by_value : {F : Type 0} → (F → Action → F → Type 0) → F → StreamAction → F → Type 0
+by_value step f value f' = (a : Action) × (value_of a ≡ value) × step f a f'
+
+-- the callback was called at actions of these values, one after the other, and the last call left it like this
+pub record IsCalledAt {F : Type 0} (step : F → Action → F → Type 0) (callback : F) (values : List StreamAction) (last : F) : Type 0 where
+  pub calls : FoldsTo (by_value step) callback values last
+
+-- ---- The first actions
+
+-- behind the stream, the bytes decide an action
+abbrev pub DecidesAction : List ℕ → List ℕ → Type 0
+DecidesAction stream bytes = newly_decided_actions stream bytes ≢ []
+
+-- behind the stream, the bytes decide an action, and no segment is unfinished
+abbrev pub Settles : List ℕ → List ℕ → Type 0
+Settles stream bytes = DecidesAction stream bytes × (tail_of (stream ++ bytes) ≡ Begun [])
+
+-- the first bytes, as many as the count says, are so, and no fewer of them
+pub record IsShortest (P : List ℕ → Type 0) (bytes : List ℕ) (count : ℕ) : Type 0 where
+  pub within : count ≤ length bytes
+  pub holds : P (take count bytes)
+  pub least : (fewer : ℕ) → fewer < count → P (take fewer bytes) → ⊥
+
+-- the first bytes, as many as there may be, are never so
+abbrev pub IsNowhere : (List ℕ → Type 0) → List ℕ → Type 0
+IsNowhere P bytes = (count : ℕ) → count ≤ length bytes → P (take count bytes) → ⊥
+
+-- behind the stream, the first action of the shortest prefix that decides one, and its length; none where no prefix does
+abbrev pub IsFirst : List ℕ → List ℕ → Option (StreamAction × ℕ) → Type 0
+IsFirst stream bytes None = IsNowhere (DecidesAction stream) bytes
+IsFirst stream bytes (Some found) = IsShortest (DecidesAction stream) bytes found.1 × ((others : List StreamAction) × (newly_decided_actions stream (take found.1 bytes) ≡ found.0 ∷ others))
+
+-- behind the stream, the actions of the shortest prefix that decides one and after which no segment is unfinished, and its
+-- length; none where there is no such prefix
+abbrev pub IsFirstSettled : List ℕ → List ℕ → Option (List StreamAction × ℕ) → Type 0
+IsFirstSettled stream bytes None = IsNowhere (Settles stream) bytes
+IsFirstSettled stream bytes (Some found) = IsShortest (Settles stream) bytes found.1 × (newly_decided_actions stream (take found.1 bytes) ≡ found.0)
+
+-- the bytes that were read: those up to what was found, or all
+abbrev pub bytes_read : {A : Type 0} → Option (A × ℕ) → List ℕ → List ℕ
+bytes_read None bytes = bytes
+bytes_read (Some found) bytes = take found.1 bytes

@@ -1,0 +1,336 @@
+//! The parser: from bytes to actions.
+ghost use Rattle.std.specs.Prelude.{◌≡◌, ◌≢◌, ◌↔◌, IsTrue, ℕ, ◌≤◌, Bool, true, false, IsErrOf, IfOk, OnOk, Option, Some, None, List, [], ◌∷◌, ◌++◌, map, fold, take, length, is_err};
+ghost use Rattle.escape_framing.specs.Decides.{Decides};
+ghost use Rattle.escape_framing.specs.Dispatched.{optional, dispatches_in};
+ghost use Rattle.escape_framing.specs.Held.{Held, held_step, hand_out, held_of, nothing_held};
+ghost use Rattle.escape_stream.specs.StreamAction.{appended};
+ghost use Rattle.escape_stream.specs.StreamActionView.{value_of};
+ghost use Rattle.escape_stream.specs.StreamActions.{actions_of, newly_decided_actions};
+ghost use Rattle.escape_stream.specs.Parsing.{IsCalledAt, IsFirst, IsFirstSettled, bytes_read};
+ghost use Rattle.escape_stream.specs.Pending.{Begins};
+ghost use Rattle.std.specs.Option.{option_map};
+
+use crate::action::Action;
+use crate::error::ParseError;
+use crate::pending::{Pending, append_each, call_at_each, push_each};
+use escape_framing::{Dispatch, Framer};
+use std::alloc::{AllocError, Global};
+use std::marker::Model;
+
+/// Reads a stream of bytes, in any pieces, and hands out its actions as soon as the bytes decide them. It keeps only
+/// what is unfinished. Memory is taken for the bodies of operating system commands, the headers of device control
+/// strings, and the actions that hold these or what is left of a control sequence; once it was refused, the parser has
+/// failed.
+#[derive(Drop)]
+pub struct Parser {
+    alloc: Global,
+    framer: Framer,
+    failed: bool,
+}
+
+// Clauses see what is held of the stream, the parameters of the last control sequence, and whether memory was refused.
+impl Model for Parser {
+    ghost use Rattle.std.specs.Prelude.{◌||◌};
+    ghost use Rattle.escape_framing.specs.Framing.{Framing};
+
+    ghost Value = { Framing };
+
+    ghost view = { λ p. record { held = p.framer.held; parameters = p.framer.parameters; failed = p.failed || p.framer.failed } };
+}
+
+impl Parser {
+    /// A parser at a stream's start; it takes no memory.
+    pub fn new(alloc: Global) -> Parser
+        ensures held { result.held ≡ held_of [] }
+        ensures failed { result.failed ≡ false }
+    {
+        Parser {
+            alloc,
+            framer: Framer::new(alloc),
+            failed: false,
+        }
+    }
+
+    /// Whether a call was refused memory.
+    pub fn is_failed(&self) -> bool
+        ensures { result ≡ self.now.failed }
+    {
+        self.failed || self.framer.is_failed()
+    }
+
+    // The refusal of a call that was refused memory.
+    fn refused(&mut self) -> ParseError
+        ensures error { result ≡ ParseError.Memory }
+        ensures failed { self.new.failed ≡ true }
+    {
+        self.failed = true;
+        ParseError::Memory
+    }
+
+    // The dispatches of one byte more.
+    fn feed(&mut self, byte: u8) -> Result<[Option<Dispatch>; 4], AllocError>
+        ensures dispatches { IfOk result (λ ds. dispatches_in self.new.parameters ds ≡ (held_step self.old.held byte).dispatches) }
+        ensures held { IfOk result (λ ds. self.new.held ≡ (held_step self.old.held byte).held) }
+        ensures failed { IfOk result (λ ds. self.new.failed ≡ self.old.failed) }
+        ensures decided { IfOk result (λ ds. (stream : List ℕ) → self.old.held ≡ held_of stream → Decides stream byte (dispatches_in self.new.parameters ds) self.new.held) }
+    {
+        match self.framer.feed(byte) {
+            Ok(dispatches) => Ok(dispatches),
+            Err(_) => Err(AllocError),
+        }
+    }
+
+    // The actions of a dispatch of the last byte.
+    fn pending(&self, dispatch: Option<Dispatch>) -> Result<Pending<'_>, AllocError>
+        ensures { IfOk result (λ pending. pending ≡ actions_of (optional self.now.parameters dispatch)) }
+    {
+        Pending::new(
+            self.alloc,
+            self.framer.parameters(),
+            self.framer.parameters_truncated(),
+            dispatch,
+        )
+    }
+
+    // Calls the callback at each action of the dispatches, and gives it back.
+    fn call_at_dispatches<F: FnMut(Action)>(
+        &self,
+        dispatches: [Option<Dispatch>; 4],
+        callback: F,
+    ) -> Result<F, AllocError>
+        requires { F.IsAlwaysCallable callback }
+        ensures called { IfOk result (λ last. IsCalledAt (λ f a f'. F.step f a tt f') callback (actions_of (dispatches_in self.now.parameters dispatches)) last) }
+        ensures callable { IfOk result (λ last. F.IsAlwaysCallable last) }
+    {
+        let [first, second, third, fourth] = dispatches;
+        let callback = call_at_each(self.pending(first)?, callback)?;
+        let callback = call_at_each(self.pending(second)?, callback)?;
+        let callback = call_at_each(self.pending(third)?, callback)?;
+        let callback = call_at_each(self.pending(fourth)?, callback)?;
+        Ok(callback)
+    }
+
+    // Reads the bytes, and calls the callback at each action.
+    fn call_at_all<F: FnMut(Action)>(
+        &mut self,
+        bytes: &[u8],
+        mut callback: F,
+    ) -> Result<(), AllocError>
+        requires { F.IsAlwaysCallable callback }
+        ensures called { OnOk result ((last : F) × IsCalledAt (λ f a f'. F.step f a tt f') callback (actions_of (hand_out self.old.held bytes.now).dispatches) last) }
+        ensures held { OnOk result (self.new.held ≡ (hand_out self.old.held bytes.now).held) }
+        ensures failed { OnOk result (self.new.failed ≡ self.old.failed) }
+    {
+        let mut rest = bytes;
+        while let Some((byte, others)) = rest.split_first() {
+            let dispatches = self.feed(*byte)?;
+            callback = self.call_at_dispatches(dispatches, callback)?;
+            rest = others;
+        }
+        Ok(())
+    }
+
+    /// Reads bytes, and calls the callback at each action that they decide behind those that were read before, in order.
+    /// A call that was refused memory answers `Memory`, and each later call `Failed`, without reading.
+    pub fn parse<F: FnMut(Action)>(&mut self, bytes: &[u8], callback: F) -> Result<(), ParseError>
+        requires { F.IsAlwaysCallable callback }
+        // Where a stream has been read, in any pieces, the callback is called at each action that the bytes newly decide.
+        ensures called { OnOk result ((stream : List ℕ) → self.old.held ≡ held_of stream → (last : F) × IsCalledAt (λ f a f'. F.step f a tt f') callback (newly_decided_actions stream bytes.now) last) }
+        // The bytes have then been read too.
+        ensures held { OnOk result ((stream : List ℕ) → self.old.held ≡ held_of stream → self.new.held ≡ held_of (stream ++ bytes.now)) }
+        // A call fails where an earlier one was refused memory, and only then is that its error.
+        ensures failed { IsErrOf result ParseError.Failed ↔ (self.old.failed ≡ true) }
+        // A parser has failed once it was refused memory.
+        ensures after { self.new.failed ≡ is_err result }
+    {
+        if self.is_failed() {
+            return Err(ParseError::Failed);
+        }
+        match self.call_at_all(bytes, callback) {
+            Ok(()) => Ok(()),
+            Err(_) => Err(self.refused()),
+        }
+    }
+
+    // Appends the actions of the dispatches, a print behind a print as one.
+    fn append_dispatches(
+        &self,
+        dispatches: [Option<Dispatch>; 4],
+        actions: &mut Vec<Action>,
+    ) -> Result<(), AllocError>
+        ensures { IfOk result (λ _. map value_of actions.new.items ≡ fold appended (map value_of actions.old.items) (actions_of (dispatches_in self.now.parameters dispatches))) }
+    {
+        let [first, second, third, fourth] = dispatches;
+        append_each(self.pending(first)?, actions)?;
+        append_each(self.pending(second)?, actions)?;
+        append_each(self.pending(third)?, actions)?;
+        append_each(self.pending(fourth)?, actions)?;
+        Ok(())
+    }
+
+    // Reads the bytes, and joins their actions.
+    fn append_all(&mut self, bytes: &[u8]) -> Result<Vec<Action>, AllocError>
+        ensures actions { IfOk result (λ actions. map value_of actions.items ≡ fold appended [] (actions_of (hand_out self.old.held bytes.now).dispatches)) }
+        ensures held { IfOk result (λ _. self.new.held ≡ (hand_out self.old.held bytes.now).held) }
+        ensures failed { IfOk result (λ _. self.new.failed ≡ self.old.failed) }
+    {
+        let mut actions = Vec::new(self.alloc);
+        let mut rest = bytes;
+        while let Some((byte, others)) = rest.split_first() {
+            let dispatches = self.feed(*byte)?;
+            self.append_dispatches(dispatches, &mut actions)?;
+            rest = others;
+        }
+        Ok(actions)
+    }
+
+    /// Reads bytes, and answers the actions that they decide behind those that were read before, joined by `append_to`.
+    /// A call that was refused memory answers `Memory`, and each later call `Failed`, without reading.
+    pub fn parse_as_vec(&mut self, bytes: &[u8]) -> Result<Vec<Action>, ParseError>
+        // Where a stream has been read, in any pieces, these are the actions that the bytes newly decide.
+        ensures actions { IfOk result (λ actions. (stream : List ℕ) → self.old.held ≡ held_of stream → map value_of actions.items ≡ fold appended [] (newly_decided_actions stream bytes.now)) }
+        // The bytes have then been read too.
+        ensures held { IfOk result (λ _. (stream : List ℕ) → self.old.held ≡ held_of stream → self.new.held ≡ held_of (stream ++ bytes.now)) }
+        // A call fails where an earlier one was refused memory, and only then is that its error.
+        ensures failed { IsErrOf result ParseError.Failed ↔ (self.old.failed ≡ true) }
+        // A parser has failed once it was refused memory.
+        ensures after { self.new.failed ≡ is_err result }
+    {
+        if self.is_failed() {
+            return Err(ParseError::Failed);
+        }
+        match self.append_all(bytes) {
+            Ok(actions) => Ok(actions),
+            Err(_) => Err(self.refused()),
+        }
+    }
+
+    // The first action of a dispatch.
+    fn next_of(&self, dispatch: Option<Dispatch>) -> Result<Option<Action>, AllocError>
+        ensures { IfOk result (λ first. Begins first (actions_of (optional self.now.parameters dispatch))) }
+    {
+        let mut pending = self.pending(dispatch)?;
+        let first = pending.next()?;
+        Ok(first)
+    }
+
+    // The first action of the dispatches; the others are dropped.
+    fn first_of(&self, dispatches: [Option<Dispatch>; 4]) -> Result<Option<Action>, AllocError>
+        ensures { IfOk result (λ first. Begins first (actions_of (dispatches_in self.now.parameters dispatches))) }
+    {
+        let [first, second, third, fourth] = dispatches;
+        let first = self.next_of(first)?;
+        let second = self.next_of(second)?;
+        let third = self.next_of(third)?;
+        let fourth = self.next_of(fourth)?;
+        Ok(first.or(second).or(third).or(fourth))
+    }
+
+    // Reads the bytes up to the first that decides an action.
+    fn find_first(&mut self, bytes: &[u8]) -> Result<Option<(Action, usize)>, AllocError>
+        ensures first { IfOk result (λ found. (stream : List ℕ) → self.old.held ≡ held_of stream → IsFirst stream bytes.now (option_map (λ f. (value_of f.0, f.1)) found)) }
+        ensures held { IfOk result (λ found. (stream : List ℕ) → self.old.held ≡ held_of stream → self.new.held ≡ held_of (stream ++ bytes_read found bytes.now)) }
+        ensures failed { IfOk result (λ _. self.new.failed ≡ self.old.failed) }
+    {
+        for i in 0..bytes.len() {
+            let dispatches = self.feed(bytes[i])?;
+            if let Some(action) = self.first_of(dispatches)? {
+                return Ok(Some((action, i + 1)));
+            }
+        }
+        Ok(None)
+    }
+
+    /// Reads the shortest prefix of the bytes that decides an action behind the bytes that were read before, and answers
+    /// the first action and the prefix's length, 1 or more; further actions of that prefix are dropped. Where no prefix
+    /// decides one, all bytes are read, and the answer is `None`. A call that was refused memory answers `Memory`, and
+    /// each later call `Failed`, without reading.
+    pub fn parse_first(&mut self, bytes: &[u8]) -> Result<Option<(Action, usize)>, ParseError>
+        // Where a stream has been read, in any pieces, this is the first action that the bytes newly decide.
+        ensures first { IfOk result (λ found. (stream : List ℕ) → self.old.held ≡ held_of stream → IsFirst stream bytes.now (option_map (λ f. (value_of f.0, f.1)) found)) }
+        // The prefix has then been read too.
+        ensures held { IfOk result (λ found. (stream : List ℕ) → self.old.held ≡ held_of stream → self.new.held ≡ held_of (stream ++ bytes_read found bytes.now)) }
+        // A call fails where an earlier one was refused memory, and only then is that its error.
+        ensures failed { IsErrOf result ParseError.Failed ↔ (self.old.failed ≡ true) }
+        // A parser has failed once it was refused memory.
+        ensures after { self.new.failed ≡ is_err result }
+    {
+        if self.is_failed() {
+            return Err(ParseError::Failed);
+        }
+        match self.find_first(bytes) {
+            Ok(found) => Ok(found),
+            Err(_) => Err(self.refused()),
+        }
+    }
+
+    // Whether nothing is unfinished, and there is an action.
+    fn is_settled(&self, actions: &[Action]) -> bool
+        ensures { IsTrue result ↔ ((map value_of actions.now ≢ []) × (self.now.held ≡ nothing_held)) }
+    {
+        if actions.is_empty() {
+            false
+        } else {
+            self.framer.is_idle()
+        }
+    }
+
+    // Pushes the actions of the dispatches on a list.
+    fn push_dispatches(
+        &self,
+        dispatches: [Option<Dispatch>; 4],
+        actions: &mut Vec<Action>,
+    ) -> Result<(), AllocError>
+        ensures { IfOk result (λ _. map value_of actions.new.items ≡ map value_of actions.old.items ++ actions_of (dispatches_in self.now.parameters dispatches)) }
+    {
+        let [first, second, third, fourth] = dispatches;
+        push_each(self.pending(first)?, actions)?;
+        push_each(self.pending(second)?, actions)?;
+        push_each(self.pending(third)?, actions)?;
+        push_each(self.pending(fourth)?, actions)?;
+        Ok(())
+    }
+
+    // Reads the bytes up to the first behind which there is an action and nothing is unfinished.
+    fn find_settled(&mut self, bytes: &[u8]) -> Result<Option<(Vec<Action>, usize)>, AllocError>
+        ensures first { IfOk result (λ found. (stream : List ℕ) → self.old.held ≡ held_of stream → IsFirstSettled stream bytes.now (option_map (λ f. (map value_of f.0.items, f.1)) found)) }
+        ensures held { IfOk result (λ found. (stream : List ℕ) → self.old.held ≡ held_of stream → self.new.held ≡ held_of (stream ++ bytes_read found bytes.now)) }
+        ensures failed { IfOk result (λ _. self.new.failed ≡ self.old.failed) }
+    {
+        let mut actions = Vec::new(self.alloc);
+        for i in 0..bytes.len() {
+            let dispatches = self.feed(bytes[i])?;
+            self.push_dispatches(dispatches, &mut actions)?;
+            if self.is_settled(&actions) {
+                return Ok(Some((actions, i + 1)));
+            }
+        }
+        Ok(None)
+    }
+
+    /// Reads the shortest prefix of the bytes that decides an action behind the bytes that were read before and after
+    /// which no segment is unfinished, and answers its actions and its length, 1 or more. Where there is no such prefix,
+    /// all bytes are read, the actions are dropped, and the answer is `None`. A call that was refused memory answers
+    /// `Memory`, and each later call `Failed`, without reading.
+    pub fn parse_first_as_vec(
+        &mut self,
+        bytes: &[u8],
+    ) -> Result<Option<(Vec<Action>, usize)>, ParseError>
+        // Where a stream has been read, in any pieces, these are the actions that the prefix newly decides.
+        ensures first { IfOk result (λ found. (stream : List ℕ) → self.old.held ≡ held_of stream → IsFirstSettled stream bytes.now (option_map (λ f. (map value_of f.0.items, f.1)) found)) }
+        // The prefix has then been read too.
+        ensures held { IfOk result (λ found. (stream : List ℕ) → self.old.held ≡ held_of stream → self.new.held ≡ held_of (stream ++ bytes_read found bytes.now)) }
+        // A call fails where an earlier one was refused memory, and only then is that its error.
+        ensures failed { IsErrOf result ParseError.Failed ↔ (self.old.failed ≡ true) }
+        // A parser has failed once it was refused memory.
+        ensures after { self.new.failed ≡ is_err result }
+    {
+        if self.is_failed() {
+            return Err(ParseError::Failed);
+        }
+        match self.find_settled(bytes) {
+            Ok(found) => Ok(found),
+            Err(_) => Err(self.refused()),
+        }
+    }
+}

@@ -1,0 +1,198 @@
+//! The actions of one dispatch, one by one.
+ghost use Rattle.std.specs.Prelude.{◌≡◌, IfOk, None, ◌++◌, map, fold};
+ghost use Rattle.escape_osc.specs.Parts.{parts_of};
+ghost use Rattle.escape_osc.specs.Reading.{osc_reading};
+ghost use Rattle.escape_framing.specs.Dispatch.{ControlSequence};
+ghost use Rattle.escape_framing.specs.Dispatched.{optional};
+ghost use Rattle.escape_framing.specs.Parameters.{Parameters};
+ghost use Rattle.escape_stream.specs.StreamActionView.{value_of};
+ghost use Rattle.escape_stream.specs.StreamActions.{actions_of_dispatch, actions_of, named_control};
+ghost use Rattle.escape_stream.specs.Controls.{control_named};
+ghost use Rattle.escape_stream.specs.StreamAction.{appended, command, enter};
+ghost use Rattle.escape_stream.specs.Pending.{Gives, pending_values};
+ghost use Rattle.escape_stream.specs.Parsing.{IsCalledAt};
+
+use crate::action::Action;
+use crate::control::ControlCode;
+use crate::device::{DeviceControlMode, EnterDeviceControlMode};
+use csi_codec::{CSI, CSIParser, CsiParam, Esc};
+use escape_framing::Dispatch;
+use escape_osc::OperatingSystemCommand;
+use std::alloc::{AllocError, Global};
+use std::marker::Model;
+
+/// The actions of a dispatch that were not handed out yet: one, or those of a control sequence.
+#[derive(Drop)]
+pub(crate) struct Pending<'a> {
+    one: Option<Action>,
+    sequence: Option<CSIParser<'a>>,
+}
+
+impl<'a> Model for Pending<'a> {
+    ghost use Rattle.std.specs.Prelude.{List};
+    ghost use Rattle.escape_stream.specs.StreamAction.{StreamAction};
+
+    ghost Value = { List StreamAction };
+
+    ghost use Rattle.escape_stream.specs.Pending.{pending_values};
+
+    ghost view = { λ p. pending_values p.one p.sequence };
+}
+
+impl<'a> Pending<'a> {
+    // No action, or one.
+    fn lone(one: Option<Action>) -> Pending<'a>
+        ensures { result ≡ pending_values one None }
+    {
+        Pending {
+            one,
+            sequence: None,
+        }
+    }
+
+    // The actions of a control sequence.
+    fn several(
+        alloc: Global,
+        parameters: &'a [CsiParam],
+        truncated: bool,
+        control: u8,
+    ) -> Pending<'a>
+        ensures { result ≡ actions_of_dispatch (ControlSequence parameters.now truncated control) }
+    {
+        Pending {
+            one: None,
+            sequence: Some(CSI::parse(alloc, parameters, truncated, char::from(control))),
+        }
+    }
+
+    /// The actions of a dispatch, with the parameters that the framer lends.
+    pub fn new(
+        alloc: Global,
+        parameters: &'a [CsiParam],
+        truncated: bool,
+        dispatch: Option<Dispatch>,
+    ) -> Result<Pending<'a>, AllocError>
+        ensures { (p : Parameters) → p.tokens ≡ parameters.now → p.truncated ≡ truncated → IfOk result (λ pending. pending ≡ actions_of (optional p dispatch)) }
+    {
+        match dispatch {
+            None => Ok(Pending::lone(None)),
+            Some(Dispatch::Print(character)) => Ok(Pending::lone(Some(Action::Print(character)))),
+            Some(Dispatch::Control(byte)) => Ok(Pending::lone(control_action(byte))),
+            Some(Dispatch::Escape {
+                intermediate,
+                control,
+            }) => {
+                let pair = Esc::parse(intermediate, control);
+                Ok(Pending::lone(Some(Action::Esc(pair))))
+            }
+            Some(Dispatch::ControlSequence { control }) => {
+                Ok(Pending::several(alloc, parameters, truncated, control))
+            }
+            Some(Dispatch::OperatingSystemCommand(body)) => {
+                let action = command_action(alloc, &body)?;
+                Ok(Pending::lone(Some(action)))
+            }
+            Some(Dispatch::Enter { header, byte }) => {
+                let action = enter_action(alloc, header, byte)?;
+                Ok(Pending::lone(Some(action)))
+            }
+            Some(Dispatch::Data(byte)) => {
+                let part = DeviceControlMode::Data(byte);
+                Ok(Pending::lone(Some(Action::DeviceControl(part))))
+            }
+            Some(Dispatch::Exit) => {
+                let part = DeviceControlMode::Exit;
+                Ok(Pending::lone(Some(Action::DeviceControl(part))))
+            }
+        }
+    }
+
+    /// The next action, if there is one.
+    pub fn next(&mut self) -> Result<Option<Action>, AllocError>
+        ensures { IfOk result (λ next. Gives self.old next self.new) }
+    {
+        if let Some(action) = self.one.take() {
+            return Ok(Some(action));
+        }
+        let Some(sequence) = &mut self.sequence else {
+            return Ok(None);
+        };
+        match sequence.next() {
+            Some(Ok(csi)) => Ok(Some(Action::CSI(csi))),
+            Some(Err(error)) => Err(error),
+            None => Ok(None),
+        }
+    }
+}
+
+// A control by its name.
+fn control_action(byte: u8) -> Option<Action>
+    ensures { pending_values result None ≡ named_control (control_named byte) }
+{
+    ControlCode::from_u8(byte).map(Action::Control)
+}
+
+// The parts of a body, which is cut at each `;`.
+fn parts(alloc: Global, body: &[u8]) -> Result<Vec<&[u8]>, AllocError>
+    ensures { IfOk result (λ parts. map (λ p. p.now) parts.items ≡ parts_of body.now) }
+{
+    body.split(|byte| *byte == b';').collect(alloc)
+}
+
+// The command of a body.
+fn command_action(alloc: Global, body: &[u8]) -> Result<Action, AllocError>
+    ensures { IfOk result (λ action. value_of action ≡ command (osc_reading (parts_of body.now))) }
+{
+    let parts = parts(alloc, body)?;
+    let command = OperatingSystemCommand::parse(alloc, &parts)?;
+    Ok(Action::OperatingSystemCommand(Box::new(alloc, command)?))
+}
+
+// The begin of a device control string.
+fn enter_action(alloc: Global, header: Vec<u8>, byte: u8) -> Result<Action, AllocError>
+    ensures { IfOk result (λ action. value_of action ≡ enter header.items byte) }
+{
+    let opening = Box::new(alloc, EnterDeviceControlMode { header, byte })?;
+    Ok(Action::DeviceControl(DeviceControlMode::Enter(opening)))
+}
+
+/// Calls the callback at each action, in order, and gives it back.
+pub(crate) fn call_at_each<F: FnMut(Action)>(
+    mut pending: Pending<'_>,
+    mut callback: F,
+) -> Result<F, AllocError>
+    requires { F.IsAlwaysCallable callback }
+    ensures called { IfOk result (λ last. IsCalledAt (λ f a f'. F.step f a tt f') callback pending.entry last) }
+    ensures callable { IfOk result (λ last. F.IsAlwaysCallable last) }
+{
+    while let Some(action) = pending.next()? {
+        callback(action);
+    }
+    Ok(callback)
+}
+
+/// Appends each action to a list, in order, a print behind a print as one.
+pub(crate) fn append_each(
+    mut pending: Pending<'_>,
+    actions: &mut Vec<Action>,
+) -> Result<(), AllocError>
+    ensures { IfOk result (λ _. map value_of actions.new.items ≡ fold appended (map value_of actions.old.items) pending.entry) }
+{
+    while let Some(action) = pending.next()? {
+        action.append_to(actions)?;
+    }
+    Ok(())
+}
+
+/// Pushes each action on a list, in order.
+pub(crate) fn push_each(
+    mut pending: Pending<'_>,
+    actions: &mut Vec<Action>,
+) -> Result<(), AllocError>
+    ensures { IfOk result (λ _. map value_of actions.new.items ≡ map value_of actions.old.items ++ pending.entry) }
+{
+    while let Some(action) = pending.next()? {
+        actions.push(action)?;
+    }
+    Ok(())
+}
