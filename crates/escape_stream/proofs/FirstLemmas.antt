@@ -67,7 +67,7 @@ pub record IsReadTo (P : List ℕ → Type 0) (stream bytes : List ℕ) (held : 
 pub read_none : (P : List ℕ → Type 0) (stream bytes : List ℕ) (held : Held) → held ≡ held_of stream → (P [] → ⊥) → IsReadTo P stream bytes held 0
 read_none P stream bytes held e not = record {
   held_is = e ∙ ap held_of (sym (append-nil stream));
-  none = below_more (λ k. P (take k bytes) → ⊥) 0 (below_none (λ k. P (take k bytes) → ⊥)) not
+  none = below_more (λ k. P (take k bytes) → ⊥) 0 (below_none (λ k. P (take k bytes) → ⊥)) not;
 }
 
 pub nothing_new : (stream : List ℕ) → [] ≡ newly_decided_actions stream []
@@ -94,7 +94,7 @@ pub read_next : (P : List ℕ → Type 0) (stream bytes : List ℕ) (before afte
     → IsReadTo P stream bytes before i → Decides (stream ++ take i bytes) b ds after → (P (take (i + 1) bytes) → ⊥) → IsReadTo P stream bytes after (i + 1)
 read_next P stream bytes before after i b d ds below at r decides not = record {
   held_is = held_more stream bytes i b d ds after below at decides;
-  none = below_more (λ k. P (take k bytes) → ⊥) (i + 1) r.none not
+  none = below_more (λ k. P (take k bytes) → ⊥) (i + 1) r.none not;
 }
 
 pub shortest : (P : List ℕ → Type 0) (stream bytes : List ℕ) (held : Held) (i : ℕ) → i < length bytes → IsReadTo P stream bytes held i → P (take (i + 1) bytes) → IsShortest P bytes (i + 1)

@@ -78,10 +78,12 @@ impl<'a> Pending<'a> {
             None => Ok(Pending::lone(None)),
             Some(Dispatch::Print(character)) => Ok(Pending::lone(Some(Action::Print(character)))),
             Some(Dispatch::Control(byte)) => Ok(Pending::lone(control_action(byte))),
-            Some(Dispatch::Escape {
-                intermediate,
-                control,
-            }) => {
+            Some(
+                Dispatch::Escape {
+                    intermediate,
+                    control,
+                },
+            ) => {
                 let pair = Esc::parse(intermediate, control);
                 Ok(Pending::lone(Some(Action::Esc(pair))))
             }

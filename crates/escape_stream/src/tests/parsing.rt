@@ -86,11 +86,7 @@ fn commands_parse(rt: HostRuntime) -> Result<(), Fail> {
     encodes(&rt, &unknown, b"\x1b]532534523;hello\x1b\\")?;
     let hello = String::from_str(alloc, "hello")?;
     let selection = OperatingSystemCommand::SetSelection(Selection::CLIPBOARD, hello);
-    parses(
-        &rt,
-        b"\x1b]52;c;aGVsbG8=\x07",
-        &[osc(alloc, selection)?],
-    )?;
+    parses(&rt, b"\x1b]52;c;aGVsbG8=\x07", &[osc(alloc, selection)?])?;
     Ok(())
 }
 

@@ -5,10 +5,11 @@ use Rattle.escape_stream.proofs.parser.Parser.append_all.Goals as goal
 
 pub loop-byte-preserved : goal.loop-byte-preserved
 loop-byte-preserved c =
-    let s : c.loop-byte.rest.now ≡ c.in-Some.byte.now ∷ c.in-Some.others.now = search rules in
-    (joined_next_byte c.loop-byte.self.held c.feed.new.self.held c.in-Some.byte.now c.in-Some.others.now _ (map value_of c.loop-byte.actions.items) _ c.in_ok-dispatches.ensures.dispatches c.in_ok-dispatches.ensures.held c.in_ok-append_dispatches.ensures ∙ (rw s at c.loop-byte.invariant.0),
-    held_next c.loop-byte.self.held c.feed.new.self.held c.in-Some.byte.now c.in-Some.others.now c.in_ok-dispatches.ensures.held ∙ (rw s at c.loop-byte.invariant.1),
-    c.in_ok-dispatches.ensures.failed ∙ c.loop-byte.invariant.2)
+    let s : c.loop-byte.rest.now ≡ c.in-Some.byte.now ∷ c.in-Some.others.now = search rules in (
+      joined_next_byte c.loop-byte.self.held c.feed.new.self.held c.in-Some.byte.now c.in-Some.others.now _ (map value_of c.loop-byte.actions.items) _ c.in_ok-dispatches.ensures.dispatches c.in_ok-dispatches.ensures.held c.in_ok-append_dispatches.ensures ∙ (rw s at c.loop-byte.invariant.0),
+      held_next c.loop-byte.self.held c.feed.new.self.held c.in-Some.byte.now c.in-Some.others.now c.in_ok-dispatches.ensures.held ∙ (rw s at c.loop-byte.invariant.1),
+      c.in_ok-dispatches.ensures.failed ∙ c.loop-byte.invariant.2,
+    )
 
 pub returns-clause-actions : goal.returns-clause-actions
 returns-clause-actions c =

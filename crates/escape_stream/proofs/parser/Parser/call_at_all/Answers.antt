@@ -4,11 +4,12 @@ use Rattle.escape_stream.proofs.parser.Parser.call_at_all.Goals as goal
 
 pub loop-byte-preserved : goal.loop-byte-preserved
 loop-byte-preserved g c =
-    let s : c.loop-byte.rest.now ≡ c.in-Some.byte.now ∷ c.in-Some.others.now = search rules in
-    (search (rules, of_calls),
-    λ last then. c.loop-byte.invariant.1 last (rw s (called_next_byte _ c.loop-byte.callback c.in_ok-callback.callback last c.loop-byte.self.held c.feed.new.self.held c.in-Some.byte.now c.in-Some.others.now _ c.in_ok-dispatches.ensures.dispatches c.in_ok-dispatches.ensures.held c.in_ok-callback.ensures.called then)),
-    held_next c.loop-byte.self.held c.feed.new.self.held c.in-Some.byte.now c.in-Some.others.now c.in_ok-dispatches.ensures.held ∙ (rw s at c.loop-byte.invariant.2),
-    c.in_ok-dispatches.ensures.failed ∙ c.loop-byte.invariant.3)
+    let s : c.loop-byte.rest.now ≡ c.in-Some.byte.now ∷ c.in-Some.others.now = search rules in (
+      search (rules, of_calls),
+      λ last then. c.loop-byte.invariant.1 last (rw s (called_next_byte _ c.loop-byte.callback c.in_ok-callback.callback last c.loop-byte.self.held c.feed.new.self.held c.in-Some.byte.now c.in-Some.others.now _ c.in_ok-dispatches.ensures.dispatches c.in_ok-dispatches.ensures.held c.in_ok-callback.ensures.called then)),
+      held_next c.loop-byte.self.held c.feed.new.self.held c.in-Some.byte.now c.in-Some.others.now c.in_ok-dispatches.ensures.held ∙ (rw s at c.loop-byte.invariant.2),
+      c.in_ok-dispatches.ensures.failed ∙ c.loop-byte.invariant.3,
+    )
 
 pub returns-clause-called : goal.returns-clause-called
 returns-clause-called g c =

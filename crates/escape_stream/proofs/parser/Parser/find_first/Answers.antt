@@ -12,8 +12,9 @@ returns-in-Some-clause-first c = λ stream e.
     (c.loop-i.invariant.0 stream e) (c.in_ok-dispatches.ensures.decided (stream ++ take c.loop-i.i c.args.bytes.now) (c.loop-i.invariant.0 stream e).held_is) (rw c.in-Some.is at c.in_ok-action.ensures)
 
 pub loop-i-preserved : goal.loop-i-preserved
-loop-i-preserved c =
-    ((λ stream e.
-    first_not stream c.args.bytes.now c.loop-i.self.held c.feed.new.self.held c.loop-i.i _ 0 _ c.loop-i-test.true refl
-    (c.loop-i.invariant.0 stream e) (c.in_ok-dispatches.ensures.decided (stream ++ take c.loop-i.i c.args.bytes.now) (c.loop-i.invariant.0 stream e).held_is) (rw c.in_default.is at c.in_ok-action.ensures)),
-    c.in_ok-dispatches.ensures.failed ∙ c.loop-i.invariant.1)
+loop-i-preserved c = (
+  (λ stream e.
+      first_not stream c.args.bytes.now c.loop-i.self.held c.feed.new.self.held c.loop-i.i _ 0 _ c.loop-i-test.true refl
+      (c.loop-i.invariant.0 stream e) (c.in_ok-dispatches.ensures.decided (stream ++ take c.loop-i.i c.args.bytes.now) (c.loop-i.invariant.0 stream e).held_is) (rw c.in_default.is at c.in_ok-action.ensures)),
+  c.in_ok-dispatches.ensures.failed ∙ c.loop-i.invariant.1,
+)

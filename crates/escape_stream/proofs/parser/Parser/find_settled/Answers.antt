@@ -22,11 +22,13 @@ returns-then-is_settled-clause-held c = λ stream e.
     held_more stream c.args.bytes.now c.loop-i.i _ 0 _ c.feed.new.self.held c.loop-i-test.true refl (c.in_ok-dispatches.ensures.decided (stream ++ take c.loop-i.i c.args.bytes.now) (c.loop-i.invariant.0 stream e).0.held_is)
 
 pub loop-i-preserved : goal.loop-i-preserved
-loop-i-preserved c =
-    ((λ stream e.
-    (settled_not stream c.args.bytes.now c.loop-i.self.held c.feed.new.self.held c.loop-i.i _ 0 _ (map value_of c.loop-i.actions.items) (map value_of c.push_dispatches.new.actions.items) c.loop-i-test.true refl
-    (c.loop-i.invariant.0 stream e).0 (c.loop-i.invariant.0 stream e).1 (c.in_ok-dispatches.ensures.decided (stream ++ take c.loop-i.i c.args.bytes.now) (c.loop-i.invariant.0 stream e).0.held_is) c.in_ok-push_dispatches.ensures
-    (λ some idle. let t : c.is_settled.result ≡ true = c.is_settled.ensures.1 (rw c.deref.ensures.value some, idle) in cc),
+loop-i-preserved c = (
+  (λ stream e. (
+    settled_not stream c.args.bytes.now c.loop-i.self.held c.feed.new.self.held c.loop-i.i _ 0 _ (map value_of c.loop-i.actions.items) (map value_of c.push_dispatches.new.actions.items) c.loop-i-test.true refl
+        (c.loop-i.invariant.0 stream e).0 (c.loop-i.invariant.0 stream e).1 (c.in_ok-dispatches.ensures.decided (stream ++ take c.loop-i.i c.args.bytes.now) (c.loop-i.invariant.0 stream e).0.held_is) c.in_ok-push_dispatches.ensures
+        (λ some idle. let t : c.is_settled.result ≡ true = c.is_settled.ensures.1 (rw c.deref.ensures.value some, idle) in cc),
     settled_more stream c.args.bytes.now c.feed.new.self.held c.loop-i.i _ 0 _ (map value_of c.loop-i.actions.items) (map value_of c.push_dispatches.new.actions.items) c.loop-i-test.true refl
-    (c.loop-i.invariant.0 stream e).1 (c.in_ok-dispatches.ensures.decided (stream ++ take c.loop-i.i c.args.bytes.now) (c.loop-i.invariant.0 stream e).0.held_is) c.in_ok-push_dispatches.ensures)),
-    c.in_ok-dispatches.ensures.failed ∙ c.loop-i.invariant.1)
+        (c.loop-i.invariant.0 stream e).1 (c.in_ok-dispatches.ensures.decided (stream ++ take c.loop-i.i c.args.bytes.now) (c.loop-i.invariant.0 stream e).0.held_is) c.in_ok-push_dispatches.ensures,
+  )),
+  c.in_ok-dispatches.ensures.failed ∙ c.loop-i.invariant.1,
+)
