@@ -8,7 +8,7 @@ use thiserror::Error;
 /// Why a parser hands nothing out.
 #[derive(Clone, Copy, Debug, PartialEq, Eq, Error)]
 pub enum ParseError {
-    /// An earlier call was refused, or its answer was not taken to the end.
+    /// An earlier call was refused memory.
     #[error("the parser has failed")]
     Failed,
     /// Memory was refused; the parser has failed from then on.
