@@ -27,22 +27,22 @@ newly_join s x y =
 -- ---- the elements of two lists that are joined
 
 module _ {X : Type 0} where
-  at_front : (xs ys : List X) (i : ℕ) (x : X) → slice_get xs i ≡ Some x → slice_get (xs ++ ys) i ≡ Some x
+  pub at_front : (xs ys : List X) (i : ℕ) (x : X) → slice_get xs i ≡ Some x → slice_get (xs ++ ys) i ≡ Some x
   at_front [] ys i x h = cc
   at_front (y ∷ xs) ys zero x h = h
   at_front (y ∷ xs) ys (suc i) x h = at_front xs ys i x h
 
-  at_behind : (xs ys : List X) (i j : ℕ) → j ≡ length xs + i → slice_get (xs ++ ys) j ≡ slice_get ys i
+  pub at_behind : (xs ys : List X) (i j : ℕ) → j ≡ length xs + i → slice_get (xs ++ ys) j ≡ slice_get ys i
   at_behind [] ys i j e = ap (λ (n : ℕ). slice_get ys n) (let k : j ≡ i = omega arith in k)
   at_behind (x ∷ xs) ys i zero e = absurd (omega arith)
   at_behind (x ∷ xs) ys i (suc j) e = at_behind xs ys i j (omega arith)
 
 -- an element of two lists that are joined is of the one or of the other
-data OfOne {X : Type 0} (xs ys : List X) (i : ℕ) (x : X) : Type 0 where
+pub data OfOne {X : Type 0} (xs ys : List X) (i : ℕ) (x : X) : Type 0 where
   here : slice_get xs i ≡ Some x → OfOne xs ys i x
   there : (j : ℕ) → i ≡ length xs + j → slice_get ys j ≡ Some x → OfOne xs ys i x
 
-of_one : {X : Type 0} (xs ys : List X) (i : ℕ) (x : X) → slice_get (xs ++ ys) i ≡ Some x → OfOne xs ys i x
+pub of_one : {X : Type 0} (xs ys : List X) (i : ℕ) (x : X) → slice_get (xs ++ ys) i ≡ Some x → OfOne xs ys i x
 of_one [] ys i x h = there i (omega arith) h
 of_one (y ∷ xs) ys zero x h = here h
 of_one (y ∷ xs) ys (suc i) x h = one_on (of_one xs ys i x h)

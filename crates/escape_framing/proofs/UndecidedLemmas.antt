@@ -10,7 +10,7 @@ use Rattle.escape_framing.specs.Bytes.{is_control, is_stop, is_embedded, is_para
 use Rattle.escape_framing.specs.Segment.{Tail, Begun, OpenEscape, OpenControlSequence, OpenCommand, OpenHeader, OpenDevice, OpenString, IsBegun, IsUnfinished}
 use Rattle.escape_framing.specs.Decode.{Reading, next_byte, ends, read_on}
 use Rattle.escape_framing.specs.Dispatch.{Dispatch, Print, Control, Data, Exit, dispatches_of}
-use Rattle.escape_framing.specs.Held.{Kept, InCharacter, InCommand, InDevice, InString, kept_of, Step, steps, before, character_step, command_step, header_step, device_step, string_step, kept_step, Held, Handed, interrupted, fresh_step, waiting_step, held_step, nothing_held, hand_out}
+use Rattle.escape_framing.specs.Held.{Kept, InCharacter, InCommand, InDevice, InString, kept_of, Step, steps, before, character_step, command_step, header_step, device_step, string_step, kept_step, Held, Handed, interrupted, fresh_step, waiting_step, held_step, nothing_held, hand_out, held_of}
 use Rattle.escape_framing.specs.Undecided.{IsUndecided}
 use Rattle.escape_framing.specs.Existence.Utf8Lemmas.{order, Spelled, in_one, in_two, in_three, in_four, spelled, front_of_one, front_of_two, front_of_three, two, three, scalar_high}
 use Rattle.escape_framing.proofs.CharacterReading.{plain_segment, waits_begun, ends_character}
@@ -19,17 +19,24 @@ use Rattle.escape_framing.proofs.HeldLemmas.{Inner, inner, interrupted_character
 use Rattle.escape_framing.proofs.SequenceReading.{cut_is_no_parameter, neither}
 use Rattle.escape_framing.proofs.WaitingLemmas.{escape_cut, control_sequence_cut}
 
+-- how two dispatches differ: CAN and SUB, two characters, two bytes of data, or the end of data and a byte of it
+pub data AreApart (first second : Dispatch) : Type 0 where
+  stops : first ≡ Control 0x18 → second ≡ Control 0x1A → AreApart first second
+  prints : (a b : ℕ) → first ≡ Print a → second ≡ Print b → a ≢ b → AreApart first second
+  data_bytes : (a b : ℕ) → first ≡ Data a → second ≡ Data b → a ≢ b → AreApart first second
+  goes_on : (b : ℕ) → first ≡ Exit → second ≡ Data b → AreApart first second
+
 -- two ways to go on from what is held
-record Differs (h : Held) : Type 0 where
-  one : List ℕ
-  other : List ℕ
-  first : Dispatch
-  second : Dispatch
-  behind_first : List Dispatch
-  behind_second : List Dispatch
-  gives_first : (hand_out h one).dispatches ≡ first ∷ behind_first
-  gives_second : (hand_out h other).dispatches ≡ second ∷ behind_second
-  differ : first ≢ second
+pub record Differs (h : Held) : Type 0 where
+  pub one : List ℕ
+  pub other : List ℕ
+  pub first : Dispatch
+  pub second : Dispatch
+  pub behind_first : List Dispatch
+  pub behind_second : List Dispatch
+  pub gives_first : (hand_out h one).dispatches ≡ first ∷ behind_first
+  pub gives_second : (hand_out h other).dispatches ≡ second ∷ behind_second
+  pub apart : AreApart first second
 
 abbrev at_rest_with : Kept → Held
 at_rest_with kept = record { kept = kept; waiting = false }
@@ -66,14 +73,14 @@ record Cancels (kept : Kept) : Type 0 where
   at_cancel : kept_step kept 0x18 ≡ character_step [] 0x18
   at_substitute : kept_step kept 0x1A ≡ character_step [] 0x1A
 
-numbers : (a b : ℕ) → a ≢ b → Control a ≢ Control b
-numbers a b n e = n (let k : a ≡ b = cc in k)
-
-datums : (a b : ℕ) → a ≢ b → Data a ≢ Data b
-datums a b n e = n (let k : a ≡ b = cc in k)
-
-characters : (a b : ℕ) → a ≢ b → Print a ≢ Print b
-characters a b n e = n (let k : a ≡ b = cc in k)
+differ : (first second : Dispatch) → AreApart first second → first ≢ second
+differ first second (stops e f) h = not_alike 0x18 0x1A (λ k. absurd (omega arith)) (sym e ∙ h ∙ f)
+  where
+    not_alike : (a b : ℕ) → a ≢ b → Control a ≡ Control b → ⊥
+    not_alike a b n k = n (let l : a ≡ b = cc in l)
+differ first second (prints a b e f n) h = n (let k : a ≡ b = cc in k)
+differ first second (data_bytes a b e f n) h = n (let k : a ≡ b = cc in k)
+differ first second (goes_on b e f) h = cc
 
 by_cancel : (kept : Kept) → Cancels kept → Differs (at_rest_with kept)
 by_cancel kept c = record {
@@ -85,7 +92,7 @@ by_cancel kept c = record {
   behind_second = _;
   gives_first = hand_rest kept 0x18 [] _ refl (c.at_cancel ∙ cancel);
   gives_second = hand_rest kept 0x1A [] _ refl (c.at_substitute ∙ substitute);
-  differ = numbers 0x18 0x1A (λ e. absurd (omega arith));
+  apart = stops refl refl;
 }
 
 cut_by_cancel : (is_cut 0x18 ≡ true) × (is_cut 0x1A ≡ true) × (is_cut 0xC2 ≡ true)
@@ -231,7 +238,7 @@ begun_differs x p g =
       behind_second = _;
       gives_first = completes k.more (x ∷ p) k.c (inr g) (λ h. cc) k.some k.scalar k.high k.is;
       gives_second = hand_rest (InCharacter (x ∷ p)) 0x18 [] _ refl (broken_by x p 0x18 g low ∙ ap (before (Print 0xFFFD ∷ [])) cancel);
-      differ = characters k.c 0xFFFD k.other;
+      apart = prints k.c 0xFFFD refl refl k.other;
     }
 
 -- ---- all that can be held
@@ -253,7 +260,7 @@ rest_differs (OpenDevice o header f body) g = record {
   behind_second = _;
   gives_first = hand_rest InDevice 0x61 [] _ refl (device_data 0x61 no_stops.0);
   gives_second = hand_rest InDevice 0x62 [] _ refl (device_data 0x62 no_stops.1);
-  differ = datums 0x61 0x62 (λ k. absurd (omega arith));
+  apart = data_bytes 0x61 0x62 refl refl (λ k. absurd (omega arith));
 }
 rest_differs (OpenString o x body) g = by_cancel _ string_cancel
 
@@ -268,7 +275,7 @@ lead_differs kept e = record {
   behind_second = _;
   gives_first = hand_c2 kept 0xA9 _ _ refl refl e (whole_step (0xC2 ∷ []) 0xA9 0xA9 (inr c2_begins) (low_scalar 0xA9 (omega arith)) (omega arith) (two 0xA9 (omega arith) (omega arith)));
   gives_second = hand_c2 kept 0x18 _ _ refl refl e (broken_by 0xC2 [] 0x18 c2_begins low ∙ ap (before (Print 0xFFFD ∷ [])) cancel);
-  differ = characters 0xA9 0xFFFD (λ k. absurd (omega arith));
+  apart = prints 0xA9 0xFFFD refl refl (λ k. absurd (omega arith));
 }
 
 cancelled_c2 : (kept behind_c2 : Kept) → kept_step kept 0xC2 ≡ steps [] behind_c2 → Cancels behind_c2 → Differs (at_c2_with kept)
@@ -281,14 +288,11 @@ cancelled_c2 kept behind_c2 e c = record {
   behind_second = _;
   gives_first = hand_c2 kept 0x18 _ _ refl refl e (c.at_cancel ∙ cancel);
   gives_second = hand_c2 kept 0x1A _ _ refl refl e (c.at_substitute ∙ substitute);
-  differ = numbers 0x18 0x1A (λ k. absurd (omega arith));
+  apart = stops refl refl;
 }
 
 c2_first : character_step [] 0xC2 ≡ steps [] (InCharacter (0xC2 ∷ []))
 c2_first = first_waits 0xC2 (omega arith) (omega arith)
-
-exit_is_no_data : (b : ℕ) → Exit ≢ Data b
-exit_is_no_data b e = cc
 
 c2_differs : (t : Tail) → IsUnfinished t → Differs (at_c2_with (interrupted (kept_of t)).kept)
 c2_differs (Begun []) g = lead_differs (InCharacter []) c2_first
@@ -306,7 +310,7 @@ c2_differs (OpenDevice o header f body) g = record {
   behind_second = _;
   gives_first = hand_pair InDevice 0x9C refl ∙ ap (λ ds. (ds ++ (kept_step (kept_step InDevice 0x1B).kept 0x5C).dispatches) ++ []) device_escape;
   gives_second = hand_c2 InDevice 0x61 _ _ refl refl (device_data 0xC2 no_stops.2) (device_data 0x61 no_stops.0);
-  differ = exit_is_no_data 0xC2;
+  apart = goes_on 0xC2 refl refl;
 }
 c2_differs (OpenString o x body) g = cancelled_c2 _ _ string_c2 string_cancel
 
@@ -319,9 +323,12 @@ held_differs s h (at_c2 v ds kept form o r e) =
     subst (λ (n : Handed). Differs n.held) (sym e)
     (subst (λ (k : Kept). Differs (at_c2_with (interrupted k).kept)) r.keeps (c2_differs (read_on (Begun []) v).tail (unfinished v)))
 
+pub stream_differs : (stream : List ℕ) → Differs (held_of stream)
+stream_differs stream = held_differs stream (hand_out nothing_held stream) (at_all stream)
+
 pub undecided : (stream : List ℕ) → IsUndecided stream
 undecided stream =
-    let d = held_differs stream (hand_out nothing_held stream) (at_all stream) in
+    let d = stream_differs stream in
     record {
       one = d.one;
       other = d.other;
@@ -331,5 +338,5 @@ undecided stream =
       behind_second = d.behind_second;
       gives_first = newly_handed stream d.one ∙ d.gives_first;
       gives_second = newly_handed stream d.other ∙ d.gives_second;
-      differ = d.differ;
+      differ = differ d.first d.second d.apart;
     }

@@ -5,3 +5,4 @@ mod StreamLemmas
 mod ReadFormLemmas
 pub mod PendingLemmas
 pub mod FirstLemmas
+mod ActionPlaces

@@ -1,6 +1,6 @@
 -- The actions of a stream: those of its dispatches, in order.
-use Rattle.std.specs.Prelude.{ℕ, Option, Some, None, List, [], ◌∷◌, map}
-use Rattle.std.specs.List.{flat_map}
+use Rattle.std.specs.Prelude.{◌≡◌, ◌≢◌, ℕ, ◌<◌, ◌≤◌, Option, Some, None, List, [], ◌∷◌, ◌++◌, length, take, map}
+use Rattle.std.specs.List.{flat_map, slice_get}
 use Rattle.csi_codec.specs.Actions.{csi_reading}
 use Rattle.csi_codec.specs.Escapes.{esc_reading}
 use Rattle.escape_osc.specs.Parts.{parts_of}
@@ -43,3 +43,24 @@ newly_decided_actions stream more = actions_of (newly_decided stream more)
 -- the actions that a stream decides, in order, each with the count of bytes that decides it
 abbrev pub placed_actions : List ℕ → List (ℕ × StreamAction)
 placed_actions stream = flat_map (λ (p : ℕ × Dispatch). map (λ a. (p.0, a)) (actions_of_dispatch p.1)) (placed_dispatches stream)
+
+-- The first bytes of the stream, as many as the place says, decide the action at the index, and fewer don't.
+pub record IsPlacedAction (stream : List ℕ) (index place : ℕ) (action : StreamAction) : Type 0 where
+  -- the stream has so many bytes
+  pub within : place ≤ length stream
+  -- however the stream goes on behind so many bytes, this action is at the index
+  pub decided : (more : List ℕ) → slice_get (stream_actions (take place stream ++ more)) index ≡ Some action
+  -- behind fewer bytes the stream can go on so that it is not
+  pub least : (fewer : ℕ) → fewer < place → ((more : List ℕ) → slice_get (stream_actions (take fewer stream ++ more)) index ≡ Some action) → ⊥
+
+-- The stream can go on so that one action comes next, and so that another does: no further one is decided.
+pub record IsUndecidedAction (stream : List ℕ) : Type 0 where
+  pub one : List ℕ
+  pub other : List ℕ
+  pub first : StreamAction
+  pub second : StreamAction
+  pub behind_first : List StreamAction
+  pub behind_second : List StreamAction
+  pub gives_first : newly_decided_actions stream one ≡ first ∷ behind_first
+  pub gives_second : newly_decided_actions stream other ≡ second ∷ behind_second
+  pub differ : first ≢ second

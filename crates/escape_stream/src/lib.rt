@@ -2,6 +2,7 @@
 #![tactic(auto)]
 
 mod action;
+pub mod action_laws;
 mod control;
 mod device;
 mod encoding;

@@ -1,0 +1,24 @@
+//! Laws of the actions of a stream: functions without a body, each ensuring one.
+ghost use Rattle.std.specs.Prelude.{◌≡◌, ℕ, ◌<◌, List, ◌++◌, Some, length, map, filter, nat_lt};
+ghost use Rattle.std.specs.List.{slice_get};
+ghost use Rattle.escape_stream.specs.StreamAction.{StreamAction};
+ghost use Rattle.escape_stream.specs.StreamActions.{stream_actions, newly_decided_actions, placed_actions, IsPlacedAction, IsUndecidedAction};
+
+/// The placed actions are the stream's actions, in order, each with the least count of bytes that decides it however
+/// the stream goes on. Bytes behind a stream newly decide the actions whose places lie in them.
+pub fn action_places()
+    ensures placed { (stream : List ℕ) (index place : ℕ) (action : StreamAction) → slice_get (placed_actions stream) index ≡ Some (place, action) → IsPlacedAction stream index place action }
+    ensures all { (stream : List ℕ) → map (λ (p : ℕ × StreamAction). p.1) (placed_actions stream) ≡ stream_actions stream }
+    ensures in_pieces { (stream more : List ℕ) → newly_decided_actions stream more ≡ map (λ (p : ℕ × StreamAction). p.1) (filter (λ (p : ℕ × StreamAction). nat_lt (length stream) p.0) (placed_actions (stream ++ more))) }
+{}
+
+/// An action comes as soon as the bytes so far decide it, since behind those that a stream decides two continuations
+/// have different ones.
+pub fn actions_as_soon_as_decided()
+    ensures { (stream : List ℕ) → IsUndecidedAction stream }
+{}
+
+/// Pieces decide what their concatenation decides, in the same order.
+pub fn actions_of_pieces_join()
+    ensures { (stream x y : List ℕ) → newly_decided_actions stream (x ++ y) ≡ newly_decided_actions stream x ++ newly_decided_actions (stream ++ x) y }
+{}
