@@ -7,7 +7,8 @@ use Rattle.std.proofs.lemmas.Bool.{cases_lt}
 use Rattle.std.proofs.lemmas.List.{append-nil, take-append-le}
 use Rattle.std.proofs.Math.Seq.{take-length}
 use Rattle.csi_codec.specs.Texts.{largest_number, begun_token, tokens_behind, tokens_of}
-use Rattle.escape_framing.specs.Dispatch.{ControlSequence, most_tokens, control_sequence_dispatch}
+use Rattle.csi_codec.specs.Fronts.{most_tokens}
+use Rattle.escape_framing.specs.Dispatch.{ControlSequence, control_sequence_dispatch}
 use Rattle.escape_framing.specs.Parameters.{Parameters, no_parameters, with_token, with_number, next_number, with_byte, parameters_of}
 use Rattle.csi_codec.specs.declared.parameters.CsiParam.{CsiParam}
 use Rattle.csi_codec.specs.declared.parameters.CsiParam.TheVariants.{Integer, P}

@@ -4,6 +4,7 @@ use Rattle.escape_framing.specs.Bytes.{taken}
 use Rattle.escape_framing.specs.Segment.{Tail, Begun, OpenEscape, OpenControlSequence, OpenCommand, OpenHeader, OpenDevice, OpenString, Segment}
 use Rattle.escape_framing.specs.Segment as segment
 use Rattle.csi_codec.specs.Texts.{tokens_of}
+use Rattle.csi_codec.specs.Fronts.{most_tokens}
 use Rattle.csi_codec.specs.declared.parameters.CsiParam.{CsiParam}
 
 -- a character to print; a control; an escape sequence by its intermediate byte, where it has one, and its final byte; a
@@ -28,10 +29,6 @@ unfoldable pub escape_dispatch : List ℕ → ℕ → List Dispatch
 escape_dispatch [] final = Escape None final ∷ []
 escape_dispatch (intermediate ∷ []) final = Escape (Some intermediate) final ∷ []
 escape_dispatch (intermediate ∷ second ∷ others) final = []
-
--- how many tokens of a control sequence are kept
-abbrev pub most_tokens : ℕ
-most_tokens = 256
 
 unfoldable pub control_sequence_dispatch : List ℕ → ℕ → Dispatch
 control_sequence_dispatch parameters final =
