@@ -6,3 +6,9 @@ mod ReadFormLemmas
 pub mod PendingLemmas
 pub mod FirstLemmas
 mod ActionPlaces
+mod PlainBytes
+pub mod TextSegments
+mod PairText
+mod PrintedText
+mod CommandText
+mod WritableLemmas

@@ -11,9 +11,11 @@ use Rattle.csi_codec.specs.declared.escapes.EscCode.TheVariants as code
 use Rattle.csi_codec.specs.declared.escapes.Esc.{Esc}
 use Rattle.csi_codec.specs.declared.escapes.Esc.TheVariants as pair
 use Rattle.escape_osc.specs.Writable as osc
-use Rattle.escape_framing.specs.Segment.{IsPrintable, IsControl}
+use Rattle.escape_framing.specs.Segment.{IsPrintable, IsControl, Begun}
+use Rattle.escape_framing.specs.Cut.{tail_of}
 use Rattle.escape_stream.specs.StreamAction.{StreamAction, print, print_string, control, enter, data_byte, exit, command, csi, esc}
 use Rattle.escape_stream.specs.StreamText.{closes_string, is_string_terminator, stream_text}
+use Rattle.escape_stream.specs.StreamActions.{stream_actions, newly_decided_actions}
 
 -- a text of printable characters, not empty
 pub record IsPrintableText (text : List ℕ) : Type 0 where
@@ -124,3 +126,18 @@ HasTexts (a ∷ others) = HasTexts others
 -- a list as its bytes read has the same bytes
 abbrev pub ReadFormsEncodeAlike : Type 0
 ReadFormsEncodeAlike = (actions : List StreamAction) → HasTexts actions → stream_text (read_form actions) ≡ stream_text actions
+
+-- what is written for a writable list reads back as the list, prints split into characters and string terminators added
+abbrev pub WritableListsReadBack : Type 0
+WritableListsReadBack = (actions : List StreamAction) → IsWritable actions → stream_actions (stream_text actions) ≡ read_form actions
+
+-- and leaves no segment unfinished
+abbrev pub WritableListsEndWhole : Type 0
+WritableListsEndWhole = (actions : List StreamAction) → IsWritable actions → tail_of (stream_text actions) ≡ Begun []
+
+-- so it is of what the text decides and leaves behind any stream that leaves no segment unfinished
+abbrev pub WritableListsReadOn : Type 0
+WritableListsReadOn = (stream : List ℕ) (actions : List StreamAction) → tail_of stream ≡ Begun [] → IsWritable actions → newly_decided_actions stream (stream_text actions) ≡ read_form actions
+
+abbrev pub WritableListsEndOn : Type 0
+WritableListsEndOn = (stream : List ℕ) (actions : List StreamAction) → tail_of stream ≡ Begun [] → IsWritable actions → tail_of (stream ++ stream_text actions) ≡ Begun []

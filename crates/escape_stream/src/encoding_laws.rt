@@ -1,6 +1,6 @@
 //! Laws of the texts of actions: functions without a body, each ensuring one.
 ghost use Rattle.escape_stream.specs.StreamText.{TextsJoin};
-ghost use Rattle.escape_stream.specs.StreamWritable.{ReadFormsEncodeAlike};
+ghost use Rattle.escape_stream.specs.StreamWritable.{ReadFormsEncodeAlike, WritableListsEndWhole, WritableListsReadBack, WritableListsEndOn, WritableListsReadOn};
 
 /// The bytes of two joined lists of actions are those of the one and then those of the other, unless the first ends in
 /// an operating system command or the end of a device control string, and the second begins with a `StringTerminator`.
@@ -13,4 +13,20 @@ pub fn encoded_lists_join()
 /// the two apart.
 pub fn read_forms_encode_alike()
     ensures { ReadFormsEncodeAlike }
+{}
+
+/// The bytes of a writable list are read as its actions, with prints split into characters and a `StringTerminator` behind
+/// each operating system command and each end of a device control string that has none; and no bytes of it are left
+/// unfinished. So a parser that reads what `encode` wrote hands these out.
+pub fn writable_lists_read_back()
+    ensures actions { WritableListsReadBack }
+    ensures whole { WritableListsEndWhole }
+{}
+
+/// The same behind any stream of which no bytes are left unfinished: what the bytes of a writable list decide there, and
+/// what they leave, does not hang on the stream. So a parser that has read such a stream, in any pieces, and then reads
+/// what `encode` wrote hands these out.
+pub fn writable_lists_read_on()
+    ensures actions { WritableListsReadOn }
+    ensures whole { WritableListsEndOn }
 {}

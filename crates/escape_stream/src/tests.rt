@@ -8,6 +8,7 @@ use std::rc::Rc;
 use std::test::Fail;
 
 mod parsing;
+mod round_trip;
 
 const TERMINATOR: Action = Action::Esc(Esc::Code(EscCode::StringTerminator));
 
