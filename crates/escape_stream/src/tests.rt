@@ -7,7 +7,9 @@ use std::process::Abort;
 use std::rc::Rc;
 use std::test::Fail;
 
+mod hostile;
 mod parsing;
+mod pieces;
 mod round_trip;
 
 const TERMINATOR: Action = Action::Esc(Esc::Code(EscCode::StringTerminator));

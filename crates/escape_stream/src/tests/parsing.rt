@@ -1,20 +1,12 @@
 //! Streams that are read, whole and byte by byte.
+use super::pieces::always_is;
 use super::*;
 
-// What a stream is read as, whole and, with the answers joined, byte by byte.
+// What a stream is read as, whole, in any two pieces and byte by byte, by `parse` and by `parse_as_vec`.
 fn parses<R: Abort + AllocGlobal>(rt: &R, bytes: &[u8], expected: &[Action]) -> Result<(), Fail> {
-    let mut parser = Parser::new(rt.alloc());
-    let whole = parser.parse_as_vec(bytes)?;
+    let whole = Parser::new(rt.alloc()).parse_as_vec(bytes)?;
     assert!(rt; whole.as_slice() == expected, "{bytes:?} is {whole:?}");
-    let mut parser = Parser::new(rt.alloc());
-    let mut joined = Vec::new(rt.alloc());
-    for byte in bytes {
-        for action in parser.parse_as_vec(&[*byte])? {
-            action.append_to(&mut joined)?;
-        }
-    }
-    assert!(rt; joined.as_slice() == expected, "{bytes:?} is {joined:?}");
-    Ok(())
+    always_is(rt, bytes, expected)
 }
 
 fn bold() -> Action {
@@ -108,11 +100,70 @@ fn torn_characters_parse(rt: HostRuntime) -> Result<(), Fail> {
 }
 
 #[test]
+fn texts_parse(rt: HostRuntime) -> Result<(), Fail> {
+    let alloc = rt.alloc();
+    parses(
+        &rt,
+        b"ab\x1b[1mc",
+        &[text(alloc, "ab")?, bold(), Action::Print('c')],
+    )?;
+    parses(&rt, b"a\xffb", &[text(alloc, "a\u{fffd}b")?])?;
+    parses(&rt, b"a\x1b[1\xc3\xa9", &[text(alloc, "a\u{e9}")?])?;
+    parses(
+        &rt,
+        b"a\xc2\x9bmb",
+        &[
+            Action::Print('a'),
+            Action::CSI(CSI::Sgr(Sgr::Reset)),
+            Action::Print('b'),
+        ],
+    )?;
+    parses(
+        &rt,
+        b"a\x7f\xe3\x81",
+        &[Action::Print('a'), Action::Control(ControlCode::Delete)],
+    )?;
+    Ok(())
+}
+
+#[test]
+fn texts_within_sequences_parse(rt: HostRuntime) -> Result<(), Fail> {
+    let alloc = rt.alloc();
+    parses(
+        &rt,
+        b"\x1b]0;plain text\x07 ~\x1bXtext\x1b\\ab",
+        &[
+            title(alloc, "plain text")?,
+            text(alloc, " ~")?,
+            TERMINATOR,
+            text(alloc, "ab")?,
+        ],
+    )?;
+    parses(
+        &rt,
+        b"\x1bPqab\x18cd",
+        &[
+            enter(alloc, b"", b'q')?,
+            data(b'a'),
+            data(b'b'),
+            exit(),
+            Action::Control(ControlCode::Cancel),
+            text(alloc, "cd")?,
+        ],
+    )?;
+    Ok(())
+}
+
+#[test]
 fn callbacks_are_called(rt: HostRuntime) -> Result<(), Fail> {
     let mut parser = Parser::new(rt.alloc());
     let mut count = 0u64;
     parser.parse(b"\x1b[1;3mb", |_| count = count.wrapping_add(1))?;
     assert_eq!(rt; count, 3);
+    for byte in b"\x1b[1;3mb" {
+        parser.parse(&[*byte], |_| count = count.wrapping_add(1))?;
+    }
+    assert_eq!(rt; count, 6);
     Ok(())
 }
 
