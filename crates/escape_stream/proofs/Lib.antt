@@ -7,7 +7,7 @@ pub mod PendingLemmas
 pub mod FirstLemmas
 mod ActionPlaces
 mod PlainBytes
-pub mod TextSegments
+mod TextSegments
 mod PairText
 mod PrintedText
 mod CommandText

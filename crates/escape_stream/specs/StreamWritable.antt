@@ -1,11 +1,14 @@
 -- Lists of actions that a byte stream can carry: what is written for them reads back.
-use Rattle.std.specs.Prelude.{◌≡◌, ◌≢◌, ℕ, ◌≤◌, ◌<◌, ◌⊎◌, List, [], ◌∷◌, ◌++◌, All, map, Option, None, Some, Bool, false, not, ◌&&◌, if◌then◌else◌}
+use Rattle.std.specs.Prelude.{◌≡◌, ◌≢◌, ℕ, ◌≤◌, ◌<◌, ◌⊎◌, List, [], ◌∷◌, ◌++◌, All, map, Option, None, Some, Bool, true, false, not, length, ◌&&◌, if◌then◌else◌}
 use Rattle.std.specs.Str.{IsUtf8, chars}
 use Rattle.std.specs.Char.{IsScalar}
 use Rattle.csi_codec.specs.Actions.{csi_reading}
 use Rattle.csi_codec.specs.Actions as codec
 use Rattle.csi_codec.specs.Sequences.{csi_text}
-use Rattle.csi_codec.specs.Fronts.{Front, HasFront}
+use Rattle.csi_codec.specs.Fronts.{Front, HasFront, most_tokens}
+use Rattle.csi_codec.specs.Texts.{is_spellable}
+use Rattle.csi_codec.specs.Laws.{is_exempt}
+use Rattle.csi_codec.specs.declared.parameters.CsiParam.{CsiParam}
 use Rattle.csi_codec.specs.Escapes.{esc_reading}
 use Rattle.csi_codec.specs.declared.escapes.EscCode.TheVariants as code
 use Rattle.csi_codec.specs.declared.escapes.Esc.{Esc}
@@ -141,3 +144,14 @@ WritableListsReadOn = (stream : List ℕ) (actions : List StreamAction) → tail
 
 abbrev pub WritableListsEndOn : Type 0
 WritableListsEndOn = (stream : List ℕ) (actions : List StreamAction) → tail_of stream ≡ Begun [] → IsWritable actions → tail_of (stream ++ stream_text actions) ≡ Begun []
+
+-- ---- Control sequences that were read
+
+-- each action reads back by itself, but for what is left of modes where the round trip of parameters leaves it out
+abbrev pub EachIsReadBack : List CsiParam → ℕ → List codec.Action → Type 0
+EachIsReadBack ts final [] = Unit {0}
+EachIsReadBack ts final (a ∷ others) = (is_exempt ts final a ≡ false → IsReadBack a) × EachIsReadBack ts final others
+
+-- the actions of a spellable list of no more tokens than are kept, with a final byte from @ to ~, can be written
+abbrev pub ReadSequencesAreWritable : Type 0
+ReadSequencesAreWritable = (ts : List CsiParam) (final : ℕ) → is_spellable ts ≡ true → length ts ≤ most_tokens → 64 ≤ final → final ≤ 126 → EachIsReadBack ts final (csi_reading ts false final)

@@ -1,6 +1,6 @@
-//! Laws of the texts of actions: functions without a body, each ensuring one.
+//! Laws of the texts of actions: functions that do nothing, each ensuring one.
 ghost use Rattle.escape_stream.specs.StreamText.{TextsJoin};
-ghost use Rattle.escape_stream.specs.StreamWritable.{ReadFormsEncodeAlike, WritableListsEndWhole, WritableListsReadBack, WritableListsEndOn, WritableListsReadOn};
+ghost use Rattle.escape_stream.specs.StreamWritable.{ReadFormsEncodeAlike, WritableListsEndWhole, WritableListsReadBack, WritableListsEndOn, WritableListsReadOn, ReadSequencesAreWritable};
 
 /// The bytes of two joined lists of actions are those of the one and then those of the other, unless the first ends in
 /// an operating system command or the end of a device control string, and the second begins with a `StringTerminator`.
@@ -30,3 +30,13 @@ pub fn writable_lists_read_on()
     ensures actions { WritableListsReadOn }
     ensures whole { WritableListsEndOn }
 {}
+
+/// The control sequences that a spellable list of at most 256 parameters means, with a final byte from `@` to `~`, can be
+/// written: each is the one action of its own bytes; but for what is left of modes behind some that stand, where it begins
+/// with `?` or stands under `s` or `r`.
+pub fn read_sequences_are_writable()
+    ensures { ReadSequencesAreWritable }
+{
+    csi_codec::laws::actions_read_back();
+    csi_codec::laws::texts_are_fronts();
+}

@@ -1,0 +1,14 @@
+use Rattle.std.proofs.Common.{ℕ, List, [], ◌∷◌, refl, false}
+use Rattle.csi_codec.specs.Actions.{Action, csi_reading, spelling_of}
+use Rattle.csi_codec.specs.Fronts.{EachTextIsFront, whole_front}
+use Rattle.csi_codec.specs.Laws.{EachReadsBack}
+use Rattle.csi_codec.specs.declared.parameters.CsiParam.{CsiParam}
+use Rattle.escape_stream.specs.StreamWritable.{EachIsReadBack}
+use Rattle.escape_stream.proofs.encoding_laws.read_sequences_are_writable.Goals as goal
+
+each_back : (ts : List CsiParam) (final : ℕ) (actions : List Action) → EachReadsBack ts false final actions → EachTextIsFront actions → EachIsReadBack ts final actions
+each_back ts final [] r f = tt
+each_back ts final (a ∷ others) r f = (λ e. record { front = whole_front (spelling_of a); stands = f.0; whole = refl; action = r.0 e }, each_back ts final others r.1 f.1)
+
+pub returns : goal.returns
+returns c = λ ts final spelled few low high. each_back ts final (csi_reading ts false final) (c.actions_read_back.ensures ts false final) (c.texts_are_fronts.ensures ts false final spelled few low high)
