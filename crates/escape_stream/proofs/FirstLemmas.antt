@@ -1,7 +1,6 @@
 -- The reading of bytes up to a place.
-use Rattle.std.proofs.Common.{◌≡◌, ◌≢◌, ℕ, zero, suc, ◌+◌, ◌<◌, ◌≤◌, List, [], ◌∷◌, ◌++◌, length, get_or, take, map, refl, ap, subst, sym, ◌∙◌, arith, append_assoc, append-nil}
+use Rattle.std.proofs.Common.{◌≡◌, ◌≢◌, ℕ, ◌+◌, ◌<◌, ◌≤◌, List, [], ◌∷◌, ◌++◌, length, get_or, take, refl, ap, subst, sym, ◌∙◌, arith, append_assoc, append-nil}
 use Rattle.std.specs.Prelude.{Option, Some, None}
-use Rattle.std.specs.List.{flat_map}
 use Rattle.std.specs.Option.{option_or}
 use Rattle.std.proofs.lemmas.Grind.{flat_map-append}
 use Rattle.std.proofs.lemmas.List.{take_more, take_all}
@@ -10,8 +9,7 @@ use Rattle.escape_framing.specs.Dispatch as framing
 use Rattle.escape_framing.specs.Dispatched.{optional, dispatches_in}
 use Rattle.escape_framing.specs.Parameters.{Parameters}
 use Rattle.escape_framing.specs.declared.dispatch.Dispatch.{Dispatch}
-use Rattle.escape_framing.specs.Segment.{Begun}
-use Rattle.escape_framing.specs.Cut.{newly_decided, tail_of}
+use Rattle.escape_framing.specs.Cut.{newly_decided}
 use Rattle.escape_framing.specs.Held.{Held, held_of, nothing_held}
 use Rattle.escape_framing.specs.Decides.{Decides}
 use Rattle.escape_framing.proofs.HeldLemmas.{newly_handed}

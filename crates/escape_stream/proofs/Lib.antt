@@ -12,3 +12,4 @@ mod PairText
 mod PrintedText
 mod CommandText
 mod WritableLemmas
+pub mod PrintableLemmas

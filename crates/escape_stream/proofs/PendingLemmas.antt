@@ -1,12 +1,11 @@
 -- Steps of the walks over pending actions.
-use Rattle.std.proofs.Common.{◌≡◌, ℕ, zero, suc, Bool, List, [], ◌∷◌, ◌++◌, length, get_or, map, fold, refl, ap, subst, sym, ◌∙◌, append_assoc}
-use Rattle.std.specs.List.{FoldsTo, flat_map}
-use Rattle.std.specs.Prelude.{Option, Some, None}
+use Rattle.std.proofs.Common.{◌≡◌, ℕ, List, [], ◌∷◌, ◌++◌, length, get_or, fold, refl, ap, subst, sym, ◌∙◌}
+use Rattle.std.specs.List.{FoldsTo}
+use Rattle.std.specs.Prelude.{Option, Result, IfOk}
 use Rattle.std.proofs.lemmas.Grind.{flat_map-append, fold-append}
 use Rattle.escape_framing.specs.Dispatch as stream
 use Rattle.escape_framing.specs.Dispatched.{optional, dispatches_in}
 use Rattle.escape_framing.specs.Parameters.{Parameters}
-use Rattle.escape_framing.specs.Cut.{newly_decided}
 use Rattle.escape_framing.specs.Held.{Held, held_step, hand_out, held_of}
 use Rattle.escape_framing.specs.declared.dispatch.Dispatch.{Dispatch}
 use Rattle.escape_framing.proofs.HeldLemmas.{newly_handed, held_append}
@@ -98,16 +97,6 @@ joined_then u v w xs ys p q =
     q ∙ ap (λ l. fold appended l (actions_of ys)) p
     ∙ sym (ap (fold appended u) (flat_map-append actions_of_dispatch xs ys) ∙ fold-append appended u (actions_of xs) (actions_of ys))
 
--- the actions of four dispatches, with gaps, joined
-pub joined_of_four : (p : Parameters) (a b c d : Option Dispatch) (u v w x y : List StreamAction)
-    → v ≡ fold appended u (actions_of (optional p a)) → w ≡ fold appended v (actions_of (optional p b)) → x ≡ fold appended w (actions_of (optional p c)) → y ≡ fold appended x (actions_of (optional p d))
-    → y ≡ fold appended u (actions_of (dispatches_in p (a ∷ b ∷ c ∷ d ∷ [])))
-joined_of_four p a b c d u v w x y in_a in_b in_c in_d =
-    joined_then u v y (optional p a) (dispatches_in p (b ∷ c ∷ d ∷ [])) in_a
-    (joined_then v w y (optional p b) (dispatches_in p (c ∷ d ∷ [])) in_b
-    (joined_then w x y (optional p c) (dispatches_in p (d ∷ [])) in_c
-    (joined_then x y y (optional p d) [] in_d refl)))
-
 -- the actions of a byte, and then those of what is left
 pub joined_next_byte : (h h' : Held) (b : ℕ) (bytes : List ℕ) (ds : List stream.Dispatch) (u v : List StreamAction)
     → ds ≡ (held_step h b).dispatches → h' ≡ (held_step h b).held → v ≡ fold appended u (actions_of ds)
@@ -128,22 +117,14 @@ four_items (w ∷ x ∷ y ∷ []) a b c d n at_a at_b at_c at_d = cc
 four_items (w ∷ x ∷ y ∷ z ∷ []) a b c d n at_a at_b at_c at_d = cc
 four_items (w ∷ x ∷ y ∷ z ∷ z' ∷ zs) a b c d n at_a at_b at_c at_d = cc
 
-pub called_at_items : {F : Type 0} (step : F → Action → F → Type 0) (p : Parameters) (ds : List (Option Dispatch)) (a b c d : Option Dispatch) (f g h i j : F) (in_a in_b in_c in_d : List StreamAction)
-    → in_a ≡ actions_of (optional p a) → in_b ≡ actions_of (optional p b) → in_c ≡ actions_of (optional p c) → in_d ≡ actions_of (optional p d)
+pub called_at_items : {F : Type 0} (step : F → Action → F → Type 0) (p : Parameters) (ds : List (Option Dispatch)) (a b c d : Option Dispatch) (f g h i j : F)
     → length ds ≡ 4 → a ≡ get_or ds 0 a → b ≡ get_or ds 1 b → c ≡ get_or ds 2 c → d ≡ get_or ds 3 d
-    → IsCalledAt step f in_a g → IsCalledAt step g in_b h → IsCalledAt step h in_c i → IsCalledAt step i in_d j
+    → IsCalledAt step f (actions_of (optional p a)) g → IsCalledAt step g (actions_of (optional p b)) h → IsCalledAt step h (actions_of (optional p c)) i → IsCalledAt step i (actions_of (optional p d)) j
     → IsCalledAt step f (actions_of (dispatches_in p ds)) j
-called_at_items step p ds a b c d f g h i j in_a in_b in_c in_d e_a e_b e_c e_d n at_a at_b at_c at_d p_a p_b p_c p_d =
+called_at_items step p ds a b c d f g h i j n at_a at_b at_c at_d p_a p_b p_c p_d =
     subst (λ (l : List (Option Dispatch)). IsCalledAt step f (actions_of (dispatches_in p l)) j) (four_items ds a b c d n at_a at_b at_c at_d)
-    (called_at_four step p a b c d f g h i j
-    (subst (λ (l : List StreamAction). IsCalledAt step f l g) e_a p_a) (subst (λ (l : List StreamAction). IsCalledAt step g l h) e_b p_b)
-    (subst (λ (l : List StreamAction). IsCalledAt step h l i) e_c p_c) (subst (λ (l : List StreamAction). IsCalledAt step i l j) e_d p_d))
+    (called_at_four step p a b c d f g h i j p_a p_b p_c p_d)
 
-pub joined_of_items : (p : Parameters) (ds : List (Option Dispatch)) (a b c d : Option Dispatch) (u v w x y in_a in_b in_c in_d : List StreamAction)
-    → in_a ≡ actions_of (optional p a) → in_b ≡ actions_of (optional p b) → in_c ≡ actions_of (optional p c) → in_d ≡ actions_of (optional p d)
-    → length ds ≡ 4 → a ≡ get_or ds 0 a → b ≡ get_or ds 1 b → c ≡ get_or ds 2 c → d ≡ get_or ds 3 d
-    → v ≡ fold appended u in_a → w ≡ fold appended v in_b → x ≡ fold appended w in_c → y ≡ fold appended x in_d
-    → y ≡ fold appended u (actions_of (dispatches_in p ds))
-joined_of_items p ds a b c d u v w x y in_a in_b in_c in_d e_a e_b e_c e_d n at_a at_b at_c at_d p_a p_b p_c p_d =
-    subst (λ (l : List (Option Dispatch)). y ≡ fold appended u (actions_of (dispatches_in p l))) (four_items ds a b c d n at_a at_b at_c at_d)
-    (joined_of_four p a b c d u v w x y (p_a ∙ ap (fold appended u) e_a) (p_b ∙ ap (fold appended v) e_b) (p_c ∙ ap (fold appended w) e_c) (p_d ∙ ap (fold appended x) e_d))
+-- the calls at a dispatch are those at what is pending of it
+pub called_pending : {F E : Type 0} (step : F → Action → F → Type 0) (f : F) (r : Result F E) (xs ys : List StreamAction) → xs ≡ ys → IfOk r (λ last. IsCalledAt step f xs last) → IfOk r (λ last. IsCalledAt step f ys last)
+called_pending step f r xs ys e h = subst (λ (l : List StreamAction). IfOk r (λ last. IsCalledAt step f l last)) e h

@@ -14,3 +14,4 @@ pub mod StreamWritable
 pub mod StreamActions
 pub mod Parsing
 pub mod Pending
+pub mod Printables

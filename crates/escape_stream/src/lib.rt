@@ -11,6 +11,7 @@ mod error;
 pub mod laws;
 mod parser;
 mod pending;
+mod printables;
 
 pub use action::Action;
 pub use control::ControlCode;

@@ -3,16 +3,19 @@ ghost use Rattle.std.specs.Prelude.{◌≡◌, ◌≢◌, ◌↔◌, IsTrue, ℕ
 ghost use Rattle.escape_framing.specs.Decides.{Decides};
 ghost use Rattle.escape_framing.specs.Dispatched.{optional, dispatches_in};
 ghost use Rattle.escape_framing.specs.Held.{Held, held_step, hand_out, held_of, nothing_held};
+ghost use Rattle.escape_framing.specs.Parameters.{Parameters};
 ghost use Rattle.escape_stream.specs.StreamAction.{appended};
 ghost use Rattle.escape_stream.specs.StreamActionView.{value_of};
 ghost use Rattle.escape_stream.specs.StreamActions.{actions_of, newly_decided_actions};
 ghost use Rattle.escape_stream.specs.Parsing.{IsCalledAt, IsFirst, IsFirstSettled, bytes_read};
 ghost use Rattle.escape_stream.specs.Pending.{Begins};
+ghost use Rattle.escape_stream.specs.Printables.{PrintsFirst};
 ghost use Rattle.std.specs.Option.{option_map};
 
 use crate::action::Action;
 use crate::error::ParseError;
 use crate::pending::{Pending, append_each, call_at_each, push_each};
+use crate::printables::{append_printables, call_at_printables, split_printables};
 use escape_framing::{Dispatch, Framer};
 use std::alloc::{AllocError, Global};
 use std::marker::Model;
@@ -36,6 +39,13 @@ impl Model for Parser {
     ghost Value = { Framing };
 
     ghost view = { λ p. record { held = p.framer.held; parameters = p.framer.parameters; failed = p.failed || p.framer.failed } };
+}
+
+// Whether there is no dispatch.
+fn is_nothing(dispatches: &[Option<Dispatch>; 4]) -> bool
+    ensures { IsTrue result → (p : Parameters) → dispatches_in p dispatches.now ≡ [] }
+{
+    matches!(dispatches, [None, None, None, None])
 }
 
 impl Parser {
@@ -92,6 +102,37 @@ impl Parser {
         )
     }
 
+    // The printable characters at the front, where nothing is unfinished, and the bytes behind them.
+    fn split_prints<'b>(&self, bytes: &'b [u8]) -> (&'b [u8], &'b [u8])
+        ensures { PrintsFirst self.now.held bytes.now result.0.now result.1.now }
+    {
+        if self.framer.is_idle() {
+            split_printables(bytes)
+        } else {
+            bytes.split_at(0)
+        }
+    }
+
+    // Calls the callback at each action of a dispatch, and gives it back.
+    fn call_at<F: FnMut(Action)>(
+        &self,
+        dispatch: Option<Dispatch>,
+        mut callback: F,
+    ) -> Result<F, AllocError>
+        requires { F.IsAlwaysCallable callback }
+        ensures called { IfOk result (λ last. IsCalledAt (λ f a f'. F.step f a tt f') callback (actions_of (optional self.now.parameters dispatch)) last) }
+        ensures callable { IfOk result (λ last. F.IsAlwaysCallable last) }
+    {
+        match dispatch {
+            None => Ok(callback),
+            Some(Dispatch::Print(character)) => {
+                callback(Action::Print(character));
+                Ok(callback)
+            }
+            Some(other) => call_at_each(self.pending(Some(other))?, callback),
+        }
+    }
+
     // Calls the callback at each action of the dispatches, and gives it back.
     fn call_at_dispatches<F: FnMut(Action)>(
         &self,
@@ -102,11 +143,14 @@ impl Parser {
         ensures called { IfOk result (λ last. IsCalledAt (λ f a f'. F.step f a tt f') callback (actions_of (dispatches_in self.now.parameters dispatches)) last) }
         ensures callable { IfOk result (λ last. F.IsAlwaysCallable last) }
     {
+        if is_nothing(&dispatches) {
+            return Ok(callback);
+        }
         let [first, second, third, fourth] = dispatches;
-        let callback = call_at_each(self.pending(first)?, callback)?;
-        let callback = call_at_each(self.pending(second)?, callback)?;
-        let callback = call_at_each(self.pending(third)?, callback)?;
-        let callback = call_at_each(self.pending(fourth)?, callback)?;
+        let callback = self.call_at(first, callback)?;
+        let callback = self.call_at(second, callback)?;
+        let callback = self.call_at(third, callback)?;
+        let callback = self.call_at(fourth, callback)?;
         Ok(callback)
     }
 
@@ -125,7 +169,9 @@ impl Parser {
         while let Some((byte, others)) = rest.split_first() {
             let dispatches = self.feed(*byte)?;
             callback = self.call_at_dispatches(dispatches, callback)?;
-            rest = others;
+            let (printables, behind) = self.split_prints(others);
+            callback = call_at_printables(printables, callback);
+            rest = behind;
         }
         Ok(())
     }
@@ -152,6 +198,21 @@ impl Parser {
         }
     }
 
+    // Appends the actions of a dispatch, a print behind a print as one.
+    fn append(
+        &self,
+        dispatch: Option<Dispatch>,
+        actions: &mut Vec<Action>,
+    ) -> Result<(), AllocError>
+        ensures { IfOk result (λ _. map value_of actions.new.items ≡ fold appended (map value_of actions.old.items) (actions_of (optional self.now.parameters dispatch))) }
+    {
+        match dispatch {
+            None => Ok(()),
+            Some(Dispatch::Print(character)) => Action::Print(character).append_to(actions),
+            Some(other) => append_each(self.pending(Some(other))?, actions),
+        }
+    }
+
     // Appends the actions of the dispatches, a print behind a print as one.
     fn append_dispatches(
         &self,
@@ -160,11 +221,14 @@ impl Parser {
     ) -> Result<(), AllocError>
         ensures { IfOk result (λ _. map value_of actions.new.items ≡ fold appended (map value_of actions.old.items) (actions_of (dispatches_in self.now.parameters dispatches))) }
     {
+        if is_nothing(&dispatches) {
+            return Ok(());
+        }
         let [first, second, third, fourth] = dispatches;
-        append_each(self.pending(first)?, actions)?;
-        append_each(self.pending(second)?, actions)?;
-        append_each(self.pending(third)?, actions)?;
-        append_each(self.pending(fourth)?, actions)?;
+        self.append(first, actions)?;
+        self.append(second, actions)?;
+        self.append(third, actions)?;
+        self.append(fourth, actions)?;
         Ok(())
     }
 
@@ -179,7 +243,9 @@ impl Parser {
         while let Some((byte, others)) = rest.split_first() {
             let dispatches = self.feed(*byte)?;
             self.append_dispatches(dispatches, &mut actions)?;
-            rest = others;
+            let (printables, behind) = self.split_prints(others);
+            append_printables(self.alloc, printables, &mut actions)?;
+            rest = behind;
         }
         Ok(actions)
     }
@@ -218,6 +284,9 @@ impl Parser {
     fn first_of(&self, dispatches: [Option<Dispatch>; 4]) -> Result<Option<Action>, AllocError>
         ensures { IfOk result (λ first. Begins first (actions_of (dispatches_in self.now.parameters dispatches))) }
     {
+        if is_nothing(&dispatches) {
+            return Ok(None);
+        }
         let [first, second, third, fourth] = dispatches;
         let first = self.next_of(first)?;
         let second = self.next_of(second)?;
@@ -283,6 +352,9 @@ impl Parser {
     ) -> Result<(), AllocError>
         ensures { IfOk result (λ _. map value_of actions.new.items ≡ map value_of actions.old.items ++ actions_of (dispatches_in self.now.parameters dispatches)) }
     {
+        if is_nothing(&dispatches) {
+            return Ok(());
+        }
         let [first, second, third, fourth] = dispatches;
         push_each(self.pending(first)?, actions)?;
         push_each(self.pending(second)?, actions)?;

@@ -1,4 +1,4 @@
-use Rattle.std.proofs.Common.{◌≡◌, ◌∙◌, ◌++◌, take, refl, rules, arith}
+use Rattle.std.proofs.Common.{◌∙◌, ◌++◌, take, refl, rules}
 use Rattle.escape_stream.specs.Parsing.{DecidesAction}
 use Rattle.escape_stream.proofs.FirstLemmas.{read_none, decides_none, first_found, first_not}
 use Rattle.escape_stream.proofs.parser.Parser.find_first.Goals as goal

@@ -1,4 +1,4 @@
-use Rattle.std.proofs.Common.{rules}
+use Rattle.std.proofs.Common.{refl, rules}
 use Rattle.escape_stream.proofs.FirstLemmas.{begins_of_items}
 use Rattle.escape_stream.proofs.parser.Parser.first_of.Goals as goal
 
@@ -9,3 +9,6 @@ returns c =
     c.in_ok-first.first c.in_ok-second.second c.in_ok-third.third c.in_ok-fourth.fourth
     c.in_ok-first.ensures c.in_ok-second.ensures c.in_ok-third.ensures c.in_ok-fourth.ensures
     (search rules) (search rules) (search rules) (search rules) (search rules))
+
+pub returns-then-is_nothing : goal.returns-then-is_nothing
+returns-then-is_nothing c = rw (c.is_nothing.ensures c.if-is_nothing.true c.args.self.now.parameters) refl

@@ -1,4 +1,4 @@
-use Rattle.std.proofs.Common.{map, rules}
+use Rattle.std.proofs.Common.{map, sym, append-nil, rules}
 use Rattle.escape_stream.specs.StreamActionView.{value_of}
 use Rattle.escape_stream.proofs.FirstLemmas.{pushed_of_items}
 use Rattle.escape_stream.proofs.parser.Parser.push_dispatches.Goals as goal
@@ -11,3 +11,6 @@ returns c =
     c.in_ok-pending.ensures c.in_ok-pending-2.ensures c.in_ok-pending-3.ensures c.in_ok-pending-4.ensures
     (search rules) (search rules) (search rules) (search rules) (search rules)
     c.in_ok-push_each.ensures c.in_ok-push_each-2.ensures c.in_ok-push_each-3.ensures c.in_ok-push_each-4.ensures
+
+pub returns-then-is_nothing : goal.returns-then-is_nothing
+returns-then-is_nothing c = rw (c.is_nothing.ensures c.if-is_nothing.true c.args.self.now.parameters) (sym (append-nil (map value_of c.args.actions.now.items)))
