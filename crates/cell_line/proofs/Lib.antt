@@ -4,4 +4,5 @@ pub mod EndLemmas
 pub mod LinkLemmas
 pub mod ReadLemmas
 pub mod VisibleLemmas
+pub mod WordLemmas
 pub mod ZoneLemmas

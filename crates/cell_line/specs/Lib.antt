@@ -8,5 +8,6 @@ pub mod ReadCells
 pub mod RowEdits
 pub mod SameLine
 pub mod VisibleCells
+pub mod Words
 pub mod Wrapped
 pub mod Zones

@@ -8,6 +8,7 @@ mod read_cells;
 mod row;
 mod text;
 mod visible_cells;
+mod words;
 mod wrap;
 mod zones;
 

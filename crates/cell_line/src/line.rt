@@ -1,5 +1,5 @@
 //! A row of columns with a number and bits.
-ghost use Rattle.std.specs.Prelude.{◌≡◌, true, ℕ, ◌≤◌, ◌-◌, ◌==◌, ◌&&◌, ◌++◌, [], length, map, replicate, min, nat_lt, IfOk, OnOk, IsTrue, ◌↔◌, string_bytes, if◌then◌else◌};
+ghost use Rattle.std.specs.Prelude.{◌≡◌, true, ℕ, ◌≤◌, ◌-◌, ◌==◌, ◌&&◌, ◌++◌, List, [], Bool, length, map, replicate, min, nat_lt, IfOk, OnOk, IsTrue, ◌↔◌, string_bytes, if◌then◌else◌};
 ghost use Rattle.std.specs.Cow.{cow_str_bytes};
 ghost use Rattle.std.specs.Option.{option_map};
 ghost use Rattle.cell_base.specs.declared.attributes.LineAttribute.TheVariants.{SingleWidthLine, DoubleWidthLine, DoubleHeightTopHalfLine, DoubleHeightBottomHalfLine};
@@ -14,12 +14,15 @@ ghost use Rattle.cell_line.specs.LineEdits.{pruned, filled_line};
 ghost use Rattle.cell_line.specs.Links.{without_implicit, column_with, without_implicit_links};
 ghost use Rattle.cell_line.specs.Wrapped.{wrapped};
 ghost use Rattle.cell_line.specs.Zones.{zones};
+ghost use Rattle.cell_line.specs.Words.{Answers, double_click_range};
 ghost use Rattle.cell_line.specs.CellRefView.{shown_by, cells_left};
 
 use crate::cell_ref::CellRef;
 use crate::visible_cells::VisibleCellIter;
-use crate::{query, row, text, wrap, zones};
-use cell_base::{Cell, CellAttributes, LineAttribute, SEQ_ZERO, SequenceNo, Widths, ZoneRange};
+use crate::{query, row, text, words, wrap, zones};
+use cell_base::{
+    Cell, CellAttributes, DoubleClickRange, LineAttribute, SEQ_ZERO, SequenceNo, Widths, ZoneRange,
+};
 use std::alloc::{AllocError, Global};
 use std::borrow::CowStr;
 use std::marker::Model;
@@ -539,6 +542,23 @@ impl Line {
         ensures { IfOk result (λ found. found.items ≡ zones (visible_cells self.now.columns)) }
     {
         zones::zones(self.alloc, &self.cells)
+    }
+
+    /// The columns of the unbroken words round a column, where `is_word` says of a visible cell's
+    /// text whether it belongs to one: from the first column of the first of them back from the
+    /// last cell at or before `click_col` to one past the first column of the last of them from
+    /// the first cell at or behind it. Each end is `click_col` where there is none, and where that
+    /// is past the end of the line. `RangeWithWrap` says that the range reaches the end of the line
+    /// and the line goes on behind it. `is_word` is asked of the cells in any order, of some twice.
+    pub fn compute_double_click_range<F: Fn(&str) -> bool>(
+        &self,
+        click_col: usize,
+        is_word: F,
+    ) -> DoubleClickRange
+        requires { F.IsAlwaysCallable is_word }
+        ensures { (test : List ℕ → Bool) → Answers F.Fn is_word test → result ≡ double_click_range test click_col self.now.columns }
+    {
+        words::double_click_range(&self.cells, click_col, &is_word)
     }
 
     /// Sets whether the line goes on behind its last visible cell, if there is one.

@@ -2,3 +2,4 @@
 //! width 2.
 mod edits;
 mod queries;
+mod words;
