@@ -1,6 +1,8 @@
 pub mod CellLemmas
 pub mod CutLemmas
 pub mod EndLemmas
+pub mod LentLemmas
+pub mod LentSteps
 pub mod LinkLemmas
 pub mod ReadLemmas
 pub mod VisibleLemmas

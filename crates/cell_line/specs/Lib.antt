@@ -1,5 +1,6 @@
 pub mod CellList
 pub mod CellRefView
+pub mod LentCells
 pub mod LineContent
 pub mod LineEdits
 pub mod LineView

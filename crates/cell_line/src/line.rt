@@ -15,6 +15,8 @@ ghost use Rattle.cell_line.specs.Links.{without_implicit, column_with, without_i
 ghost use Rattle.cell_line.specs.Wrapped.{wrapped};
 ghost use Rattle.cell_line.specs.Zones.{zones};
 ghost use Rattle.cell_line.specs.Words.{Answers, double_click_range};
+ghost use Rattle.std.specs.Borrow.{sem};
+ghost use Rattle.cell_line.specs.LentCells.{LendsCells, LendsSlice};
 ghost use Rattle.cell_line.specs.CellRefView.{shown_by, cells_left};
 
 use crate::cell_ref::CellRef;
@@ -559,6 +561,34 @@ impl Line {
         ensures { (test : List ℕ → Bool) → Answers F.Fn is_word test → result ≡ double_click_range test click_col self.now.columns }
     {
         words::double_click_range(&self.cells, click_col, &is_word)
+    }
+
+    /// Lends a cell for each column. What is left there is read from the left as the line's
+    /// columns: the cell behind a wide one isn't looked at, and a wide cell with none behind it
+    /// counts as a blank with its attributes. Number and bits stay.
+    pub fn cells_mut(&mut self) -> Result<&mut [Cell], AllocError>
+        ensures* writes_back { sem 𝓛 (LendsCells self.entry result) }
+        ensures cells { IfOk result (λ cells. row_of_cells cells.now ≡ self.old.columns) }
+        ensures count { IfOk result (λ cells. length cells.now ≡ length self.old.columns) }
+    {
+        Ok(self.lent_cells())
+    }
+
+    /// The same as `cells_mut`, for callers that change attributes alone.
+    pub fn cells_mut_for_attr_changes_only(&mut self) -> Result<&mut [Cell], AllocError>
+        ensures* writes_back { sem 𝓛 (LendsCells self.entry result) }
+        ensures cells { IfOk result (λ cells. row_of_cells cells.now ≡ self.old.columns) }
+        ensures count { IfOk result (λ cells. length cells.now ≡ length self.old.columns) }
+    {
+        Ok(self.lent_cells())
+    }
+
+    // Lends the cells as they are stored.
+    fn lent_cells(&mut self) -> &mut [Cell]
+        ensures* writes_back { sem 𝓛 (LendsSlice self.entry result) }
+        ensures cells { row_of_cells result.now ≡ self.old.columns }
+    {
+        self.cells.as_mut_slice()
     }
 
     /// Sets whether the line goes on behind its last visible cell, if there is one.
