@@ -1,4 +1,5 @@
 pub mod CellLemmas
+pub mod ClusterLemmas
 pub mod CutLemmas
 pub mod EndLemmas
 pub mod LentLemmas

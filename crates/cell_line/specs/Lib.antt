@@ -1,6 +1,8 @@
 pub mod CellList
 pub mod CellRefView
 pub mod LentCells
+pub mod ClusterView
+pub mod Clusters
 pub mod LineContent
 pub mod LineEdits
 pub mod LineView

@@ -2,6 +2,7 @@
 #![tactic(auto)]
 
 mod cell_ref;
+mod clusters;
 mod line;
 mod query;
 mod read_cells;
@@ -13,6 +14,7 @@ mod wrap;
 mod zones;
 
 pub use cell_ref::CellRef;
+pub use clusters::CellCluster;
 pub use line::Line;
 pub use visible_cells::VisibleCellIter;
 

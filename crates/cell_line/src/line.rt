@@ -10,6 +10,7 @@ ghost use Rattle.cell_line.specs.LineContent.{LineContent, line_of, changed, is_
 ghost use Rattle.cell_line.specs.RowEdits.{cut, cut_front, resized, with_cell, removed, erased, erased_within, with_inserted, overlaid, filled};
 ghost use Rattle.cell_base.specs.SameCell.{same_cell};
 ghost use Rattle.cell_line.specs.VisibleCells.{visible_cells, cell_at, cells_between, texts_joined, has_link, is_whitespace_row, ends_wrapped, row_end_wrapped, row_of_visible};
+ghost use Rattle.cell_line.specs.Clusters.{cell_clusters};
 ghost use Rattle.cell_line.specs.LineEdits.{pruned, filled_line};
 ghost use Rattle.cell_line.specs.Links.{without_implicit, column_with, without_implicit_links};
 ghost use Rattle.cell_line.specs.Wrapped.{wrapped};
@@ -20,6 +21,7 @@ ghost use Rattle.cell_line.specs.LentCells.{LendsCells, LendsSlice};
 ghost use Rattle.cell_line.specs.CellRefView.{shown_by, cells_left};
 
 use crate::cell_ref::CellRef;
+use crate::clusters::CellCluster;
 use crate::visible_cells::VisibleCellIter;
 use crate::{query, row, text, words, wrap, zones};
 use cell_base::{
@@ -375,6 +377,13 @@ impl Line {
         ensures { cells_left result ≡ visible_cells self.now.columns }
     {
         VisibleCellIter::new(&self.cells)
+    }
+
+    /// The clusters of the visible cells, in order.
+    pub fn cluster(&self) -> Result<Vec<CellCluster>, AllocError>
+        ensures { IfOk result (λ clusters. clusters.items ≡ cell_clusters (visible_cells self.now.columns)) }
+    {
+        CellCluster::make_cluster(self.alloc, 0, self.visible_cells())
     }
 
     /// The visible cell that begins at a column.
