@@ -1,13 +1,13 @@
 -- Clusters that are made cell by cell.
-use Rattle.std.proofs.Common.{◌≡◌, ℕ, zero, suc, ◌+◌, ◌-◌, ◌<◌, Bool, true, false, List, [], ◌∷◌, ◌++◌, length, get_or, set, replicate, refl, sym, ap, ◌∙◌, arith}
-use Rattle.std.specs.Prelude.{not, ◌&&◌, ◌||◌, map, fold, sum_by, flat_map, if◌then◌else◌}
+use Rattle.std.proofs.Common.{◌≡◌, ℕ, zero, suc, ◌+◌, ◌<◌, Bool, true, false, List, [], ◌∷◌, ◌++◌, length, get_or, set, replicate, refl, sym, ap, ◌∙◌, arith}
+use Rattle.std.specs.Prelude.{not, ◌&&◌, ◌||◌, map, sum_by, flat_map, if◌then◌else◌}
 use Rattle.std.proofs.lemmas.List.{map-append, map-set, append-nil, length-append, length-map}
 use Rattle.std.proofs.lemmas.List.Sums.{sum_by-append, fold-append}
 use Rattle.std.proofs.lemmas.List.Folds.{list_any-append}
 use Rattle.std.proofs.lemmas.Grind.{flat_map-append}
 use Rattle.cell_base.specs.SameAttributes.{same_attributes}
-use Rattle.cell_line.specs.VisibleCells.{VisibleCell, is_space, texts_joined}
-use Rattle.cell_line.specs.Clusters.{ClusterContent, unwrapped, cluster_attributes, ends_in_space, holds_text, begins_cluster, joined_cluster, clusters_of, first_column, for_each_byte, cluster_of}
+use Rattle.cell_line.specs.VisibleCells.{VisibleCell, is_space}
+use Rattle.cell_line.specs.Clusters.{ClusterContent, unwrapped, cluster_attributes, ends_in_space, holds_text, begins_cluster, joined_cluster, cluster_of}
 use Rattle.cell_line.specs.ClusterView.{grown, last_of, begins_behind, IsMadeOf}
 use Rattle.cell_line.specs.declared.clusters.Clusters.{Clusters}
 

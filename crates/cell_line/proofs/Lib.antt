@@ -1,10 +1,12 @@
 pub mod CellLemmas
+pub mod ClusterCutLemmas
 pub mod ClusterLemmas
 pub mod CutLemmas
 pub mod EndLemmas
 pub mod LentLemmas
 pub mod LentSteps
 pub mod LinkLemmas
+pub mod PlaceLemmas
 pub mod ReadLemmas
 pub mod VisibleLemmas
 pub mod WordLemmas

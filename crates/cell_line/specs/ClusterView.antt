@@ -1,18 +1,19 @@
 -- What a `CellCluster` shows, and clusters that are being made.
-use Rattle.std.specs.Prelude.{◌≡◌, ℕ, ◌+◌, ◌<◌, ◌≤◌, Bool, true, List, [], ◌∷◌, ◌++◌, length, map, replicate}
+use Rattle.std.specs.Prelude.{◌≡◌, ◌+◌, ◌<◌, ◌≤◌, Bool, true, List, [], ◌∷◌, ◌++◌, length, map, replicate}
 use Rattle.std.specs.String.{string_bytes}
 use Rattle.cell_line.specs.VisibleCells.{VisibleCell}
+use Rattle.cell_line.specs.Places.{columns_in, widths_in}
 use Rattle.cell_line.specs.Clusters.{ClusterContent, cluster_of, begins_cluster, ends_in_space, holds_text}
 use Rattle.cell_line.specs.declared.clusters.CellCluster.TheInside.{Inside}
 use Rattle.cell_line.specs.declared.clusters.Clusters.{Clusters}
 
 abbrev pub content_of : Inside → ClusterContent
-content_of a = record { attributes = a.attrs; text = string_bytes a.text; width = a.width; first_column = a.first_cell_idx; columns = a.columns.items; widths = a.widths.items }
+content_of a = record { attributes = a.attrs; text = string_bytes a.text; width = a.width; first_column = a.first_cell_idx; columns = columns_in a.places; widths = widths_in a.places }
 
 -- each byte of the text has a column and a width
 pub record IsPlaced (a : Inside) : Type 0 where
-  pub columns : length (string_bytes a.text) ≤ length a.columns.items
-  pub widths : length (string_bytes a.text) ≤ length a.widths.items
+  pub columns : length (string_bytes a.text) ≤ length (columns_in a.places)
+  pub widths : length (string_bytes a.text) ≤ length (widths_in a.places)
 
 -- a cluster with a cell behind its own
 abbrev pub grown : ClusterContent → VisibleCell → ClusterContent

@@ -7,7 +7,7 @@ use Rattle.cell_line.specs.VisibleCells.{VisibleCell, is_space, texts_joined}
 
 -- ---- which cells are together
 
--- attributes, whether or not the line goes on behind the cell
+-- the attributes, less `wrapped`
 abbrev pub unwrapped : Attributes → Attributes
 unwrapped attributes = record attributes { wrapped = false }
 
@@ -24,7 +24,7 @@ ends_in_space cells = fold (λ _ v. is_space v) false cells
 abbrev pub holds_text : List VisibleCell → Bool
 holds_text cells = list_any (λ v. not (is_space v)) cells
 
--- whether a cell begins a new cluster behind the cells of the last one: its attributes differ, it is no space and follows a space, or it is a space and follows a space where another text stands
+-- whether a cell begins a new cluster behind the cells of the last one: its attributes less `wrapped` differ from the cluster's, it is no space and follows a space, or it is a space and follows a space where another text stands
 abbrev pub begins_cluster : List VisibleCell → VisibleCell → Bool
 begins_cluster cells v =
     not (same_attributes (cluster_attributes cells) (unwrapped v.cell.attributes)) || not (is_space v) && ends_in_space cells || is_space v && ends_in_space cells && holds_text cells

@@ -1,12 +1,14 @@
 pub mod CellList
 pub mod CellRefView
 pub mod LentCells
+pub mod ClusterCut
 pub mod ClusterView
 pub mod Clusters
 pub mod LineContent
 pub mod LineEdits
 pub mod LineView
 pub mod Links
+pub mod Places
 pub mod ReadCells
 pub mod RowEdits
 pub mod SameLine

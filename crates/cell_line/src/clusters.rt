@@ -9,6 +9,7 @@ ghost use Rattle.cell_line.specs.ClusterView.{grown, begins_behind, IsMadeOf};
 ghost use Rattle.cell_line.specs.declared.cell_ref.CellRef.{CellRef};
 
 use crate::cell_ref::CellRef;
+use crate::places::Places;
 use crate::query::is_space;
 use cell_base::CellAttributes;
 use std::alloc::{AllocError, Global};
@@ -29,7 +30,7 @@ fn unwrapped(attrs: &CellAttributes) -> Result<CellAttributes, AllocError>
 /// a cell makes no difference, and a cluster's attributes say that it doesn't.
 #[derive(Debug, Drop)]
 pub struct CellCluster {
-    /// The attributes of its cells.
+    /// The attributes of its first cell, as of one behind which the line doesn't go on.
     pub attrs: CellAttributes,
     /// The texts of its cells, joined.
     pub text: String,
@@ -37,9 +38,7 @@ pub struct CellCluster {
     pub width: usize,
     /// The first column of its first cell, counted from 0.
     pub first_cell_idx: usize,
-    // For each byte of the text, the first column of its cell and the columns that it takes.
-    columns: Vec<usize>,
-    widths: Vec<u8>,
+    places: Places,
 }
 
 impl Model for CellCluster {
@@ -77,7 +76,7 @@ impl CellCluster {
         requires { byte_idx < length self.now.text }
         ensures { result ≡ slice_index self.now.columns byte_idx }
     {
-        self.columns[byte_idx]
+        self.places.column(byte_idx)
     }
 
     /// The columns, 1 or 2, of the cell that a byte of the text belongs to.
@@ -85,7 +84,7 @@ impl CellCluster {
         requires { byte_idx < length self.now.text }
         ensures { result ≡ slice_index self.now.widths byte_idx }
     {
-        self.widths[byte_idx]
+        self.places.width(byte_idx)
     }
 
     /// A copy.
@@ -97,8 +96,7 @@ impl CellCluster {
             text: self.text.clone()?,
             width: self.width,
             first_cell_idx: self.first_cell_idx,
-            columns: self.columns.clone()?,
-            widths: self.widths.clone()?,
+            places: self.places.try_clone()?,
         })
     }
 
@@ -119,8 +117,7 @@ impl CellCluster {
             text: String::with_capacity(alloc, hint)?,
             width: 0,
             first_cell_idx: cell.cell_index(),
-            columns: Vec::new(alloc),
-            widths: Vec::new(alloc),
+            places: Places::new(alloc, cell.cell_index()),
         };
         cluster.grow(cell)?;
         Ok(cluster)
@@ -131,11 +128,9 @@ impl CellCluster {
         ensures { OnOk result (self.new ≡ grown self.old (shown_by cell.now)) }
     {
         let width = cell.width();
-        let count = cell.str().len();
+        let column = cell.cell_index();
         self.width = self.width.checked_add(width).ok_or(AllocError)?;
-        self.columns
-            .resize(self.columns.len() + count, cell.cell_index())?;
-        self.widths.resize(self.widths.len() + count, width as u8)?;
+        self.places.push(cell.str(), column, width as u8)?;
         self.text.push_str(cell.str())?;
         Ok(())
     }

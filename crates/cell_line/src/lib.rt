@@ -3,7 +3,9 @@
 
 mod cell_ref;
 mod clusters;
+pub mod laws;
 mod line;
+mod places;
 mod query;
 mod read_cells;
 mod row;

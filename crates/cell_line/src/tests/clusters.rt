@@ -145,6 +145,19 @@ fn clusters_of_part_of_a_line(rt: HostRuntime) -> Result<(), Fail> {
 }
 
 #[test]
+fn clusters_of_cells_apart(rt: HostRuntime) -> Result<(), Fail> {
+    let line = Line::try_from_text(rt.alloc(), "abc", &ProgramWidth)?;
+    let ends = line.visible_cells().filter(|cell| cell.cell_index() != 1);
+    let clusters = CellCluster::make_cluster(rt.alloc(), 0, ends)?;
+    let cluster = clusters.first().ok_or("none")?;
+    assert_eq!(rt; cluster.text.as_str(), "ac");
+    assert_eq!(rt; cluster.width, 2);
+    assert_eq!(rt; place(cluster, 0), Some((0, 1)));
+    assert_eq!(rt; place(cluster, 1), Some((2, 1)));
+    Ok(())
+}
+
+#[test]
 fn copied_clusters(rt: HostRuntime) -> Result<(), Fail> {
     let line = Line::try_from_text(rt.alloc(), "\u{304b}b", &ProgramWidth)?;
     let clusters = line.cluster()?;

@@ -1,10 +1,10 @@
-use Rattle.std.proofs.Common.{◌≡◌, ◌∙◌, ◌-◌, ap, sym, List, length, get_or, arith}
+use Rattle.std.proofs.Common.{◌≡◌, ◌∙◌, ◌-◌, ap, List, length, get_or, arith}
 use Rattle.std.specs.Prelude.{not, ◌&&◌, ◌||◌}
 use Rattle.std.specs.Str.{bytes_eq}
 use Rattle.cell_base.specs.Row.{space}
 use Rattle.cell_base.specs.SameAttributes.{same_attributes}
 use Rattle.cell_line.specs.CellRefView.{shown_by}
-use Rattle.cell_line.specs.VisibleCells.{VisibleCell, is_space}
+use Rattle.cell_line.specs.VisibleCells.{is_space}
 use Rattle.cell_line.specs.Clusters.{ClusterContent, unwrapped}
 use Rattle.cell_line.proofs.ClusterLemmas.{begins_made, made_length}
 use Rattle.cell_line.proofs.clusters.Clusters.begins.Goals as goal

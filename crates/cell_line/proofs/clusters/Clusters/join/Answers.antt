@@ -3,7 +3,7 @@ use Rattle.std.specs.Prelude.{not, ◌||◌}
 use Rattle.std.specs.Str.{bytes_eq}
 use Rattle.cell_base.specs.Row.{space}
 use Rattle.cell_line.specs.CellRefView.{shown_by}
-use Rattle.cell_line.specs.VisibleCells.{VisibleCell, is_space}
+use Rattle.cell_line.specs.VisibleCells.{is_space}
 use Rattle.cell_line.specs.Clusters.{cluster_of}
 use Rattle.cell_line.proofs.ClusterLemmas.{made_joined, made_length}
 use Rattle.cell_line.proofs.clusters.Clusters.join.Goals as goal
