@@ -1,9 +1,9 @@
 pub mod CellList
 pub mod CellRefView
-pub mod LentCells
 pub mod ClusterCut
 pub mod ClusterView
 pub mod Clusters
+pub mod LentCells
 pub mod LineContent
 pub mod LineEdits
 pub mod LineView
