@@ -1,18 +1,18 @@
 -- Cells that were written or cut in a vector, and the row that they are read as.
-use Rattle.std.proofs.Common.{◌≡◌, ℕ, zero, suc, ◌+◌, ◌-◌, ◌<◌, ◌≤◌, Bool, true, false, List, [], ◌∷◌, ◌++◌, length, get_or, take, drop, set, replicate, refl, sym, ap, subst, ◌∙◌, arith, append_assoc, inl, inr, min}
+use Rattle.std.proofs.Common.{◌≡◌, ℕ, zero, suc, ◌+◌, ◌-◌, ◌<◌, ◌≤◌, true, false, List, [], ◌∷◌, ◌++◌, length, take, drop, set, replicate, refl, sym, ap, ◌∙◌, arith, append_assoc, inl, inr}
 use Rattle.std.specs.Prelude.{◌⊎◌, nat_lt, nat_le, if◌then◌else◌, insert}
 use Rattle.std.proofs.lemmas.Bool.{ltb-true, ltb-false, lt-ltb, le-ltb, le-leb}
 use Rattle.std.proofs.lemmas.Bool.Decides.{leb_tells}
 use Rattle.std.proofs.lemmas.Grind.{common_steps}
-use Rattle.std.proofs.lemmas.List.{take-set, take-set-le, take_more_set, drop-set, drop-set-lt, drop_all, drop-drop, set_split, length-set, length-take-le, take-append-drop, take_all, take_at, drop_at, append-nil}
+use Rattle.std.proofs.lemmas.List.{take-set-le, take_more_set, drop-set, drop-set-lt, drop_all, drop-drop, set_split, length-set, length-take-le, take-append-drop, take_all, take_at, drop_at, append-nil}
 use Rattle.std.proofs.Math.Seq.{drop-append-add}
 use Rattle.cell_base.specs.Attributes.{Attributes, plain}
 use Rattle.cell_base.specs.CellContent.{CellContent, blank_cell, row_of_cells}
-use Rattle.cell_base.specs.Row.{Column, Narrow, LeftHalf, RightHalf, Row, blank, plain_row, closed_end, closed_start, left_alone, right_alone, set_columns, columns_of}
+use Rattle.cell_base.specs.Row.{Narrow, LeftHalf, RightHalf, Row, blank, plain_row, closed_end, closed_start}
 use Rattle.cell_line.specs.CellList.{ends_halved, blank_for}
 use Rattle.cell_line.specs.LineContent.{cell_columns}
 use Rattle.cell_line.specs.RowEdits.{cut, cut_front, padded, resized, removed, inserted}
-use Rattle.cell_line.proofs.CellLemmas.{by_test, wide_is, narrow_is, row_wide, row_narrow, length-row, closed_end-wide, closed_end-narrow, before_clean, behind_clean, before_cut, behind_cut, cut_whole, row_joined, halved_joined}
+use Rattle.cell_line.proofs.CellLemmas.{by_test, row_wide, row_narrow, length-row, closed_end-wide, closed_end-narrow, before_cut, behind_cut, cut_whole, row_joined}
 
 leb_false : (m n : ℕ) → n < m → nat_le m n ≡ false
 leb_false m n h = elim (leb_tells m n) [ inl p ↦ absurd (omega arith) | inr p ↦ p.0 ]

@@ -1,17 +1,17 @@
 -- The end of a row: plain blanks, and the last cell.
-use Rattle.std.proofs.Common.{◌≡◌, ℕ, zero, suc, ◌+◌, ◌-◌, ◌<◌, ◌≤◌, Bool, true, false, List, [], ◌∷◌, ◌++◌, length, get_or, take, drop, set, refl, sym, ap, subst, ◌∙◌, arith}
-use Rattle.std.specs.Prelude.{nat_le, not, ◌||◌, ◌&&◌, if◌then◌else◌}
-use Rattle.std.specs.List.{list_any, list_all, flat_map}
+use Rattle.std.proofs.Common.{◌≡◌, ℕ, zero, suc, ◌+◌, ◌-◌, ◌<◌, ◌≤◌, Bool, true, false, List, [], ◌∷◌, ◌++◌, length, get_or, take, set, refl, sym, ap, subst, ◌∙◌, arith}
+use Rattle.std.specs.Prelude.{nat_le, not, ◌||◌, if◌then◌else◌}
+use Rattle.std.specs.List.{list_any}
 use Rattle.std.proofs.lemmas.Bool.{false≢true}
-use Rattle.std.proofs.lemmas.List.{take_more, take_all}
+use Rattle.std.proofs.lemmas.List.{take_more}
 use Rattle.cell_base.specs.Attributes.{Attributes}
 use Rattle.cell_base.specs.CellContent.{CellContent, row_of_cells}
-use Rattle.cell_base.specs.Row.{Column, Narrow, LeftHalf, RightHalf, Row, space, blank}
+use Rattle.cell_base.specs.Row.{Column, Narrow, LeftHalf, RightHalf, Row, blank}
 use Rattle.cell_line.specs.CellList.{ends_halved, mark_cell}
-use Rattle.cell_line.specs.LineContent.{LineContent, changed, cell_columns}
+use Rattle.cell_line.specs.LineContent.{LineContent, changed}
 use Rattle.cell_line.specs.LineEdits.{left_of}
 use Rattle.cell_line.specs.RowEdits.{is_plain_blank, up_to_last, pruned_row}
-use Rattle.cell_line.specs.VisibleCells.{VisibleCell, visible_at, visible_from, visible_cells, row_of_visible, mark_wrapped, with_end_wrapped, row_end_wrapped}
+use Rattle.cell_line.specs.VisibleCells.{VisibleCell, visible_at, visible_from, row_of_visible, with_end_wrapped, row_end_wrapped}
 use Rattle.cell_line.proofs.CutLemmas.{row_narrow_any}
 use Rattle.cell_line.proofs.CellLemmas.{by_test, row_wide, row_narrow, halved_wide, halved_narrow, halved_more, row_joined}
 

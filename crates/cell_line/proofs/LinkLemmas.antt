@@ -1,11 +1,11 @@
 -- Attributes of every cell changed.
-use Rattle.std.proofs.Common.{◌≡◌, ℕ, zero, suc, ◌+◌, ◌<◌, Bool, true, false, List, [], ◌∷◌, ◌++◌, length, get_or, take, drop, set, refl, sym, ap, ◌∙◌, arith}
+use Rattle.std.proofs.Common.{◌≡◌, ℕ, zero, suc, ◌+◌, ◌<◌, List, [], ◌∷◌, ◌++◌, length, get_or, take, drop, set, refl, sym, ap, ◌∙◌, arith}
 use Rattle.std.proofs.lemmas.List.{take_more, take_more_set, drop-set-lt, drop-drop, take-append-le, take_all}
 use Rattle.std.specs.Global.{Vec}
 use Rattle.std.specs.Vec.{with_items}
 use Rattle.std.specs.Prelude.{nat_le, map}
 use Rattle.cell_base.specs.CellContent.{CellContent, row_of_cells}
-use Rattle.cell_base.specs.Row.{Column, Narrow, LeftHalf, RightHalf, Row}
+use Rattle.cell_base.specs.Row.{Narrow, LeftHalf, RightHalf, Row}
 use Rattle.cell_line.specs.Links.{without_implicit, column_with, cell_without_implicit}
 use Rattle.cell_line.proofs.CellLemmas.{by_test, row_wide, row_narrow}
 use Rattle.cell_line.proofs.CutLemmas.{row_narrow_any}

@@ -1,10 +1,8 @@
 -- Cells read from the left as they are stored, and as visible cells.
-use Rattle.std.proofs.Common.{◌≡◌, ℕ, zero, suc, ◌+◌, ◌<◌, ◌≤◌, Bool, true, false, List, [], ◌∷◌, ◌++◌, length, refl, sym, ap, ◌∙◌, append_assoc, arith}
+use Rattle.std.proofs.Common.{◌≡◌, ℕ, ◌+◌, ◌<◌, ◌≤◌, Bool, true, false, List, [], ◌∷◌, ◌++◌, length, refl, sym, ap, ◌∙◌, append_assoc, arith}
 use Rattle.std.specs.Prelude.{nat_le, nat_lt, ◌&&◌, map, filter, if◌then◌else◌}
-use Rattle.std.specs.List.{flat_map}
-use Rattle.std.proofs.lemmas.Bool.{false≢true}
 use Rattle.cell_base.specs.CellContent.{CellContent, row_of_cells}
-use Rattle.cell_base.specs.Row.{Row, columns_of}
+use Rattle.cell_base.specs.Row.{Row}
 use Rattle.cell_line.specs.CellList.{ends_halved}
 use Rattle.cell_line.specs.CellRefView.{one_or_two}
 use Rattle.cell_line.specs.LineContent.{LineContent, line_of, cell_columns}
@@ -13,7 +11,6 @@ use Rattle.cell_line.specs.Zones.{is_kept_by}
 use Rattle.cell_line.specs.VisibleCells.{VisibleCell, visible_at, visible_from, visible_cells, row_of_visible, contents, row_end_wrapped}
 use Rattle.cell_line.specs.ReadCells.{read_from}
 use Rattle.cell_line.proofs.CellLemmas.{by_test, wide_is, narrow_is, row_wide, row_narrow, halved_wide, halved_narrow}
-use Rattle.cell_line.proofs.CutLemmas.{row_narrow_any}
 
 -- a stored cell as it is seen
 abbrev pub seen : VisibleCell → VisibleCell

@@ -1,10 +1,9 @@
 -- The visible cells of cells that are read from the left.
-use Rattle.std.proofs.Common.{◌≡◌, ℕ, zero, suc, ◌+◌, ◌-◌, ◌<◌, ◌≤◌, Bool, true, false, List, [], ◌∷◌, ◌++◌, length, refl, sym, ap, subst, ◌∙◌, arith, append_assoc}
-use Rattle.std.specs.Prelude.{nat_le, map, IsTrue, ◌↔◌, if◌then◌else◌}
+use Rattle.std.proofs.Common.{◌≡◌, ℕ, ◌+◌, ◌<◌, ◌≤◌, Bool, List, [], ◌∷◌, ◌++◌, refl, sym, ap, ◌∙◌, arith}
+use Rattle.std.specs.Prelude.{nat_le, IsTrue, ◌↔◌, if◌then◌else◌}
 use Rattle.std.specs.List.{flat_map}
-use Rattle.cell_base.specs.Attributes.{Attributes}
 use Rattle.cell_base.specs.CellContent.{CellContent, row_of_cells}
-use Rattle.cell_base.specs.Row.{Column, Narrow, LeftHalf, RightHalf, Row, space, blank, row_text}
+use Rattle.cell_base.specs.Row.{Narrow, LeftHalf, RightHalf, Row, space, blank, row_text}
 use Rattle.cell_line.specs.LineContent.{cell_columns}
 use Rattle.cell_line.specs.VisibleCells.{VisibleCell, visible_at, visible_from, visible_cells, row_of_visible, contents, texts_joined}
 use Rattle.cell_line.specs.CellRefView.{one_or_two}

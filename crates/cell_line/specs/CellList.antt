@@ -1,5 +1,5 @@
 -- Cells in a vector, as they are read from the left.
-use Rattle.std.specs.Prelude.{ℕ, Bool, true, false, nat_le, List, [], ◌∷◌, slice_index_or, if◌then◌else◌}
+use Rattle.std.specs.Prelude.{ℕ, Bool, false, nat_le, List, [], ◌∷◌, slice_index_or, if◌then◌else◌}
 use Rattle.cell_base.specs.Attributes.{plain}
 use Rattle.cell_base.specs.CellContent.{CellContent, blank_cell}
 

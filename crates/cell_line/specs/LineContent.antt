@@ -1,12 +1,12 @@
 -- A line as a value, and what its makers and its number and bits say.
-use Rattle.std.specs.Prelude.{ℕ, Bool, true, false, ◌||◌, ◌==◌, nat_lt, nat_le, max, List, [], ◌∷◌, map, replicate}
+use Rattle.std.specs.Prelude.{ℕ, Bool, true, false, ◌||◌, ◌==◌, nat_lt, nat_le, max, List, map}
 use Rattle.std.specs.List.{flat_map}
 use Rattle.cell_base.specs.declared.attributes.LineAttribute.{LineAttribute}
 use Rattle.cell_base.specs.declared.attributes.LineAttribute.TheVariants.{SingleWidthLine, DoubleWidthLine, DoubleHeightTopHalfLine, DoubleHeightBottomHalfLine}
-use Rattle.cell_base.specs.Attributes.{Attributes, plain}
-use Rattle.cell_base.specs.CellContent.{CellContent, cell_of, row_of_cells}
+use Rattle.cell_base.specs.Attributes.{Attributes}
+use Rattle.cell_base.specs.CellContent.{CellContent, cell_of}
 use Rattle.cell_base.specs.Cluster.{clusters}
-use Rattle.cell_base.specs.Row.{Row, columns_of, plain_row}
+use Rattle.cell_base.specs.Row.{Row, columns_of}
 
 -- the number of its last change, its bits (a line of single width has none), and its columns
 pub record LineContent : Type 0 where

@@ -1,5 +1,5 @@
 -- Edits of a whole line.
-use Rattle.std.specs.Prelude.{ℕ, Bool, ◌&&◌, ◌==◌, ◌-◌, List, [], ◌∷◌, length, if◌then◌else◌}
+use Rattle.std.specs.Prelude.{ℕ, ◌&&◌, ◌==◌, ◌-◌, [], ◌∷◌, length, if◌then◌else◌}
 use Rattle.cell_base.specs.Attributes.{plain}
 use Rattle.cell_base.specs.CellContent.{CellContent, blank_cell}
 use Rattle.cell_base.specs.SameCell.{same_cell}

@@ -1,10 +1,10 @@
 -- The visible cells of a row, and what is asked of them.
-use Rattle.std.specs.Prelude.{ℕ, ◌+◌, Bool, true, false, ◌&&◌, ◌==◌, nat_lt, nat_le, List, [], ◌∷◌, ◌++◌, Option, Some, None, find, filter, fold, map, is_some, if◌then◌else◌}
+use Rattle.std.specs.Prelude.{ℕ, ◌+◌, Bool, false, ◌&&◌, ◌==◌, nat_lt, nat_le, List, [], ◌∷◌, Option, find, filter, fold, map, is_some}
 use Rattle.std.specs.List.{flat_map, list_any, list_all}
 use Rattle.std.specs.Str.{bytes_eq}
 use Rattle.cell_base.specs.Attributes.{Attributes}
 use Rattle.cell_base.specs.CellContent.{CellContent}
-use Rattle.cell_base.specs.Row.{Column, Narrow, LeftHalf, RightHalf, Row, space}
+use Rattle.cell_base.specs.Row.{Narrow, LeftHalf, RightHalf, Row, space}
 use Rattle.cell_line.specs.CellList.{mark_cell}
 use Rattle.cell_line.specs.LineContent.{cell_columns}
 

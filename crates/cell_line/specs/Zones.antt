@@ -1,6 +1,5 @@
 -- The zones of a row: neighbouring cells of one semantic type.
-use Rattle.std.specs.Prelude.{ℕ, Bool, true, false, not, nat_le, min, List, [], ◌∷◌, Option, Some, None, filter, fold, if◌then◌else◌}
-use Rattle.std.specs.declared.ops.Range.{Range}
+use Rattle.std.specs.Prelude.{ℕ, Bool, true, false, nat_le, min, List, [], ◌∷◌, Option, Some, None, filter, fold, if◌then◌else◌}
 use Rattle.cell_base.specs.declared.attributes.SemanticType.{SemanticType}
 use Rattle.cell_base.specs.declared.attributes.SemanticType.TheVariants.{Output, Input, Prompt}
 use Rattle.cell_base.specs.declared.ranges.ZoneRange.{ZoneRange}

@@ -1,4 +1,4 @@
-use Rattle.std.proofs.Common.{◌≡◌, length, arith}
+use Rattle.std.proofs.Common.{arith}
 use Rattle.cell_line.proofs.CutLemmas.{whole_end, row_end}
 use Rattle.cell_line.proofs.row.close_end.Goals as goal
 

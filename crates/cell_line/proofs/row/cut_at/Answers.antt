@@ -1,4 +1,4 @@
-use Rattle.std.proofs.Common.{◌≡◌, ◌∙◌, ◌-◌, ap, sym, take, zero, true, false, arith}
+use Rattle.std.proofs.Common.{◌≡◌, ◌∙◌, ◌-◌, ap, sym, take, zero, true, arith}
 use Rattle.cell_line.specs.CellList.{ends_halved}
 use Rattle.cell_line.proofs.CellLemmas.{before_clean, behind_clean}
 use Rattle.cell_line.proofs.CutLemmas.{cut_before, cut_behind, cut_is_whole, cut_earlier}

@@ -1,4 +1,4 @@
-use Rattle.std.proofs.Common.{◌≡◌, ◌∙◌, length, arith}
+use Rattle.std.proofs.Common.{arith}
 use Rattle.cell_line.specs.Links.{cell_without_implicit}
 use Rattle.cell_line.proofs.LinkLemmas.{mapped_done, mapped_rest}
 use Rattle.cell_line.proofs.row.drop_implicit_links.Goals as goal

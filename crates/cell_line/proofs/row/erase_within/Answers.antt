@@ -3,7 +3,7 @@ use Rattle.std.specs.Prelude.{nat_lt, if◌then◌else◌}
 use Rattle.std.specs.Global.{Vec}
 use Rattle.cell_base.specs.declared.cell.Cell.{Cell}
 use Rattle.cell_base.specs.CellContent.{CellContent, row_of_cells}
-use Rattle.cell_base.specs.Row.{Row, blank}
+use Rattle.cell_base.specs.Row.{blank}
 use Rattle.cell_line.specs.LineContent.{cell_columns}
 use Rattle.cell_line.specs.RowEdits.{removed, inserted}
 use Rattle.cell_line.proofs.CellLemmas.{length-row}

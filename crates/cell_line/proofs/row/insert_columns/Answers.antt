@@ -1,4 +1,4 @@
-use Rattle.std.proofs.Common.{◌≡◌, ◌∙◌, ap, sym, take, drop, arith}
+use Rattle.std.proofs.Common.{◌∙◌, ap, sym, take, drop, arith}
 use Rattle.std.specs.Global.{Vec}
 use Rattle.std.specs.Prelude.{insert}
 use Rattle.cell_base.specs.declared.cell.Cell.{Cell}

@@ -1,4 +1,4 @@
-use Rattle.std.proofs.Common.{◌≡◌, ◌∙◌, ◌-◌, ◌<◌, ◌≤◌, ap, sym, subst, get_or, take, zero, refl, arith}
+use Rattle.std.proofs.Common.{◌≡◌, ◌<◌, ◌≤◌, ap, subst, take, zero, arith}
 use Rattle.cell_base.specs.CellContent.{CellContent}
 use Rattle.cell_line.proofs.CellLemmas.{turned_on, turned_last, halved_at_wide, halved_at_narrow}
 use Rattle.cell_line.specs.CellList.{ends_halved}

@@ -1,4 +1,4 @@
-use Rattle.std.proofs.Common.{◌≡◌, ◌≤◌, ◌∙◌, ap, length, arith}
+use Rattle.std.proofs.Common.{◌∙◌, ap, arith}
 use Rattle.cell_base.specs.CellContent.{row_of_cells}
 use Rattle.cell_line.specs.CellList.{ends_halved}
 use Rattle.cell_line.proofs.CellLemmas.{length-row}

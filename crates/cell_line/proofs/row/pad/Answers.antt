@@ -1,4 +1,4 @@
-use Rattle.std.proofs.Common.{◌≡◌, length, arith}
+use Rattle.std.proofs.Common.{arith}
 use Rattle.cell_line.proofs.CutLemmas.{pad_row, pad_none}
 use Rattle.cell_line.proofs.row.pad.Goals as goal
 

@@ -1,4 +1,4 @@
-use Rattle.std.proofs.Common.{◌≡◌, ◌≤◌, ◌<◌, ◌∙◌, zero, ap, sym, take, length, arith}
+use Rattle.std.proofs.Common.{◌≡◌, ◌<◌, ◌∙◌, zero, ap, sym, take, length, arith}
 use Rattle.std.proofs.lemmas.List.{length-take-le}
 use Rattle.cell_base.specs.CellContent.{row_of_cells}
 use Rattle.cell_line.specs.RowEdits.{pruned_row}

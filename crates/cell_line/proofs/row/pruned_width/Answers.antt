@@ -1,4 +1,4 @@
-use Rattle.std.proofs.Common.{◌≡◌, ◌∙◌, ◌-◌, zero, true, false, ap, sym, take, arith}
+use Rattle.std.proofs.Common.{◌≡◌, ◌∙◌, zero, ap, sym, take, arith}
 use Rattle.cell_base.specs.Attributes.{plain}
 use Rattle.cell_base.specs.CellContent.{CellContent, row_of_cells, blank_cell}
 use Rattle.cell_base.specs.Row.{Narrow}

@@ -1,4 +1,4 @@
-use Rattle.std.proofs.Common.{◌≡◌, ◌∙◌, ◌++◌, ◌∷◌, [], List, ap, sym, append_assoc, arith}
+use Rattle.std.proofs.Common.{◌∙◌, ◌++◌, ◌∷◌, [], List, ap, sym, append_assoc, arith}
 use Rattle.cell_base.specs.CellContent.{CellContent, row_of_cells}
 use Rattle.cell_base.specs.Row.{Row}
 use Rattle.cell_line.specs.CellList.{ends_halved}

@@ -1,4 +1,4 @@
-use Rattle.std.proofs.Common.{◌≡◌, ◌∙◌, ◌+◌, ◌++◌, ap, take, drop}
+use Rattle.std.proofs.Common.{◌∙◌, ◌+◌, ◌++◌, ap, take, drop}
 use Rattle.cell_base.specs.CellContent.{row_of_cells}
 use Rattle.cell_line.proofs.CellLemmas.{row_joined}
 use Rattle.cell_line.proofs.row.remove_column.Goals as goal

@@ -1,4 +1,4 @@
-use Rattle.std.proofs.Common.{◌≡◌, ◌∙◌, ◌-◌, ap, sym, take, true, false, arith}
+use Rattle.std.proofs.Common.{◌≡◌, ◌∙◌, ◌-◌, ap, sym, take, arith}
 use Rattle.std.specs.Prelude.{if◌then◌else◌}
 use Rattle.cell_line.specs.CellList.{ends_halved, mark_cell}
 use Rattle.cell_line.proofs.EndLemmas.{end_set}

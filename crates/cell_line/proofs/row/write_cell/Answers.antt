@@ -2,7 +2,6 @@ use Rattle.std.proofs.Common.{◌≡◌, ◌∙◌, ◌+◌, ap, sym, take, drop
 use Rattle.std.specs.Global.{Vec}
 use Rattle.cell_base.specs.declared.cell.Cell.{Cell}
 use Rattle.cell_base.specs.CellContent.{row_of_cells}
-use Rattle.cell_line.specs.LineContent.{cell_columns}
 use Rattle.cell_line.specs.RowEdits.{cut_front}
 use Rattle.cell_line.proofs.CutLemmas.{between_narrow, between_wide, set_one, set_two, count_wide, count_narrow, columns_narrow}
 use Rattle.cell_line.proofs.row.write_cell.Goals as goal

@@ -1,4 +1,4 @@
-use Rattle.std.proofs.Common.{◌≡◌, ℕ, Bool, List, ◌∙◌, ◌++◌, sym, ap}
+use Rattle.std.proofs.Common.{ℕ, Bool, List, ◌∙◌, ◌++◌, sym, ap}
 use Rattle.std.specs.Prelude.{filter, nat_le, nat_lt, ◌&&◌}
 use Rattle.std.proofs.lemmas.List.{append-nil}
 use Rattle.cell_base.specs.CellContent.{row_of_cells}

@@ -1,6 +1,6 @@
 use Rattle.std.proofs.Common.{◌≡◌, ℕ, Bool, List, Option, ◌∙◌, ◌++◌, ◌∷◌, [], true, length, sym, ap}
 use Rattle.std.specs.Prelude.{map, filter, vec_len, if◌then◌else◌}
-use Rattle.cell_base.specs.CellContent.{CellContent, row_of_cells}
+use Rattle.cell_base.specs.CellContent.{row_of_cells}
 use Rattle.cell_base.specs.Row.{Row}
 use Rattle.cell_line.specs.LineContent.{LineContent, line_of, cell_columns}
 use Rattle.cell_line.specs.ReadCells.{read_from, read_left}

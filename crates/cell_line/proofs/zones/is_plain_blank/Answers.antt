@@ -1,8 +1,7 @@
-use Rattle.std.proofs.Common.{◌≡◌, ◌∙◌, sym, ap}
-use Rattle.std.specs.Prelude.{[], ◌∷◌}
+use Rattle.std.proofs.Common.{◌∙◌, sym, ap}
 use Rattle.std.specs.Bool.{one_answer}
-use Rattle.cell_base.specs.Attributes.{Attributes, plain}
-use Rattle.cell_base.specs.CellContent.{CellContent, blank_cell}
+use Rattle.cell_base.specs.Attributes.{plain}
+use Rattle.cell_base.specs.CellContent.{blank_cell}
 use Rattle.cell_base.specs.SameCell.{same_cell_decides}
 use Rattle.cell_line.specs.CellRefView.{shown_by}
 use Rattle.cell_line.proofs.zones.is_plain_blank.Goals as goal

@@ -1,4 +1,4 @@
-use Rattle.std.proofs.Common.{◌≡◌, ◌∙◌, ◌-◌, ◌++◌, ◌∷◌, [], ap, sym, get_or, set, true, false, arith}
+use Rattle.std.proofs.Common.{◌≡◌, ◌∙◌, ◌-◌, ◌++◌, ◌∷◌, [], ap, sym, get_or, set, true, arith}
 use Rattle.cell_base.specs.Attributes.{Attributes}
 use Rattle.cell_base.specs.declared.ranges.ZoneRange.{ZoneRange}
 use Rattle.cell_line.specs.CellRefView.{shown_by}

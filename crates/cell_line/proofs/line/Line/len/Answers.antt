@@ -1,4 +1,4 @@
-use Rattle.std.proofs.Common.{◌≡◌, ◌∙◌, ap, sym, length, arith}
+use Rattle.std.proofs.Common.{◌≡◌, ◌∙◌, ap, sym, length}
 use Rattle.cell_line.specs.LineContent.{LineContent}
 use Rattle.cell_line.proofs.CellLemmas.{length-row}
 use Rattle.cell_line.proofs.line.Line.len.Goals as goal

@@ -1,6 +1,6 @@
-use Rattle.std.proofs.Common.{◌≡◌, ◌∙◌, List, ◌∷◌, ap, length, arith}
+use Rattle.std.proofs.Common.{◌∙◌, List, ◌∷◌, ap, length, arith}
 use Rattle.cell_base.specs.CellContent.{CellContent}
-use Rattle.cell_line.specs.ReadCells.{read_from, read_left}
+use Rattle.cell_line.specs.ReadCells.{read_from}
 use Rattle.cell_line.proofs.ReadLemmas.{read_wide}
 use Rattle.cell_line.proofs.read_cells.ReadCellsIterator.next.Goals as goal
 
