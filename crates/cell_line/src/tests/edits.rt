@@ -17,7 +17,7 @@ fn text_of(line: &Line) -> Result<String, Fail> {
 }
 
 #[test]
-fn made_lines(rt: HostRuntime) -> Result<(), Fail> {
+fn a_line_of_copies_of_a_cell(rt: HostRuntime) -> Result<(), Fail> {
     let alloc = rt.alloc();
     let line = Line::with_width_and_cell(alloc, 2, cell_of(&rt, "x")?, 7)?;
     assert_eq!(rt; text_of(&line)?.as_str(), "xx");
@@ -26,7 +26,7 @@ fn made_lines(rt: HostRuntime) -> Result<(), Fail> {
 }
 
 #[test]
-fn made_lines_2(rt: HostRuntime) -> Result<(), Fail> {
+fn lines_of_blanks_of_cells_and_of_nothing(rt: HostRuntime) -> Result<(), Fail> {
     let alloc = rt.alloc();
     let line = Line::with_width(alloc, 2, 3)?;
     assert_eq!(rt; text_of(&line)?.as_str(), "  ");
@@ -76,7 +76,7 @@ fn texts(rt: HostRuntime) -> Result<(), Fail> {
 }
 
 #[test]
-fn sizes(rt: HostRuntime) -> Result<(), Fail> {
+fn a_resized_line_is_cut_or_padded(rt: HostRuntime) -> Result<(), Fail> {
     let mut line = line_of(&rt, "a\u{304b}")?;
     line.resize(2, 3)?;
     assert_eq!(rt; text_of(&line)?.as_str(), "a ");
@@ -88,7 +88,7 @@ fn sizes(rt: HostRuntime) -> Result<(), Fail> {
 }
 
 #[test]
-fn sizes_2(rt: HostRuntime) -> Result<(), Fail> {
+fn a_cleared_line_has_the_attributes_it_is_given(rt: HostRuntime) -> Result<(), Fail> {
     let mut line = line_of(&rt, "abc")?;
     line.set_double_width(1);
     let mut red = CellAttributes::blank();
@@ -141,7 +141,7 @@ fn numbers_and_bits(rt: HostRuntime) -> Result<(), Fail> {
 }
 
 #[test]
-fn cut_and_joined(rt: HostRuntime) -> Result<(), Fail> {
+fn a_line_is_cut_at_a_column(rt: HostRuntime) -> Result<(), Fail> {
     let mut line = line_of(&rt, "abcd")?;
     line.set_double_width(1);
     let rest = line.split_off(1, 4)?;
@@ -156,7 +156,7 @@ fn cut_and_joined(rt: HostRuntime) -> Result<(), Fail> {
 }
 
 #[test]
-fn cut_and_joined_2(rt: HostRuntime) -> Result<(), Fail> {
+fn a_cut_wide_cell_leaves_blanks_and_lines_are_joined(rt: HostRuntime) -> Result<(), Fail> {
     let mut line = line_of(&rt, "a\u{304b}b")?;
     let rest = line.split_off(2, 1)?;
     assert_eq!(rt; text_of(&line)?.as_str(), "a ");
@@ -169,7 +169,7 @@ fn cut_and_joined_2(rt: HostRuntime) -> Result<(), Fail> {
 }
 
 #[test]
-fn set_cells(rt: HostRuntime) -> Result<(), Fail> {
+fn a_cell_set_on_a_wide_one_leaves_a_blank(rt: HostRuntime) -> Result<(), Fail> {
     let mut line = line_of(&rt, "a\u{304b}")?;
     line.set_cell(1, cell_of(&rt, "x")?, 3)?;
     assert_eq!(rt; text_of(&line)?.as_str(), "ax ");
@@ -181,7 +181,9 @@ fn set_cells(rt: HostRuntime) -> Result<(), Fail> {
 }
 
 #[test]
-fn set_cells_2(rt: HostRuntime) -> Result<(), Fail> {
+fn wide_cells_under_a_set_cell_leave_blanks_and_a_gap_is_padded(
+    rt: HostRuntime,
+) -> Result<(), Fail> {
     let mut line = line_of(&rt, "\u{304b}\u{304b}")?;
     line.set_cell(1, cell_of(&rt, "\u{304b}")?, 1)?;
     assert_eq!(rt; text_of(&line)?.as_str(), " \u{304b} ");
@@ -192,7 +194,7 @@ fn set_cells_2(rt: HostRuntime) -> Result<(), Fail> {
 }
 
 #[test]
-fn set_cells_3(rt: HostRuntime) -> Result<(), Fail> {
+fn a_wide_cell_set_at_the_end_widens_the_line(rt: HostRuntime) -> Result<(), Fail> {
     let mut line = line_of(&rt, "a")?;
     line.set_cell(0, cell_of(&rt, "\u{304b}")?, 1)?;
     assert_eq!(rt; text_of(&line)?.as_str(), "\u{304b}");
@@ -227,7 +229,7 @@ fn overlaid_texts(rt: HostRuntime) -> Result<(), Fail> {
 }
 
 #[test]
-fn inserted_and_removed(rt: HostRuntime) -> Result<(), Fail> {
+fn a_cell_inserted_pushes_others_to_its_margin(rt: HostRuntime) -> Result<(), Fail> {
     let mut line = line_of(&rt, "abc")?;
     line.insert_cell(1, cell_of(&rt, "x")?, 3, 2)?;
     assert_eq!(rt; text_of(&line)?.as_str(), "axb");
@@ -239,7 +241,7 @@ fn inserted_and_removed(rt: HostRuntime) -> Result<(), Fail> {
 }
 
 #[test]
-fn inserted_and_removed_2(rt: HostRuntime) -> Result<(), Fail> {
+fn a_cell_inserted_past_the_end_is_padded_to(rt: HostRuntime) -> Result<(), Fail> {
     let mut line = line_of(&rt, "a")?;
     line.insert_cell(3, cell_of(&rt, "\u{304b}")?, 9, 1)?;
     assert_eq!(rt; text_of(&line)?.as_str(), "a  \u{304b}");
@@ -247,7 +249,7 @@ fn inserted_and_removed_2(rt: HostRuntime) -> Result<(), Fail> {
 }
 
 #[test]
-fn inserted_and_removed_3(rt: HostRuntime) -> Result<(), Fail> {
+fn an_erased_column_leaves_a_blank_at_the_end(rt: HostRuntime) -> Result<(), Fail> {
     let mut line = line_of(&rt, "abc")?;
     line.erase_cell(0, 2)?;
     assert_eq!(rt; text_of(&line)?.as_str(), "bc ");
@@ -258,7 +260,7 @@ fn inserted_and_removed_3(rt: HostRuntime) -> Result<(), Fail> {
 }
 
 #[test]
-fn inserted_and_removed_4(rt: HostRuntime) -> Result<(), Fail> {
+fn a_removed_column_leaves_no_blank(rt: HostRuntime) -> Result<(), Fail> {
     let mut line = line_of(&rt, "abc")?;
     line.remove_cell(0, 2)?;
     assert_eq!(rt; text_of(&line)?.as_str(), "bc");
@@ -271,7 +273,7 @@ fn inserted_and_removed_4(rt: HostRuntime) -> Result<(), Fail> {
 }
 
 #[test]
-fn inserted_and_removed_5(rt: HostRuntime) -> Result<(), Fail> {
+fn an_erased_column_leaves_a_blank_at_its_margin(rt: HostRuntime) -> Result<(), Fail> {
     let mut line = line_of(&rt, "abc")?;
     line.erase_cell_with_margin(0, 2, 2, CellAttributes::blank())?;
     assert_eq!(rt; text_of(&line)?.as_str(), "b c");
@@ -282,7 +284,7 @@ fn inserted_and_removed_5(rt: HostRuntime) -> Result<(), Fail> {
 }
 
 #[test]
-fn pruned_and_filled(rt: HostRuntime) -> Result<(), Fail> {
+fn blanks_at_the_end_are_pruned_unless_nothing_is_left(rt: HostRuntime) -> Result<(), Fail> {
     let mut line = line_of(&rt, "a  ")?;
     line.prune_trailing_blanks(2)?;
     assert_eq!(rt; text_of(&line)?.as_str(), "a");
@@ -295,7 +297,7 @@ fn pruned_and_filled(rt: HostRuntime) -> Result<(), Fail> {
 }
 
 #[test]
-fn pruned_and_filled_2(rt: HostRuntime) -> Result<(), Fail> {
+fn a_wide_cell_at_the_end_is_not_pruned(rt: HostRuntime) -> Result<(), Fail> {
     let mut line = line_of(&rt, "\u{304b}  ")?;
     line.prune_trailing_blanks(2)?;
     assert_eq!(rt; text_of(&line)?.as_str(), "\u{304b}");
@@ -304,7 +306,7 @@ fn pruned_and_filled_2(rt: HostRuntime) -> Result<(), Fail> {
 }
 
 #[test]
-fn pruned_and_filled_3(rt: HostRuntime) -> Result<(), Fail> {
+fn a_filled_range_is_pruned_at_the_end(rt: HostRuntime) -> Result<(), Fail> {
     let mut line = line_of(&rt, "abcd")?;
     line.fill_range(1..3, &cell_of(&rt, "x")?, 2)?;
     assert_eq!(rt; text_of(&line)?.as_str(), "axxd");
@@ -318,7 +320,7 @@ fn pruned_and_filled_3(rt: HostRuntime) -> Result<(), Fail> {
 }
 
 #[test]
-fn pruned_and_filled_4(rt: HostRuntime) -> Result<(), Fail> {
+fn wide_cells_that_fill_a_range_cover_one_another(rt: HostRuntime) -> Result<(), Fail> {
     let mut line = line_of(&rt, "abcd")?;
     line.fill_range(1..3, &cell_of(&rt, "\u{304b}")?, 2)?;
     assert_eq!(rt; text_of(&line)?.as_str(), "a \u{304b}");

@@ -195,7 +195,7 @@ fn texts_of(alloc: Global, lines: &[Line]) -> Result<String, Fail> {
 }
 
 #[test]
-fn wrapped_into_rows(rt: HostRuntime) -> Result<(), Fail> {
+fn a_line_is_wrapped_into_rows_that_go_on(rt: HostRuntime) -> Result<(), Fail> {
     let alloc = rt.alloc();
     let mut line = Line::try_from_text(alloc, "abcd  ", &ProgramWidth)?;
     line.set_double_width(1);
@@ -215,7 +215,7 @@ fn wrapped_into_rows(rt: HostRuntime) -> Result<(), Fail> {
 }
 
 #[test]
-fn wrapped_into_rows_2(rt: HostRuntime) -> Result<(), Fail> {
+fn a_wide_cell_passes_a_narrow_row_and_spaces_are_not_wrapped(rt: HostRuntime) -> Result<(), Fail> {
     let alloc = rt.alloc();
     let line = Line::try_from_text(alloc, "\u{304b}b", &ProgramWidth)?;
     assert_eq!(rt; texts_of(alloc, &line.wrap(0, 7)?)?.as_str(), "\u{304b}|b|");
