@@ -12,6 +12,7 @@ pub mod Places
 pub mod ReadCells
 pub mod RowEdits
 pub mod SameLine
+pub mod Samples
 pub mod VisibleCells
 pub mod Words
 pub mod Wrapped

@@ -181,9 +181,7 @@ fn a_cell_set_on_a_wide_one_leaves_a_blank(rt: HostRuntime) -> Result<(), Fail> 
 }
 
 #[test]
-fn wide_cells_under_a_set_cell_leave_blanks_and_a_gap_is_padded(
-    rt: HostRuntime,
-) -> Result<(), Fail> {
+fn halves_and_gaps_round_a_set_cell_are_blanks(rt: HostRuntime) -> Result<(), Fail> {
     let mut line = line_of(&rt, "\u{304b}\u{304b}")?;
     line.set_cell(1, cell_of(&rt, "\u{304b}")?, 1)?;
     assert_eq!(rt; text_of(&line)?.as_str(), " \u{304b} ");
