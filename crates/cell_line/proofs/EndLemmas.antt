@@ -8,8 +8,7 @@ use Rattle.cell_base.specs.Attributes.{Attributes}
 use Rattle.cell_base.specs.CellContent.{CellContent, row_of_cells}
 use Rattle.cell_base.specs.Row.{Column, Narrow, LeftHalf, RightHalf, Row, blank}
 use Rattle.cell_line.specs.CellList.{ends_halved, mark_cell}
-use Rattle.cell_line.specs.LineContent.{LineContent, changed}
-use Rattle.cell_line.specs.LineEdits.{left_of}
+use Rattle.cell_line.specs.LineContent.{LineContent, changed, changed_unless_empty}
 use Rattle.cell_line.specs.RowEdits.{is_plain_blank, up_to_last, pruned_row}
 use Rattle.cell_line.specs.VisibleCells.{VisibleCell, visible_at, visible_from, row_of_visible, with_end_wrapped, row_end_wrapped}
 use Rattle.cell_line.proofs.CutLemmas.{row_narrow_any}
@@ -208,9 +207,9 @@ end_set (c ∷ cs) k at b d new l e n =
 
 -- ---- what is left of a line
 
-pub left_none : (line : LineContent) (number : ℕ) (r : Row) → r ≡ [] → left_of line number r ≡ line
-left_none line number r e = ap (left_of line number) e
+pub left_none : (line : LineContent) (number : ℕ) (r : Row) → r ≡ [] → changed_unless_empty line number r ≡ line
+left_none line number r e = ap (changed_unless_empty line number) e
 
-pub left_some : (line : LineContent) (number : ℕ) (r : Row) → 0 < length r → left_of line number r ≡ changed line number r
+pub left_some : (line : LineContent) (number : ℕ) (r : Row) → 0 < length r → changed_unless_empty line number r ≡ changed line number r
 left_some line number [] h = absurd (omega arith)
 left_some line number (column ∷ r) h = refl

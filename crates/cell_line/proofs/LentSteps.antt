@@ -37,7 +37,8 @@ use Rattle.std.specs.contracts.result.Result as result
 use Rattle.cell_base.specs.CellContent.{CellContent, row_of_cells}
 use Rattle.cell_base.specs.contracts.cell.Cell.{the_row as cell}
 use Rattle.cell_line.specs.LineContent.{LineContent}
-use Rattle.cell_line.specs.LentCells.{with_cells, LendsCells}
+use Rattle.cell_line.specs.LineCalls.{cells_mut}
+use Rattle.cell_line.specs.LentCells.{LendsCells}
 use Rattle.cell_line.specs.contracts.line.Line.{the_row as line}
 use Rattle.cell_line.specs.contracts.line.Line.lent_cells as callee
 use Rattle.cell_line.specs.contracts.line.Line.cells_mut as own
@@ -88,7 +89,7 @@ module _ {M : Type 1} {𝓤 : Ura M} (𝓛 : Logic 𝓤) (at_mem : Memory → SP
     Post = (walk_of 𝓛 own.ended stayed clauses).post bound
 
     abbrev final : MutBor (List CellContent) → List CellContent → LineContent
-    final r cells = with_cells content (refill (length r.now) r.now cells)
+    final r cells = cells_mut content (refill (length r.now) r.now cells)
 
     abbrev pub Follows : MutBor (List CellContent) → Fml
     Follows r = follows line (Array cell 0) γ r.ghost_name (final r)
@@ -109,7 +110,7 @@ module _ {M : Type 1} {𝓤 : Ura M} (𝓛 : Logic 𝓤) (at_mem : Memory → SP
 
     -- what the clause says of the line at the end
     abbrev Ends : MutBor (List CellContent) → List CellContent → LineContent → Type 0
-    Ends r cells new = IsOk {E = error.the_row.Denot} (Ok r) → length cells ≡ length content.columns → new ≡ with_cells content cells
+    Ends r cells new = IsOk {E = error.the_row.Denot} (Ok r) → length cells ≡ length content.columns → new ≡ cells_mut content cells
 
     abbrev Refused : MutBor (List CellContent) → LineContent → Type 0
     Refused r new = OnErr {E = error.the_row.Denot} (Ok r) (new ≡ content)
@@ -118,7 +119,7 @@ module _ {M : Type 1} {𝓤 : Ura M} (𝓛 : Logic 𝓤) (at_mem : Memory → SP
     unfolding such_by follows_by
     says r e =
         ex_i 𝓤 (λ (y : (p : (List CellContent → LineContent) × LineContent) × ((cells : List CellContent) → Ends r cells (p.0 cells)) × Refused r p.1). sem 𝓛 (follows_if line (Array cell 0) γ (some r.ghost_name) y.0.0 y.0.1))
-        ((final r, content), (λ cells ok long. ap (with_cells content) (refilled (length r.now) r.now cells (long ∙ sym (count r e)))), tt)
+        ((final r, content), (λ cells ok long. ap (cells_mut content) (refilled (length r.now) r.now cells (long ∙ sym (count r e)))), tt)
 
     pub leaves : (r : MutBor (List CellContent)) (v : Val) → Same r → ent 𝓤 (sep 𝓤 (sem 𝓛 (Lent.own_val r (v ∷ []))) (sep 𝓤 (A.lft κ q) (sem 𝓛 (Follows r)))) (Post (live 0 (of_list (v ∷ []))))
     leaves r v e =

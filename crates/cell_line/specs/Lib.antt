@@ -4,8 +4,8 @@ pub mod ClusterCut
 pub mod ClusterView
 pub mod Clusters
 pub mod LentCells
+pub mod LineCalls
 pub mod LineContent
-pub mod LineEdits
 pub mod LineView
 pub mod Links
 pub mod Places

@@ -1,5 +1,5 @@
--- A line as a value, and what its makers and its number and bits say.
-use Rattle.std.specs.Prelude.{ℕ, Bool, true, false, ◌||◌, ◌==◌, nat_lt, nat_le, max, List, map}
+-- A line as a value: its number, its bits and its columns.
+use Rattle.std.specs.Prelude.{ℕ, Bool, true, false, nat_le, max, List, [], ◌∷◌, map}
 use Rattle.std.specs.List.{flat_map}
 use Rattle.cell_base.specs.declared.attributes.LineAttribute.{LineAttribute}
 use Rattle.cell_base.specs.declared.attributes.LineAttribute.TheVariants.{SingleWidthLine, DoubleWidthLine, DoubleHeightTopHalfLine, DoubleHeightBottomHalfLine}
@@ -22,6 +22,11 @@ line_of number columns = record { number = number; bits = SingleWidthLine; colum
 abbrev pub changed : LineContent → ℕ → Row → LineContent
 changed line number columns = record line { number = max line.number number; columns = columns }
 
+-- the same, but where there are no other columns the line stays as it was
+abbrev pub changed_unless_empty : LineContent → ℕ → Row → LineContent
+changed_unless_empty line number [] = line
+changed_unless_empty line number (column ∷ row) = changed line number (column ∷ row)
+
 -- the columns of a cell: two where it is wide
 abbrev pub cell_columns : CellContent → Row
 cell_columns cell = columns_of cell.text (nat_le 2 cell.width) cell.attributes
@@ -33,14 +38,7 @@ text_cells width_of text attributes = map (λ cluster. cell_of cluster (width_of
 abbrev pub text_row : (List ℕ → ℕ) → List ℕ → Attributes → Row
 text_row width_of text attributes = flat_map cell_columns (text_cells width_of text attributes)
 
--- ---- number
-
--- a line that never got a number counts as changed
-abbrev pub is_changed_since : LineContent → ℕ → Bool
-is_changed_since line number = line.number == 0 || nat_lt number line.number
-
--- ---- bits
-
+-- whether bits are these
 abbrev pub is_attribute : LineAttribute → LineAttribute → Bool
 is_attribute SingleWidthLine SingleWidthLine = true
 is_attribute DoubleWidthLine DoubleWidthLine = true

@@ -1,11 +1,10 @@
 -- Links of a line.
-use Rattle.std.specs.Prelude.{Bool, false, Option, Some, None, map, if◌then◌else◌, ℕ}
+use Rattle.std.specs.Prelude.{Bool, false, Option, Some, None, if◌then◌else◌}
 use Rattle.std.specs.List.{list_any}
 use Rattle.cell_base.specs.Attributes.{Attributes}
 use Rattle.cell_base.specs.Link.{Link}
 use Rattle.cell_base.specs.CellContent.{CellContent}
 use Rattle.cell_base.specs.Row.{Column, Narrow, LeftHalf, RightHalf, Row}
-use Rattle.cell_line.specs.LineContent.{LineContent, changed}
 use Rattle.cell_line.specs.VisibleCells.{visible_cells}
 
 -- whether a link was found in a text
@@ -24,11 +23,6 @@ abbrev pub column_with : (Attributes → Attributes) → Column → Column
 column_with change (Narrow text attributes) = Narrow text (change attributes)
 column_with change (LeftHalf text attributes) = LeftHalf text (change attributes)
 column_with change (RightHalf attributes) = RightHalf (change attributes)
-
--- nothing changes where no link was found in a text
-abbrev pub without_implicit_links : LineContent → ℕ → LineContent
-without_implicit_links line number =
-    if has_implicit_link line.columns then changed line number (map (column_with without_implicit) line.columns) else line
 
 -- the same for a cell
 abbrev pub cell_without_implicit : CellContent → CellContent

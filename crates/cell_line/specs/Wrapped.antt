@@ -1,9 +1,9 @@
--- A line wrapped so that it fits a width.
-use Rattle.std.specs.Prelude.{ℕ, ◌+◌, Bool, ◌&&◌, true, nat_lt, List, [], ◌∷◌, ◌++◌, length, map, filter, fold, Option, Some, None, if◌then◌else◌}
+-- Rows that fit a width.
+use Rattle.std.specs.Prelude.{ℕ, ◌+◌, Bool, ◌&&◌, true, nat_lt, List, [], ◌∷◌, ◌++◌, length, filter, fold, Option, Some, None, if◌then◌else◌}
 use Rattle.cell_base.specs.CellContent.{CellContent}
 use Rattle.cell_base.specs.Row.{Row}
-use Rattle.cell_line.specs.LineContent.{LineContent, line_of, cell_columns}
-use Rattle.cell_line.specs.VisibleCells.{VisibleCell, visible_cells, contents, is_space, is_whitespace_row, row_end_wrapped}
+use Rattle.cell_line.specs.LineContent.{cell_columns}
+use Rattle.cell_line.specs.VisibleCells.{VisibleCell, is_space, row_end_wrapped}
 use Rattle.cell_line.specs.Zones.{is_kept_by}
 
 -- whether a cell begins a new row: it doesn't fit behind the columns that are there
@@ -24,9 +24,3 @@ last_text cells = fold (λ last v. if is_space v then last else Some v.column) N
 -- the cells up to that one
 abbrev pub texts_kept : List VisibleCell → List VisibleCell
 texts_kept cells = filter (λ v. is_kept_by (last_text cells) v.column) cells
-
--- a line of spaces stays as it is; the rows of another are lines with a number and no bits
-abbrev pub wrapped : LineContent → ℕ → ℕ → List LineContent
-wrapped line width number =
-    if is_whitespace_row line.columns then line ∷ []
-    else map (line_of number) (rows_from width [] (contents (texts_kept (visible_cells line.columns))))

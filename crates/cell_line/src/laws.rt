@@ -1,16 +1,15 @@
 //! Laws of the definitions: the cut of a line into clusters, and what some edits and questions of
-//! rows give. Each is the contract of a function that does nothing.
+//! lines give. Each is the contract of a function that does nothing.
 ghost use Rattle.std.specs.Prelude.{◌≡◌, ◌++◌, List, [], ◌∷◌, true, codes};
 ghost use Rattle.cell_base.specs.Attributes.{plain};
 ghost use Rattle.cell_base.specs.Row.{Narrow};
 ghost use Rattle.cell_base.specs.declared.ranges.DoubleClickRange.TheVariants.{Range, RangeWithWrap};
 ghost use Rattle.cell_line.specs.LineContent.{line_of};
-ghost use Rattle.cell_line.specs.RowEdits.{resized, with_cell, with_inserted, erased, erased_within, filled};
+ghost use Rattle.cell_line.specs.LineCalls.{new, resize, wrap, split_off_kept, split_off, append_line, compute_double_click_range, columns_as_str, columns_as_line, set_cell, insert_cell, remove_cell, erase_cell, erase_cell_with_margin, prune_trailing_blanks, fill_range, as_str};
 ghost use Rattle.cell_line.specs.VisibleCells.{VisibleCell};
-ghost use Rattle.cell_line.specs.Wrapped.{wrapped};
 ghost use Rattle.cell_line.specs.Clusters.{clusters_of};
 ghost use Rattle.cell_line.specs.ClusterCut.{AreClustersOf};
-ghost use Rattle.cell_line.specs.Words.{columns_between, double_click_range};
+ghost use Rattle.cell_line.specs.Words.{columns_between};
 ghost use Rattle.cell_line.specs.Samples.{letters, wide_letter, letter_cell, is_word};
 
 /// The clusters of cells are a cut of them by the rule, and there is no other.
@@ -19,40 +18,56 @@ pub fn clusters_are_the_one_cut()
     ensures one { (cells : List VisibleCell) (groups : List (List VisibleCell)) → AreClustersOf cells groups → groups ≡ clusters_of cells }
 {}
 
-/// A law, which needs no call: a row that is cut leaves a blank for half of a wide cell, and one
+/// A law, which needs no call: a line that is cut leaves a blank for half of a wide cell, and one
 /// that is too short ends in blanks.
-pub fn resized_rows()
-    ensures cut { resized 2 (letters (codes "a") ++ wide_letter) ≡ letters (codes "a ") }
-    ensures padded { resized 3 (letters (codes "a")) ≡ letters (codes "a  ") }
+pub fn resized_lines()
+    ensures cut { resize (line_of 1 (letters (codes "a") ++ wide_letter)) 2 7 ≡ line_of 7 (letters (codes "a ")) }
+    ensures padded { resize (line_of 9 (letters (codes "a"))) 3 7 ≡ line_of 9 (letters (codes "a  ")) }
 {}
 
 /// A law, which needs no call: a cell that is set on half of a wide one leaves a blank for the
 /// other half.
-pub fn rows_with_a_cell()
-    ensures left { with_cell (letters (codes "a") ++ wide_letter) 1 (letter_cell 120) ≡ letters (codes "ax ") }
-    ensures right { with_cell (letters (codes "a") ++ wide_letter) 2 (letter_cell 120) ≡ letters (codes "a x") }
-    ensures behind { with_cell [] 2 (letter_cell 120) ≡ letters (codes "  x") }
+pub fn lines_with_a_cell()
+    ensures left { set_cell (line_of 1 (letters (codes "a") ++ wide_letter)) 1 (letter_cell 120) 7 ≡ line_of 7 (letters (codes "ax ")) }
+    ensures right { set_cell (line_of 1 (letters (codes "a") ++ wide_letter)) 2 (letter_cell 120) 7 ≡ line_of 7 (letters (codes "a x")) }
+    ensures behind { set_cell (new 1) 2 (letter_cell 120) 7 ≡ line_of 7 (letters (codes "  x")) }
 {}
 
-/// A law, which needs no call: what is inserted, erased and filled.
-pub fn edited_rows()
-    ensures inserted { with_inserted (letters (codes "abc")) 1 (letter_cell 120) 3 ≡ letters (codes "axb") }
-    ensures erased { erased 0 (letters (codes "abc")) ≡ letters (codes "bc ") }
-    ensures within { erased_within (letters (codes "abc")) 0 2 plain ≡ letters (codes "b c") }
-    ensures filled { filled (letters (codes "abcd")) 1 2 (letter_cell 120) ≡ letters (codes "axxd") }
+/// A law, which needs no call: what is inserted, erased, removed, filled, cut off and joined.
+pub fn edited_lines()
+    ensures inserted { insert_cell (line_of 1 (letters (codes "abc"))) 1 (letter_cell 120) 3 7 ≡ line_of 7 (letters (codes "axb")) }
+    ensures erased { erase_cell (line_of 1 (letters (codes "abc"))) 0 7 ≡ line_of 7 (letters (codes "bc ")) }
+    ensures removed { remove_cell (line_of 1 (letters (codes "abc"))) 0 7 ≡ line_of 7 (letters (codes "bc")) }
+    ensures within { erase_cell_with_margin (line_of 1 (letters (codes "abc"))) 0 2 7 plain ≡ line_of 7 (letters (codes "b c")) }
+    ensures filled { fill_range (line_of 1 (letters (codes "abcd"))) 1 3 (letter_cell 120) 7 ≡ line_of 7 (letters (codes "axxd")) }
+    ensures pruned { prune_trailing_blanks (line_of 1 (letters (codes "a  "))) 7 ≡ line_of 7 (letters (codes "a")) }
+    ensures all_blank { prune_trailing_blanks (line_of 1 (letters (codes "  "))) 7 ≡ line_of 1 (letters (codes "  ")) }
+    ensures kept { split_off_kept (line_of 1 (letters (codes "abcd"))) 1 ≡ line_of 1 (letters (codes "a")) }
+    ensures split { split_off (line_of 1 (letters (codes "abcd"))) 1 7 ≡ line_of 7 (letters (codes "bcd")) }
+    ensures joined { append_line (line_of 1 (letters (codes "ab"))) (line_of 9 (letters (codes "c"))) 7 ≡ line_of 7 (letters (codes "abc")) }
 {}
 
-/// A law, which needs no call: a row that is wrapped goes on behind each row but the last.
-pub fn wrapped_rows()
-    ensures { wrapped (line_of 1 (letters (codes "abcd"))) 2 7
+/// A law, which needs no call: a line that is wrapped goes on behind each row but the last, and a
+/// line of spaces stays as it is.
+pub fn wrapped_lines()
+    ensures rows { wrap (line_of 1 (letters (codes "abcd"))) 2 7
         ≡ line_of 7 (letters (codes "a") ++ Narrow (codes "b") (record plain { wrapped = true }) ∷ []) ∷ line_of 7 (letters (codes "cd")) ∷ [] }
+    ensures spaces { wrap (line_of 1 (letters (codes "   "))) 2 7 ≡ line_of 1 (letters (codes "   ")) ∷ [] }
+{}
+
+/// A law, which needs no call: the texts and the columns of a range, and all texts.
+pub fn parts_of_lines()
+    ensures text { columns_as_str (line_of 1 (letters (codes "abcd"))) 1 3 ≡ codes "bc" }
+    ensures line { columns_as_line (line_of 1 (letters (codes "abcd"))) 1 3 ≡ line_of 1 (letters (codes "bc")) }
+    ensures whole { columns_as_line (line_of 1 (letters (codes "a") ++ wide_letter)) 1 2 ≡ line_of 1 wide_letter }
+    ensures all { as_str (line_of 1 (letters (codes "abcd"))) ≡ codes "abcd" }
 {}
 
 /// A law, which needs no call: a double click takes a word, and nothing on a space or past the end.
 pub fn double_clicked_words()
-    ensures word { double_click_range is_word 1 (letters (codes "ab cd")) ≡ Range (columns_between 0 2) }
-    ensures space { double_click_range is_word 2 (letters (codes "ab cd")) ≡ Range (columns_between 2 2) }
-    ensures past { double_click_range is_word 5 (letters (codes "ab cd")) ≡ Range (columns_between 5 5) }
-    ensures wide { double_click_range is_word 2 (letters (codes "a") ++ wide_letter ++ letters (codes "b c")) ≡ Range (columns_between 0 4) }
-    ensures goes_on { double_click_range is_word 4 (letters (codes "ab c") ++ Narrow (codes "d") (record plain { wrapped = true }) ∷ []) ≡ RangeWithWrap (columns_between 3 5) }
+    ensures word { compute_double_click_range (line_of 1 (letters (codes "ab cd"))) 1 is_word ≡ Range (columns_between 0 2) }
+    ensures space { compute_double_click_range (line_of 1 (letters (codes "ab cd"))) 2 is_word ≡ Range (columns_between 2 2) }
+    ensures past { compute_double_click_range (line_of 1 (letters (codes "ab cd"))) 5 is_word ≡ Range (columns_between 5 5) }
+    ensures wide { compute_double_click_range (line_of 1 (letters (codes "a") ++ wide_letter ++ letters (codes "b c"))) 2 is_word ≡ Range (columns_between 0 4) }
+    ensures goes_on { compute_double_click_range (line_of 1 (letters (codes "ab c") ++ Narrow (codes "d") (record plain { wrapped = true }) ∷ [])) 4 is_word ≡ RangeWithWrap (columns_between 3 5) }
 {}

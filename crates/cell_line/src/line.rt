@@ -6,17 +6,13 @@ ghost use Rattle.cell_base.specs.declared.attributes.LineAttribute.TheVariants.{
 ghost use Rattle.cell_base.specs.Attributes.{plain};
 ghost use Rattle.cell_base.specs.CellContent.{row_of_cells, cell_of, blank_cell};
 ghost use Rattle.cell_base.specs.Row.{plain_row, blank};
-ghost use Rattle.cell_line.specs.LineContent.{LineContent, line_of, changed, is_changed_since, is_attribute, with_bits, text_row, text_cells};
-ghost use Rattle.cell_line.specs.RowEdits.{cut, cut_front, resized, with_cell, removed, erased, erased_within, with_inserted, overlaid, filled};
 ghost use Rattle.cell_base.specs.SameCell.{same_cell};
-ghost use Rattle.cell_line.specs.VisibleCells.{visible_cells, cell_at, cells_between, texts_joined, has_link, is_whitespace_row, ends_wrapped, row_end_wrapped, row_of_visible};
-ghost use Rattle.cell_line.specs.Clusters.{cell_clusters};
-ghost use Rattle.cell_line.specs.LineEdits.{pruned, filled_line};
-ghost use Rattle.cell_line.specs.Links.{without_implicit, column_with, without_implicit_links};
-ghost use Rattle.cell_line.specs.Wrapped.{wrapped};
-ghost use Rattle.cell_line.specs.Zones.{zones};
-ghost use Rattle.cell_line.specs.Words.{Answers, double_click_range};
 ghost use Rattle.std.specs.Borrow.{sem};
+ghost use Rattle.cell_line.specs.LineContent.{changed};
+ghost use Rattle.cell_line.specs.LineCalls.{with_width_and_cell, with_width, from_cells, new, from_text, from_text_with_wrapped_last_col, try_from_text, resize, resize_and_clear, wrap, changed_since, update_last_change_seqno, set_single_width, set_double_width, set_double_height_top, set_double_height_bottom, is_single_width, is_double_width, is_double_height_top, is_double_height_bottom, semantic_zone_ranges, invalidate_implicit_hyperlinks, split_off_kept, split_off, append_line, compute_double_click_range, columns_as_str, columns_as_line, set_cell, set_cell_clearing_image_placements, set_cell_grapheme, overlay_text_with_attribute, insert_cell, remove_cell, erase_cell, erase_cell_with_margin, prune_trailing_blanks, fill_range, len, current_seqno, as_str, has_hyperlink, visible_cells, cluster, get_cell, is_whitespace, compress_for_scrollback, last_cell_was_wrapped, set_last_cell_was_wrapped};
+ghost use Rattle.cell_line.specs.RowEdits.{filled};
+ghost use Rattle.cell_line.specs.Links.{without_implicit, column_with};
+ghost use Rattle.cell_line.specs.Words.{Answers};
 ghost use Rattle.cell_line.specs.LentCells.{LendsCells, LendsSlice};
 ghost use Rattle.cell_line.specs.CellRefView.{shown_by, cells_left};
 
@@ -64,7 +60,7 @@ impl Line {
         cell: Cell,
         seqno: SequenceNo,
     ) -> Result<Line, AllocError>
-        ensures { IfOk result (λ line. line ≡ line_of seqno (row_of_cells (replicate width cell))) }
+        ensures { IfOk result (λ line. line ≡ with_width_and_cell width cell seqno) }
     {
         let mut cells = Vec::new(alloc);
         row::push_copies(&mut cells, width, &cell)?;
@@ -74,7 +70,7 @@ impl Line {
     /// The cells read from the left: the one stored behind a wide one isn't looked at, and a wide
     /// cell with none behind it counts as a blank with its attributes.
     pub fn from_cells(alloc: Global, cells: Vec<Cell>, seqno: SequenceNo) -> Line
-        ensures { result ≡ line_of seqno (row_of_cells cells.items) }
+        ensures { result ≡ from_cells cells.items seqno }
     {
         Line {
             alloc,
@@ -86,7 +82,7 @@ impl Line {
 
     /// A line of no columns.
     pub fn new(alloc: Global, seqno: SequenceNo) -> Line
-        ensures { result ≡ line_of seqno [] }
+        ensures { result ≡ new seqno }
     {
         Line::from_cells(alloc, Vec::new(alloc), seqno)
     }
@@ -94,7 +90,7 @@ impl Line {
     /// A line of plain blanks.
     #[tactic(auto, using(crate::proofs::CutLemmas::row_of_blanks))]
     pub fn with_width(alloc: Global, width: usize, seqno: SequenceNo) -> Result<Line, AllocError>
-        ensures { IfOk result (λ line. line ≡ line_of seqno (plain_row width)) }
+        ensures { IfOk result (λ line. line ≡ with_width width seqno) }
     {
         let mut cells = Vec::new(alloc);
         row::push_blanks(&mut cells, width)?;
@@ -103,7 +99,7 @@ impl Line {
 
     /// Makes the line as wide as that: columns at its end go, or plain blanks come.
     pub fn resize(&mut self, width: usize, seqno: SequenceNo) -> Result<(), AllocError>
-        ensures { OnOk result (self.new ≡ changed self.old seqno (resized width self.old.columns)) }
+        ensures { OnOk result (self.new ≡ resize self.old width seqno) }
     {
         row::resize(&mut self.cells, width)?;
         self.update_last_change_seqno(seqno);
@@ -118,7 +114,7 @@ impl Line {
         seqno: SequenceNo,
         blank_attr: CellAttributes,
     ) -> Result<(), AllocError>
-        ensures { OnOk result (self.new ≡ with_bits (changed self.old seqno (replicate width (blank blank_attr))) seqno SingleWidthLine) }
+        ensures { OnOk result (self.new ≡ resize_and_clear self.old width seqno blank_attr) }
     {
         self.cells.clear();
         row::push_copies(&mut self.cells, width, &Cell::blank_with_attrs(blank_attr))?;
@@ -129,63 +125,63 @@ impl Line {
 
     /// How many columns there are.
     pub fn len(&self) -> usize
-        ensures { result ≡ length self.now.columns }
+        ensures { result ≡ len self.now }
     {
         self.cells.len()
     }
 
     /// Whether the line changed after the change with this number, or never got a number.
     pub fn changed_since(&self, seqno: SequenceNo) -> bool
-        ensures { result ≡ is_changed_since self.now seqno }
+        ensures { result ≡ changed_since self.now seqno }
     {
         self.number == SEQ_ZERO || self.number > seqno
     }
 
     /// The number of the last change.
     pub fn current_seqno(&self) -> SequenceNo
-        ensures { result ≡ self.now.number }
+        ensures { result ≡ current_seqno self.now }
     {
         self.number
     }
 
     /// Gives the line the number of a change.
     pub fn update_last_change_seqno(&mut self, seqno: SequenceNo)
-        ensures { self.new ≡ changed self.old seqno self.old.columns }
+        ensures { self.new ≡ update_last_change_seqno self.old seqno }
     {
         self.number = self.number.max(seqno);
     }
 
     /// Whether the line is shown at normal size: it has no bits.
     pub fn is_single_width(&self) -> bool
-        ensures { result ≡ is_attribute self.now.bits SingleWidthLine }
+        ensures { result ≡ is_single_width self.now }
     {
         self.bits == LineAttribute::SingleWidthLine
     }
 
     /// Whether the line is shown at double width alone.
     pub fn is_double_width(&self) -> bool
-        ensures { result ≡ is_attribute self.now.bits DoubleWidthLine }
+        ensures { result ≡ is_double_width self.now }
     {
         self.bits == LineAttribute::DoubleWidthLine
     }
 
     /// Whether the line is the top half of one shown at double width and height.
     pub fn is_double_height_top(&self) -> bool
-        ensures { result ≡ is_attribute self.now.bits DoubleHeightTopHalfLine }
+        ensures { result ≡ is_double_height_top self.now }
     {
         self.bits == LineAttribute::DoubleHeightTopHalfLine
     }
 
     /// Whether the line is the bottom half of one shown at double width and height.
     pub fn is_double_height_bottom(&self) -> bool
-        ensures { result ≡ is_attribute self.now.bits DoubleHeightBottomHalfLine }
+        ensures { result ≡ is_double_height_bottom self.now }
     {
         self.bits == LineAttribute::DoubleHeightBottomHalfLine
     }
 
     /// Shows the line at normal size.
     pub fn set_single_width(&mut self, seqno: SequenceNo)
-        ensures { self.new ≡ with_bits self.old seqno SingleWidthLine }
+        ensures { self.new ≡ set_single_width self.old seqno }
     {
         self.bits = LineAttribute::SingleWidthLine;
         self.update_last_change_seqno(seqno);
@@ -193,7 +189,7 @@ impl Line {
 
     /// Shows the line at double width.
     pub fn set_double_width(&mut self, seqno: SequenceNo)
-        ensures { self.new ≡ with_bits self.old seqno DoubleWidthLine }
+        ensures { self.new ≡ set_double_width self.old seqno }
     {
         self.bits = LineAttribute::DoubleWidthLine;
         self.update_last_change_seqno(seqno);
@@ -201,7 +197,7 @@ impl Line {
 
     /// Shows the line as the top half of one at double width and height.
     pub fn set_double_height_top(&mut self, seqno: SequenceNo)
-        ensures { self.new ≡ with_bits self.old seqno DoubleHeightTopHalfLine }
+        ensures { self.new ≡ set_double_height_top self.old seqno }
     {
         self.bits = LineAttribute::DoubleHeightTopHalfLine;
         self.update_last_change_seqno(seqno);
@@ -209,7 +205,7 @@ impl Line {
 
     /// Shows the line as the bottom half of one at double width and height.
     pub fn set_double_height_bottom(&mut self, seqno: SequenceNo)
-        ensures { self.new ≡ with_bits self.old seqno DoubleHeightBottomHalfLine }
+        ensures { self.new ≡ set_double_height_bottom self.old seqno }
     {
         self.bits = LineAttribute::DoubleHeightBottomHalfLine;
         self.update_last_change_seqno(seqno);
@@ -218,8 +214,8 @@ impl Line {
     /// Cuts the line at a column, or at its end if that comes first, and answers what stood from
     /// there on, with the same bits.
     pub fn split_off(&mut self, idx: usize, seqno: SequenceNo) -> Result<Line, AllocError>
-        ensures kept { OnOk result (self.new ≡ record self.old { columns = cut (min idx (length self.old.columns)) self.old.columns }) }
-        ensures rest { IfOk result (λ rest. rest ≡ record self.old { number = seqno; columns = cut_front (min idx (length self.old.columns)) self.old.columns }) }
+        ensures kept { OnOk result (self.new ≡ split_off_kept self.old idx) }
+        ensures rest { IfOk result (λ rest. rest ≡ split_off self.old idx seqno) }
     {
         let at = idx.min(self.cells.len());
         let cells = row::split_off(&mut self.cells, at)?;
@@ -233,7 +229,7 @@ impl Line {
 
     /// Puts the columns of another line behind those of this one.
     pub fn append_line(&mut self, other: Line, seqno: SequenceNo) -> Result<(), AllocError>
-        ensures { OnOk result (self.new ≡ changed self.old seqno (self.old.columns ++ other.columns)) }
+        ensures { OnOk result (self.new ≡ append_line self.old other seqno) }
     {
         row::append(&mut self.cells, other.cells)?;
         self.update_last_change_seqno(seqno);
@@ -243,7 +239,7 @@ impl Line {
     /// Sets a cell, whose columns are `idx` and, if it is wide, the next one. Plain blanks come
     /// before it where the line doesn't reach so far.
     pub fn set_cell(&mut self, idx: usize, cell: Cell, seqno: SequenceNo) -> Result<(), AllocError>
-        ensures { OnOk result (self.new ≡ changed self.old seqno (with_cell self.old.columns idx cell)) }
+        ensures { OnOk result (self.new ≡ set_cell self.old idx cell seqno) }
     {
         row::set_cell(&mut self.cells, idx, cell)?;
         self.update_last_change_seqno(seqno);
@@ -257,7 +253,7 @@ impl Line {
         cell: Cell,
         seqno: SequenceNo,
     ) -> Result<(), AllocError>
-        ensures { OnOk result (self.new ≡ changed self.old seqno (with_cell self.old.columns idx cell)) }
+        ensures { OnOk result (self.new ≡ set_cell_clearing_image_placements self.old idx cell seqno) }
     {
         self.set_cell(idx, cell, seqno)
     }
@@ -273,7 +269,7 @@ impl Line {
     ) -> Result<(), AllocError>
         requires some { 1 ≤ width }
         requires most { width ≤ 2 }
-        ensures { OnOk result (self.new ≡ changed self.old seqno (with_cell self.old.columns idx (cell_of text.now width attr))) }
+        ensures { OnOk result (self.new ≡ set_cell_grapheme self.old idx text.now width attr seqno) }
     {
         let cell = Cell::new_grapheme_with_width(self.alloc, text, width, attr)?;
         self.set_cell(idx, cell, seqno)
@@ -289,7 +285,7 @@ impl Line {
         seqno: SequenceNo,
     ) -> Result<(), AllocError>
         requires { 1 ≤ right_margin }
-        ensures { OnOk result (self.new ≡ changed self.old seqno (with_inserted self.old.columns x cell right_margin)) }
+        ensures { OnOk result (self.new ≡ insert_cell self.old x cell right_margin seqno) }
     {
         row::insert_cell(&mut self.cells, x, cell, right_margin)?;
         self.update_last_change_seqno(seqno);
@@ -298,7 +294,7 @@ impl Line {
 
     /// Removes a column and adds a plain blank; past the end nothing changes.
     pub fn erase_cell(&mut self, x: usize, seqno: SequenceNo) -> Result<(), AllocError>
-        ensures { OnOk result (self.new ≡ (if nat_lt x (length self.old.columns) then changed self.old seqno (erased x self.old.columns) else self.old)) }
+        ensures { OnOk result (self.new ≡ erase_cell self.old x seqno) }
     {
         if x < self.len() {
             row::erase_column(&mut self.cells, x)?;
@@ -309,7 +305,7 @@ impl Line {
 
     /// Removes a column; past the end nothing changes.
     pub fn remove_cell(&mut self, x: usize, seqno: SequenceNo) -> Result<(), AllocError>
-        ensures { OnOk result (self.new ≡ (if nat_lt x (length self.old.columns) then changed self.old seqno (removed x self.old.columns) else self.old)) }
+        ensures { OnOk result (self.new ≡ remove_cell self.old x seqno) }
     {
         if x < self.len() {
             row::remove_column(&mut self.cells, x)?;
@@ -328,7 +324,7 @@ impl Line {
         blank_attr: CellAttributes,
     ) -> Result<(), AllocError>
         requires { 1 ≤ right_margin }
-        ensures { OnOk result (self.new ≡ changed self.old seqno (erased_within self.old.columns x right_margin blank_attr)) }
+        ensures { OnOk result (self.new ≡ erase_cell_with_margin self.old x right_margin seqno blank_attr) }
     {
         row::erase_within(&mut self.cells, x, right_margin, blank_attr)?;
         self.update_last_change_seqno(seqno);
@@ -343,7 +339,7 @@ impl Line {
         seqno: SequenceNo,
         w: &W,
     ) -> Result<Line, AllocError>
-        ensures { IfOk result (λ line. line ≡ line_of seqno (text_row (W.width_of w.now) s.now attrs.now)) }
+        ensures { IfOk result (λ line. line ≡ from_text s.now attrs.now seqno (W.width_of w.now)) }
     {
         let cells = text::cells_of_text(alloc, s, attrs, w)?;
         Ok(Line::from_cells(alloc, cells, seqno))
@@ -351,7 +347,7 @@ impl Line {
 
     /// A plain line with a cell for each cluster of a text, as UAX 29 cuts it, and number 0.
     pub fn try_from_text<W: Widths>(alloc: Global, s: &str, w: &W) -> Result<Line, AllocError>
-        ensures { IfOk result (λ line. line ≡ line_of 0 (text_row (W.width_of w.now) s.now plain)) }
+        ensures { IfOk result (λ line. line ≡ try_from_text s.now (W.width_of w.now)) }
     {
         Line::from_text(alloc, s, &CellAttributes::blank(), SEQ_ZERO, w)
     }
@@ -365,7 +361,7 @@ impl Line {
         seqno: SequenceNo,
         w: &W,
     ) -> Result<(), AllocError>
-        ensures { OnOk result (self.new ≡ changed self.old seqno (overlaid self.old.columns start_idx (text_cells (W.width_of w.now) text.now attr))) }
+        ensures { OnOk result (self.new ≡ overlay_text_with_attribute self.old start_idx text.now attr seqno (W.width_of w.now)) }
     {
         text::overlay(self.alloc, &mut self.cells, start_idx, text, &attr, w)?;
         self.update_last_change_seqno(seqno);
@@ -374,28 +370,28 @@ impl Line {
 
     /// The visible cells, each with its first column, in order.
     pub fn visible_cells(&self) -> VisibleCellIter<'_>
-        ensures { cells_left result ≡ visible_cells self.now.columns }
+        ensures { cells_left result ≡ visible_cells self.now }
     {
         VisibleCellIter::new(&self.cells)
     }
 
     /// The clusters of the visible cells, in order.
     pub fn cluster(&self) -> Result<Vec<CellCluster>, AllocError>
-        ensures { IfOk result (λ clusters. clusters.items ≡ cell_clusters (visible_cells self.now.columns)) }
+        ensures { IfOk result (λ clusters. clusters.items ≡ cluster self.now) }
     {
         CellCluster::make_cluster(self.alloc, 0, self.visible_cells())
     }
 
     /// The visible cell that begins at a column.
     pub fn get_cell(&self, cell_index: usize) -> Option<CellRef<'_>>
-        ensures { option_map shown_by result ≡ cell_at cell_index self.now.columns }
+        ensures { option_map shown_by result ≡ get_cell self.now cell_index }
     {
         query::cell_at(&self.cells, cell_index)
     }
 
     /// The texts of the visible cells, joined.
     pub fn as_str(&self) -> Result<CowStr<'_>, AllocError>
-        ensures { IfOk result (λ text. cow_str_bytes text ≡ texts_joined (visible_cells self.now.columns)) }
+        ensures { IfOk result (λ text. cow_str_bytes text ≡ as_str self.now) }
     {
         let mut text = String::new(self.alloc);
         query::push_all_texts(&mut text, &self.cells)?;
@@ -404,7 +400,7 @@ impl Line {
 
     /// The texts of the visible cells that begin in a range of columns, joined.
     pub fn columns_as_str(&self, range: Range<usize>) -> Result<String, AllocError>
-        ensures { IfOk result (λ text. string_bytes text ≡ texts_joined (cells_between range.start range.end self.now.columns)) }
+        ensures { IfOk result (λ text. string_bytes text ≡ columns_as_str self.now range.start range.end) }
     {
         let mut text = String::new(self.alloc);
         query::push_texts(&mut text, &self.cells, range.start, range.end)?;
@@ -414,7 +410,7 @@ impl Line {
     /// The visible cells that begin in a range of columns, whole, as a line at normal size with this
     /// line's number.
     pub fn columns_as_line(&self, range: Range<usize>) -> Result<Line, AllocError>
-        ensures { IfOk result (λ line. line ≡ line_of self.now.number (row_of_visible (cells_between range.start range.end self.now.columns))) }
+        ensures { IfOk result (λ line. line ≡ columns_as_line self.now range.start range.end) }
     {
         let cells = wrap::between(self.alloc, &self.cells, range.start, range.end)?;
         Ok(Line::from_cells(self.alloc, cells, self.number))
@@ -424,7 +420,7 @@ impl Line {
     /// pass it. Spaces at the end go. The line goes on behind each row but the last. A line of spaces
     /// stays as it is. If memory is refused the line is dropped.
     pub fn wrap(self, width: usize, seqno: SequenceNo) -> Result<Vec<Line>, AllocError>
-        ensures { IfOk result (λ lines. lines.items ≡ wrapped self width seqno) }
+        ensures { IfOk result (λ lines. lines.items ≡ wrap self width seqno) }
     {
         if self.is_whitespace() {
             let mut lines = Vec::new(self.alloc);
@@ -436,28 +432,28 @@ impl Line {
 
     /// Whether a cell has a link.
     pub fn has_hyperlink(&self) -> bool
-        ensures { result ≡ has_link self.now.columns }
+        ensures { result ≡ has_hyperlink self.now }
     {
         query::has_link(&self.cells)
     }
 
     /// Whether each visible cell is a space, of whatever attributes.
     pub fn is_whitespace(&self) -> bool
-        ensures { result ≡ is_whitespace_row self.now.columns }
+        ensures { result ≡ is_whitespace self.now }
     {
         query::is_whitespace(&self.cells)
     }
 
     /// Whether the line goes on behind its last visible cell; false where there is none.
     pub fn last_cell_was_wrapped(&self) -> bool
-        ensures { result ≡ ends_wrapped (visible_cells self.now.columns) }
+        ensures { result ≡ last_cell_was_wrapped self.now }
     {
         query::ends_wrapped(&self.cells)
     }
 
     /// Makes the line small for keeping. It reads as before.
     pub fn compress_for_scrollback(&mut self) -> Result<(), AllocError>
-        ensures { OnOk result (self.new ≡ self.old) }
+        ensures { OnOk result (self.new ≡ compress_for_scrollback self.old) }
     {
         Ok(())
     }
@@ -470,7 +466,7 @@ impl Line {
         seqno: SequenceNo,
         w: &W,
     ) -> Result<Line, AllocError>
-        ensures { IfOk result (λ line. line ≡ line_of seqno (row_end_wrapped true (text_row (W.width_of w.now) s.now attrs.now))) }
+        ensures { IfOk result (λ line. line ≡ from_text_with_wrapped_last_col s.now attrs.now seqno (W.width_of w.now)) }
     {
         let mut cells = text::cells_of_text(alloc, s, attrs, w)?;
         row::set_end_wrapped(&mut cells, true);
@@ -480,7 +476,7 @@ impl Line {
     /// Removes the plain blanks at the end, unless no column would be left: then nothing changes.
     #[tactic(auto, using(crate::proofs::EndLemmas::left_none, crate::proofs::EndLemmas::left_some))]
     pub fn prune_trailing_blanks(&mut self, seqno: SequenceNo) -> Result<(), AllocError>
-        ensures { OnOk result (self.new ≡ pruned self.old seqno) }
+        ensures { OnOk result (self.new ≡ prune_trailing_blanks self.old seqno) }
     {
         if row::prune(&mut self.cells)? {
             self.update_last_change_seqno(seqno);
@@ -496,7 +492,7 @@ impl Line {
         cell: &Cell,
         seqno: SequenceNo,
     ) -> Result<(), AllocError>
-        ensures { OnOk result (self.new ≡ filled_line self.old cols.start cols.end cell.now seqno) }
+        ensures { OnOk result (self.new ≡ fill_range self.old cols.start cols.end cell.now seqno) }
     {
         if self.fills_nothing(cell) {
             return Ok(());
@@ -530,7 +526,7 @@ impl Line {
     /// Drops the links that were found in a text from every cell; nothing changes where there is
     /// none.
     pub fn invalidate_implicit_hyperlinks(&mut self, seqno: SequenceNo) -> Result<(), AllocError>
-        ensures { OnOk result (self.new ≡ without_implicit_links self.old seqno) }
+        ensures { OnOk result (self.new ≡ invalidate_implicit_hyperlinks self.old seqno) }
     {
         if query::has_implicit_link(&self.cells) {
             self.drop_implicit_links();
@@ -550,7 +546,7 @@ impl Line {
     /// column to its last one's. Plain blanks behind all other cells are in no zone, unless there
     /// is nothing else. A column past 65,535 stays there.
     pub fn semantic_zone_ranges(&self) -> Result<Vec<ZoneRange>, AllocError>
-        ensures { IfOk result (λ found. found.items ≡ zones (visible_cells self.now.columns)) }
+        ensures { IfOk result (λ found. found.items ≡ semantic_zone_ranges self.now) }
     {
         zones::zones(self.alloc, &self.cells)
     }
@@ -567,7 +563,7 @@ impl Line {
         is_word: F,
     ) -> DoubleClickRange
         requires { F.IsAlwaysCallable is_word }
-        ensures { (test : List ℕ → Bool) → Answers F.Fn is_word test → result ≡ double_click_range test click_col self.now.columns }
+        ensures { (test : List ℕ → Bool) → Answers F.Fn is_word test → result ≡ compute_double_click_range self.now click_col test }
     {
         words::double_click_range(&self.cells, click_col, &is_word)
     }
@@ -606,7 +602,7 @@ impl Line {
         wrapped: bool,
         seqno: SequenceNo,
     ) -> Result<(), AllocError>
-        ensures { OnOk result (self.new ≡ changed self.old seqno (row_end_wrapped wrapped self.old.columns)) }
+        ensures { OnOk result (self.new ≡ set_last_cell_was_wrapped self.old wrapped seqno) }
     {
         row::set_end_wrapped(&mut self.cells, wrapped);
         self.update_last_change_seqno(seqno);
