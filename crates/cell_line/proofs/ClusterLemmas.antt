@@ -7,7 +7,8 @@ use Rattle.std.proofs.lemmas.List.Folds.{list_any-append}
 use Rattle.std.proofs.lemmas.Grind.{flat_map-append}
 use Rattle.cell_base.specs.SameAttributes.{same_attributes}
 use Rattle.cell_line.specs.VisibleCells.{VisibleCell, is_space}
-use Rattle.cell_line.specs.Clusters.{ClusterContent, unwrapped, cluster_attributes, ends_in_space, holds_text, begins_cluster, joined_cluster, cluster_of}
+use Rattle.cell_line.specs.Groups.{joined}
+use Rattle.cell_line.specs.Clusters.{ClusterContent, unwrapped, cluster_attributes, ends_in_space, holds_text, begins_cluster, cluster_of}
 use Rattle.cell_line.specs.ClusterView.{grown, last_of, begins_behind, IsMadeOf}
 use Rattle.cell_line.specs.declared.clusters.Clusters.{Clusters}
 
@@ -72,20 +73,20 @@ cons_if true x xs ys = refl
 cons_if false x xs ys = refl
 
 joined_either : (groups : List (List VisibleCell)) (v : VisibleCell) (k : ℕ) → length groups ≡ suc k
-    → joined_cluster groups v ≡ (if begins_cluster (last_of groups) v then groups ++ (v ∷ []) ∷ [] else set groups k (last_of groups ++ v ∷ []))
+    → joined begins_cluster groups v ≡ (if begins_cluster (last_of groups) v then groups ++ (v ∷ []) ∷ [] else set groups k (last_of groups ++ v ∷ []))
 joined_either [] v k e = absurd (omega arith)
 joined_either (g ∷ []) v zero e = refl
 joined_either (g ∷ []) v (suc k) e = absurd (omega arith)
 joined_either (g ∷ h ∷ groups) v zero e = absurd (omega arith)
 joined_either (g ∷ h ∷ groups) v (suc k) e = ap (λ (gs : List (List VisibleCell)). g ∷ gs) (joined_either (h ∷ groups) v k (omega arith)) ∙ cons_if _ g _ _
 
-pub joined_begins : (groups : List (List VisibleCell)) (v : VisibleCell) → begins_behind groups v ≡ true → joined_cluster groups v ≡ groups ++ (v ∷ []) ∷ []
+pub joined_begins : (groups : List (List VisibleCell)) (v : VisibleCell) → begins_behind groups v ≡ true → joined begins_cluster groups v ≡ groups ++ (v ∷ []) ∷ []
 joined_begins [] v t = refl
 joined_begins (g ∷ groups) v t =
     joined_either (g ∷ groups) v (length groups) (omega arith)
     ∙ ap (λ b. if b then g ∷ groups ++ (v ∷ []) ∷ [] else set (g ∷ groups) (length groups) (last_of (g ∷ groups) ++ v ∷ [])) t
 
-pub joined_grows : (groups : List (List VisibleCell)) (v : VisibleCell) (k : ℕ) → length groups ≡ suc k → begins_behind groups v ≡ false → joined_cluster groups v ≡ set groups k (last_of groups ++ v ∷ [])
+pub joined_grows : (groups : List (List VisibleCell)) (v : VisibleCell) (k : ℕ) → length groups ≡ suc k → begins_behind groups v ≡ false → joined begins_cluster groups v ≡ set groups k (last_of groups ++ v ∷ [])
 joined_grows [] v k e t = absurd (omega arith)
 joined_grows (g ∷ groups) v k e t =
     joined_either (g ∷ groups) v k e ∙ ap (λ b. if b then g ∷ groups ++ (v ∷ []) ∷ [] else set (g ∷ groups) k (last_of (g ∷ groups) ++ v ∷ [])) t
@@ -93,19 +94,19 @@ joined_grows (g ∷ groups) v k e t =
 -- ---- what is known of the clusters so far
 
 pub made_begun : (groups : List (List VisibleCell)) (s t : Clusters) (v : VisibleCell) → IsMadeOf groups s → begins_behind groups v ≡ true
-    → t.made.items ≡ s.made.items ++ cluster_of (v ∷ []) ∷ [] → t.ends_in_space ≡ is_space v → t.holds_text ≡ not (is_space v) → IsMadeOf (joined_cluster groups v) t
+    → t.made.items ≡ s.made.items ++ cluster_of (v ∷ []) ∷ [] → t.ends_in_space ≡ is_space v → t.holds_text ≡ not (is_space v) → IsMadeOf (joined begins_cluster groups v) t
 made_begun groups s t v is b made space text =
-    let joined = joined_begins groups v b in
-    let last : last_of (joined_cluster groups v) ≡ v ∷ [] = ap last_of joined ∙ last_of-append groups (v ∷ []) in
+    let begun = joined_begins groups v b in
+    let last : last_of (joined begins_cluster groups v) ≡ v ∷ [] = ap last_of begun ∙ last_of-append groups (v ∷ []) in
     record {
-      made = made ∙ ap (λ cs. cs ++ cluster_of (v ∷ []) ∷ []) is.made ∙ sym (map-append cluster_of groups ((v ∷ []) ∷ [])) ∙ ap (map cluster_of) (sym joined);
+      made = made ∙ ap (λ cs. cs ++ cluster_of (v ∷ []) ∷ []) is.made ∙ sym (map-append cluster_of groups ((v ∷ []) ∷ [])) ∙ ap (map cluster_of) (sym begun);
       ends_in_space = space ∙ sym (ap ends_in_space last);
       holds_text = text ∙ sym (or_false (not (is_space v))) ∙ sym (ap holds_text last);
       holds_cells = λ _. omega (arith, ap length last);
     }
 
 joined_made : (groups : List (List VisibleCell)) (v : VisibleCell) (k : ℕ) (d : ClusterContent) → length groups ≡ suc k → 0 < length (last_of groups) → begins_behind groups v ≡ false
-    → set (map cluster_of groups) k (grown (get_or (map cluster_of groups) k d) v) ≡ map cluster_of (joined_cluster groups v)
+    → set (map cluster_of groups) k (grown (get_or (map cluster_of groups) k d) v) ≡ map cluster_of (joined begins_cluster groups v)
 joined_made groups v k d e h b =
     ap (λ c. set (map cluster_of groups) k (grown c v)) (last_of-is groups k d e)
     ∙ ap (λ c. set (map cluster_of groups) k c) (grown_cluster (last_of groups) v h)
@@ -113,9 +114,9 @@ joined_made groups v k d e h b =
     ∙ ap (map cluster_of) (sym (joined_grows groups v k e b))
 
 pub made_joined : (groups : List (List VisibleCell)) (s t : Clusters) (v : VisibleCell) (k : ℕ) (d : ClusterContent) → length groups ≡ suc k → IsMadeOf groups s → begins_behind groups v ≡ false
-    → t.made.items ≡ set s.made.items k (grown (get_or s.made.items k d) v) → t.ends_in_space ≡ is_space v → t.holds_text ≡ (s.holds_text || not (is_space v)) → IsMadeOf (joined_cluster groups v) t
+    → t.made.items ≡ set s.made.items k (grown (get_or s.made.items k d) v) → t.ends_in_space ≡ is_space v → t.holds_text ≡ (s.holds_text || not (is_space v)) → IsMadeOf (joined begins_cluster groups v) t
 made_joined groups s t v k d e is b made space text =
-    let last : last_of (joined_cluster groups v) ≡ last_of groups ++ v ∷ [] = ap last_of (joined_grows groups v k e b) ∙ last_of-set groups k (last_of groups ++ v ∷ []) e in
+    let last : last_of (joined begins_cluster groups v) ≡ last_of groups ++ v ∷ [] = ap last_of (joined_grows groups v k e b) ∙ last_of-set groups k (last_of groups ++ v ∷ []) e in
     record {
       made = made ∙ ap (λ cs. set cs k (grown (get_or cs k d) v)) is.made ∙ joined_made groups v k d e (is.holds_cells (omega arith)) b;
       ends_in_space = space ∙ sym (ends_in_space-one (last_of groups) v) ∙ sym (ap ends_in_space last);

@@ -1,8 +1,8 @@
 pub mod CellLemmas
-pub mod ClusterCutLemmas
 pub mod ClusterLemmas
 pub mod CutLemmas
 pub mod EndLemmas
+pub mod GroupLemmas
 pub mod LentLemmas
 pub mod LentSteps
 pub mod LinkLemmas
@@ -10,4 +10,5 @@ pub mod PlaceLemmas
 pub mod ReadLemmas
 pub mod VisibleLemmas
 pub mod WordLemmas
+pub mod WrapLemmas
 pub mod ZoneLemmas

@@ -6,7 +6,8 @@ use Rattle.cell_base.specs.Row.{Row}
 use Rattle.cell_line.specs.CellList.{ends_halved}
 use Rattle.cell_line.specs.CellRefView.{one_or_two}
 use Rattle.cell_line.specs.LineContent.{LineContent, line_of, cell_columns}
-use Rattle.cell_line.specs.Wrapped.{breaks, rows_from, last_text, texts_kept}
+use Rattle.cell_line.specs.Wrapped.{last_text, texts_kept}
+use Rattle.cell_line.specs.OpenRows.{breaks, rows_from}
 use Rattle.cell_line.specs.Zones.{is_kept_by}
 use Rattle.cell_line.specs.VisibleCells.{VisibleCell, visible_at, visible_from, visible_cells, row_of_visible, contents, row_end_wrapped}
 use Rattle.cell_line.specs.ReadCells.{read_from}

@@ -1,9 +1,10 @@
 -- The clusters of a row: neighbouring visible cells that are shown together.
-use Rattle.std.specs.Prelude.{ℕ, Bool, false, not, ◌&&◌, ◌||◌, List, [], ◌∷◌, ◌++◌, length, map, fold, replicate, sum_by, flat_map, if◌then◌else◌}
+use Rattle.std.specs.Prelude.{ℕ, Bool, false, not, ◌&&◌, ◌||◌, List, [], ◌∷◌, length, map, fold, replicate, sum_by, flat_map}
 use Rattle.std.specs.List.{list_any}
 use Rattle.cell_base.specs.Attributes.{Attributes, plain}
 use Rattle.cell_base.specs.SameAttributes.{same_attributes}
-use Rattle.cell_line.specs.VisibleCells.{VisibleCell, is_space, texts_joined}
+use Rattle.cell_line.specs.Groups.{groups_by}
+use Rattle.cell_line.specs.VisibleCells.{VisibleCell, is_space, texts_joined, first_column}
 
 -- ---- which cells are together
 
@@ -29,15 +30,9 @@ abbrev pub begins_cluster : List VisibleCell → VisibleCell → Bool
 begins_cluster cells v =
     not (same_attributes (cluster_attributes cells) (unwrapped v.cell.attributes)) || not (is_space v) && ends_in_space cells || is_space v && ends_in_space cells && holds_text cells
 
--- the cell joins the last cluster, or begins a new one
-abbrev pub joined_cluster : List (List VisibleCell) → VisibleCell → List (List VisibleCell)
-joined_cluster [] v = (v ∷ []) ∷ []
-joined_cluster (cells ∷ []) v = if begins_cluster cells v then cells ∷ (v ∷ []) ∷ [] else (cells ++ v ∷ []) ∷ []
-joined_cluster (cells ∷ more ∷ groups) v = cells ∷ joined_cluster (more ∷ groups) v
-
 -- the cells of each cluster
 abbrev pub clusters_of : List VisibleCell → List (List VisibleCell)
-clusters_of cells = fold joined_cluster [] cells
+clusters_of cells = groups_by begins_cluster cells
 
 -- ---- what a cluster shows of its cells
 
@@ -49,10 +44,6 @@ pub record ClusterContent : Type 0 where
   pub first_column : ℕ
   pub columns : List ℕ
   pub widths : List ℕ
-
-abbrev pub first_column : List VisibleCell → ℕ
-first_column [] = 0
-first_column (v ∷ cells) = v.column
 
 -- what a cell says, once for each byte of its text
 abbrev pub for_each_byte : (VisibleCell → ℕ) → List VisibleCell → List ℕ

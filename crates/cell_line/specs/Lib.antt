@@ -1,13 +1,15 @@
 pub mod CellList
 pub mod CellRefView
-pub mod ClusterCut
 pub mod ClusterView
 pub mod Clusters
+pub mod Groups
 pub mod LentCells
 pub mod LineCalls
 pub mod LineContent
 pub mod LineView
 pub mod Links
+pub mod OpenRows
+pub mod OpenZones
 pub mod Places
 pub mod ReadCells
 pub mod RowEdits

@@ -9,8 +9,8 @@ use Rattle.cell_base.specs.SameCell.{same_cell}
 use Rattle.cell_base.specs.Row.{blank, plain_row}
 use Rattle.cell_line.specs.LineContent.{LineContent, line_of, changed, changed_unless_empty, with_bits, is_attribute, text_cells, text_row}
 use Rattle.cell_line.specs.RowEdits.{cut, cut_front, resized, with_cell, overlaid, with_inserted, removed, erased, erased_within, pruned_row, filled}
-use Rattle.cell_line.specs.VisibleCells.{VisibleCell, visible_cells as visible, texts_joined, cells_between, row_of_visible, cell_at, has_link, is_whitespace_row, ends_wrapped, row_end_wrapped, contents}
-use Rattle.cell_line.specs.Wrapped.{rows_from, texts_kept}
+use Rattle.cell_line.specs.VisibleCells.{VisibleCell, visible_cells as visible, texts_joined, cells_between, row_of_visible, cell_at, has_link, is_whitespace_row, ends_wrapped, row_end_wrapped}
+use Rattle.cell_line.specs.Wrapped.{rows_of, texts_kept}
 use Rattle.cell_line.specs.Zones.{zones}
 use Rattle.cell_line.specs.Links.{has_implicit_link, without_implicit, column_with}
 use Rattle.cell_line.specs.Words.{double_click_range}
@@ -60,7 +60,7 @@ resize_and_clear line width number attributes = record (changed line number (rep
 abbrev pub wrap : LineContent → ℕ → ℕ → List LineContent
 wrap line width number =
     if is_whitespace_row line.columns then line ∷ []
-    else map (line_of number) (rows_from width [] (contents (texts_kept (visible line.columns))))
+    else map (line_of number) (rows_of width (texts_kept (visible line.columns)))
 
 -- ---- number and bits
 

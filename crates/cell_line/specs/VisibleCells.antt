@@ -53,6 +53,14 @@ cells_between start end row = filter (λ v. nat_le start v.column && nat_lt v.co
 abbrev pub contents : List VisibleCell → List CellContent
 contents cells = map (λ v. v.cell) cells
 
+-- the first cell's column, and the last one's; 0 where there is none
+abbrev pub first_column : List VisibleCell → ℕ
+first_column [] = 0
+first_column (v ∷ cells) = v.column
+
+abbrev pub last_column : List VisibleCell → ℕ
+last_column cells = fold (λ _ v. v.column) 0 cells
+
 abbrev pub texts_joined : List VisibleCell → List ℕ
 texts_joined cells = flat_map (λ v. v.cell.text) cells
 

@@ -1,21 +1,24 @@
 -- Rows that fit a width.
-use Rattle.std.specs.Prelude.{ℕ, ◌+◌, Bool, ◌&&◌, true, nat_lt, List, [], ◌∷◌, ◌++◌, length, filter, fold, Option, Some, None, if◌then◌else◌}
-use Rattle.cell_base.specs.CellContent.{CellContent}
+use Rattle.std.specs.Prelude.{ℕ, ◌+◌, Bool, true, nat_lt, List, [], ◌∷◌, length, map, filter, fold, Option, Some, None, if◌then◌else◌}
 use Rattle.cell_base.specs.Row.{Row}
 use Rattle.cell_line.specs.LineContent.{cell_columns}
-use Rattle.cell_line.specs.VisibleCells.{VisibleCell, is_space, row_end_wrapped}
+use Rattle.cell_line.specs.Groups.{groups_by}
+use Rattle.cell_line.specs.VisibleCells.{VisibleCell, is_space, row_of_visible, row_end_wrapped}
 use Rattle.cell_line.specs.Zones.{is_kept_by}
 
--- whether a cell begins a new row: it doesn't fit behind the columns that are there
-abbrev pub breaks : ℕ → ℕ → CellContent → Bool
-breaks width there cell = nat_lt 0 there && nat_lt width (there + length (cell_columns cell))
+-- whether a cell begins a new row behind the cells of the last one: the row would pass the width
+abbrev pub begins_row : ℕ → List VisibleCell → VisibleCell → Bool
+begins_row width cells v = nat_lt width (length (row_of_visible cells) + length (cell_columns v.cell))
 
--- the rows that cells fill, behind the columns of an open row; each but the last goes on in the next one
-abbrev pub rows_from : ℕ → Row → List CellContent → List Row
-rows_from width row [] = row ∷ []
-rows_from width row (cell ∷ cells) =
-    if breaks width (length row) cell then row_end_wrapped true row ∷ rows_from width (cell_columns cell) cells
-    else rows_from width (row ++ cell_columns cell) cells
+-- each row but the last goes on in the next one
+abbrev pub continued : List Row → List Row
+continued [] = []
+continued (row ∷ []) = row ∷ []
+continued (row ∷ next ∷ rows) = row_end_wrapped true row ∷ continued (next ∷ rows)
+
+-- the rows that cells fill
+abbrev pub rows_of : ℕ → List VisibleCell → List Row
+rows_of width cells = continued (map row_of_visible (groups_by (begins_row width) cells))
 
 -- the column of the last cell whose text isn't one space
 abbrev pub last_text : List VisibleCell → Option ℕ

@@ -1,12 +1,13 @@
 -- The zones of a row: neighbouring cells of one semantic type.
-use Rattle.std.specs.Prelude.{ℕ, Bool, true, false, nat_le, min, List, [], ◌∷◌, Option, Some, None, filter, fold, if◌then◌else◌}
+use Rattle.std.specs.Prelude.{ℕ, Bool, true, false, not, nat_le, min, List, [], ◌∷◌, Option, Some, None, map, filter, fold, if◌then◌else◌}
 use Rattle.cell_base.specs.declared.attributes.SemanticType.{SemanticType}
 use Rattle.cell_base.specs.declared.attributes.SemanticType.TheVariants.{Output, Input, Prompt}
 use Rattle.cell_base.specs.declared.ranges.ZoneRange.{ZoneRange}
 use Rattle.cell_base.specs.Attributes.{plain}
 use Rattle.cell_base.specs.CellContent.{blank_cell}
 use Rattle.cell_base.specs.SameCell.{same_cell}
-use Rattle.cell_line.specs.VisibleCells.{VisibleCell}
+use Rattle.cell_line.specs.Groups.{groups_by}
+use Rattle.cell_line.specs.VisibleCells.{VisibleCell, first_column, last_column}
 
 abbrev pub same_type : SemanticType → SemanticType → Bool
 same_type Output Output = true
@@ -18,15 +19,18 @@ same_type _ _ = false
 abbrev pub zone_column : ℕ → ℕ
 zone_column column = min column 65535
 
-abbrev pub zone_from : VisibleCell → ZoneRange
-zone_from v = record { semantic_type = v.cell.attributes.semantic_type; range = record { start = zone_column v.column; «end» = zone_column v.column } }
+-- the type of the first cell
+abbrev pub type_of : List VisibleCell → SemanticType
+type_of [] = Output
+type_of (v ∷ cells) = v.cell.attributes.semantic_type
 
--- a cell joins the last zone if it has its type, and begins a zone of its own if not; a zone reaches from its first cell's column to its last one's
-abbrev pub joined_zone : List ZoneRange → VisibleCell → List ZoneRange
-joined_zone [] v = zone_from v ∷ []
-joined_zone (z ∷ []) v =
-    if same_type z.semantic_type v.cell.attributes.semantic_type then record z { range = record z.range { «end» = zone_column v.column } } ∷ [] else z ∷ zone_from v ∷ []
-joined_zone (z ∷ y ∷ zs) v = z ∷ joined_zone (y ∷ zs) v
+-- whether a cell begins a new zone behind the cells of the last one: it has another type
+abbrev pub begins_zone : List VisibleCell → VisibleCell → Bool
+begins_zone cells v = not (same_type (type_of cells) v.cell.attributes.semantic_type)
+
+-- a zone reaches from its first cell's column to its last one's
+abbrev pub zone_of : List VisibleCell → ZoneRange
+zone_of cells = record { semantic_type = type_of cells; range = record { start = zone_column (first_column cells); «end» = zone_column (last_column cells) } }
 
 -- the column of the last cell that isn't a plain blank
 abbrev pub last_kept : List VisibleCell → Option ℕ
@@ -39,4 +43,4 @@ is_kept_by (Some last) column = nat_le column last
 
 -- the zones of the cells up to the last that isn't a plain blank, or of all if there is none
 abbrev pub zones : List VisibleCell → List ZoneRange
-zones cells = fold joined_zone [] (filter (λ v. is_kept_by (last_kept cells) v.column) cells)
+zones cells = map zone_of (groups_by begins_zone (filter (λ v. is_kept_by (last_kept cells) v.column) cells))

@@ -4,7 +4,8 @@ ghost use Rattle.std.specs.Iterator.{IsFinite, Drains};
 ghost use Rattle.cell_base.specs.SameAttributes.{same_attributes};
 ghost use Rattle.cell_line.specs.CellRefView.{shown_by};
 ghost use Rattle.cell_line.specs.VisibleCells.{VisibleCell};
-ghost use Rattle.cell_line.specs.Clusters.{ClusterContent, unwrapped, cluster_of, joined_cluster, cell_clusters};
+ghost use Rattle.cell_line.specs.Groups.{joined};
+ghost use Rattle.cell_line.specs.Clusters.{ClusterContent, unwrapped, cluster_of, begins_cluster, cell_clusters};
 ghost use Rattle.cell_line.specs.ClusterView.{grown, begins_behind, IsMadeOf};
 ghost use Rattle.cell_line.specs.declared.cell_ref.CellRef.{CellRef};
 
@@ -196,7 +197,7 @@ impl Clusters {
 
     // The cell begins a cluster.
     fn begin(&mut self, cell: &CellRef<'_>) -> Result<(), AllocError>
-        ensures { (groups : List (List VisibleCell)) → IsMadeOf groups self.old → begins_behind groups (shown_by cell.now) ≡ true → OnOk result (IsMadeOf (joined_cluster groups (shown_by cell.now)) self.new) }
+        ensures { (groups : List (List VisibleCell)) → IsMadeOf groups self.old → begins_behind groups (shown_by cell.now) ≡ true → OnOk result (IsMadeOf (joined begins_cluster groups (shown_by cell.now)) self.new) }
     {
         let space = is_space(cell.str());
         self.made
@@ -209,7 +210,7 @@ impl Clusters {
     // The cell joins the last cluster.
     fn join(&mut self, cell: &CellRef<'_>) -> Result<(), AllocError>
         requires { 0 < vec_len self.old.made }
-        ensures { (groups : List (List VisibleCell)) → IsMadeOf groups self.old → begins_behind groups (shown_by cell.now) ≡ false → OnOk result (IsMadeOf (joined_cluster groups (shown_by cell.now)) self.new) }
+        ensures { (groups : List (List VisibleCell)) → IsMadeOf groups self.old → begins_behind groups (shown_by cell.now) ≡ false → OnOk result (IsMadeOf (joined begins_cluster groups (shown_by cell.now)) self.new) }
     {
         let space = is_space(cell.str());
         grow_last(&mut self.made, cell)?;
@@ -220,7 +221,7 @@ impl Clusters {
 
     // The cell joins the last cluster, or begins one.
     fn push_cell(&mut self, cell: &CellRef<'_>) -> Result<(), AllocError>
-        ensures { (groups : List (List VisibleCell)) → IsMadeOf groups self.old → OnOk result (IsMadeOf (joined_cluster groups (shown_by cell.now)) self.new) }
+        ensures { (groups : List (List VisibleCell)) → IsMadeOf groups self.old → OnOk result (IsMadeOf (joined begins_cluster groups (shown_by cell.now)) self.new) }
     {
         if self.begins(cell)? {
             return self.begin(cell);

@@ -1,21 +1,21 @@
 //! Laws of the definitions: the cut of a line into clusters, and what some edits and questions of
 //! lines give. Each is the contract of a function that does nothing.
-ghost use Rattle.std.specs.Prelude.{◌≡◌, ◌++◌, List, [], ◌∷◌, true, codes};
+ghost use Rattle.std.specs.Prelude.{◌≡◌, ◌++◌, List, [], ◌∷◌, Bool, true, codes};
 ghost use Rattle.cell_base.specs.Attributes.{plain};
 ghost use Rattle.cell_base.specs.Row.{Narrow};
 ghost use Rattle.cell_base.specs.declared.ranges.DoubleClickRange.TheVariants.{Range, RangeWithWrap};
 ghost use Rattle.cell_line.specs.LineContent.{line_of};
 ghost use Rattle.cell_line.specs.LineCalls.{new, resize, wrap, split_off_kept, split_off, append_line, compute_double_click_range, columns_as_str, columns_as_line, set_cell, insert_cell, remove_cell, erase_cell, erase_cell_with_margin, prune_trailing_blanks, fill_range, as_str};
+ghost use Rattle.cell_line.specs.Groups.{groups_by, AreGroupsOf};
 ghost use Rattle.cell_line.specs.VisibleCells.{VisibleCell};
-ghost use Rattle.cell_line.specs.Clusters.{clusters_of};
-ghost use Rattle.cell_line.specs.ClusterCut.{AreClustersOf};
 ghost use Rattle.cell_line.specs.Words.{columns_between};
 ghost use Rattle.cell_line.specs.Samples.{letters, wide_letter, letter_cell, is_word};
 
-/// The clusters of cells are a cut of them by the rule, and there is no other.
-pub fn clusters_are_the_one_cut()
-    ensures cut { (cells : List VisibleCell) → AreClustersOf cells (clusters_of cells) }
-    ensures one { (cells : List VisibleCell) (groups : List (List VisibleCell)) → AreClustersOf cells groups → groups ≡ clusters_of cells }
+/// Whatever the rule, the groups of cells are a cut of them by that rule, and there is no other: so
+/// for clusters, for zones and for the rows of a wrapped line.
+pub fn groups_are_the_one_cut()
+    ensures cut { (begins : List VisibleCell → VisibleCell → Bool) (cells : List VisibleCell) → AreGroupsOf begins cells (groups_by begins cells) }
+    ensures one { (begins : List VisibleCell → VisibleCell → Bool) (cells : List VisibleCell) (groups : List (List VisibleCell)) → AreGroupsOf begins cells groups → groups ≡ groups_by begins cells }
 {}
 
 /// A law, which needs no call: a line that is cut leaves a blank for half of a wide cell, and one

@@ -4,7 +4,8 @@ ghost use Rattle.cell_base.specs.CellContent.{row_of_cells};
 ghost use Rattle.cell_line.specs.CellList.{ends_halved};
 ghost use Rattle.cell_line.specs.LineContent.{line_of, cell_columns};
 ghost use Rattle.cell_line.specs.VisibleCells.{visible_cells, cells_between, row_of_visible, row_end_wrapped, contents};
-ghost use Rattle.cell_line.specs.Wrapped.{breaks, rows_from, last_text, texts_kept};
+ghost use Rattle.cell_line.specs.Wrapped.{last_text, texts_kept};
+ghost use Rattle.cell_line.specs.OpenRows.{breaks, rows_from};
 
 use crate::line::Line;
 use crate::query::is_space;

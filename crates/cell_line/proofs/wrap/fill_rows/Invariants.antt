@@ -5,7 +5,7 @@ use Rattle.cell_line.specs.CellList.{ends_halved}
 use Rattle.cell_line.specs.LineContent.{line_of}
 use Rattle.cell_line.specs.ReadCells.{read_from, read_left}
 use Rattle.cell_line.specs.VisibleCells.{contents}
-use Rattle.cell_line.specs.Wrapped.{rows_from}
+use Rattle.cell_line.specs.OpenRows.{rows_from}
 use Rattle.cell_line.specs.Zones.{is_kept_by}
 use Rattle.cell_line.proofs.wrap.fill_rows.Given as goal
 

@@ -2,7 +2,8 @@ use Rattle.std.proofs.Common.{◌≡◌, ◌∙◌, ◌-◌, ◌++◌, ◌∷◌
 use Rattle.cell_base.specs.Attributes.{Attributes}
 use Rattle.cell_base.specs.declared.ranges.ZoneRange.{ZoneRange}
 use Rattle.cell_line.specs.CellRefView.{shown_by}
-use Rattle.cell_line.specs.Zones.{same_type, zone_column, zone_from}
+use Rattle.cell_line.specs.Zones.{same_type, zone_column}
+use Rattle.cell_line.specs.OpenZones.{zone_from}
 use Rattle.cell_line.proofs.CellLemmas.{get_or-default}
 use Rattle.cell_line.proofs.ZoneLemmas.{ending_at, joined_same, joined_other, joined_first}
 use Rattle.cell_line.proofs.zones.join.Goals as goal

@@ -1,11 +1,12 @@
-use Rattle.std.proofs.Common.{◌≡◌}
+use Rattle.std.proofs.Common.{◌≡◌, []}
 use Rattle.std.specs.Prelude.{fold, filter}
 use Rattle.cell_base.specs.CellContent.{row_of_cells}
 use Rattle.cell_line.specs.CellRefView.{cells_left}
 use Rattle.cell_line.specs.VisibleCells.{visible_cells}
-use Rattle.cell_line.specs.Zones.{joined_zone, is_kept_by, zones}
+use Rattle.cell_line.specs.Zones.{is_kept_by}
+use Rattle.cell_line.specs.OpenZones.{joined_zone}
 use Rattle.cell_line.proofs.zones.zones.Given as goal
 
 -- the zones so far, and then what is left, are the whole
 abbrev pub invariant-loop-cell : goal.invariant-loop-cell
-invariant-loop-cell l = fold joined_zone l.zones.items (filter (λ v. is_kept_by l.last v.column) (cells_left l.cell-iterator)) ≡ zones (visible_cells (row_of_cells l.cells))
+invariant-loop-cell l = fold joined_zone l.zones.items (filter (λ v. is_kept_by l.last v.column) (cells_left l.cell-iterator)) ≡ fold joined_zone [] (filter (λ v. is_kept_by l.last v.column) (visible_cells (row_of_cells l.cells)))

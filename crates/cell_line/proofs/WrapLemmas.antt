@@ -1,0 +1,104 @@
+-- Rows that are filled cell by cell are those of the groups.
+use Rattle.std.proofs.Common.{◌≡◌, ℕ, ◌<◌, ◌∙◌, Bool, true, false, List, [], ◌∷◌, ◌++◌, length, Option, Some, None, refl, sym, ap, subst, inl, inr, arith}
+use Rattle.std.specs.Prelude.{nat_lt, ◌&&◌, fold, map, filter, if◌then◌else◌}
+use Rattle.std.specs.List.{list_all}
+use Rattle.std.proofs.lemmas.Bool.{lt-ltb, le-leb, false≢true}
+use Rattle.std.proofs.lemmas.List.{append-nil, length-append, length-map}
+use Rattle.std.proofs.lemmas.Grind.{flat_map-append}
+use Rattle.cell_base.specs.Row.{Row}
+use Rattle.cell_line.specs.Groups.{joined}
+use Rattle.cell_line.specs.LineContent.{cell_columns}
+use Rattle.cell_line.specs.VisibleCells.{VisibleCell, is_space, contents, row_of_visible, row_end_wrapped}
+use Rattle.cell_line.specs.Wrapped.{begins_row, continued, rows_of, texts_kept}
+use Rattle.cell_line.specs.OpenRows.{breaks, rows_from}
+use Rattle.cell_line.specs.Zones.{is_kept_by}
+use Rattle.cell_line.proofs.CellLemmas.{by_test}
+use Rattle.cell_line.proofs.CutLemmas.{length-cell_columns}
+use Rattle.cell_line.proofs.GroupLemmas.{some_groups, fold_behind}
+
+-- ---- rows
+
+continued-behind : (row : Row) (rows : List Row) → 0 < length rows → continued (row ∷ rows) ≡ row_end_wrapped true row ∷ continued rows
+continued-behind row [] p = absurd (omega arith)
+continued-behind row (next ∷ rows) p = refl
+
+row_of_one : (v : VisibleCell) → row_of_visible (v ∷ []) ≡ cell_columns v.cell
+row_of_one v = append-nil (cell_columns v.cell)
+
+row_with_one : (cells : List VisibleCell) (v : VisibleCell) → row_of_visible (cells ++ v ∷ []) ≡ row_of_visible cells ++ cell_columns v.cell
+row_with_one cells v = flat_map-append (λ (w : VisibleCell). cell_columns w.cell) cells (v ∷ []) ∙ ap (λ (r : Row). row_of_visible cells ++ r) (row_of_one v)
+
+some_columns : (cells : List VisibleCell) → 0 < length cells → nat_lt 0 (length (row_of_visible cells)) ≡ true
+some_columns [] p = absurd (omega arith)
+some_columns (v ∷ cells) p =
+    let both = length-append (cell_columns v.cell) (row_of_visible cells) in
+    lt-ltb 0 (length (row_of_visible (v ∷ cells))) (elim (length-cell_columns v.cell) [ inl e ↦ omega arith | inr e ↦ omega arith ])
+
+-- behind the cells of an open row
+rows_behind : (width : ℕ) (before cells : List VisibleCell) → 0 < length before
+    → rows_from width (row_of_visible before) (contents cells) ≡ continued (map row_of_visible (fold (joined (begins_row width)) (before ∷ []) cells))
+rows_behind width before [] p = refl
+rows_behind width before (v ∷ cells) p =
+    let row : Row = row_of_visible before in
+    let rest : Bool → List Row = λ t. if t then row_end_wrapped true row ∷ rows_from width (cell_columns v.cell) (contents cells) else rows_from width (row ++ cell_columns v.cell) (contents cells) in
+    let groups : Bool → List Row = λ t. continued (map row_of_visible (fold (joined (begins_row width)) (if t then before ∷ (v ∷ []) ∷ [] else (before ++ v ∷ []) ∷ []) cells)) in
+    let begins = begins_row width before v in
+    let there : breaks width (length row) v.cell ≡ begins = ap (λ t. t && begins) (some_columns before p) in
+    ap rest there
+    ∙ by_test begins
+    (λ b. ap rest b
+    ∙ ap (λ (r : Row). row_end_wrapped true row ∷ rows_from width r (contents cells)) (sym (row_of_one v))
+    ∙ ap (λ (rs : List Row). row_end_wrapped true row ∷ rs) (rows_behind width (v ∷ []) cells (omega arith))
+    ∙ sym (continued-behind row (map row_of_visible (fold (joined (begins_row width)) ((v ∷ []) ∷ []) cells)) (some_rows width v cells))
+    ∙ ap (λ (gs : List (List VisibleCell)). continued (map row_of_visible gs)) (sym (fold_behind (begins_row width) before ((v ∷ []) ∷ []) cells (omega arith)))
+    ∙ sym (ap groups b))
+    (λ b. ap rest b
+    ∙ ap (λ (r : Row). rows_from width r (contents cells)) (sym (row_with_one before v))
+    ∙ rows_behind width (before ++ v ∷ []) cells (some_more before v)
+    ∙ sym (ap groups b))
+  where
+    some_rows : (width : ℕ) (v : VisibleCell) (cells : List VisibleCell) → 0 < length (map row_of_visible (fold (joined (begins_row width)) ((v ∷ []) ∷ []) cells))
+    some_rows width v cells =
+        let groups = fold (joined (begins_row width)) ((v ∷ []) ∷ []) cells in
+        let p = some_groups (begins_row width) ((v ∷ []) ∷ []) cells (omega arith) in
+        let e = length-map groups row_of_visible in
+        omega arith
+
+    some_more : (before : List VisibleCell) (v : VisibleCell) → 0 < length (before ++ v ∷ [])
+    some_more before v = let e = length-append before (v ∷ []) in omega arith
+
+pub rows_filled : (width : ℕ) (cells : List VisibleCell) → 0 < length cells → rows_from width [] (contents cells) ≡ rows_of width cells
+rows_filled width [] p = absurd (omega arith)
+rows_filled width (v ∷ cells) p = ap (λ (r : Row). rows_from width r (contents cells)) (sym (row_of_one v)) ∙ rows_behind width (v ∷ []) cells (omega arith)
+
+-- ---- a line that isn't all spaces keeps a cell
+
+last_of_spaces : (last : Option ℕ) (cells : List VisibleCell) → list_all is_space cells ≡ true → fold (λ o v. if is_space v then o else Some v.column) last cells ≡ last
+last_of_spaces last [] p = refl
+last_of_spaces last (v ∷ cells) p =
+    by_test (is_space v)
+    (λ b. ap (λ t. fold (λ o v. if is_space v then o else Some v.column) (if t then last else Some v.column) cells) b ∙ last_of_spaces last cells (sym (ap (λ t. t && list_all is_space cells) b) ∙ p))
+    (λ b. absurd (false≢true (sym (ap (λ t. t && list_all is_space cells) b) ∙ p)))
+
+kept_behind : (keeps : VisibleCell → Bool) (v : VisibleCell) (cells : List VisibleCell) → 0 < length (filter keeps cells) → 0 < length (filter keeps (v ∷ cells))
+kept_behind keeps v cells p = elim (keeps v) as (λ t. 0 < length (if t then v ∷ filter keeps cells else filter keeps cells)) [ true ↦ omega arith | false ↦ p ]
+
+kept_first : (keeps : VisibleCell → Bool) (v : VisibleCell) (cells : List VisibleCell) → keeps v ≡ true → 0 < length (filter keeps (v ∷ cells))
+kept_first keeps v cells p = subst (λ t. 0 < length (if t then v ∷ filter keeps cells else filter keeps cells)) (sym p) (omega arith)
+
+some_kept : (last : Option ℕ) (cells : List VisibleCell) → list_all is_space cells ≡ false
+    → 0 < length (filter (λ v. is_kept_by (fold (λ o v. if is_space v then o else Some v.column) last cells) v.column) cells)
+some_kept last [] p = absurd (false≢true (sym p))
+some_kept last (v ∷ cells) p =
+    let after = if is_space v then last else Some v.column in
+    by_test (list_all is_space cells)
+    (λ b.
+    by_test (is_space v)
+    (λ s. absurd (false≢true (sym p ∙ ap (λ t. t && list_all is_space cells) s ∙ b)))
+    (λ s.
+    let e : fold (λ o v. if is_space v then o else Some v.column) after cells ≡ Some v.column = last_of_spaces after cells b ∙ ap (λ t. if t then last else Some v.column) s in
+    kept_first (λ w. is_kept_by (fold (λ o v. if is_space v then o else Some v.column) after cells) w.column) v cells (ap (λ o. is_kept_by o v.column) e ∙ le-leb v.column v.column (omega arith))))
+    (λ b. kept_behind (λ w. is_kept_by (fold (λ o v. if is_space v then o else Some v.column) after cells) w.column) v cells (some_kept after cells b))
+
+pub texts_are_kept : (cells : List VisibleCell) → list_all is_space cells ≡ false → 0 < length (texts_kept cells)
+texts_are_kept cells p = some_kept None cells p

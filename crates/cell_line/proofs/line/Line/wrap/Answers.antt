@@ -1,0 +1,24 @@
+use Rattle.std.proofs.Common.{◌≡◌, false, ◌∙◌, ◌∷◌, [], sym, ap}
+use Rattle.std.specs.Prelude.{map, if◌then◌else◌}
+use Rattle.std.proofs.lemmas.Result.{IfOk-weaker}
+use Rattle.cell_base.specs.CellContent.{row_of_cells}
+use Rattle.cell_base.specs.Row.{Row}
+use Rattle.cell_line.specs.LineContent.{LineContent, line_of}
+use Rattle.cell_line.specs.VisibleCells.{visible_cells, contents, is_whitespace_row}
+use Rattle.cell_line.specs.Wrapped.{rows_of, texts_kept}
+use Rattle.cell_line.specs.OpenRows.{rows_from}
+use Rattle.cell_line.proofs.WrapLemmas.{rows_filled, texts_are_kept}
+use Rattle.cell_line.proofs.line.Line.wrap.Goals as goal
+
+pub returns : goal.returns
+returns c =
+    let line = c.args.self in
+    let spaces : is_whitespace_row line.columns ≡ false = sym c.is_whitespace.ensures ∙ c.if-is_whitespace.false in
+    let columns : row_of_cells c.deref.result.now ≡ line.columns = ap row_of_cells c.deref.ensures.value ∙ ap (λ (l : LineContent). l.columns) c.self.view_is in
+    let kept = texts_kept (visible_cells line.columns) in
+    IfOk-weaker c.rows.result _ _
+    (λ lines p. p
+    ∙ ap (λ (r : Row). map (line_of c.args.seqno) (rows_from c.args.width [] (contents (texts_kept (visible_cells r))))) columns
+    ∙ ap (map (line_of c.args.seqno)) (rows_filled c.args.width kept (texts_are_kept (visible_cells line.columns) spaces))
+    ∙ sym (ap (λ t. if t then line ∷ [] else map (line_of c.args.seqno) (rows_of c.args.width kept)) spaces))
+    c.rows.ensures

@@ -1,0 +1,17 @@
+-- Rows that are being filled, cell by cell.
+use Rattle.std.specs.Prelude.{ℕ, ◌+◌, Bool, ◌&&◌, true, nat_lt, List, [], ◌∷◌, ◌++◌, length, if◌then◌else◌}
+use Rattle.cell_base.specs.CellContent.{CellContent}
+use Rattle.cell_base.specs.Row.{Row}
+use Rattle.cell_line.specs.LineContent.{cell_columns}
+use Rattle.cell_line.specs.VisibleCells.{row_end_wrapped}
+
+-- whether a cell doesn't fit behind the columns that are there
+abbrev pub breaks : ℕ → ℕ → CellContent → Bool
+breaks width there cell = nat_lt 0 there && nat_lt width (there + length (cell_columns cell))
+
+-- the rows that cells fill, behind the columns of an open row; each but the last goes on in the next one
+abbrev pub rows_from : ℕ → Row → List CellContent → List Row
+rows_from width row [] = row ∷ []
+rows_from width row (cell ∷ cells) =
+    if breaks width (length row) cell then row_end_wrapped true row ∷ rows_from width (cell_columns cell) cells
+    else rows_from width (row ++ cell_columns cell) cells
