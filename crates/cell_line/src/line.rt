@@ -118,8 +118,7 @@ impl Line {
     {
         self.cells.clear();
         row::push_copies(&mut self.cells, width, &Cell::blank_with_attrs(blank_attr))?;
-        self.bits = LineAttribute::SingleWidthLine;
-        self.update_last_change_seqno(seqno);
+        self.set_single_width(seqno);
         Ok(())
     }
 
@@ -271,8 +270,8 @@ impl Line {
         requires most { width ≤ 2 }
         ensures { OnOk result (self.new ≡ set_cell_grapheme self.old idx text.now width attr seqno) }
     {
-        let cell = Cell::new_grapheme_with_width(self.alloc, text, width, attr)?;
-        self.set_cell(idx, cell, seqno)
+        let cluster = Cell::new_grapheme_with_width(self.alloc, text, width, attr)?;
+        self.set_cell(idx, cluster, seqno)
     }
 
     /// Inserts a cell before column `x`, behind plain blanks where the line doesn't reach so far.
@@ -455,6 +454,7 @@ impl Line {
     pub fn compress_for_scrollback(&mut self) -> Result<(), AllocError>
         ensures { OnOk result (self.new ≡ compress_for_scrollback self.old) }
     {
+        // The cells are kept as they are.
         Ok(())
     }
 
