@@ -9,6 +9,7 @@ use Rattle.cell_base.specs.CellContent.{CellContent, row_of_cells}
 use Rattle.cell_base.specs.Row.{Column, Narrow, LeftHalf, RightHalf, Row, blank}
 use Rattle.cell_line.specs.CellList.{ends_halved, mark_cell}
 use Rattle.cell_line.specs.LineContent.{LineContent, changed, changed_unless_empty}
+use Rattle.cell_line.specs.LineCalls.{update_last_change_seqno}
 use Rattle.cell_line.specs.RowEdits.{is_plain_blank, up_to_last, pruned_row}
 use Rattle.cell_line.specs.VisibleCells.{VisibleCell, visible_at, visible_from, row_of_visible, with_end_wrapped, row_end_wrapped}
 use Rattle.cell_line.proofs.CutLemmas.{row_narrow_any}
@@ -213,3 +214,8 @@ left_none line number r e = ap (changed_unless_empty line number) e
 pub left_some : (line : LineContent) (number : ℕ) (r : Row) → 0 < length r → changed_unless_empty line number r ≡ changed line number r
 left_some line number [] h = absurd (omega arith)
 left_some line number (column ∷ r) h = refl
+
+-- the number may come last
+pub numbered_last : (line : LineContent) (number : ℕ) (f r : Row) → update_last_change_seqno (changed_unless_empty (record line { columns = f }) number r) number ≡ changed_unless_empty (changed line number f) number r
+numbered_last line number f [] = refl
+numbered_last line number f (column ∷ r) = refl

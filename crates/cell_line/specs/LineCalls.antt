@@ -1,4 +1,4 @@
--- What each call of `Line` gives, under the call's own name: a question's answer, and where a call changes the line, the line that it leaves. A call that is given a number makes it the line's if it is the later one (`changed`), unless something else is said here. A half of a wide cell that is left alone becomes a blank with that cell's attributes; `RowEdits` has the words for this.
+-- What each call of `Line` gives, under the call's own name: a question's answer, and where a call changes the line, the line that it leaves. A call that is given a number makes it the line's if it is the later one (`changed`), unless something else is said here. A half of a wide cell that is left alone becomes a blank with that cell's attributes: the words for rows (`RowEdits`) see to it. A margin counts columns, so the last column within it is the margin less one.
 use Rattle.std.specs.Prelude.{ℕ, ◌-◌, Bool, true, ◌&&◌, ◌||◌, ◌==◌, nat_lt, max, min, List, [], ◌∷◌, ◌++◌, length, map, replicate, Option, if◌then◌else◌}
 use Rattle.cell_base.specs.declared.attributes.LineAttribute.TheVariants.{SingleWidthLine, DoubleWidthLine, DoubleHeightTopHalfLine, DoubleHeightBottomHalfLine}
 use Rattle.cell_base.specs.declared.ranges.DoubleClickRange.{DoubleClickRange}
@@ -18,7 +18,7 @@ use Rattle.cell_line.specs.Clusters.{ClusterContent, cell_clusters}
 
 -- ---- makers: each line has the number that is given, and no bits
 
--- so many such cells
+-- so many such cells, read from the left: of a wide cell that many columns
 abbrev pub with_width_and_cell : ℕ → CellContent → ℕ → LineContent
 with_width_and_cell width cell number = line_of number (row_of_cells (replicate width cell))
 
@@ -56,7 +56,7 @@ resize line width number = changed line number (resized width line.columns)
 abbrev pub resize_and_clear : LineContent → ℕ → ℕ → Attributes → LineContent
 resize_and_clear line width number attributes = record (changed line number (replicate width (blank attributes))) { bits = SingleWidthLine }
 
--- a line of spaces stays as it is, alone; of another the cells behind the last that isn't a space go, and the rest stand in rows, each a line with this number and no bits: a cell begins a new row where the row would pass the width, unless it is the row's first, and the last cell of each row but the last one is wrapped
+-- a line with no text but spaces stays as it is, alone; of another the cells behind the last text that isn't one space go, and the rest stand in rows, each a line with this number and no bits: a cell begins a new row where the row would pass the width, unless it is the row's first, and the last cell of each row but the last one is wrapped
 abbrev pub wrap : LineContent → ℕ → ℕ → List LineContent
 wrap line width number =
     if is_whitespace_row line.columns then line ∷ []
@@ -103,7 +103,7 @@ is_double_height_bottom line = is_attribute line.bits DoubleHeightBottomHalfLine
 
 -- ---- zones, links, cutting and joining, words
 
--- the visible cells up to the last that isn't a plain blank, or all if there is none, in groups of neighbours of one semantic type, as long as may be; each from its first cell's column to its last one's
+-- the visible cells up to the last that isn't a plain blank, or all if there is none, in groups of neighbours of one semantic type, as long as may be; each from its first cell's column to its last one's, where columns past 65,535 count as that
 abbrev pub semantic_zone_ranges : LineContent → List ZoneRange
 semantic_zone_ranges line = zones (visible line.columns)
 
@@ -124,7 +124,7 @@ split_off line at number = record line { number = number; columns = cut_front (m
 abbrev pub append_line : LineContent → LineContent → ℕ → LineContent
 append_line line other number = changed line number (line.columns ++ other.columns)
 
--- nothing at the column, where that is at the end or past it; else from the first column of the first unbroken word back from the last cell at or before it, to one past the first column of the last unbroken word from the first cell at or behind it, either of them the column itself where there is no such word; with a wrap where the range isn't empty, reaches the end, and the line goes on behind its last visible cell
+-- nothing at the column, where that is at the end or past it. Else the words are the visible cells whose texts pass the test: up to one past the first column of the last of the unbroken words from the first cell at or behind the column on; down to the first column of the first of the unbroken words from the last cell at or before it back; each the column itself where there is none. With a wrap where the range isn't empty, reaches the end, and the line goes on behind its last visible cell
 abbrev pub compute_double_click_range : LineContent → ℕ → (List ℕ → Bool) → DoubleClickRange
 compute_double_click_range line at is_word = double_click_range is_word at line.columns
 
@@ -158,7 +158,7 @@ overlay_text_with_attribute line at text attributes number width_of = changed li
 
 -- ---- inserting and removing
 
--- the column left of the margin is removed, if the line reaches the margin; then, padded with plain blanks to the place, the cell's columns are inserted there
+-- the last column within the margin is removed, if the line has it; then, padded with plain blanks to the place, the cell's columns are inserted there
 abbrev pub insert_cell : LineContent → ℕ → CellContent → ℕ → ℕ → LineContent
 insert_cell line at cell margin number = changed line number (with_inserted line.columns at cell margin)
 
@@ -170,13 +170,13 @@ remove_cell line at number = if nat_lt at (length line.columns) then changed lin
 abbrev pub erase_cell : LineContent → ℕ → ℕ → LineContent
 erase_cell line at number = if nat_lt at (length line.columns) then changed line number (erased at line.columns) else line
 
--- the column is removed, if it is there; then a blank with these attributes is inserted left of the margin, if the line then reaches to it
+-- the column is removed, if it is there; then a blank with these attributes is inserted as the last column within the margin, if no column before it is missing
 abbrev pub erase_cell_with_margin : LineContent → ℕ → ℕ → ℕ → Attributes → LineContent
 erase_cell_with_margin line at margin number attributes = changed line number (erased_within line.columns at margin attributes)
 
 -- ---- pruning and filling
 
--- the plain blanks at the end go; where no column would be left nothing changes, the number neither
+-- the plain blanks at the end go; where no column would be left, or none is there, nothing changes, the number neither
 abbrev pub prune_trailing_blanks : LineContent → ℕ → LineContent
 prune_trailing_blanks line number = changed_unless_empty line number (pruned_row line.columns)
 
@@ -234,6 +234,6 @@ set_last_cell_was_wrapped line wrapped number = changed line number (row_end_wra
 
 -- ---- lent cells
 
--- a cell for each column is lent; the line has the columns of the cells that are left there, read from the left, and its number and bits as before; `cells_mut_for_attr_changes_only` gives the same
+-- the cells that are left where they were lent, one for each column, are read from the left again; number and bits stay. `cells_mut_for_attr_changes_only` gives the same
 abbrev pub cells_mut : LineContent → List CellContent → LineContent
 cells_mut line cells = record line { columns = row_of_cells cells }

@@ -1,5 +1,5 @@
 -- A line as a value: its number, its bits and its columns.
-use Rattle.std.specs.Prelude.{ℕ, Bool, true, false, nat_le, max, List, [], ◌∷◌, map}
+use Rattle.std.specs.Prelude.{◌≡◌, ℕ, Bool, true, false, nat_le, max, List, [], ◌∷◌, map}
 use Rattle.std.specs.List.{flat_map}
 use Rattle.cell_base.specs.declared.attributes.LineAttribute.{LineAttribute}
 use Rattle.cell_base.specs.declared.attributes.LineAttribute.TheVariants.{SingleWidthLine, DoubleWidthLine, DoubleHeightTopHalfLine, DoubleHeightBottomHalfLine}
@@ -22,10 +22,15 @@ line_of number columns = record { number = number; bits = SingleWidthLine; colum
 abbrev pub changed : LineContent → ℕ → Row → LineContent
 changed line number columns = record line { number = max line.number number; columns = columns }
 
--- the same, but where there are no other columns the line stays as it was
+-- the same, but where no column would be left the line stays as it was
 abbrev pub changed_unless_empty : LineContent → ℕ → Row → LineContent
 changed_unless_empty line number [] = line
 changed_unless_empty line number (column ∷ row) = changed line number (column ∷ row)
+
+-- what a refused call leaves: the same number and bits, and columns of which nothing is said
+pub record IsRefused (before after : LineContent) : Type 0 where
+  pub number : after.number ≡ before.number
+  pub bits : after.bits ≡ before.bits
 
 -- the columns of a cell: two where it is wide
 abbrev pub cell_columns : CellContent → Row
@@ -35,6 +40,7 @@ cell_columns cell = columns_of cell.text (nat_le 2 cell.width) cell.attributes
 abbrev pub text_cells : (List ℕ → ℕ) → List ℕ → Attributes → List CellContent
 text_cells width_of text attributes = map (λ cluster. cell_of cluster (width_of cluster) attributes) (clusters text)
 
+-- their columns, side by side
 abbrev pub text_row : (List ℕ → ℕ) → List ℕ → Attributes → Row
 text_row width_of text attributes = flat_map cell_columns (text_cells width_of text attributes)
 
@@ -46,6 +52,6 @@ is_attribute DoubleHeightTopHalfLine DoubleHeightTopHalfLine = true
 is_attribute DoubleHeightBottomHalfLine DoubleHeightBottomHalfLine = true
 is_attribute _ _ = false
 
--- other bits, and the number of a change
+-- other bits, and the number of a change if that is the later one
 abbrev pub with_bits : LineContent → ℕ → LineAttribute → LineContent
 with_bits line number bits = record line { number = max line.number number; bits = bits }

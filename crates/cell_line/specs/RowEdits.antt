@@ -36,7 +36,7 @@ removed at row = cut at row ++ cut_front (at + 1) row
 abbrev pub inserted : ℕ → Row → Row → Row
 inserted at columns row = cut at row ++ columns ++ cut_front at row
 
--- the column at the margin goes if there is one, and the cell's columns are inserted at a place, which is padded to
+-- the last column within the margin goes if it is there, and the cell's columns are inserted at a place, which is padded to
 abbrev pub with_inserted : Row → ℕ → CellContent → ℕ → Row
 with_inserted row at cell margin = inserted at (cell_columns cell) (padded at (if nat_le margin (length row) then removed (margin - 1) row else row))
 
@@ -44,7 +44,7 @@ with_inserted row at cell margin = inserted at (cell_columns cell) (padded at (i
 abbrev pub erased : ℕ → Row → Row
 erased at row = removed at row ++ plain_row 1
 
--- a column goes if it is there, and a blank is inserted at the margin if the row then reaches to it
+-- a column goes if it is there, and a blank is inserted as the last column within the margin if no column before it is missing
 abbrev pub erased_within : Row → ℕ → ℕ → Attributes → Row
 erased_within row at margin attributes =
     let rest = if nat_lt at (length row) then removed at row else row in

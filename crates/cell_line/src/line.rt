@@ -1,5 +1,5 @@
 //! A row of columns with a number and bits.
-ghost use Rattle.std.specs.Prelude.{◌≡◌, true, ℕ, ◌≤◌, ◌-◌, ◌==◌, ◌&&◌, ◌++◌, List, [], Bool, length, map, replicate, min, nat_lt, IfOk, OnOk, IsTrue, ◌↔◌, string_bytes, if◌then◌else◌};
+ghost use Rattle.std.specs.Prelude.{◌≡◌, true, ℕ, ◌≤◌, ◌-◌, ◌==◌, ◌&&◌, ◌++◌, List, [], Bool, length, map, replicate, min, nat_lt, IfOk, OnOk, OnErr, IsTrue, ◌↔◌, string_bytes, if◌then◌else◌};
 ghost use Rattle.std.specs.Cow.{cow_str_bytes};
 ghost use Rattle.std.specs.Option.{option_map};
 ghost use Rattle.cell_base.specs.declared.attributes.LineAttribute.TheVariants.{SingleWidthLine, DoubleWidthLine, DoubleHeightTopHalfLine, DoubleHeightBottomHalfLine};
@@ -8,7 +8,7 @@ ghost use Rattle.cell_base.specs.CellContent.{row_of_cells, cell_of, blank_cell}
 ghost use Rattle.cell_base.specs.Row.{plain_row, blank};
 ghost use Rattle.cell_base.specs.SameCell.{same_cell};
 ghost use Rattle.std.specs.Borrow.{sem};
-ghost use Rattle.cell_line.specs.LineContent.{changed};
+ghost use Rattle.cell_line.specs.LineContent.{changed, IsRefused};
 ghost use Rattle.cell_line.specs.LineCalls.{with_width_and_cell, with_width, from_cells, new, from_text, from_text_with_wrapped_last_col, try_from_text, resize, resize_and_clear, wrap, changed_since, update_last_change_seqno, set_single_width, set_double_width, set_double_height_top, set_double_height_bottom, is_single_width, is_double_width, is_double_height_top, is_double_height_bottom, semantic_zone_ranges, invalidate_implicit_hyperlinks, split_off_kept, split_off, append_line, compute_double_click_range, columns_as_str, columns_as_line, set_cell, set_cell_clearing_image_placements, set_cell_grapheme, overlay_text_with_attribute, insert_cell, remove_cell, erase_cell, erase_cell_with_margin, prune_trailing_blanks, fill_range, len, current_seqno, as_str, has_hyperlink, visible_cells, cluster, get_cell, is_whitespace, compress_for_scrollback, last_cell_was_wrapped, set_last_cell_was_wrapped};
 ghost use Rattle.cell_line.specs.RowEdits.{filled};
 ghost use Rattle.cell_line.specs.Links.{without_implicit, column_with};
@@ -33,7 +33,8 @@ use std::ops::Range;
 /// half of a wide cell alone, that half becomes a blank with the wide cell's attributes.
 ///
 /// Calls that change a line are given the number of the change, and the line keeps the greatest.
-/// A call that is refused memory leaves a line whose columns aren't said.
+/// A call that is refused memory leaves number and bits as they were; of the columns nothing is
+/// said.
 #[derive(Debug, Drop)]
 pub struct Line {
     alloc: Global,
@@ -53,7 +54,7 @@ impl Model for Line {
 }
 
 impl Line {
-    /// A line of `width` such cells, read from the left.
+    /// A line of `width` such cells, read from the left: of a wide cell, `width` columns.
     pub fn with_width_and_cell(
         alloc: Global,
         width: usize,
@@ -99,7 +100,8 @@ impl Line {
 
     /// Makes the line as wide as that: columns at its end go, or plain blanks come.
     pub fn resize(&mut self, width: usize, seqno: SequenceNo) -> Result<(), AllocError>
-        ensures { OnOk result (self.new ≡ resize self.old width seqno) }
+        ensures done { OnOk result (self.new ≡ resize self.old width seqno) }
+        ensures refused { OnErr result (IsRefused self.old self.new) }
     {
         row::resize(&mut self.cells, width)?;
         self.update_last_change_seqno(seqno);
@@ -114,7 +116,8 @@ impl Line {
         seqno: SequenceNo,
         blank_attr: CellAttributes,
     ) -> Result<(), AllocError>
-        ensures { OnOk result (self.new ≡ resize_and_clear self.old width seqno blank_attr) }
+        ensures done { OnOk result (self.new ≡ resize_and_clear self.old width seqno blank_attr) }
+        ensures refused { OnErr result (IsRefused self.old self.new) }
     {
         self.cells.clear();
         row::push_copies(&mut self.cells, width, &Cell::blank_with_attrs(blank_attr))?;
@@ -215,6 +218,7 @@ impl Line {
     pub fn split_off(&mut self, idx: usize, seqno: SequenceNo) -> Result<Line, AllocError>
         ensures kept { OnOk result (self.new ≡ split_off_kept self.old idx) }
         ensures rest { IfOk result (λ rest. rest ≡ split_off self.old idx seqno) }
+        ensures refused { OnErr result (IsRefused self.old self.new) }
     {
         let at = idx.min(self.cells.len());
         let cells = row::split_off(&mut self.cells, at)?;
@@ -228,7 +232,8 @@ impl Line {
 
     /// Puts the columns of another line behind those of this one.
     pub fn append_line(&mut self, other: Line, seqno: SequenceNo) -> Result<(), AllocError>
-        ensures { OnOk result (self.new ≡ append_line self.old other seqno) }
+        ensures done { OnOk result (self.new ≡ append_line self.old other seqno) }
+        ensures refused { OnErr result (IsRefused self.old self.new) }
     {
         row::append(&mut self.cells, other.cells)?;
         self.update_last_change_seqno(seqno);
@@ -238,7 +243,8 @@ impl Line {
     /// Sets a cell, whose columns are `idx` and, if it is wide, the next one. Plain blanks come
     /// before it where the line doesn't reach so far.
     pub fn set_cell(&mut self, idx: usize, cell: Cell, seqno: SequenceNo) -> Result<(), AllocError>
-        ensures { OnOk result (self.new ≡ set_cell self.old idx cell seqno) }
+        ensures done { OnOk result (self.new ≡ set_cell self.old idx cell seqno) }
+        ensures refused { OnErr result (IsRefused self.old self.new) }
     {
         row::set_cell(&mut self.cells, idx, cell)?;
         self.update_last_change_seqno(seqno);
@@ -252,7 +258,8 @@ impl Line {
         cell: Cell,
         seqno: SequenceNo,
     ) -> Result<(), AllocError>
-        ensures { OnOk result (self.new ≡ set_cell_clearing_image_placements self.old idx cell seqno) }
+        ensures done { OnOk result (self.new ≡ set_cell_clearing_image_placements self.old idx cell seqno) }
+        ensures refused { OnErr result (IsRefused self.old self.new) }
     {
         self.set_cell(idx, cell, seqno)
     }
@@ -268,14 +275,15 @@ impl Line {
     ) -> Result<(), AllocError>
         requires some { 1 ≤ width }
         requires most { width ≤ 2 }
-        ensures { OnOk result (self.new ≡ set_cell_grapheme self.old idx text.now width attr seqno) }
+        ensures done { OnOk result (self.new ≡ set_cell_grapheme self.old idx text.now width attr seqno) }
+        ensures refused { OnErr result (IsRefused self.old self.new) }
     {
         let cluster = Cell::new_grapheme_with_width(self.alloc, text, width, attr)?;
         self.set_cell(idx, cluster, seqno)
     }
 
     /// Inserts a cell before column `x`, behind plain blanks where the line doesn't reach so far.
-    /// The column left of `right_margin`, which counts from 1, goes before that.
+    /// The last column within `right_margin` columns goes before that, if it is there.
     pub fn insert_cell(
         &mut self,
         x: usize,
@@ -284,7 +292,8 @@ impl Line {
         seqno: SequenceNo,
     ) -> Result<(), AllocError>
         requires { 1 ≤ right_margin }
-        ensures { OnOk result (self.new ≡ insert_cell self.old x cell right_margin seqno) }
+        ensures done { OnOk result (self.new ≡ insert_cell self.old x cell right_margin seqno) }
+        ensures refused { OnErr result (IsRefused self.old self.new) }
     {
         row::insert_cell(&mut self.cells, x, cell, right_margin)?;
         self.update_last_change_seqno(seqno);
@@ -293,7 +302,8 @@ impl Line {
 
     /// Removes a column and adds a plain blank; past the end nothing changes.
     pub fn erase_cell(&mut self, x: usize, seqno: SequenceNo) -> Result<(), AllocError>
-        ensures { OnOk result (self.new ≡ erase_cell self.old x seqno) }
+        ensures done { OnOk result (self.new ≡ erase_cell self.old x seqno) }
+        ensures refused { OnErr result (IsRefused self.old self.new) }
     {
         if x < self.len() {
             row::erase_column(&mut self.cells, x)?;
@@ -304,7 +314,8 @@ impl Line {
 
     /// Removes a column; past the end nothing changes.
     pub fn remove_cell(&mut self, x: usize, seqno: SequenceNo) -> Result<(), AllocError>
-        ensures { OnOk result (self.new ≡ remove_cell self.old x seqno) }
+        ensures done { OnOk result (self.new ≡ remove_cell self.old x seqno) }
+        ensures refused { OnErr result (IsRefused self.old self.new) }
     {
         if x < self.len() {
             row::remove_column(&mut self.cells, x)?;
@@ -313,8 +324,8 @@ impl Line {
         Ok(())
     }
 
-    /// Removes a column if it is there, and then inserts a blank left of `right_margin`, which
-    /// counts from 1, if the line reaches to it.
+    /// Removes a column if it is there, and then inserts a blank as the last column within
+    /// `right_margin` columns, if none before it is missing.
     pub fn erase_cell_with_margin(
         &mut self,
         x: usize,
@@ -323,7 +334,8 @@ impl Line {
         blank_attr: CellAttributes,
     ) -> Result<(), AllocError>
         requires { 1 ≤ right_margin }
-        ensures { OnOk result (self.new ≡ erase_cell_with_margin self.old x right_margin seqno blank_attr) }
+        ensures done { OnOk result (self.new ≡ erase_cell_with_margin self.old x right_margin seqno blank_attr) }
+        ensures refused { OnErr result (IsRefused self.old self.new) }
     {
         row::erase_within(&mut self.cells, x, right_margin, blank_attr)?;
         self.update_last_change_seqno(seqno);
@@ -360,7 +372,8 @@ impl Line {
         seqno: SequenceNo,
         w: &W,
     ) -> Result<(), AllocError>
-        ensures { OnOk result (self.new ≡ overlay_text_with_attribute self.old start_idx text.now attr seqno (W.width_of w.now)) }
+        ensures done { OnOk result (self.new ≡ overlay_text_with_attribute self.old start_idx text.now attr seqno (W.width_of w.now)) }
+        ensures refused { OnErr result (IsRefused self.old self.new) }
     {
         text::overlay(self.alloc, &mut self.cells, start_idx, text, &attr, w)?;
         self.update_last_change_seqno(seqno);
@@ -415,9 +428,9 @@ impl Line {
         Ok(Line::from_cells(self.alloc, cells, self.number))
     }
 
-    /// The line in rows of at most `width` columns, each a line at normal size; a wide cell alone may
-    /// pass it. Spaces at the end go. The line goes on behind each row but the last. A line of spaces
-    /// stays as it is. If memory is refused the line is dropped.
+    /// The line in rows of at most `width` columns, each a line at normal size; a cell alone may pass
+    /// it. The spaces behind the last other text go. The line goes on behind each row but the last.
+    /// A line with no text but spaces stays as it is. If memory is refused the line is dropped.
     pub fn wrap(self, width: usize, seqno: SequenceNo) -> Result<Vec<Line>, AllocError>
         ensures { IfOk result (λ lines. lines.items ≡ wrap self width seqno) }
     {
@@ -452,7 +465,8 @@ impl Line {
 
     /// Makes the line small for keeping. It reads as before.
     pub fn compress_for_scrollback(&mut self) -> Result<(), AllocError>
-        ensures { OnOk result (self.new ≡ compress_for_scrollback self.old) }
+        ensures done { OnOk result (self.new ≡ compress_for_scrollback self.old) }
+        ensures refused { OnErr result (IsRefused self.old self.new) }
     {
         // The cells are kept as they are.
         Ok(())
@@ -476,7 +490,8 @@ impl Line {
     /// Removes the plain blanks at the end, unless no column would be left: then nothing changes.
     #[tactic(auto, using(crate::proofs::EndLemmas::left_none, crate::proofs::EndLemmas::left_some))]
     pub fn prune_trailing_blanks(&mut self, seqno: SequenceNo) -> Result<(), AllocError>
-        ensures { OnOk result (self.new ≡ prune_trailing_blanks self.old seqno) }
+        ensures done { OnOk result (self.new ≡ prune_trailing_blanks self.old seqno) }
+        ensures refused { OnErr result (IsRefused self.old self.new) }
     {
         if row::prune(&mut self.cells)? {
             self.update_last_change_seqno(seqno);
@@ -484,21 +499,25 @@ impl Line {
         Ok(())
     }
 
-    /// Sets a cell at each column of a range in turn, and then removes the plain blanks at the end.
+    /// Sets a cell at each column of a range in turn, and then removes the plain blanks at the end,
+    /// unless no column would be left.
     /// Nothing changes where a plain blank is set on a line of no columns.
+    #[tactic(auto, using(crate::proofs::EndLemmas::numbered_last))]
     pub fn fill_range(
         &mut self,
         cols: Range<usize>,
         cell: &Cell,
         seqno: SequenceNo,
     ) -> Result<(), AllocError>
-        ensures { OnOk result (self.new ≡ fill_range self.old cols.start cols.end cell.now seqno) }
+        ensures done { OnOk result (self.new ≡ fill_range self.old cols.start cols.end cell.now seqno) }
+        ensures refused { OnErr result (IsRefused self.old self.new) }
     {
         if self.fills_nothing(cell) {
             return Ok(());
         }
-        self.fill_columns(cols, cell, seqno)?;
+        self.fill_columns(cols, cell)?;
         self.prune_trailing_blanks(seqno)?;
+        self.update_last_change_seqno(seqno);
         Ok(())
     }
 
@@ -510,23 +529,19 @@ impl Line {
     }
 
     // Sets a cell at each column of a range in turn.
-    fn fill_columns(
-        &mut self,
-        cols: Range<usize>,
-        cell: &Cell,
-        seqno: SequenceNo,
-    ) -> Result<(), AllocError>
-        ensures { OnOk result (self.new ≡ changed self.old seqno (filled self.old.columns cols.start (cols.end - cols.start) cell.now)) }
+    fn fill_columns(&mut self, cols: Range<usize>, cell: &Cell) -> Result<(), AllocError>
+        ensures done { OnOk result (self.new ≡ record self.old { columns = filled self.old.columns cols.start (cols.end - cols.start) cell.now }) }
+        ensures refused { OnErr result (IsRefused self.old self.new) }
     {
         row::fill(&mut self.cells, cols.start, cols.end, cell)?;
-        self.update_last_change_seqno(seqno);
         Ok(())
     }
 
     /// Drops the links that were found in a text from every cell; nothing changes where there is
     /// none.
     pub fn invalidate_implicit_hyperlinks(&mut self, seqno: SequenceNo) -> Result<(), AllocError>
-        ensures { OnOk result (self.new ≡ invalidate_implicit_hyperlinks self.old seqno) }
+        ensures done { OnOk result (self.new ≡ invalidate_implicit_hyperlinks self.old seqno) }
+        ensures refused { OnErr result (IsRefused self.old self.new) }
     {
         if query::has_implicit_link(&self.cells) {
             self.drop_implicit_links();
@@ -544,7 +559,7 @@ impl Line {
 
     /// The zones: neighbouring visible cells of one semantic type, each from its first cell's
     /// column to its last one's. Plain blanks behind all other cells are in no zone, unless there
-    /// is nothing else. A column past 65,535 stays there.
+    /// is nothing else. A column past 65,535 counts as that.
     pub fn semantic_zone_ranges(&self) -> Result<Vec<ZoneRange>, AllocError>
         ensures { IfOk result (λ found. found.items ≡ semantic_zone_ranges self.now) }
     {
@@ -602,7 +617,8 @@ impl Line {
         wrapped: bool,
         seqno: SequenceNo,
     ) -> Result<(), AllocError>
-        ensures { OnOk result (self.new ≡ set_last_cell_was_wrapped self.old wrapped seqno) }
+        ensures done { OnOk result (self.new ≡ set_last_cell_was_wrapped self.old wrapped seqno) }
+        ensures refused { OnErr result (IsRefused self.old self.new) }
     {
         row::set_end_wrapped(&mut self.cells, wrapped);
         self.update_last_change_seqno(seqno);
