@@ -7,11 +7,11 @@ use Rattle.std.proofs.lemmas.List.{take_more}
 use Rattle.cell_base.specs.Attributes.{Attributes}
 use Rattle.cell_base.specs.CellContent.{CellContent, row_of_cells}
 use Rattle.cell_base.specs.Row.{Column, Narrow, LeftHalf, RightHalf, Row, blank}
-use Rattle.cell_line.specs.CellList.{ends_halved, mark_cell}
+use Rattle.cell_line.specs.CellList.{ends_halved}
 use Rattle.cell_line.specs.LineContent.{LineContent, changed, changed_unless_empty}
 use Rattle.cell_line.specs.LineCalls.{update_last_change_seqno}
 use Rattle.cell_line.specs.RowEdits.{is_plain_blank, up_to_last, pruned_row}
-use Rattle.cell_line.specs.VisibleCells.{VisibleCell, visible_at, visible_from, row_of_visible, with_end_wrapped, row_end_wrapped}
+use Rattle.cell_line.specs.VisibleCells.{mark_cell, VisibleCell, visible_at, visible_from, row_of_visible, with_end_wrapped, row_end_wrapped}
 use Rattle.cell_line.proofs.CutLemmas.{row_narrow_any}
 use Rattle.cell_line.proofs.CellLemmas.{by_test, row_wide, row_narrow, halved_wide, halved_narrow, halved_more, row_joined}
 

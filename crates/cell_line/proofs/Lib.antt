@@ -3,6 +3,7 @@ pub mod ClusterLemmas
 pub mod CutLemmas
 pub mod EndLemmas
 pub mod GroupLemmas
+pub mod KeptLemmas
 pub mod LentLemmas
 pub mod LentSteps
 pub mod LinkLemmas

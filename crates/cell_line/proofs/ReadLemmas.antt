@@ -6,9 +6,8 @@ use Rattle.cell_base.specs.Row.{Row}
 use Rattle.cell_line.specs.CellList.{ends_halved}
 use Rattle.cell_line.specs.CellRefView.{one_or_two}
 use Rattle.cell_line.specs.LineContent.{LineContent, line_of, cell_columns}
-use Rattle.cell_line.specs.Wrapped.{last_text, texts_kept}
-use Rattle.cell_line.specs.OpenRows.{breaks, rows_from}
-use Rattle.cell_line.specs.Zones.{is_kept_by}
+use Rattle.cell_line.specs.OpenRows.{breaks, rows_from, last_text, texts_up_to}
+use Rattle.cell_line.specs.OpenZones.{is_kept_by}
 use Rattle.cell_line.specs.VisibleCells.{VisibleCell, visible_at, visible_from, visible_cells, row_of_visible, contents, row_end_wrapped}
 use Rattle.cell_line.specs.ReadCells.{read_from}
 use Rattle.cell_line.proofs.CellLemmas.{by_test, wide_is, narrow_is, row_wide, row_narrow, halved_wide, halved_narrow}
@@ -69,7 +68,7 @@ rows_of_seen width row (v ∷ cells) =
     ∙ (λ i. if breaks width (length row) v.cell then row_end_wrapped true row ∷ rows_of_seen width (cell_columns v.cell) cells i else rows_of_seen width (row ++ cell_columns v.cell) cells i)
 
 pub rows_read : (width : ℕ) (cells : List CellContent) → ends_halved cells ≡ false
-    → rows_from width [] (contents (filter (λ v. is_kept_by (last_text (visible_cells (row_of_cells cells))) v.column) (read_from 0 cells))) ≡ rows_from width [] (contents (texts_kept (visible_cells (row_of_cells cells))))
+    → rows_from width [] (contents (filter (λ v. is_kept_by (last_text (visible_cells (row_of_cells cells))) v.column) (read_from 0 cells))) ≡ rows_from width [] (contents (texts_up_to (visible_cells (row_of_cells cells))))
 rows_read width cells h =
     let p : ℕ → Bool = is_kept_by (last_text (visible_cells (row_of_cells cells))) in
     sym (rows_of_seen width [] (filter (λ v. p v.column) (read_from 0 cells)))

@@ -1,8 +1,8 @@
 -- Rows that are filled cell by cell are those of the groups.
-use Rattle.std.proofs.Common.{◌≡◌, ℕ, ◌<◌, ◌∙◌, Bool, true, false, List, [], ◌∷◌, ◌++◌, length, Option, Some, None, refl, sym, ap, subst, inl, inr, arith}
-use Rattle.std.specs.Prelude.{nat_lt, ◌&&◌, fold, map, filter, if◌then◌else◌}
+use Rattle.std.proofs.Common.{◌≡◌, ℕ, ◌<◌, ◌∙◌, Bool, true, false, List, [], ◌∷◌, ◌++◌, length, refl, sym, ap, inl, inr, arith}
+use Rattle.std.specs.Prelude.{nat_lt, ◌&&◌, fold, map, if◌then◌else◌}
 use Rattle.std.specs.List.{list_all}
-use Rattle.std.proofs.lemmas.Bool.{lt-ltb, le-leb, false≢true}
+use Rattle.std.proofs.lemmas.Bool.{lt-ltb}
 use Rattle.std.proofs.lemmas.List.{append-nil, length-append, length-map}
 use Rattle.std.proofs.lemmas.Grind.{flat_map-append}
 use Rattle.cell_base.specs.Row.{Row}
@@ -11,10 +11,10 @@ use Rattle.cell_line.specs.LineContent.{cell_columns}
 use Rattle.cell_line.specs.VisibleCells.{VisibleCell, is_space, contents, row_of_visible, row_end_wrapped}
 use Rattle.cell_line.specs.Wrapped.{begins_row, continued, rows_of, texts_kept}
 use Rattle.cell_line.specs.OpenRows.{breaks, rows_from}
-use Rattle.cell_line.specs.Zones.{is_kept_by}
 use Rattle.cell_line.proofs.CellLemmas.{by_test}
 use Rattle.cell_line.proofs.CutLemmas.{length-cell_columns}
 use Rattle.cell_line.proofs.GroupLemmas.{some_groups, fold_behind}
+use Rattle.cell_line.proofs.KeptLemmas.{some_up_to}
 
 -- ---- rows
 
@@ -73,32 +73,5 @@ rows_filled width (v ∷ cells) p = ap (λ (r : Row). rows_from width r (content
 
 -- ---- a line that isn't all spaces keeps a cell
 
-last_of_spaces : (last : Option ℕ) (cells : List VisibleCell) → list_all is_space cells ≡ true → fold (λ o v. if is_space v then o else Some v.column) last cells ≡ last
-last_of_spaces last [] p = refl
-last_of_spaces last (v ∷ cells) p =
-    by_test (is_space v)
-    (λ b. ap (λ t. fold (λ o v. if is_space v then o else Some v.column) (if t then last else Some v.column) cells) b ∙ last_of_spaces last cells (sym (ap (λ t. t && list_all is_space cells) b) ∙ p))
-    (λ b. absurd (false≢true (sym (ap (λ t. t && list_all is_space cells) b) ∙ p)))
-
-kept_behind : (keeps : VisibleCell → Bool) (v : VisibleCell) (cells : List VisibleCell) → 0 < length (filter keeps cells) → 0 < length (filter keeps (v ∷ cells))
-kept_behind keeps v cells p = elim (keeps v) as (λ t. 0 < length (if t then v ∷ filter keeps cells else filter keeps cells)) [ true ↦ omega arith | false ↦ p ]
-
-kept_first : (keeps : VisibleCell → Bool) (v : VisibleCell) (cells : List VisibleCell) → keeps v ≡ true → 0 < length (filter keeps (v ∷ cells))
-kept_first keeps v cells p = subst (λ t. 0 < length (if t then v ∷ filter keeps cells else filter keeps cells)) (sym p) (omega arith)
-
-some_kept : (last : Option ℕ) (cells : List VisibleCell) → list_all is_space cells ≡ false
-    → 0 < length (filter (λ v. is_kept_by (fold (λ o v. if is_space v then o else Some v.column) last cells) v.column) cells)
-some_kept last [] p = absurd (false≢true (sym p))
-some_kept last (v ∷ cells) p =
-    let after = if is_space v then last else Some v.column in
-    by_test (list_all is_space cells)
-    (λ b.
-    by_test (is_space v)
-    (λ s. absurd (false≢true (sym p ∙ ap (λ t. t && list_all is_space cells) s ∙ b)))
-    (λ s.
-    let e : fold (λ o v. if is_space v then o else Some v.column) after cells ≡ Some v.column = last_of_spaces after cells b ∙ ap (λ t. if t then last else Some v.column) s in
-    kept_first (λ w. is_kept_by (fold (λ o v. if is_space v then o else Some v.column) after cells) w.column) v cells (ap (λ o. is_kept_by o v.column) e ∙ le-leb v.column v.column (omega arith))))
-    (λ b. kept_behind (λ w. is_kept_by (fold (λ o v. if is_space v then o else Some v.column) after cells) w.column) v cells (some_kept after cells b))
-
 pub texts_are_kept : (cells : List VisibleCell) → list_all is_space cells ≡ false → 0 < length (texts_kept cells)
-texts_are_kept cells p = some_kept None cells p
+texts_are_kept cells p = some_up_to is_space cells p

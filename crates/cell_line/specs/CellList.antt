@@ -12,7 +12,3 @@ ends_halved (cell ∷ next ∷ cells) = if nat_le 2 cell.width then ends_halved 
 -- a blank with the attributes of the cell at a place
 abbrev pub blank_for : List CellContent → ℕ → CellContent
 blank_for cells at = blank_cell (slice_index_or cells at (blank_cell plain)).attributes
-
--- the cell is set to be one behind which the line goes on, or not
-abbrev pub mark_cell : Bool → CellContent → CellContent
-mark_cell wrapped cell = record cell { attributes = record cell.attributes { wrapped = wrapped } }

@@ -7,7 +7,7 @@ use Rattle.cell_base.specs.Attributes.{Attributes, plain}
 use Rattle.cell_base.specs.CellContent.{CellContent, blank_cell, cell_of, row_of_cells}
 use Rattle.cell_base.specs.SameCell.{same_cell}
 use Rattle.cell_base.specs.Row.{blank, plain_row}
-use Rattle.cell_line.specs.LineContent.{LineContent, line_of, changed, changed_unless_empty, with_bits, is_attribute, text_cells, text_row}
+use Rattle.cell_line.specs.LineContent.{LineContent, line_of, changed, changed_unless_empty, with_bits, same_bits, text_cells, text_row}
 use Rattle.cell_line.specs.RowEdits.{cut, cut_front, resized, with_cell, overlaid, with_inserted, removed, erased, erased_within, pruned_row, filled}
 use Rattle.cell_line.specs.VisibleCells.{VisibleCell, visible_cells as visible, texts_joined, cells_between, row_of_visible, cell_at, has_link, is_whitespace_row, ends_wrapped, row_end_wrapped}
 use Rattle.cell_line.specs.Wrapped.{rows_of, texts_kept}
@@ -90,16 +90,16 @@ set_double_height_bottom line number = with_bits line number DoubleHeightBottomH
 
 -- whether the bits are exactly those of the call that sets them
 abbrev pub is_single_width : LineContent → Bool
-is_single_width line = is_attribute line.bits SingleWidthLine
+is_single_width line = same_bits line.bits SingleWidthLine
 
 abbrev pub is_double_width : LineContent → Bool
-is_double_width line = is_attribute line.bits DoubleWidthLine
+is_double_width line = same_bits line.bits DoubleWidthLine
 
 abbrev pub is_double_height_top : LineContent → Bool
-is_double_height_top line = is_attribute line.bits DoubleHeightTopHalfLine
+is_double_height_top line = same_bits line.bits DoubleHeightTopHalfLine
 
 abbrev pub is_double_height_bottom : LineContent → Bool
-is_double_height_bottom line = is_attribute line.bits DoubleHeightBottomHalfLine
+is_double_height_bottom line = same_bits line.bits DoubleHeightBottomHalfLine
 
 -- ---- zones, links, cutting and joining, words
 

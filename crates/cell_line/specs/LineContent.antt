@@ -45,12 +45,12 @@ abbrev pub text_row : (List ℕ → ℕ) → List ℕ → Attributes → Row
 text_row width_of text attributes = flat_map cell_columns (text_cells width_of text attributes)
 
 -- whether bits are these
-abbrev pub is_attribute : LineAttribute → LineAttribute → Bool
-is_attribute SingleWidthLine SingleWidthLine = true
-is_attribute DoubleWidthLine DoubleWidthLine = true
-is_attribute DoubleHeightTopHalfLine DoubleHeightTopHalfLine = true
-is_attribute DoubleHeightBottomHalfLine DoubleHeightBottomHalfLine = true
-is_attribute _ _ = false
+abbrev pub same_bits : LineAttribute → LineAttribute → Bool
+same_bits SingleWidthLine SingleWidthLine = true
+same_bits DoubleWidthLine DoubleWidthLine = true
+same_bits DoubleHeightTopHalfLine DoubleHeightTopHalfLine = true
+same_bits DoubleHeightBottomHalfLine DoubleHeightBottomHalfLine = true
+same_bits _ _ = false
 
 -- other bits, and the number of a change if that is the later one
 abbrev pub with_bits : LineContent → ℕ → LineAttribute → LineContent

@@ -1,9 +1,10 @@
 -- Rows that are being filled, cell by cell.
-use Rattle.std.specs.Prelude.{ℕ, ◌+◌, Bool, ◌&&◌, true, nat_lt, List, [], ◌∷◌, ◌++◌, length, if◌then◌else◌}
+use Rattle.std.specs.Prelude.{ℕ, ◌+◌, Bool, ◌&&◌, true, nat_lt, List, [], ◌∷◌, ◌++◌, length, Option, Some, None, filter, fold, if◌then◌else◌}
 use Rattle.cell_base.specs.CellContent.{CellContent}
 use Rattle.cell_base.specs.Row.{Row}
 use Rattle.cell_line.specs.LineContent.{cell_columns}
-use Rattle.cell_line.specs.VisibleCells.{row_end_wrapped}
+use Rattle.cell_line.specs.VisibleCells.{VisibleCell, is_space, row_end_wrapped}
+use Rattle.cell_line.specs.OpenZones.{is_kept_by}
 
 -- whether a cell doesn't fit behind the columns that are there
 abbrev pub breaks : ℕ → ℕ → CellContent → Bool
@@ -15,3 +16,11 @@ rows_from width row [] = row ∷ []
 rows_from width row (cell ∷ cells) =
     if breaks width (length row) cell then row_end_wrapped true row ∷ rows_from width (cell_columns cell) cells
     else rows_from width (row ++ cell_columns cell) cells
+
+-- the column of the last cell whose text isn't one space
+abbrev pub last_text : List VisibleCell → Option ℕ
+last_text cells = fold (λ last v. if is_space v then last else Some v.column) None cells
+
+-- the cells up to that column
+abbrev pub texts_up_to : List VisibleCell → List VisibleCell
+texts_up_to cells = filter (λ v. is_kept_by (last_text cells) v.column) cells

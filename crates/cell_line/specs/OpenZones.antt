@@ -1,5 +1,8 @@
 -- Zones that are being made, cell by cell.
-use Rattle.std.specs.Prelude.{List, [], ◌∷◌, if◌then◌else◌}
+use Rattle.std.specs.Prelude.{ℕ, Bool, true, nat_le, List, [], ◌∷◌, Option, Some, None, fold, if◌then◌else◌}
+use Rattle.cell_base.specs.Attributes.{plain}
+use Rattle.cell_base.specs.CellContent.{blank_cell}
+use Rattle.cell_base.specs.SameCell.{same_cell}
 use Rattle.cell_base.specs.declared.ranges.ZoneRange.{ZoneRange}
 use Rattle.cell_line.specs.VisibleCells.{VisibleCell}
 use Rattle.cell_line.specs.Zones.{same_type, zone_column}
@@ -13,3 +16,12 @@ joined_zone [] v = zone_from v ∷ []
 joined_zone (z ∷ []) v =
     if same_type z.semantic_type v.cell.attributes.semantic_type then record z { range = record z.range { «end» = zone_column v.column } } ∷ [] else z ∷ zone_from v ∷ []
 joined_zone (z ∷ y ∷ zs) v = z ∷ joined_zone (y ∷ zs) v
+
+-- the column of the last cell that isn't a plain blank
+abbrev pub last_kept : List VisibleCell → Option ℕ
+last_kept cells = fold (λ last v. if same_cell v.cell (blank_cell plain) then last else Some v.column) None cells
+
+-- whether a column is none behind the last one; every one is where there is no last one
+abbrev pub is_kept_by : Option ℕ → ℕ → Bool
+is_kept_by None column = true
+is_kept_by (Some last) column = nat_le column last

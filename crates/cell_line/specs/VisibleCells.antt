@@ -5,7 +5,6 @@ use Rattle.std.specs.Str.{bytes_eq}
 use Rattle.cell_base.specs.Attributes.{Attributes}
 use Rattle.cell_base.specs.CellContent.{CellContent}
 use Rattle.cell_base.specs.Row.{Narrow, LeftHalf, RightHalf, Row, space}
-use Rattle.cell_line.specs.CellList.{mark_cell}
 use Rattle.cell_line.specs.LineContent.{cell_columns}
 
 -- a cell with its first column
@@ -67,6 +66,10 @@ texts_joined cells = flat_map (λ v. v.cell.text) cells
 -- whether the line goes on behind the last cell; not where there is none
 abbrev pub ends_wrapped : List VisibleCell → Bool
 ends_wrapped cells = fold (λ _ v. v.cell.attributes.wrapped) false cells
+
+-- the cell is set to be one behind which the line goes on, or not
+abbrev pub mark_cell : Bool → CellContent → CellContent
+mark_cell wrapped cell = record cell { attributes = record cell.attributes { wrapped = wrapped } }
 
 abbrev pub mark_wrapped : Bool → VisibleCell → VisibleCell
 mark_wrapped wrapped v = record v { cell = mark_cell wrapped v.cell }

@@ -1,10 +1,10 @@
 -- Rows that fit a width.
-use Rattle.std.specs.Prelude.{ℕ, ◌+◌, Bool, true, nat_lt, List, [], ◌∷◌, length, map, filter, fold, Option, Some, None, if◌then◌else◌}
+use Rattle.std.specs.Prelude.{ℕ, ◌+◌, Bool, true, nat_lt, List, [], ◌∷◌, length, map, not}
 use Rattle.cell_base.specs.Row.{Row}
 use Rattle.cell_line.specs.LineContent.{cell_columns}
 use Rattle.cell_line.specs.Groups.{groups_by}
 use Rattle.cell_line.specs.VisibleCells.{VisibleCell, is_space, row_of_visible, row_end_wrapped}
-use Rattle.cell_line.specs.Zones.{is_kept_by}
+use Rattle.cell_line.specs.RowEdits.{up_to_last}
 
 -- whether a cell begins a new row behind the cells of the last one: the row would pass the width
 abbrev pub begins_row : ℕ → List VisibleCell → VisibleCell → Bool
@@ -20,10 +20,6 @@ continued (row ∷ next ∷ rows) = row_end_wrapped true row ∷ continued (next
 abbrev pub rows_of : ℕ → List VisibleCell → List Row
 rows_of width cells = continued (map row_of_visible (groups_by (begins_row width) cells))
 
--- the column of the last cell whose text isn't one space
-abbrev pub last_text : List VisibleCell → Option ℕ
-last_text cells = fold (λ last v. if is_space v then last else Some v.column) None cells
-
--- the cells up to that one
+-- the cells up to the last whose text isn't one space
 abbrev pub texts_kept : List VisibleCell → List VisibleCell
-texts_kept cells = filter (λ v. is_kept_by (last_text cells) v.column) cells
+texts_kept cells = up_to_last (λ v. not (is_space v)) cells

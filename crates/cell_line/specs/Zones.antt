@@ -1,5 +1,6 @@
 -- The zones of a row: neighbouring cells of one semantic type.
-use Rattle.std.specs.Prelude.{ℕ, Bool, true, false, not, nat_le, min, List, [], ◌∷◌, Option, Some, None, map, filter, fold, if◌then◌else◌}
+use Rattle.std.specs.Prelude.{ℕ, Bool, true, false, not, min, List, [], ◌∷◌, map, if◌then◌else◌}
+use Rattle.std.specs.List.{list_all}
 use Rattle.cell_base.specs.declared.attributes.SemanticType.{SemanticType}
 use Rattle.cell_base.specs.declared.attributes.SemanticType.TheVariants.{Output, Input, Prompt}
 use Rattle.cell_base.specs.declared.ranges.ZoneRange.{ZoneRange}
@@ -7,6 +8,7 @@ use Rattle.cell_base.specs.Attributes.{plain}
 use Rattle.cell_base.specs.CellContent.{blank_cell}
 use Rattle.cell_base.specs.SameCell.{same_cell}
 use Rattle.cell_line.specs.Groups.{groups_by}
+use Rattle.cell_line.specs.RowEdits.{up_to_last}
 use Rattle.cell_line.specs.VisibleCells.{VisibleCell, first_column, last_column}
 
 abbrev pub same_type : SemanticType → SemanticType → Bool
@@ -32,15 +34,14 @@ begins_zone cells v = not (same_type (type_of cells) v.cell.attributes.semantic_
 abbrev pub zone_of : List VisibleCell → ZoneRange
 zone_of cells = record { semantic_type = type_of cells; range = record { start = zone_column (first_column cells); «end» = zone_column (last_column cells) } }
 
--- the column of the last cell that isn't a plain blank
-abbrev pub last_kept : List VisibleCell → Option ℕ
-last_kept cells = fold (λ last v. if same_cell v.cell (blank_cell plain) then last else Some v.column) None cells
+-- a space of one column with plain attributes
+abbrev pub is_plain_cell : VisibleCell → Bool
+is_plain_cell v = same_cell v.cell (blank_cell plain)
 
--- whether a column is none behind the last one; every one is where there is no last one
-abbrev pub is_kept_by : Option ℕ → ℕ → Bool
-is_kept_by None column = true
-is_kept_by (Some last) column = nat_le column last
+-- the cells up to the last that isn't a plain blank, or all if there is none
+abbrev pub zoned_cells : List VisibleCell → List VisibleCell
+zoned_cells cells = if list_all is_plain_cell cells then cells else up_to_last (λ v. not (is_plain_cell v)) cells
 
--- the zones of the cells up to the last that isn't a plain blank, or of all if there is none
+-- their zones
 abbrev pub zones : List VisibleCell → List ZoneRange
-zones cells = map zone_of (groups_by begins_zone (filter (λ v. is_kept_by (last_kept cells) v.column) cells))
+zones cells = map zone_of (groups_by begins_zone (zoned_cells cells))

@@ -4,8 +4,8 @@ ghost use Rattle.std.specs.Prelude.{◌≡◌, ℕ, ◌+◌, ◌-◌, ◌≤◌,
 ghost use Rattle.cell_base.specs.CellContent.{row_of_cells, blank_cell};
 ghost use Rattle.cell_base.specs.Attributes.{plain};
 ghost use Rattle.cell_base.specs.Row.{set_columns, space};
-ghost use Rattle.cell_line.specs.CellList.{ends_halved, blank_for, mark_cell};
-ghost use Rattle.cell_line.specs.VisibleCells.{row_end_wrapped};
+ghost use Rattle.cell_line.specs.CellList.{ends_halved, blank_for};
+ghost use Rattle.cell_line.specs.VisibleCells.{mark_cell, row_end_wrapped};
 ghost use Rattle.cell_line.specs.Links.{is_implicit, cell_without_implicit};
 ghost use Rattle.std.specs.Str.{bytes_eq};
 ghost use Rattle.cell_base.specs.SameAttributes.{same_attributes};

@@ -4,8 +4,7 @@ ghost use Rattle.cell_base.specs.CellContent.{row_of_cells};
 ghost use Rattle.cell_line.specs.CellList.{ends_halved};
 ghost use Rattle.cell_line.specs.LineContent.{line_of, cell_columns};
 ghost use Rattle.cell_line.specs.VisibleCells.{visible_cells, cells_between, row_of_visible, row_end_wrapped, contents};
-ghost use Rattle.cell_line.specs.Wrapped.{last_text, texts_kept};
-ghost use Rattle.cell_line.specs.OpenRows.{breaks, rows_from};
+ghost use Rattle.cell_line.specs.OpenRows.{breaks, rows_from, last_text, texts_up_to};
 
 use crate::line::Line;
 use crate::query::is_space;
@@ -115,7 +114,7 @@ pub(crate) fn rows(
     width: usize,
     seqno: SequenceNo,
 ) -> Result<Vec<Line>, AllocError>
-    ensures { IfOk result (λ lines. lines.items ≡ map (line_of seqno) (rows_from width [] (contents (texts_kept (visible_cells (row_of_cells cells.now)))))) }
+    ensures { IfOk result (λ lines. lines.items ≡ map (line_of seqno) (rows_from width [] (contents (texts_up_to (visible_cells (row_of_cells cells.now)))))) }
 {
     let mut whole = copy(alloc, cells)?;
     close_end(&mut whole)?;
@@ -129,7 +128,7 @@ fn fill_rows(
     seqno: SequenceNo,
 ) -> Result<Vec<Line>, AllocError>
     requires { ends_halved cells.now ≡ false }
-    ensures { IfOk result (λ lines. lines.items ≡ map (line_of seqno) (rows_from width [] (contents (texts_kept (visible_cells (row_of_cells cells.now)))))) }
+    ensures { IfOk result (λ lines. lines.items ≡ map (line_of seqno) (rows_from width [] (contents (texts_up_to (visible_cells (row_of_cells cells.now)))))) }
 {
     let last = last_text(cells);
     let mut lines = Vec::new(alloc);

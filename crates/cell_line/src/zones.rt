@@ -5,8 +5,8 @@ ghost use Rattle.cell_base.specs.CellContent.{row_of_cells, blank_cell};
 ghost use Rattle.cell_base.specs.SameCell.{same_cell};
 ghost use Rattle.cell_line.specs.CellRefView.{shown_by};
 ghost use Rattle.cell_line.specs.VisibleCells.{visible_cells};
-ghost use Rattle.cell_line.specs.Zones.{same_type, zone_column, last_kept, is_kept_by, zones};
-ghost use Rattle.cell_line.specs.OpenZones.{joined_zone};
+ghost use Rattle.cell_line.specs.Zones.{same_type, zone_column, zones};
+ghost use Rattle.cell_line.specs.OpenZones.{joined_zone, last_kept, is_kept_by};
 
 use crate::cell_ref::CellRef;
 use crate::visible_cells::VisibleCellIter;

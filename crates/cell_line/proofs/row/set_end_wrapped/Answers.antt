@@ -1,6 +1,7 @@
 use Rattle.std.proofs.Common.{◌≡◌, ◌∙◌, ◌-◌, ap, sym, take, arith}
 use Rattle.std.specs.Prelude.{if◌then◌else◌}
-use Rattle.cell_line.specs.CellList.{ends_halved, mark_cell}
+use Rattle.cell_line.specs.CellList.{ends_halved}
+use Rattle.cell_line.specs.VisibleCells.{mark_cell}
 use Rattle.cell_line.proofs.EndLemmas.{end_set}
 use Rattle.cell_line.proofs.row.set_end_wrapped.Goals as goal
 use Rattle.cell_line.proofs.row.set_end_wrapped.Goals.{then-is_halved, else-is_halved}

@@ -6,7 +6,7 @@ use Rattle.cell_line.specs.LineContent.{LineContent, line_of, cell_columns}
 use Rattle.cell_line.specs.ReadCells.{read_from, read_left}
 use Rattle.cell_line.specs.VisibleCells.{VisibleCell, contents, row_end_wrapped}
 use Rattle.cell_line.specs.OpenRows.{breaks, rows_from}
-use Rattle.cell_line.specs.Zones.{is_kept_by}
+use Rattle.cell_line.specs.OpenZones.{is_kept_by}
 use Rattle.cell_line.proofs.CellLemmas.{length-row}
 use Rattle.cell_line.proofs.ReadLemmas.{placed, rows_read}
 use Rattle.cell_line.proofs.wrap.fill_rows.Goals as goal

@@ -6,7 +6,7 @@ use Rattle.cell_line.specs.LineContent.{line_of}
 use Rattle.cell_line.specs.ReadCells.{read_from, read_left}
 use Rattle.cell_line.specs.VisibleCells.{contents}
 use Rattle.cell_line.specs.OpenRows.{rows_from}
-use Rattle.cell_line.specs.Zones.{is_kept_by}
+use Rattle.cell_line.specs.OpenZones.{is_kept_by}
 use Rattle.cell_line.proofs.wrap.fill_rows.Given as goal
 
 -- the lines so far, and then those of the open row and what is left, are the whole

@@ -3,7 +3,7 @@ use Rattle.std.specs.Prelude.{fold, if◌then◌else◌}
 use Rattle.cell_base.specs.CellContent.{row_of_cells}
 use Rattle.cell_line.specs.CellRefView.{cells_left}
 use Rattle.cell_line.specs.VisibleCells.{visible_cells, is_space}
-use Rattle.cell_line.specs.Wrapped.{last_text}
+use Rattle.cell_line.specs.OpenRows.{last_text}
 use Rattle.cell_line.proofs.wrap.last_text.Given as goal
 
 -- the answer so far, and then what is left, are the whole

@@ -5,7 +5,7 @@ use Rattle.cell_base.specs.CellContent.{row_of_cells, blank_cell}
 use Rattle.cell_base.specs.SameCell.{same_cell}
 use Rattle.cell_line.specs.CellRefView.{cells_left}
 use Rattle.cell_line.specs.VisibleCells.{visible_cells}
-use Rattle.cell_line.specs.Zones.{last_kept}
+use Rattle.cell_line.specs.OpenZones.{last_kept}
 use Rattle.cell_line.proofs.zones.last_kept.Given as goal
 
 -- the answer so far, and then what is left, are the whole

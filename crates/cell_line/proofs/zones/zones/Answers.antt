@@ -1,9 +1,11 @@
 use Rattle.std.proofs.Common.{ℕ, List, Option, ◌∙◌, [], sym, ap}
-use Rattle.std.specs.Prelude.{fold, filter}
+use Rattle.std.specs.Prelude.{fold, filter, map}
 use Rattle.cell_base.specs.CellContent.{row_of_cells}
 use Rattle.cell_line.specs.VisibleCells.{VisibleCell, visible_cells}
-use Rattle.cell_line.specs.Zones.{is_kept_by, last_kept}
-use Rattle.cell_line.specs.OpenZones.{joined_zone}
+use Rattle.cell_line.specs.Groups.{groups_by}
+use Rattle.cell_line.specs.Zones.{is_plain_cell, begins_zone, zone_of}
+use Rattle.cell_line.specs.OpenZones.{joined_zone, last_kept, is_kept_by}
+use Rattle.cell_line.proofs.KeptLemmas.{in_order, kept_or_all}
 use Rattle.cell_line.proofs.ZoneLemmas.{zones_made}
 use Rattle.cell_line.proofs.zones.zones.Goals as goal
 
@@ -14,3 +16,4 @@ returns c =
     ∙ c.loop-cell.invariant
     ∙ ap (λ (last : Option ℕ). fold joined_zone [] (filter (λ v. is_kept_by last v.column) cells)) c.last_kept-last.ensures
     ∙ zones_made (filter (λ v. is_kept_by (last_kept cells) v.column) cells)
+    ∙ ap (λ vs. map zone_of (groups_by begins_zone vs)) (kept_or_all is_plain_cell cells (in_order 0 (row_of_cells c.args.cells.now)))

@@ -3,8 +3,7 @@ use Rattle.std.specs.Prelude.{fold, filter}
 use Rattle.cell_base.specs.CellContent.{row_of_cells}
 use Rattle.cell_line.specs.CellRefView.{cells_left}
 use Rattle.cell_line.specs.VisibleCells.{visible_cells}
-use Rattle.cell_line.specs.Zones.{is_kept_by}
-use Rattle.cell_line.specs.OpenZones.{joined_zone}
+use Rattle.cell_line.specs.OpenZones.{joined_zone, is_kept_by}
 use Rattle.cell_line.proofs.zones.zones.Given as goal
 
 -- the zones so far, and then what is left, are the whole

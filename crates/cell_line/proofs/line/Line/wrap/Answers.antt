@@ -4,9 +4,10 @@ use Rattle.std.proofs.lemmas.Result.{IfOk-weaker}
 use Rattle.cell_base.specs.CellContent.{row_of_cells}
 use Rattle.cell_base.specs.Row.{Row}
 use Rattle.cell_line.specs.LineContent.{LineContent, line_of}
-use Rattle.cell_line.specs.VisibleCells.{visible_cells, contents, is_whitespace_row}
+use Rattle.cell_line.specs.VisibleCells.{visible_cells, contents, is_space, is_whitespace_row}
 use Rattle.cell_line.specs.Wrapped.{rows_of, texts_kept}
-use Rattle.cell_line.specs.OpenRows.{rows_from}
+use Rattle.cell_line.specs.OpenRows.{rows_from, texts_up_to}
+use Rattle.cell_line.proofs.KeptLemmas.{in_order, kept_some}
 use Rattle.cell_line.proofs.WrapLemmas.{rows_filled, texts_are_kept}
 use Rattle.cell_line.proofs.line.Line.wrap.Goals as goal
 
@@ -18,7 +19,8 @@ returns c =
     let kept = texts_kept (visible_cells line.columns) in
     IfOk-weaker c.rows.result _ _
     (λ lines p. p
-    ∙ ap (λ (r : Row). map (line_of c.args.seqno) (rows_from c.args.width [] (contents (texts_kept (visible_cells r))))) columns
+    ∙ ap (λ (r : Row). map (line_of c.args.seqno) (rows_from c.args.width [] (contents (texts_up_to (visible_cells r))))) columns
+    ∙ ap (λ vs. map (line_of c.args.seqno) (rows_from c.args.width [] (contents vs))) (kept_some is_space (visible_cells line.columns) (in_order 0 line.columns) spaces)
     ∙ ap (map (line_of c.args.seqno)) (rows_filled c.args.width kept (texts_are_kept (visible_cells line.columns) spaces))
     ∙ sym (ap (λ t. if t then line ∷ [] else map (line_of c.args.seqno) (rows_of c.args.width kept)) spaces))
     c.rows.ensures
