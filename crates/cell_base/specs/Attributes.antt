@@ -39,7 +39,7 @@ plain = record { intensity = Normal; underline = no_underline; blink = no_blink;
 abbrev pub blank_of : ColorAttribute → Attributes
 blank_of color = record plain { background = color }
 
--- the attributes that an erased place keeps
+-- the attributes less underlining, overline, strikethrough, semantic type and link
 abbrev pub sgr_only : Attributes → Attributes
 sgr_only a = record a { semantic_type = Output; underline = no_underline; overline = false; strikethrough = false; hyperlink = None }
 

@@ -47,7 +47,7 @@ abbrev pub closed_start : Row → Row
 closed_start [] = []
 closed_start (column ∷ row) = right_alone column ∷ row
 
--- the row with these columns from a place on
+-- the row with these columns from a place on; halves left alone on either side become blanks
 abbrev pub set_columns : Row → ℕ → Row → Row
 set_columns row at columns = closed_end (take at row) ++ columns ++ closed_start (drop (at + length columns) row)
 
