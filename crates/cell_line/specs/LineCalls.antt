@@ -88,16 +88,19 @@ set_double_height_top line number = with_bits line number DoubleHeightTopHalfLin
 abbrev pub set_double_height_bottom : LineContent → ℕ → LineContent
 set_double_height_bottom line number = with_bits line number DoubleHeightBottomHalfLine
 
--- whether the bits are exactly those of the call that sets them
+-- whether there are no bits
 abbrev pub is_single_width : LineContent → Bool
 is_single_width line = same_bits line.bits SingleWidthLine
 
+-- whether the bits are exactly double width
 abbrev pub is_double_width : LineContent → Bool
 is_double_width line = same_bits line.bits DoubleWidthLine
 
+-- whether the bits are exactly double width and the top half of double height
 abbrev pub is_double_height_top : LineContent → Bool
 is_double_height_top line = same_bits line.bits DoubleHeightTopHalfLine
 
+-- whether the bits are exactly double width and the bottom half of double height
 abbrev pub is_double_height_bottom : LineContent → Bool
 is_double_height_bottom line = same_bits line.bits DoubleHeightBottomHalfLine
 
