@@ -2,6 +2,7 @@
 #![tactic(auto)]
 
 mod laws;
+mod lent;
 mod options;
 mod service;
 #[cfg(test)]

@@ -1,8 +1,12 @@
-ghost use Rattle.std.specs.Prelude.{◌≡◌, ◌≢◌, ◌⊎◌, ◌≤◌, [], map};
-ghost use Rattle.std.specs.Io.KnownBytes.{Keeps};
+ghost use Rattle.std.specs.Prelude.{◌≡◌, ◌≢◌, ◌⊎◌, ◌≤◌, [], map, IfSome, OnOk, OnErr};
+ghost use Rattle.std.specs.Io.KnownBytes.{Appends, Keeps};
+ghost use Rattle.cell_base.specs.Cluster.{program_width};
+ghost use Rattle.terminal.specs.Shown.{AppendsPrefix, rows_shown};
 ghost use Rattle.clap.specs.Words.{IsAmong, kind_of};
 ghost use Rattle.relay.specs.CommandLine.{faults_in};
+ghost use Rattle.relay.specs.Output.{rows_in};
 
+use crate::lent::Lent;
 use crate::options;
 use crate::options::Options;
 use clap::Error;
@@ -58,6 +62,7 @@ fn explain<T: Write, F: Write>(alloc: Global, error: &Error, writer: &mut T, fau
     ensures memory { kind_of error.now ≡ ErrorKind.OutOfMemory → result ≡ FAULT }
     ensures asked { result ≡ 0 → (kind_of error.now ≡ ErrorKind.DisplayHelp) ⊎ (kind_of error.now ≡ ErrorKind.DisplayVersion) }
     ensures quiet { result ≡ 0 → Keeps (F.contents faults.old) (F.contents faults.new) }
+    ensures nothing { kind_of error.now ≡ ErrorKind.OutOfMemory → Keeps (T.contents writer.old) (T.contents writer.new) }
 {
     if error.kind() == ErrorKind::OutOfMemory {
         return tell(faults, "out of memory");
@@ -80,22 +85,31 @@ fn run<R: Read, T: Write>(
     options: Options,
     reader: &mut R,
     writer: &mut T,
-) -> Result<(), RunError> {
+) -> Result<(), RunError>
+    ensures ok { OnOk result (IfSome (R.remaining reader.old) (λ input.
+        Appends (T.contents writer.old) (T.contents writer.new) (rows_shown program_width options.width options.height input))) }
+    ensures err { OnErr result (IfSome (R.remaining reader.old) (λ input.
+        AppendsPrefix (T.contents writer.old) (T.contents writer.new) (rows_shown program_width options.width options.height input))) }
+{
     let mut reader = Watched::new(reader);
-    let mut writer = Watched::new(writer);
-    show(
+    let mut writer = Watched::new(Lent { inner: writer });
+    let result = show(
         alloc,
         &mut reader,
         &mut writer,
         options.width,
         options.height,
         ProgramWidth,
-    )
+    );
+    let Lent { inner } = writer.into_inner();
+    let _ = &*inner;
+    result
 }
 
 /// The program on its words, of which the first is its name, and on its streams. It answers the
 /// status: 0, or 1 with one line on `faults`, or 2 with a text on `faults` for a bad command line.
 /// Help and the version are written to `writer`, with status 0.
+#[tactic(auto, using(crate::proofs::OutputLemmas::none_of))]
 pub fn serve<S: AsStr, R: Read, T: Write, F: Write>(
     alloc: Global,
     words: &[S],
@@ -110,6 +124,12 @@ pub fn serve<S: AsStr, R: Read, T: Write, F: Write>(
     ensures asked { result ≡ 0 → faults_in (map S.text words.now) ≢ []
         → IsAmong ErrorKind.DisplayHelp (faults_in (map S.text words.now)) ⊎ IsAmong ErrorKind.DisplayVersion (faults_in (map S.text words.now)) }
     ensures quiet { result ≡ 0 → Keeps (F.contents faults.old) (F.contents faults.new) }
+    // A command line that can be run writes the rows of the input, of its size, where the status is 0, and else the first
+    // bytes of them.
+    ensures shows { faults_in (map S.text words.now) ≡ [] → result ≡ 0 → IfSome (R.remaining reader.old) (λ input.
+        Appends (T.contents writer.old) (T.contents writer.new) (rows_in (map S.text words.now) input)) }
+    ensures part { faults_in (map S.text words.now) ≡ [] → result ≢ 0 → IfSome (R.remaining reader.old) (λ input.
+        AppendsPrefix (T.contents writer.old) (T.contents writer.new) (rows_in (map S.text words.now) input)) }
 {
     let options = match options::read(alloc, words) {
         Ok(options) => options,

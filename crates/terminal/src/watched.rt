@@ -45,6 +45,13 @@ impl<T> Watched<T> {
         self.has_failed
     }
 
+    /// The reader or writer itself.
+    pub fn into_inner(self) -> T
+        ensures { result ≡ self.inner }
+    {
+        self.inner
+    }
+
     /// How often it was read, up to `u64::MAX`.
     pub fn reads(&self) -> u64
         ensures { result ≡ self.now.reads }
