@@ -1,0 +1,36 @@
+//! Control sequences, read and written over and over.
+use csi_codec::{CSI, CsiFront, read_csi};
+use std::alloc::Global;
+use std::fmt::Write;
+
+fn front(alloc: Global, input: &[u8]) -> Option<CsiFront<'_>> {
+    read_csi(alloc, input).ok()?
+}
+
+/// Reads the list of the control sequence at the front so often, and counts its actions.
+pub fn read(alloc: Global, input: &[u8], count: u32) -> Option<u64> {
+    let front = front(alloc, input)?;
+    let mut sum = 0u64;
+    for _ in 0..count {
+        for action in CSI::parse(alloc, &front.params, front.truncated, front.control) {
+            let _ = action.ok()?;
+            sum = sum.wrapping_add(1);
+        }
+    }
+    Some(sum)
+}
+
+/// Writes the first action of the control sequence at the front so often, and counts the bytes.
+pub fn write(alloc: Global, input: &[u8], count: u32) -> Option<u64> {
+    let front = front(alloc, input)?;
+    let mut actions = CSI::parse(alloc, &front.params, front.truncated, front.control);
+    let action = actions.next()?.ok()?;
+    let mut text = String::new(alloc);
+    let mut sum = 0u64;
+    for _ in 0..count {
+        text.clear();
+        write!(text, "{action}").ok()?;
+        sum = sum.wrapping_add(text.len() as u64);
+    }
+    Some(sum)
+}

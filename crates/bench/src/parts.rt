@@ -1,0 +1,109 @@
+//! The parts of the stack that can be measured.
+use crate::lists;
+use escape_framing::Framer;
+use escape_stream::{Parser, encode};
+use std::alloc::Global;
+use terminal::{ProgramWidth, Terminal};
+
+pub const NAMES: &str =
+    "bench frame | parse | collect | encode | show | read_list | write_list, and how often";
+
+/// A part of the stack.
+#[derive(Clone, Copy)]
+pub enum Part {
+    /// The framer, byte by byte.
+    Frame,
+    /// `Parser::parse`, with a callback that counts.
+    Parse,
+    /// `Parser::parse_as_vec`.
+    Collect,
+    /// `Parser::parse_as_vec`, and `encode` of its actions.
+    Encode,
+    /// A terminal of 80 columns and 24 rows that is fed, and its rows.
+    Show,
+    /// The control sequence at the front, read.
+    ReadList,
+    /// The actions of the control sequence at the front, written.
+    WriteList,
+}
+
+impl Part {
+    /// The part of that name.
+    pub fn named(name: &str) -> Option<Part> {
+        match name {
+            "frame" => Some(Part::Frame),
+            "parse" => Some(Part::Parse),
+            "collect" => Some(Part::Collect),
+            "encode" => Some(Part::Encode),
+            "show" => Some(Part::Show),
+            "read_list" => Some(Part::ReadList),
+            "write_list" => Some(Part::WriteList),
+            _ => None,
+        }
+    }
+
+    /// Runs the part over the input so often, and answers a number that rests on all that it did.
+    pub fn run(self, alloc: Global, input: &[u8], count: u32) -> Option<u64> {
+        match self {
+            Part::ReadList => lists::read(alloc, input, count),
+            Part::WriteList => lists::write(alloc, input, count),
+            _ => self.run_on_stream(alloc, input, count),
+        }
+    }
+
+    fn run_on_stream(self, alloc: Global, input: &[u8], count: u32) -> Option<u64> {
+        let mut sum = 0u64;
+        for _ in 0..count {
+            sum = sum.wrapping_add(self.run_once(alloc, input)?);
+        }
+        Some(sum)
+    }
+
+    fn run_once(self, alloc: Global, input: &[u8]) -> Option<u64> {
+        match self {
+            Part::Frame => frame(alloc, input),
+            Part::Parse => parse(alloc, input),
+            Part::Collect => collect(alloc, input),
+            Part::Encode => write(alloc, input),
+            _ => show(alloc, input),
+        }
+    }
+}
+
+fn frame(alloc: Global, input: &[u8]) -> Option<u64> {
+    let mut framer = Framer::new(alloc);
+    let mut sum = 0u64;
+    for byte in input {
+        let dispatches = framer.feed(*byte).ok()?;
+        if dispatches[0].is_some() {
+            sum = sum.wrapping_add(1);
+        }
+    }
+    Some(sum)
+}
+
+fn parse(alloc: Global, input: &[u8]) -> Option<u64> {
+    let mut sum = 0u64;
+    let mut parser = Parser::new(alloc);
+    parser.parse(input, |_| sum = sum.wrapping_add(1)).ok()?;
+    Some(sum)
+}
+
+fn collect(alloc: Global, input: &[u8]) -> Option<u64> {
+    let actions = Parser::new(alloc).parse_as_vec(input).ok()?;
+    Some(actions.len() as u64)
+}
+
+fn write(alloc: Global, input: &[u8]) -> Option<u64> {
+    let actions = Parser::new(alloc).parse_as_vec(input).ok()?;
+    let bytes = encode(alloc, &actions).ok()?;
+    Some(bytes.len() as u64)
+}
+
+fn show(alloc: Global, input: &[u8]) -> Option<u64> {
+    let mut terminal = Terminal::new(alloc, 80, 24, ProgramWidth).ok()?;
+    terminal.feed(input).ok()?;
+    terminal.settle().ok()?;
+    let rows = terminal.surface().screen_chars_to_string().ok()?;
+    Some(rows.len() as u64)
+}
