@@ -11,13 +11,10 @@ use Rattle.csi_codec.specs.Parameters.{word_max, or_default, place, one_slot, tw
 use Rattle.csi_codec.specs.Cursors.{cursor_reading}
 use Rattle.csi_codec.specs.Edits.{edit_reading}
 use Rattle.csi_codec.specs.Devices.{device_reading}
+use Rattle.csi_codec.specs.Writable.{IsPlace}
 use Rattle.csi_codec.specs.Actions.{Action, cursor, edit, device, unspecified, lone_reading, standard_reading, other_reading, csi_reading}
 
 -- ---- Places and counts
-
--- what a place can be
-abbrev pub IsPlace : ℕ → Type 0
-IsPlace n = (1 ≤ n) × (n ≤ word_max)
 
 same_place : (d n : ℕ) → Some d ≡ Some n → IsPlace d → IsPlace n
 same_place d n e h = let q : d ≡ n = cc in subst (λ (k : ℕ). IsPlace k) q h

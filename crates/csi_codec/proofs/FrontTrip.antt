@@ -37,7 +37,8 @@ use Rattle.csi_codec.specs.Texts.{tokens_of}
 use Rattle.csi_codec.specs.Fronts.{most_tokens, HasFront, whole_front, EachTextIsFront, TextsAreFronts}
 use Rattle.csi_codec.proofs.ReadingLemmas.{csi_reading-keeps}
 use Rattle.csi_codec.proofs.TextLemmas.{list_back}
-use Rattle.csi_codec.proofs.Written.{IsWritten}
+use Rattle.csi_codec.specs.Writable.{WritableTextsAreFronts}
+use Rattle.csi_codec.proofs.Written.{IsWritten, action_written}
 use Rattle.csi_codec.proofs.TextTrip.{list_bytes, EachIsWritten, reading-written}
 
 -- ---- How many tokens are written
@@ -199,3 +200,13 @@ each_front ts truncated final (unspecified rest flag control ∷ others) h k w =
 pub texts_are_fronts-lem : TextsAreFronts
 texts_are_fronts-lem ts truncated final h few low high =
     each_front ts truncated final (csi_reading ts truncated final) few (csi_reading-keeps ts truncated final) (reading-written truncated final low high ts h)
+
+-- ---- By value
+
+pub writable_texts_are_fronts-lem : WritableTextsAreFronts
+writable_texts_are_fronts-lem (sgr v) h = text_front (sgr v) (action_written (sgr v) h) (few (sgr_spelling v).params (sgr_short v))
+writable_texts_are_fronts-lem (cursor c) h = text_front (cursor c) (action_written (cursor c) h) (few (cursor_spelling c).params (cursor_short c))
+writable_texts_are_fronts-lem (edit e) h = text_front (edit e) (action_written (edit e) h) (few (edit_spelling e).params (edit_short e))
+writable_texts_are_fronts-lem (mode m) h = text_front (mode m) (action_written (mode m) h) (few (mode_spelling m).params (mode_short m))
+writable_texts_are_fronts-lem (device d) h = text_front (device d) (action_written (device d) tt) (few (device_spelling d).params (device_short d))
+writable_texts_are_fronts-lem (unspecified params flag final) h = absurd h

@@ -3,6 +3,7 @@ mod PieceLemmas
 mod ReadingLemmas
 mod JoinLemmas
 mod BackLemmas
+mod ReadWritable
 mod TableBack
 mod SgrBack
 mod ModeBack
@@ -12,3 +13,5 @@ mod Written
 mod TextTrip
 mod FrontLemmas
 mod FrontTrip
+mod PairTrip
+mod SizeLemmas

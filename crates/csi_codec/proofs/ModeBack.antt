@@ -1,41 +1,128 @@
--- What mode pieces give reads back.
-use Rattle.std.proofs.Common.{◌≡◌, ℕ, ℤ, pos, negsuc, eqb, leb, Bool, true, false, cond, ◌||◌, List, [], ◌∷◌, Option, Some, None, option_and_then, refl, sym, ap, ◌∙◌, subst}
-use Rattle.std.specs.Prelude.{find, is_some}
-use Rattle.std.proofs.lemmas.Bool.{eqb-true}
+-- Each mode that can be written reads back from what is written for it.
+use Rattle.std.proofs.Common.{◌≡◌, ℕ, ℤ, pos, negsuc, eqb, leb, Bool, true, false, cond, ◌||◌, [], ◌∷◌, Option, Some, None, option_and_then, refl, ap, ◌∙◌}
+use Rattle.std.specs.Prelude.{is_some}
+use Rattle.std.proofs.lemmas.Bool.{le-leb}
 use Rattle.csi_codec.specs.declared.modes.DecPrivateModeCode.{DecPrivateModeCode}
+use Rattle.csi_codec.specs.declared.modes.DecPrivateModeCode.TheVariants as dec
 use Rattle.csi_codec.specs.declared.modes.TerminalModeCode.{TerminalModeCode}
+use Rattle.csi_codec.specs.declared.modes.TerminalModeCode.TheVariants as ansi
 use Rattle.csi_codec.specs.declared.modes.DecPrivateMode.{DecPrivateMode}
+use Rattle.csi_codec.specs.declared.modes.DecPrivateMode.TheVariants as private
+use Rattle.csi_codec.specs.declared.modes.TerminalMode.{TerminalMode}
+use Rattle.csi_codec.specs.declared.modes.TerminalMode.TheVariants as standard
 use Rattle.csi_codec.specs.declared.modes.Mode.{Mode}
 use Rattle.csi_codec.specs.declared.modes.Mode.TheVariants as does
-use Rattle.csi_codec.specs.Parameters.{is_number, number_tokens, private_tokens}
-use Rattle.csi_codec.specs.Modes.{dec_private_mode_number, dec_private_modes, dec_private_mode_named, dec_mode_by, dec_mode_of, dec_mode_code, terminal_mode_number, terminal_modes, terminal_mode_named, ansi_mode_by, ansi_mode_of, ansi_mode_code, private_step, standard_step, private_mode_reading, mode_reading, mode_spelling}
+use Rattle.csi_codec.specs.Parameters.{number_tokens, private_tokens}
+use Rattle.csi_codec.specs.Modes.{dec_private_mode_number, dec_mode_by, dec_mode_of, dec_mode_code, terminal_mode_number, ansi_mode_by, ansi_mode_of, ansi_mode_code, private_step, standard_step, private_mode_reading, mode_reading, mode_spelling}
 use Rattle.csi_codec.specs.Actions.{mode, mode_piece, pieces, csi_reading}
 use Rattle.csi_codec.specs.Laws.{ReadsBack}
+use Rattle.csi_codec.specs.Writable.{IsWritablePrivateMode, IsWritableStandardMode, IsWritableMode}
 
 -- ---- Numbers and names
 
-find_by : {A : Type 0} (p : A → Bool) (y x : A) (others : Option A) (b : Bool) → p y ≡ b → (others ≡ Some x → p x ≡ true) → cond b (Some y) others ≡ Some x → p x ≡ true
-find_by p y x others true q h e = let s : y ≡ x = cc in ap p (sym s) ∙ q
-find_by p y x others false q h e = h e
+dec_named : (known : DecPrivateModeCode) → dec_mode_of (dec_private_mode_number known) ≡ private.Code known
+dec_named dec.ApplicationCursorKeys = refl
+dec_named dec.DecAnsiMode = refl
+dec_named dec.Select132Columns = refl
+dec_named dec.SmoothScroll = refl
+dec_named dec.ReverseVideo = refl
+dec_named dec.OriginMode = refl
+dec_named dec.AutoWrap = refl
+dec_named dec.AutoRepeat = refl
+dec_named dec.StartBlinkingCursor = refl
+dec_named dec.ShowCursor = refl
+dec_named dec.ReverseWraparound = refl
+dec_named dec.EnableAlternateScreen = refl
+dec_named dec.LeftRightMarginMode = refl
+dec_named dec.SixelDisplayMode = refl
+dec_named dec.MouseTracking = refl
+dec_named dec.HighlightMouseTracking = refl
+dec_named dec.ButtonEventMouse = refl
+dec_named dec.AnyEventMouse = refl
+dec_named dec.FocusTracking = refl
+dec_named dec.Utf8Mouse = refl
+dec_named dec.SGRMouse = refl
+dec_named dec.SGRPixelsMouse = refl
+dec_named dec.XTermMetaSendsEscape = refl
+dec_named dec.XTermAltSendsEscape = refl
+dec_named dec.OptEnableAlternateScreen = refl
+dec_named dec.SaveCursor = refl
+dec_named dec.ClearAndEnableAlternateScreen = refl
+dec_named dec.UsePrivateColorRegistersForEachGraphic = refl
+dec_named dec.BracketedPaste = refl
+dec_named dec.SynchronizedOutput = refl
+dec_named dec.GraphemeClustering = refl
+dec_named dec.MinTTYApplicationEscapeKeyMode = refl
+dec_named dec.SixelScrollsRight = refl
+dec_named dec.Win32InputMode = refl
 
-find_holds : {A : Type 0} (p : A → Bool) (xs : List A) (x : A) → find p xs ≡ Some x → p x ≡ true
-find_holds p [] x e = cc
-find_holds p (y ∷ xs) x e = find_by p y x (find p xs) (p y) refl (find_holds p xs x) e
+dec_small : (known : DecPrivateModeCode) → leb (dec_private_mode_number known) 65535 ≡ true
+dec_small dec.ApplicationCursorKeys = refl
+dec_small dec.DecAnsiMode = refl
+dec_small dec.Select132Columns = refl
+dec_small dec.SmoothScroll = refl
+dec_small dec.ReverseVideo = refl
+dec_small dec.OriginMode = refl
+dec_small dec.AutoWrap = refl
+dec_small dec.AutoRepeat = refl
+dec_small dec.StartBlinkingCursor = refl
+dec_small dec.ShowCursor = refl
+dec_small dec.ReverseWraparound = refl
+dec_small dec.EnableAlternateScreen = refl
+dec_small dec.LeftRightMarginMode = refl
+dec_small dec.SixelDisplayMode = refl
+dec_small dec.MouseTracking = refl
+dec_small dec.HighlightMouseTracking = refl
+dec_small dec.ButtonEventMouse = refl
+dec_small dec.AnyEventMouse = refl
+dec_small dec.FocusTracking = refl
+dec_small dec.Utf8Mouse = refl
+dec_small dec.SGRMouse = refl
+dec_small dec.SGRPixelsMouse = refl
+dec_small dec.XTermMetaSendsEscape = refl
+dec_small dec.XTermAltSendsEscape = refl
+dec_small dec.OptEnableAlternateScreen = refl
+dec_small dec.SaveCursor = refl
+dec_small dec.ClearAndEnableAlternateScreen = refl
+dec_small dec.UsePrivateColorRegistersForEachGraphic = refl
+dec_small dec.BracketedPaste = refl
+dec_small dec.SynchronizedOutput = refl
+dec_small dec.GraphemeClustering = refl
+dec_small dec.MinTTYApplicationEscapeKeyMode = refl
+dec_small dec.SixelScrollsRight = refl
+dec_small dec.Win32InputMode = refl
 
-dec_code_by : (n : ℕ) (found : Option DecPrivateModeCode) → dec_private_mode_named (pos n) ≡ found → dec_mode_code (dec_mode_by n found) ≡ n
-dec_code_by n None e = refl
-dec_code_by n (Some code) e = sym (eqb-true n (dec_private_mode_number code) (find_holds (λ known. is_number (dec_private_mode_number known) (pos n)) dec_private_modes code e))
+private_named : (m : DecPrivateMode) → IsWritablePrivateMode m → dec_mode_of (dec_mode_code m) ≡ m
+private_named (private.Code known) h = dec_named known
+private_named (private.Unspecified n) h = ap (dec_mode_by n) h.1
 
--- the number of a mode that a number gives is that number
-pub dec_code : (n : ℕ) → dec_mode_code (dec_mode_of n) ≡ n
-dec_code n = dec_code_by n (dec_private_mode_named (pos n)) refl
+pub private_within : (m : DecPrivateMode) → IsWritablePrivateMode m → leb (dec_mode_code m) 65535 ≡ true
+private_within (private.Code known) h = dec_small known
+private_within (private.Unspecified n) h = le-leb n 65535 h.0
 
-ansi_code_by : (n : ℕ) (found : Option TerminalModeCode) → terminal_mode_named (pos n) ≡ found → ansi_mode_code (ansi_mode_by n found) ≡ n
-ansi_code_by n None e = refl
-ansi_code_by n (Some code) e = sym (eqb-true n (terminal_mode_number code) (find_holds (λ known. is_number (terminal_mode_number known) (pos n)) terminal_modes code e))
+ansi_named : (known : TerminalModeCode) → ansi_mode_of (terminal_mode_number known) ≡ standard.Code known
+ansi_named ansi.KeyboardAction = refl
+ansi_named ansi.Insert = refl
+ansi_named ansi.BiDirectionalSupportMode = refl
+ansi_named ansi.SendReceive = refl
+ansi_named ansi.AutomaticNewline = refl
+ansi_named ansi.ShowCursor = refl
 
-pub ansi_code : (n : ℕ) → ansi_mode_code (ansi_mode_of n) ≡ n
-ansi_code n = ansi_code_by n (terminal_mode_named (pos n)) refl
+ansi_small : (known : TerminalModeCode) → leb (terminal_mode_number known) 65535 ≡ true
+ansi_small ansi.KeyboardAction = refl
+ansi_small ansi.Insert = refl
+ansi_small ansi.BiDirectionalSupportMode = refl
+ansi_small ansi.SendReceive = refl
+ansi_small ansi.AutomaticNewline = refl
+ansi_small ansi.ShowCursor = refl
+
+standard_named : (m : TerminalMode) → IsWritableStandardMode m → ansi_mode_of (ansi_mode_code m) ≡ m
+standard_named (standard.Code known) h = ansi_named known
+standard_named (standard.Unspecified n) h = ap (ansi_mode_by n) h.1
+
+pub standard_within : (m : TerminalMode) → IsWritableStandardMode m → leb (ansi_mode_code m) 65535 ≡ true
+standard_within (standard.Code known) h = ansi_small known
+standard_within (standard.Unspecified n) h = le-leb n 65535 h.0
 
 module _ (truncated : Bool) where
   abbrev ModeBack : Mode → Type 0
@@ -51,31 +138,10 @@ module _ (truncated : Bool) where
   unfolding private_mode_reading
   private_read final n m h e = ap (λ b. option_and_then (λ k. private_step final (dec_mode_of k)) (cond b (Some n) None)) h ∙ e
 
-  coded_private : (final n : ℕ) (m : Mode) → eqb final 109 ≡ false → leb n 65535 ≡ true → private_step final (dec_mode_of n) ≡ Some m
-      → csi_reading (private_tokens (dec_mode_code (dec_mode_of n))) truncated final ≡ mode m ∷ []
-  coded_private final n m q h e = ap (λ k. csi_reading (private_tokens k) truncated final) (dec_code n) ∙ private_back final n m q (private_read final n m h e)
-
-  same_mode : (x y : Mode) → Some x ≡ Some y → ModeBack x → ModeBack y
-  same_mode x y e h = let q : x ≡ y = cc in subst (λ (m : Mode). ModeBack m) q h
-
-  private_steps : (n : ℕ) (m : Mode) (a b c d : Bool) → leb n 65535 ≡ true
-      → cond a (Some (does.SetDecPrivateMode (dec_mode_of n))) (cond b (Some (does.ResetDecPrivateMode (dec_mode_of n)))
-      (cond c (Some (does.SaveDecPrivateMode (dec_mode_of n))) (cond d (Some (does.RestoreDecPrivateMode (dec_mode_of n))) None))) ≡ Some m → ModeBack m
-  unfolding mode_spelling
-  private_steps n m true b c d h e = same_mode (does.SetDecPrivateMode (dec_mode_of n)) m e (coded_private 104 n (does.SetDecPrivateMode (dec_mode_of n)) refl h refl)
-  private_steps n m false true c d h e = same_mode (does.ResetDecPrivateMode (dec_mode_of n)) m e (coded_private 108 n (does.ResetDecPrivateMode (dec_mode_of n)) refl h refl)
-  private_steps n m false false true d h e = same_mode (does.SaveDecPrivateMode (dec_mode_of n)) m e (coded_private 115 n (does.SaveDecPrivateMode (dec_mode_of n)) refl h refl)
-  private_steps n m false false false true h e = same_mode (does.RestoreDecPrivateMode (dec_mode_of n)) m e (coded_private 114 n (does.RestoreDecPrivateMode (dec_mode_of n)) refl h refl)
-  private_steps n m false false false false h e = cc
-
-  private_within : (final n : ℕ) (m : Mode) (b : Bool) → leb n 65535 ≡ b → option_and_then (λ k. private_step final (dec_mode_of k)) (cond b (Some n) None) ≡ Some m → ModeBack m
-  private_within final n m true h e = private_steps n m (eqb final 104) (eqb final 108) (eqb final 115) (eqb final 114) h e
-  private_within final n m false h e = cc
-
-  pub private_mode-back : (final : ℕ) (z : ℤ) (m : Mode) → private_mode_reading final z ≡ Some m → ModeBack m
-  unfolding private_mode_reading
-  private_mode-back final (negsuc k) m e = cc
-  private_mode-back final (pos n) m e = private_within final n m (leb n 65535) refl e
+  private_value : (final : ℕ) (m : DecPrivateMode) (done : Mode) → eqb final 109 ≡ false → IsWritablePrivateMode m → private_step final m ≡ Some done
+      → csi_reading (private_tokens (dec_mode_code m)) truncated final ≡ mode done ∷ []
+  private_value final m done q w e =
+      private_back final (dec_mode_code m) done q (private_read final (dec_mode_code m) done (private_within m w) (ap (private_step final) (private_named m w) ∙ e))
 
   -- ---- Modes of the standard
 
@@ -87,25 +153,19 @@ module _ (truncated : Bool) where
   unfolding mode_reading
   standard_read final n m h e = ap (λ b. option_and_then (λ k. standard_step final (ansi_mode_of k)) (cond b (Some n) None)) h ∙ e
 
-  coded_standard : (final n : ℕ) (m : Mode) → eqb final 109 ≡ false → (eqb final 104 || eqb final 108) ≡ true → leb n 65535 ≡ true → standard_step final (ansi_mode_of n) ≡ Some m
-      → csi_reading (number_tokens (ansi_mode_code (ansi_mode_of n))) truncated final ≡ mode m ∷ []
-  coded_standard final n m q r h e = ap (λ k. csi_reading (number_tokens k) truncated final) (ansi_code n) ∙ standard_back final n m q r (standard_read final n m h e)
+  standard_value : (final : ℕ) (m : TerminalMode) (done : Mode) → eqb final 109 ≡ false → (eqb final 104 || eqb final 108) ≡ true → IsWritableStandardMode m → standard_step final m ≡ Some done
+      → csi_reading (number_tokens (ansi_mode_code m)) truncated final ≡ mode done ∷ []
+  standard_value final m done q r w e =
+      standard_back final (ansi_mode_code m) done q r (standard_read final (ansi_mode_code m) done (standard_within m w) (ap (standard_step final) (standard_named m w) ∙ e))
 
-  standard_steps : (n : ℕ) (m : Mode) (a b : Bool) → leb n 65535 ≡ true
-      → cond a (Some (does.SetMode (ansi_mode_of n))) (cond b (Some (does.ResetMode (ansi_mode_of n))) None) ≡ Some m → ModeBack m
+  pub mode_back : (m : Mode) → IsWritableMode m → ModeBack m
   unfolding mode_spelling
-  standard_steps n m true b h e = same_mode (does.SetMode (ansi_mode_of n)) m e (coded_standard 104 n (does.SetMode (ansi_mode_of n)) refl refl h refl)
-  standard_steps n m false true h e = same_mode (does.ResetMode (ansi_mode_of n)) m e (coded_standard 108 n (does.ResetMode (ansi_mode_of n)) refl refl h refl)
-  standard_steps n m false false h e = cc
-
-  standard_within : (final n : ℕ) (m : Mode) (b : Bool) → leb n 65535 ≡ b → option_and_then (λ k. standard_step final (ansi_mode_of k)) (cond b (Some n) None) ≡ Some m → ModeBack m
-  standard_within final n m true h e = standard_steps n m (eqb final 104) (eqb final 108) h e
-  standard_within final n m false h e = cc
-
-  pub standard_mode-back : (final : ℕ) (z : ℤ) (m : Mode) → mode_reading final z ≡ Some m → ModeBack m
-  unfolding mode_reading
-  standard_mode-back final (negsuc k) m e = cc
-  standard_mode-back final (pos n) m e = standard_within final n m (leb n 65535) refl e
+  mode_back (does.SetDecPrivateMode m) h = private_value 104 m (does.SetDecPrivateMode m) refl h refl
+  mode_back (does.ResetDecPrivateMode m) h = private_value 108 m (does.ResetDecPrivateMode m) refl h refl
+  mode_back (does.SaveDecPrivateMode m) h = private_value 115 m (does.SaveDecPrivateMode m) refl h refl
+  mode_back (does.RestoreDecPrivateMode m) h = private_value 114 m (does.RestoreDecPrivateMode m) refl h refl
+  mode_back (does.SetMode m) h = standard_value 104 m (does.SetMode m) refl refl h refl
+  mode_back (does.ResetMode m) h = standard_value 108 m (does.ResetMode m) refl refl h refl
 
 -- ---- Under h and l a number that names no private mode names none of the standard
 

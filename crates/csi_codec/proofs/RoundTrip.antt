@@ -6,6 +6,7 @@ use Rattle.std.proofs.lemmas.Bool.{eqb-true, le-leb, false≢true}
 use Rattle.csi_codec.specs.declared.parameters.CsiParam.{CsiParam}
 use Rattle.csi_codec.specs.declared.parameters.CsiParam.TheVariants.{Integer, P}
 use Rattle.csi_codec.specs.declared.rendition.Sgr.{Sgr}
+use Rattle.csi_codec.specs.declared.rendition.Sgr.TheVariants as value
 use Rattle.csi_codec.specs.declared.modes.Mode.{Mode}
 use Rattle.csi_codec.specs.declared.cursors.Cursor.{Cursor}
 use Rattle.csi_codec.specs.declared.edits.Edit.{Edit}
@@ -19,11 +20,13 @@ use Rattle.csi_codec.specs.Devices.{device_reading}
 use Rattle.csi_codec.specs.Modes.{private_mode_reading, mode_reading}
 use Rattle.csi_codec.specs.Rendition.{taking, sgr_shape, sgr_piece}
 use Rattle.csi_codec.specs.Actions.{Action, sgr, cursor, edit, mode, device, unspecified, mode_piece, piece_of, pieces_from, pieces, is_sgr_token, all_sgr_tokens, sgr_reading, modes_or, lone_or, standard_reading, other_reading, csi_reading}
+use Rattle.csi_codec.specs.Writable.{WritableActionsReadBack}
 use Rattle.csi_codec.specs.Laws.{ReadsBack, is_exempt, begins_with_question, EachReadsBack, ActionsReadBack}
 use Rattle.csi_codec.proofs.PieceLemmas.{piece_of_takes, pieces_found, pieces_left}
-use Rattle.csi_codec.proofs.TableBack.{cursor_reading-back, edit_reading-back, device_reading-back}
-use Rattle.csi_codec.proofs.SgrBack.{sgr_shape-back, listed_0}
-use Rattle.csi_codec.proofs.ModeBack.{private_mode-back, standard_mode-back, neither_mode, some_private}
+use Rattle.csi_codec.proofs.ReadWritable.{cursor_reading-writable, edit_reading-writable, private_mode-writable, standard_mode-writable, sgr_shape-writable}
+use Rattle.csi_codec.proofs.TableBack.{cursor_back, edit_back, device_back}
+use Rattle.csi_codec.proofs.SgrBack.{sgr_back}
+use Rattle.csi_codec.proofs.ModeBack.{mode_back, neither_mode, some_private}
 
 and_right : (a b : Bool) → (a && b) ≡ true → b ≡ true
 and_right true b h = h
@@ -67,9 +70,9 @@ module _ (truncated : Bool) where
 
   piece-back : (k : Kind) (final : ℕ) (ts : List CsiParam) (a : Action) (n : ℕ) → piece_of k final ts ≡ Some (a, n) → ReadsBack truncated a
   unfolding sgr_piece
-  piece-back kind.Rendition final ts a n e = rendition-back (sgr_shape ts) ts (sgr_shape-back truncated ts) a n e
-  piece-back kind.PrivateModes final ts a n e = mode_piece-back (private_mode_reading final) (private_mode-back truncated final) ts a n e
-  piece-back kind.StandardModes final ts a n e = mode_piece-back (mode_reading final) (standard_mode-back truncated final) ts a n e
+  piece-back kind.Rendition final ts a n e = rendition-back (sgr_shape ts) ts (λ f q. sgr_back truncated f.0 (sgr_shape-writable ts f q)) a n e
+  piece-back kind.PrivateModes final ts a n e = mode_piece-back (private_mode_reading final) (λ z m q. mode_back truncated m (private_mode-writable final z m q)) ts a n e
+  piece-back kind.StandardModes final ts a n e = mode_piece-back (mode_reading final) (λ z m q. mode_back truncated m (standard_mode-writable final z m q)) ts a n e
 
   -- ---- A list of pieces
 
@@ -116,7 +119,7 @@ module _ (truncated : Bool) where
   sgr_by t ts false h = whole-each (t ∷ ts) 109 (ap (λ b. cond b (pieces kind.Rendition truncated 109 (t ∷ ts)) (unspecified (t ∷ ts) truncated 109 ∷ [])) h)
 
   sgr-each : (ts : List CsiParam) → EachReadsBack ts truncated 109 (sgr_reading truncated 109 ts)
-  sgr-each [] = (λ x. listed_0 truncated, tt)
+  sgr-each [] = (λ x. sgr_back truncated value.Reset tt, tt)
   sgr-each (t ∷ ts) = sgr_by t ts (all_sgr_tokens (t ∷ ts)) refl
 
   -- ---- Modes
@@ -209,9 +212,9 @@ module _ (truncated : Bool) where
   lone_by : (ts : List CsiParam) (final : ℕ) (c : Option Cursor) (e : Option Edit) (d : Option Device) → cursor_reading final ts ≡ c → edit_reading final ts ≡ e → device_reading final ts ≡ d
       → csi_reading ts truncated final ≡ lone_or truncated final ts
       → EachReadsBack ts truncated final (option_map_or (λ known. known ∷ []) (option_or (option_map cursor c) (option_or (option_map edit e) (option_map device d))) (unspecified ts truncated final ∷ []))
-  lone_by ts final (Some c) e d p q r w = (λ x. cursor_reading-back truncated final ts c p, tt)
-  lone_by ts final None (Some e) d p q r w = (λ x. edit_reading-back truncated final ts e q, tt)
-  lone_by ts final None None (Some d) p q r w = (λ x. device_reading-back truncated final ts d r, tt)
+  lone_by ts final (Some c) e d p q r w = (λ x. cursor_back truncated c (cursor_reading-writable final ts c p), tt)
+  lone_by ts final None (Some e) d p q r w = (λ x. edit_back truncated e (edit_reading-writable final ts e q), tt)
+  lone_by ts final None None (Some d) p q r w = (λ x. device_back truncated d, tt)
   lone_by ts final None None None p q r w = whole-each ts final (w
       ∙ ap (λ c. option_map_or (λ known. known ∷ []) (option_or (option_map cursor c) (option_or (option_map edit (edit_reading final ts)) (option_map device (device_reading final ts)))) (unspecified ts truncated final ∷ [])) p
       ∙ ap (λ e. option_map_or (λ known. known ∷ []) (option_or (option_map edit e) (option_map device (device_reading final ts))) (unspecified ts truncated final ∷ [])) q
@@ -252,3 +255,13 @@ module _ (truncated : Bool) where
 pub actions_read_back-lem : ActionsReadBack
 unfolding csi_reading
 actions_read_back-lem ts truncated final = reading_by truncated ts final (eqb final 109) refl refl
+
+-- ---- By value
+
+pub writable_actions_read_back-lem : WritableActionsReadBack
+writable_actions_read_back-lem truncated (sgr v) h = sgr_back truncated v h
+writable_actions_read_back-lem truncated (cursor c) h = cursor_back truncated c h
+writable_actions_read_back-lem truncated (edit e) h = edit_back truncated e h
+writable_actions_read_back-lem truncated (mode m) h = mode_back truncated m h
+writable_actions_read_back-lem truncated (device d) h = device_back truncated d
+writable_actions_read_back-lem truncated (unspecified params flag final) h = absurd h

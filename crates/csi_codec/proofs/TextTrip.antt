@@ -11,6 +11,7 @@ use Rattle.std.proofs.lemmas.Str.{encode_ascii}
 use Rattle.csi_codec.specs.declared.parameters.CsiParam.{CsiParam}
 use Rattle.csi_codec.specs.declared.parameters.CsiParam.TheVariants.{Integer, P}
 use Rattle.csi_codec.specs.declared.rendition.Sgr.{Sgr}
+use Rattle.csi_codec.specs.declared.rendition.Sgr.TheVariants as value
 use Rattle.csi_codec.specs.declared.modes.Mode.{Mode}
 use Rattle.csi_codec.specs.declared.cursors.Cursor.{Cursor}
 use Rattle.csi_codec.specs.declared.edits.Edit.{Edit}
@@ -27,7 +28,8 @@ use Rattle.csi_codec.specs.Actions.{Action, sgr, cursor, edit, mode, device, uns
 use Rattle.csi_codec.specs.Laws.{ReadsBack, EachReadsBack}
 use Rattle.csi_codec.specs.Texts.{largest_number, is_sign, is_written_number, begins_with_number, is_spellable, all_parameter_bytes, TextReadsBack, EachTextReadsBack, TextsReadBack}
 use Rattle.csi_codec.proofs.TextLemmas.{list_back, decimal_digits, sign_text}
-use Rattle.csi_codec.proofs.Written.{IsWritten, listed_0, sgr_shape-written, cursor_reading-written, edit_reading-written, device_reading-written, private_mode-written, standard_mode-written}
+use Rattle.csi_codec.proofs.ReadWritable.{cursor_reading-writable, edit_reading-writable, private_mode-writable, standard_mode-writable, sgr_shape-writable}
+use Rattle.csi_codec.proofs.Written.{IsWritten, action_written}
 use Rattle.csi_codec.proofs.RoundTrip.{as_actions, first_of, actions_read_back-lem}
 
 and_left : (a b : Bool) → (a && b) ≡ true → a ≡ true
@@ -102,9 +104,9 @@ mode_piece-written read h (Integer z ∷ ts) a n e = moded-written (read z) (Int
 
 piece-written : (k : Kind) (final : ℕ) (ts : List CsiParam) (a : Action) (n : ℕ) → piece_of k final ts ≡ Some (a, n) → IsWritten a
 unfolding sgr_piece
-piece-written kind.Rendition final ts a n e = rendition-written (sgr_shape ts) ts (sgr_shape-written ts) a n e
-piece-written kind.PrivateModes final ts a n e = mode_piece-written (private_mode_reading final) (private_mode-written final) ts a n e
-piece-written kind.StandardModes final ts a n e = mode_piece-written (mode_reading final) (standard_mode-written final) ts a n e
+piece-written kind.Rendition final ts a n e = rendition-written (sgr_shape ts) ts (λ f q. action_written (sgr f.0) (sgr_shape-writable ts f q)) a n e
+piece-written kind.PrivateModes final ts a n e = mode_piece-written (private_mode_reading final) (λ z m q. action_written (mode m) (private_mode-writable final z m q)) ts a n e
+piece-written kind.StandardModes final ts a n e = mode_piece-written (mode_reading final) (λ z m q. action_written (mode m) (standard_mode-writable final z m q)) ts a n e
 
 module _ (truncated : Bool) (final : ℕ) (low : 64 ≤ final) (high : final ≤ 126) where
   left_written : (ts : List CsiParam) → is_spellable ts ≡ true → IsWritten (unspecified ts truncated final)
@@ -137,9 +139,9 @@ module _ (truncated : Bool) (final : ℕ) (low : 64 ≤ final) (high : final ≤
 
   lone_by : (ts : List CsiParam) (c : Option Cursor) (e : Option Edit) (d : Option Device) → cursor_reading final ts ≡ c → edit_reading final ts ≡ e → device_reading final ts ≡ d → is_spellable ts ≡ true
       → EachIsWritten (option_map_or (λ known. known ∷ []) (option_or (option_map cursor c) (option_or (option_map edit e) (option_map device d))) (unspecified ts truncated final ∷ []))
-  lone_by ts (Some c) e d p q r h = (cursor_reading-written final ts c p, tt)
-  lone_by ts None (Some e) d p q r h = (edit_reading-written final ts e q, tt)
-  lone_by ts None None (Some d) p q r h = (device_reading-written final ts d r, tt)
+  lone_by ts (Some c) e d p q r h = (action_written (cursor c) (cursor_reading-writable final ts c p), tt)
+  lone_by ts None (Some e) d p q r h = (action_written (edit e) (edit_reading-writable final ts e q), tt)
+  lone_by ts None None (Some d) p q r h = (action_written (device d) tt, tt)
   lone_by ts None None None p q r h = (left_written ts h, tt)
 
   standard-written : (ts : List CsiParam) → is_spellable ts ≡ true → EachIsWritten (standard_reading truncated final ts)
@@ -152,7 +154,7 @@ module _ (truncated : Bool) (final : ℕ) (low : 64 ≤ final) (high : final ≤
   other-written (P b ∷ ts) h = chosen (eqb b 63) _ _ (modes-written kind.PrivateModes ts (P b ∷ ts) (spellable-tail (P b) ts h) h) (standard-written (P b ∷ ts) h)
 
   sgr-written : (ts : List CsiParam) → is_spellable ts ≡ true → EachIsWritten (sgr_reading truncated final ts)
-  sgr-written [] h = (listed_0, tt)
+  sgr-written [] h = (action_written (sgr value.Reset) tt, tt)
   sgr-written (t ∷ ts) h = chosen (all_sgr_tokens (t ∷ ts)) _ _ (pieces-written kind.Rendition (t ∷ ts) h) (left_written (t ∷ ts) h, tt)
 
   pub reading-written : (ts : List CsiParam) → is_spellable ts ≡ true → EachIsWritten (csi_reading ts truncated final)

@@ -18,3 +18,5 @@ pub mod CrackedView
 pub mod Fronts
 pub mod Keeping
 pub mod FrontView
+pub mod Writable
+pub mod Sizes

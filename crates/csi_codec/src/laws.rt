@@ -1,7 +1,26 @@
 //! Laws of the readings: functions without a body, each ensuring one.
 ghost use Rattle.csi_codec.specs.Fronts.{OneFront, TextsAreFronts};
 ghost use Rattle.csi_codec.specs.Laws.{ActionsReadBack, SgrListsJoin};
+ghost use Rattle.csi_codec.specs.Sizes.{
+  SgrsAreShort,
+  CursorsAreShort,
+  EditsAreShort,
+  ModesAreShort,
+  DevicesAreShort,
+  ActionsAreShort,
+  PairsAreShort,
+};
 ghost use Rattle.csi_codec.specs.Texts.{ParametersReadBack, TextsReadBack};
+ghost use Rattle.csi_codec.specs.Writable.{
+  CursorsReadBack,
+  EditsReadBack,
+  DevicesReadBack,
+  ModesReadBack,
+  SgrsReadBack,
+  WritableActionsReadBack,
+  WritableTextsAreFronts,
+  PairsReadBack,
+};
 
 /// The actions of an SGR list, a `;` and another list are those of the one and then those of the other, where the
 /// first is wholly known and does not end in `;`.
@@ -36,4 +55,41 @@ pub fn one_front()
 /// `@` to `~`.
 pub fn texts_are_fronts()
     ensures { TextsAreFronts }
+{}
+
+/// Each value that can be written is the one action of the parameters and the final byte that are written for it, under
+/// either flag: a cursor sequence or an edit whose counts and places are 1 to 4294967295, every request, a mode by its
+/// name or by a number to 65535 that has none, and an SGR of any colour and of the fonts 1 to 9 or the default.
+pub fn writable_values_read_back()
+    ensures cursor { CursorsReadBack }
+    ensures edit { EditsReadBack }
+    ensures device { DevicesReadBack }
+    ensures mode { ModesReadBack }
+    ensures sgr { SgrsReadBack }
+{}
+
+/// An action that can be written is the one action of its parameters, under either flag, and its text is one sequence of
+/// them, with nothing behind it. So a program that builds such an action and writes it knows how it is read.
+pub fn writable_actions_read_back()
+    ensures action { WritableActionsReadBack }
+    ensures text { WritableTextsAreFronts }
+{}
+
+/// The text of an ESC pair that can be written is ESC and the bytes of the pair, which mean that pair: a pair by its
+/// name, unless it opens a string, or by bytes that have no name.
+pub fn writable_pairs_read_back()
+    ensures { PairsReadBack }
+{}
+
+/// The most bytes of the text of a value that can be written: 24 of an SGR (`ESC [38:6::255:255:255:255m`) and of a
+/// cursor sequence (`ESC [4294967295;4294967295H`), 13 of an edit, 9 of a mode, 4 of a request, and so 24 of any action;
+/// 3 of an ESC pair.
+pub fn writable_texts_are_short()
+    ensures sgr { SgrsAreShort }
+    ensures cursor { CursorsAreShort }
+    ensures edit { EditsAreShort }
+    ensures mode { ModesAreShort }
+    ensures device { DevicesAreShort }
+    ensures action { ActionsAreShort }
+    ensures pair { PairsAreShort }
 {}

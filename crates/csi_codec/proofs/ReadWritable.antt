@@ -1,0 +1,310 @@
+-- What the readings give can be written.
+use Rattle.std.proofs.Common.{◌≡◌, ℕ, ◌+◌, ◌≤◌, ℤ, pos, negsuc, eqb, leb, Bool, true, false, cond, ◌&&◌, List, [], ◌∷◌, Option, Some, None, option_map, option_and_then, slice_get, arith, refl, subst}
+use Rattle.std.proofs.lemmas.Bool.{leb-true}
+use Rattle.cell_base.specs.declared.color.ColorSpec.{ColorSpec}
+use Rattle.cell_base.specs.declared.color.ColorSpec.TheVariants as color
+use Rattle.cell_base.specs.declared.attributes.Underline.{Underline}
+use Rattle.cell_base.specs.declared.attributes.Underline.TheVariants as underline
+use Rattle.csi_codec.specs.declared.parameters.CsiParam.{CsiParam}
+use Rattle.csi_codec.specs.declared.parameters.CsiParam.TheVariants.{Integer, P}
+use Rattle.csi_codec.specs.declared.cursors.Cursor.{Cursor}
+use Rattle.csi_codec.specs.declared.cursors.Cursor.TheVariants as variant
+use Rattle.csi_codec.specs.declared.edits.Edit.{Edit}
+use Rattle.csi_codec.specs.declared.edits.Edit.TheVariants as change
+use Rattle.csi_codec.specs.declared.modes.DecPrivateModeCode.{DecPrivateModeCode}
+use Rattle.csi_codec.specs.declared.modes.TerminalModeCode.{TerminalModeCode}
+use Rattle.csi_codec.specs.declared.modes.Mode.{Mode}
+use Rattle.csi_codec.specs.declared.modes.Mode.TheVariants as does
+use Rattle.csi_codec.specs.declared.rendition.Sgr.{Sgr}
+use Rattle.csi_codec.specs.declared.rendition.Sgr.TheVariants as value
+use Rattle.csi_codec.specs.Parameters.{is_number, word_max, number_within, count, place_pair, one_slot, slot_and_space, slot_number}
+use Rattle.csi_codec.specs.Cursors.{cursor_style_named, tabulation_clear_named, tabulation_control_named, cursor_lines, cursor_reading, save_or_margins, restore, position_request}
+use Rattle.csi_codec.specs.Edits.{erase_in_line_named, erase_in_display_named, edit_lines, edit_reading}
+use Rattle.csi_codec.specs.Modes.{dec_private_mode_named, dec_mode_by, dec_mode_of, terminal_mode_named, ansi_mode_by, ansi_mode_of, private_step, standard_step, private_mode_reading, mode_reading}
+use Rattle.csi_codec.specs.Rendition.{stands, byte_of, byte_at, palette_at, opaque_at, colour_at, colour, taking, Form, first_form, colour_forms, colour_form, colour_shape, listed_or, single_codes, ranged_code, single_code, is_between, underline_numbered, underline_or_single, underline_shape, numbered_shape, sgr_shape}
+use Rattle.csi_codec.specs.Writable.{IsPlace, IsWritableCursor, IsWritableEdit, IsWritablePrivateMode, IsWritableStandardMode, IsWritableMode, IsColour, IsWritableSgr}
+use Rattle.csi_codec.proofs.BackLemmas.{EachLine, read_by-each, made, count_valid, pair_valid}
+
+same_value : {A : Type 0} (Q : A → Type 0) (x y : A) → Some x ≡ Some y → Q x → Q y
+same_value Q x y e h = let q : x ≡ y = cc in subst Q q h
+
+lone_if : {A : Type 0} (Q : A → Type 0) (b : Bool) (x y : A) → cond b (Some x) None ≡ Some y → Q x → Q y
+lone_if Q true x y e h = same_value Q x y e h
+lone_if Q false x y e h = cc
+
+-- ---- Cursor sequences
+
+by_count : (make : ℕ → Cursor) → ((n : ℕ) → IsPlace n → IsWritableCursor (make n)) → (ts : List CsiParam) (x : Cursor) → option_map make (count ts) ≡ Some x → IsWritableCursor x
+by_count make h ts x e = made IsWritableCursor make IsPlace (count ts) (count_valid ts) h x e
+
+by_pair : (d : ℕ) → IsPlace d → (make : ℕ → ℕ → Cursor) → ((a b : ℕ) → IsPlace a → IsPlace b → IsWritableCursor (make a b))
+    → (ts : List CsiParam) (x : Cursor) → option_map (λ m. make m.0 m.1) (place_pair d ts) ≡ Some x → IsWritableCursor x
+by_pair d default make h ts x e =
+    made IsWritableCursor (λ m. make m.0 m.1) (λ m. IsPlace m.0 × IsPlace m.1) (place_pair d ts) (λ m q. pair_valid d ts m default q) (λ m p. h m.0 m.1 p.0 p.1) x e
+
+by_name : {B : Type 0} (make : B → Cursor) → ((y : B) → IsWritableCursor (make y)) → (found : Option B) (x : Cursor) → option_map make found ≡ Some x → IsWritableCursor x
+by_name {B} make h found x e = made IsWritableCursor make (λ (y : B). Unit {0}) found (λ y q. tt) (λ y u. h y) x e
+
+first_place : IsPlace 1
+first_place = (omega arith, omega arith)
+
+last_place : IsPlace word_max
+last_place = (omega arith, omega arith)
+
+save_or_margins-writable : (ts : List CsiParam) (x : Cursor) → save_or_margins ts ≡ Some x → IsWritableCursor x
+save_or_margins-writable [] x e = same_value IsWritableCursor variant.SaveCursor x e tt
+save_or_margins-writable (t ∷ ts) x e = by_pair word_max last_place variant.SetLeftAndRightMargins (λ a b h k. (h, k)) (t ∷ ts) x e
+
+restore-writable : (ts : List CsiParam) (x : Cursor) → restore ts ≡ Some x → IsWritableCursor x
+restore-writable [] x e = same_value IsWritableCursor variant.RestoreCursor x e tt
+restore-writable (t ∷ ts) x e = cc
+
+position_request-writable : (ts : List CsiParam) (x : Cursor) → position_request ts ≡ Some x → IsWritableCursor x
+position_request-writable [] x e = cc
+position_request-writable (P b ∷ ts) x e = cc
+position_request-writable (Integer z ∷ t ∷ ts) x e = cc
+position_request-writable (Integer z ∷ []) x e = lone_if IsWritableCursor (is_number 6 z) variant.RequestActivePositionReport x e tt
+
+cursor_lines-writable : EachLine IsWritableCursor cursor_lines
+cursor_lines-writable = (by_count variant.Up (λ n h. h), (by_count variant.Down (λ n h. h), (by_count variant.Right (λ n h. h), (by_count variant.Left (λ n h. h), (by_count variant.NextLine (λ n h. h), (by_count variant.PrecedingLine (λ n h. h), (by_count variant.CharacterAbsolute (λ n h. h), (by_count variant.CharacterPositionAbsolute (λ n h. h), (by_count variant.LinePositionAbsolute (λ n h. h), (by_count variant.CharacterPositionForward (λ n h. h), (by_count variant.CharacterPositionBackward (λ n h. h), (by_count variant.LinePositionForward (λ n h. h), (by_count variant.LinePositionBackward (λ n h. h), (by_pair 1 first_place variant.Position (λ a b h k. (h, k)), (by_pair 1 first_place variant.CharacterAndLinePosition (λ a b h k. (h, k)), (by_pair 1 first_place variant.ActivePositionReport (λ a b h k. (h, k)), (by_count variant.ForwardTabulation (λ n h. h), (by_count variant.BackwardTabulation (λ n h. h), (by_count variant.LineTabulation (λ n h. h), (λ ts x e. by_name variant.TabulationClear (λ known. tt) (option_and_then (λ slot. tabulation_clear_named (slot_number slot)) (one_slot ts)) x e, (λ ts x e. by_name variant.TabulationControl (λ known. tt) (option_and_then (λ slot. tabulation_control_named (slot_number slot)) (one_slot ts)) x e, (by_pair word_max last_place variant.SetTopAndBottomMargins (λ a b h k. (h, k)), (save_or_margins-writable, (restore-writable, (position_request-writable, (λ ts x e. by_name variant.CursorStyle (λ known. tt) (option_and_then (λ slot. cursor_style_named (slot_number slot)) (slot_and_space ts)) x e, tt))))))))))))))))))))))))))
+
+pub cursor_reading-writable : (final : ℕ) (ts : List CsiParam) (x : Cursor) → cursor_reading final ts ≡ Some x → IsWritableCursor x
+unfolding cursor_reading
+cursor_reading-writable final ts x e = read_by-each IsWritableCursor cursor_lines final ts x cursor_lines-writable e
+
+-- ---- Edits
+
+by_edit_count : (make : ℕ → Edit) → ((n : ℕ) → IsPlace n → IsWritableEdit (make n)) → (ts : List CsiParam) (x : Edit) → option_map make (count ts) ≡ Some x → IsWritableEdit x
+by_edit_count make h ts x e = made IsWritableEdit make IsPlace (count ts) (count_valid ts) h x e
+
+by_extent : {B : Type 0} (make : B → Edit) → ((y : B) → IsWritableEdit (make y)) → (found : Option B) (x : Edit) → option_map make found ≡ Some x → IsWritableEdit x
+by_extent {B} make h found x e = made IsWritableEdit make (λ (y : B). Unit {0}) found (λ y q. tt) (λ y u. h y) x e
+
+edit_lines-writable : EachLine IsWritableEdit edit_lines
+edit_lines-writable = (by_edit_count change.InsertCharacter (λ n h. h), (by_edit_count change.DeleteCharacter (λ n h. h), (by_edit_count change.InsertLine (λ n h. h), (by_edit_count change.DeleteLine (λ n h. h), (by_edit_count change.EraseCharacter (λ n h. h), (by_edit_count change.ScrollUp (λ n h. h), (by_edit_count change.ScrollDown (λ n h. h), (by_edit_count change.Repeat (λ n h. h), (λ ts x e. by_extent change.EraseInDisplay (λ known. tt) (option_and_then (λ slot. erase_in_display_named (slot_number slot)) (one_slot ts)) x e, (λ ts x e. by_extent change.EraseInLine (λ known. tt) (option_and_then (λ slot. erase_in_line_named (slot_number slot)) (one_slot ts)) x e, tt))))))))))
+
+pub edit_reading-writable : (final : ℕ) (ts : List CsiParam) (x : Edit) → edit_reading final ts ≡ Some x → IsWritableEdit x
+unfolding edit_reading
+edit_reading-writable final ts x e = read_by-each IsWritableEdit edit_lines final ts x edit_lines-writable e
+
+-- ---- Modes
+
+private_by : (n : ℕ) (found : Option DecPrivateModeCode) → dec_private_mode_named (pos n) ≡ found → n ≤ 65535 → IsWritablePrivateMode (dec_mode_by n found)
+private_by n None e h = (h, e)
+private_by n (Some known) e h = tt
+
+private_of : (n : ℕ) → leb n 65535 ≡ true → IsWritablePrivateMode (dec_mode_of n)
+private_of n h = private_by n (dec_private_mode_named (pos n)) refl (leb-true n 65535 h)
+
+standard_by : (n : ℕ) (found : Option TerminalModeCode) → terminal_mode_named (pos n) ≡ found → n ≤ 65535 → IsWritableStandardMode (ansi_mode_by n found)
+standard_by n None e h = (h, e)
+standard_by n (Some known) e h = tt
+
+standard_of : (n : ℕ) → leb n 65535 ≡ true → IsWritableStandardMode (ansi_mode_of n)
+standard_of n h = standard_by n (terminal_mode_named (pos n)) refl (leb-true n 65535 h)
+
+private_steps : (n : ℕ) (m : Mode) (a b c d : Bool) → leb n 65535 ≡ true
+    → cond a (Some (does.SetDecPrivateMode (dec_mode_of n))) (cond b (Some (does.ResetDecPrivateMode (dec_mode_of n)))
+    (cond c (Some (does.SaveDecPrivateMode (dec_mode_of n))) (cond d (Some (does.RestoreDecPrivateMode (dec_mode_of n))) None))) ≡ Some m → IsWritableMode m
+private_steps n m true b c d h e = same_value IsWritableMode (does.SetDecPrivateMode (dec_mode_of n)) m e (private_of n h)
+private_steps n m false true c d h e = same_value IsWritableMode (does.ResetDecPrivateMode (dec_mode_of n)) m e (private_of n h)
+private_steps n m false false true d h e = same_value IsWritableMode (does.SaveDecPrivateMode (dec_mode_of n)) m e (private_of n h)
+private_steps n m false false false true h e = same_value IsWritableMode (does.RestoreDecPrivateMode (dec_mode_of n)) m e (private_of n h)
+private_steps n m false false false false h e = cc
+
+private_within : (final n : ℕ) (m : Mode) (b : Bool) → leb n 65535 ≡ b → option_and_then (λ k. private_step final (dec_mode_of k)) (cond b (Some n) None) ≡ Some m → IsWritableMode m
+private_within final n m true h e = private_steps n m (eqb final 104) (eqb final 108) (eqb final 115) (eqb final 114) h e
+private_within final n m false h e = cc
+
+pub private_mode-writable : (final : ℕ) (z : ℤ) (m : Mode) → private_mode_reading final z ≡ Some m → IsWritableMode m
+unfolding private_mode_reading
+private_mode-writable final (negsuc k) m e = cc
+private_mode-writable final (pos n) m e = private_within final n m (leb n 65535) refl e
+
+standard_steps : (n : ℕ) (m : Mode) (a b : Bool) → leb n 65535 ≡ true
+    → cond a (Some (does.SetMode (ansi_mode_of n))) (cond b (Some (does.ResetMode (ansi_mode_of n))) None) ≡ Some m → IsWritableMode m
+standard_steps n m true b h e = same_value IsWritableMode (does.SetMode (ansi_mode_of n)) m e (standard_of n h)
+standard_steps n m false true h e = same_value IsWritableMode (does.ResetMode (ansi_mode_of n)) m e (standard_of n h)
+standard_steps n m false false h e = cc
+
+standard_within : (final n : ℕ) (m : Mode) (b : Bool) → leb n 65535 ≡ b → option_and_then (λ k. standard_step final (ansi_mode_of k)) (cond b (Some n) None) ≡ Some m → IsWritableMode m
+standard_within final n m true h e = standard_steps n m (eqb final 104) (eqb final 108) h e
+standard_within final n m false h e = cc
+
+pub standard_mode-writable : (final : ℕ) (z : ℤ) (m : Mode) → mode_reading final z ≡ Some m → IsWritableMode m
+unfolding mode_reading
+standard_mode-writable final (negsuc k) m e = cc
+standard_mode-writable final (pos n) m e = standard_within final n m (leb n 65535) refl e
+
+-- ---- Colours that forms give
+
+within-by : (n m : ℕ) (b : Bool) → leb n 255 ≡ b → cond b (Some n) None ≡ Some m → m ≤ 255
+within-by n m true p e = let q : n ≡ m = cc in subst (λ (k : ℕ). k ≤ 255) q (leb-true n 255 p)
+within-by n m false p e = cc
+
+byte_of-valid : (t : CsiParam) (m : ℕ) → byte_of t ≡ Some m → m ≤ 255
+byte_of-valid (P b) m e = cc
+byte_of-valid (Integer (negsuc n)) m e = cc
+byte_of-valid (Integer (pos n)) m e = within-by n m (leb n 255) refl e
+
+byte_in : (t : Option CsiParam) (m : ℕ) → option_and_then byte_of t ≡ Some m → m ≤ 255
+byte_in None m e = cc
+byte_in (Some t) m e = byte_of-valid t m e
+
+byte_at-valid : (ts : List CsiParam) (i m : ℕ) → byte_at ts i ≡ Some m → m ≤ 255
+byte_at-valid ts i m e = byte_in (slice_get ts i) m e
+
+abbrev IsByteIn : Option ℕ → Type 0
+IsByteIn found = (m : ℕ) → found ≡ Some m → m ≤ 255
+
+palette-valid : (r : Option ℕ) (c : ColorSpec) → IsByteIn r → option_map color.PaletteIndex r ≡ Some c → IsColour c
+palette-valid None c h e = cc
+palette-valid (Some n) c h e = let q : color.PaletteIndex n ≡ c = cc in subst (λ (x : ColorSpec). IsColour x) q (h n refl)
+
+opaque-valid : (r g b : Option ℕ) (c : ColorSpec) → IsByteIn r → IsByteIn g → IsByteIn b
+    → option_and_then (λ x. option_and_then (λ y. option_map (λ z. colour x y z 255) b) g) r ≡ Some c → IsColour c
+opaque-valid None g b c h k l e = cc
+opaque-valid (Some x) None b c h k l e = cc
+opaque-valid (Some x) (Some y) None c h k l e = cc
+opaque-valid (Some x) (Some y) (Some z) c h k l e =
+    let q : colour x y z 255 ≡ c = cc in subst (λ (v : ColorSpec). IsColour v) q (h x refl, k y refl, l z refl, omega arith)
+
+colour-valid : (r g b a : Option ℕ) (c : ColorSpec) → IsByteIn r → IsByteIn g → IsByteIn b → IsByteIn a
+    → option_and_then (λ x. option_and_then (λ y. option_and_then (λ z. option_map (λ w. colour x y z w) a) b) g) r ≡ Some c → IsColour c
+colour-valid None g b a c h k l m e = cc
+colour-valid (Some x) None b a c h k l m e = cc
+colour-valid (Some x) (Some y) None a c h k l m e = cc
+colour-valid (Some x) (Some y) (Some z) None c h k l m e = cc
+colour-valid (Some x) (Some y) (Some z) (Some w) c h k l m e =
+    let q : colour x y z w ≡ c = cc in subst (λ (v : ColorSpec). IsColour v) q (h x refl, k y refl, l z refl, m w refl)
+
+abbrev FormsValid : List Form → Type 0
+FormsValid [] = Unit {0}
+FormsValid (form ∷ forms) = ((ts : List CsiParam) (c : ColorSpec) → form.1 ts ≡ Some c → IsColour c) × FormsValid forms
+
+at_palette : (i : ℕ) (ts : List CsiParam) (c : ColorSpec) → palette_at i ts ≡ Some c → IsColour c
+at_palette i ts c e = palette-valid (byte_at ts i) c (byte_at-valid ts i) e
+
+at_opaque : (i j k : ℕ) (ts : List CsiParam) (c : ColorSpec) → opaque_at i j k ts ≡ Some c → IsColour c
+at_opaque i j k ts c e = opaque-valid (byte_at ts i) (byte_at ts j) (byte_at ts k) c (byte_at-valid ts i) (byte_at-valid ts j) (byte_at-valid ts k) e
+
+at_colour : (i j k l : ℕ) (ts : List CsiParam) (c : ColorSpec) → colour_at i j k l ts ≡ Some c → IsColour c
+at_colour i j k l ts c e = colour-valid (byte_at ts i) (byte_at ts j) (byte_at ts k) (byte_at ts l) c (byte_at-valid ts i) (byte_at-valid ts j) (byte_at-valid ts k) (byte_at-valid ts l) e
+
+forms-valid : FormsValid colour_forms
+forms-valid = (at_colour 4 6 8 10, (at_opaque 5 7 9, (at_opaque 4 6 8, (at_opaque 3 5 7, (at_opaque 3 5 7, (at_palette 3, (at_palette 3, tt)))))))
+
+taken-valid : (n : ℕ) (found : Option ColorSpec) (f : ColorSpec × ℕ) → ((c : ColorSpec) → found ≡ Some c → IsColour c) → taking n found ≡ Some f → IsColour f.0
+taken-valid n None f h e = cc
+taken-valid n (Some c) f h e = let q : (c, n) ≡ f = cc in subst (λ (x : ColorSpec × ℕ). IsColour x.0) q (h c refl)
+
+form_by : (b : Bool) (here there : Option (ColorSpec × ℕ)) (f : ColorSpec × ℕ) → (here ≡ Some f → IsColour f.0) → (there ≡ Some f → IsColour f.0) → cond b here there ≡ Some f → IsColour f.0
+form_by true here there f h k e = h e
+form_by false here there f h k e = k e
+
+first_form-valid : (forms : List Form) (ts : List CsiParam) (f : ColorSpec × ℕ) → FormsValid forms → first_form forms ts ≡ Some f → IsColour f.0
+first_form-valid [] ts f h e = cc
+first_form-valid (form ∷ forms) ts f h e =
+    form_by (stands form.0 ts) (taking _ (form.1 ts)) (first_form forms ts) f (taken-valid _ (form.1 ts) f (h.0 ts)) (first_form-valid forms ts f h.1) e
+
+-- ---- Numbers and shapes of SGR
+
+and_left : (a b : Bool) → (a && b) ≡ true → a ≡ true
+and_left true b h = refl
+and_left false b h = cc
+
+and_right : (a b : Bool) → (a && b) ≡ true → b ≡ true
+and_right true b h = h
+and_right false b h = cc
+
+abbrev EachListed : List (ℕ × Sgr) → Type 0
+EachListed [] = Unit {0}
+EachListed (line ∷ lines) = IsWritableSgr line.1 × EachListed lines
+
+listed-writable : EachListed single_codes
+listed-writable = (tt, (tt, (tt, (tt, (tt, (tt, (tt, (tt, (tt, (tt, (tt, (tt, (tt, (tt, (tt, (tt, (tt, (tt, (tt, (tt, (tt, (tt, (tt, (tt, (tt, (tt, (tt, tt)))))))))))))))))))))))))))
+
+same_sgr : (x y : Sgr) → Some x ≡ Some y → IsWritableSgr x → IsWritableSgr y
+same_sgr x y e h = let q : x ≡ y = cc in subst (λ (v : Sgr). IsWritableSgr v) q h
+
+listed_by : (b : Bool) (v x : Sgr) (other : Option Sgr) → IsWritableSgr v → (other ≡ Some x → IsWritableSgr x) → cond b (Some v) other ≡ Some x → IsWritableSgr x
+listed_by true v x other h k e = same_sgr v x e h
+listed_by false v x other h k e = k e
+
+listed_or-writable : (lines : List (ℕ × Sgr)) (n : ℕ) (other : Option Sgr) (x : Sgr) → EachListed lines → (other ≡ Some x → IsWritableSgr x) → listed_or lines n other ≡ Some x → IsWritableSgr x
+listed_or-writable [] n other x h k e = k e
+listed_or-writable (line ∷ lines) n other x h k e = listed_by (eqb line.0 n) line.1 x (listed_or lines n other) h.0 (listed_or-writable lines n other x h.1 k) e
+
+ranged_by : (low high n : ℕ) (b : Bool) → is_between low high n ≡ b → (v x : Sgr) (other : Option Sgr) → (low ≤ n → n ≤ high → IsWritableSgr v) → (other ≡ Some x → IsWritableSgr x) → cond b (Some v) other ≡ Some x → IsWritableSgr x
+ranged_by low high n true p v x other h k e = same_sgr v x e (h (leb-true low n (and_left (leb low n) (leb n high) p)) (leb-true n high (and_right (leb low n) (leb n high) p)))
+ranged_by low high n false p v x other h k e = k e
+
+none_is_some : (x : Sgr) → None ≡ Some x → ⊥
+none_is_some x q = cc
+
+ranged-writable : (n : ℕ) (x : Sgr) → ranged_code n ≡ Some x → IsWritableSgr x
+ranged-writable n x e =
+    ranged_by 11 19 n (is_between 11 19 n) refl _ x _ (λ l h. (omega arith, omega arith))
+    (ranged_by 30 37 n (is_between 30 37 n) refl _ x _ (λ l h. omega arith)
+    (ranged_by 40 47 n (is_between 40 47 n) refl _ x _ (λ l h. omega arith)
+    (ranged_by 90 97 n (is_between 90 97 n) refl _ x _ (λ l h. omega arith)
+    (ranged_by 100 107 n (is_between 100 107 n) refl _ x _ (λ l h. omega arith)
+    (λ q. absurd (none_is_some x q)))))) e
+
+-- ---- Shapes
+
+abbrev FindsWritable : Option (Sgr × ℕ) → Type 0
+FindsWritable found = (f : Sgr × ℕ) → found ≡ Some f → IsWritableSgr f.0
+
+taken-writable : (n : ℕ) (found : Option Sgr) → ((x : Sgr) → found ≡ Some x → IsWritableSgr x) → FindsWritable (taking n found)
+taken-writable n None h f e = cc
+taken-writable n (Some v) h f e = let q : (v, n) ≡ f = cc in subst (λ (x : Sgr × ℕ). IsWritableSgr x.0) q (h v refl)
+
+coloured-writable : (target : ColorSpec → Sgr) (found : Option (ColorSpec × ℕ)) → ((g : ColorSpec × ℕ) → found ≡ Some g → IsColour g.0) → ((c : ColorSpec) → IsColour c → IsWritableSgr (target c))
+    → FindsWritable (option_map (λ form. (target form.0, form.1 + 1)) found)
+coloured-writable target None valid back f e = cc
+coloured-writable target (Some g) valid back f e = let q : (target g.0, g.1 + 1) ≡ f = cc in subst (λ (x : Sgr × ℕ). IsWritableSgr x.0) q (back g.0 (valid g refl))
+
+colour_shape-writable : (target : ColorSpec → Sgr) → ((c : ColorSpec) → IsColour c → IsWritableSgr (target c)) → (ts : List CsiParam) → FindsWritable (colour_shape target ts)
+unfolding colour_form
+colour_shape-writable target back ts = coloured-writable target (first_form colour_forms ts) (λ g e. first_form-valid colour_forms ts g forms-valid e) back
+
+underlined-writable : (line : Option Underline) → FindsWritable (underline_or_single line)
+underlined-writable None f e = let q : (value.Underline underline.Single, 1) ≡ f = cc in subst (λ (x : Sgr × ℕ). IsWritableSgr x.0) q tt
+underlined-writable (Some line) f e = let q : (value.Underline line, 3) ≡ f = cc in subst (λ (x : Sgr × ℕ). IsWritableSgr x.0) q tt
+
+underline_shape-writable : (ts : List CsiParam) → FindsWritable (underline_shape ts)
+underline_shape-writable [] = underlined-writable None
+underline_shape-writable (Integer z ∷ ts) = underlined-writable None
+underline_shape-writable (P b ∷ []) = underlined-writable None
+underline_shape-writable (P b ∷ P c ∷ ts) = underlined-writable None
+underline_shape-writable (P b ∷ Integer z ∷ ts) = underlined-writable (cond (eqb b 58) (underline_numbered z) None)
+
+single-writable : (found : Option ℕ) (x : Sgr) → option_and_then single_code found ≡ Some x → IsWritableSgr x
+unfolding single_code
+single-writable None x e = cc
+single-writable (Some n) x e = listed_or-writable single_codes n (ranged_code n) x listed-writable (ranged-writable n x) e
+
+five_ways : (p q r s : Bool) (a b c d e : Option (Sgr × ℕ)) → FindsWritable a → FindsWritable b → FindsWritable c → FindsWritable d → FindsWritable e → FindsWritable (cond p a (cond q b (cond r c (cond s d e))))
+five_ways true q r s a b c d e u v w x y = u
+five_ways false true r s a b c d e u v w x y = v
+five_ways false false true s a b c d e u v w x y = w
+five_ways false false false true a b c d e u v w x y = x
+five_ways false false false false a b c d e u v w x y = y
+
+numbered_shape-writable : (z : ℤ) (ts : List CsiParam) → FindsWritable (numbered_shape z ts)
+unfolding numbered_shape
+numbered_shape-writable z ts =
+    five_ways (is_number 38 z) (is_number 48 z) (is_number 58 z) (is_number 4 z) _ _ _ _ _
+    (colour_shape-writable value.Foreground (λ c h. h) ts) (colour_shape-writable value.Background (λ c h. h) ts) (colour_shape-writable value.UnderlineColor (λ c h. h) ts)
+    (underline_shape-writable ts) (taken-writable 1 (option_and_then single_code (number_within 255 z)) (single-writable (number_within 255 z)))
+
+reset_by : (b : Bool) (x : Sgr) → cond b (Some value.Reset) None ≡ Some x → IsWritableSgr x
+reset_by true x e = same_sgr value.Reset x e tt
+reset_by false x e = cc
+
+pub sgr_shape-writable : (ts : List CsiParam) (f : Sgr × ℕ) → sgr_shape ts ≡ Some f → IsWritableSgr f.0
+unfolding sgr_shape
+sgr_shape-writable [] f e = cc
+sgr_shape-writable (P b ∷ ts) f e = taken-writable 1 (cond (eqb b 59) (Some value.Reset) None) (reset_by (eqb b 59)) f e
+sgr_shape-writable (Integer z ∷ ts) f e = numbered_shape-writable z ts f e
