@@ -25,7 +25,7 @@ is_c1-next b c h = elim (cases_Bool (b == 0xC2)) [
   | inr other ↦ rw other refl
 ]
 
-holds_c1-cons : (c : ℕ) (ys : List ℕ) → c < 128 → holds_c1 (c ∷ ys) ≡ holds_c1 ys
+pub holds_c1-cons : (c : ℕ) (ys : List ℕ) → c < 128 → holds_c1 (c ∷ ys) ≡ holds_c1 ys
 unfolding holds_c1
 holds_c1-cons c [] h = refl
 holds_c1-cons c (y ∷ ys) h = rw (is_c1-lead c y h) refl
@@ -55,7 +55,7 @@ any_holds_c1-joined c (x ∷ y ∷ ys) h =
 abbrev pub LacksC1 : List ℕ → Type 0
 LacksC1 text = holds_c1 text ≡ false
 
-or_parts : (a b : Bool) → (a || b) ≡ false → (a ≡ false) × (b ≡ false)
+pub or_parts : (a b : Bool) → (a || b) ≡ false → (a ≡ false) × (b ≡ false)
 or_parts true b h = cc
 or_parts false b h = (refl, h)
 

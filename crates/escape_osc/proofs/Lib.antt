@@ -1,11 +1,15 @@
 pub mod Base64Lemmas
+pub mod ByteLemmas
 pub mod C1Lemmas
 pub mod Cases
 pub mod CopyLemmas
 pub mod EqualCommands
 pub mod PartsLemmas
 pub mod ReadBack
+pub mod ReadWritable
 pub mod ReadingLemmas
 pub mod SelectionLemmas
 pub mod ShowLemmas
+pub mod SizeLemmas
 pub mod SplitLemmas
+pub mod WritableBack

@@ -38,7 +38,7 @@ same_body : (command : Command) (first : List ℕ) (rest : List (List ℕ)) → 
 same_body command first rest are is body =
     ap (λ b. osc_reading (parts_of b)) body ∙ ap osc_reading (parts_of-joined first rest are.0 are.1) ∙ is
 
-utf8_same : (bytes text : List ℕ) → utf8_reading bytes ≡ Some text → bytes ≡ text
+pub utf8_same : (bytes text : List ℕ) → utf8_reading bytes ≡ Some text → bytes ≡ text
 unfolding utf8_reading
 utf8_same bytes text h = elim (cases_Bool (is_utf8 bytes)) [
   | inl is ↦ same_Some _ _ (rw is at h)
@@ -60,7 +60,7 @@ text_back make code (part ∷ rest) command body are is h = elim (option_cases (
 
 -- ---- what a code and the parts behind it read as
 
-fits : (first : List ℕ) (rest : List (List ℕ)) (command : Command) → any_holds_c1 (first ∷ rest) ≡ false → coded_reading first rest (first ∷ rest) ≡ Some command → osc_reading (first ∷ rest) ≡ command
+pub fits : (first : List ℕ) (rest : List (List ℕ)) (command : Command) → any_holds_c1 (first ∷ rest) ≡ false → coded_reading first rest (first ∷ rest) ≡ Some command → osc_reading (first ∷ rest) ≡ command
 fits first rest command lacks is = rw (lacks, is) refl
 
 -- ---- links
@@ -70,34 +70,38 @@ unfolding link_text
 text_of_link_begins None = (59 ∷ [], refl)
 text_of_link_begins (Some link) = (_, refl)
 
-link_parts : (link : Option Link) → (rest : List (List ℕ)) × (parts_of (text_of_link link) ≡ codes "8" ∷ rest)
+pub link_parts : (link : Option Link) → (rest : List (List ℕ)) × (parts_of (text_of_link link) ≡ codes "8" ∷ rest)
 link_parts link =
     let begins = text_of_link_begins link in
     (parts_of begins.0, ap parts_of begins.1 ∙ parts_of-at (codes "8") begins.0 (refl, tt))
 
-eight_is_link : (rest parts : List (List ℕ)) → coded_reading (codes "8") rest parts ≡ link_command parts
+pub eight_is_link : (rest parts : List (List ℕ)) → coded_reading (codes "8") rest parts ≡ link_command parts
 unfolding coded_reading
 eight_is_link rest parts = refl
 
 ok_some : (r : Result (Option Link) LinkError) (link : Option Link) → r ≡ Ok link → result_ok r ≡ Some link
 ok_some r link h = rw h refl
 
-link_back : (parts : List (List ℕ)) (link : Option Link) → parts_of (joined parts) ≡ parts → any_holds_c1 parts ≡ false → link_reading parts ≡ Ok link → ReadsBack (set_hyperlink link)
+-- a link that its own text gives
+pub link_value : (link : Option Link) → link_reading (parts_of (text_of_link link)) ≡ Ok link → holds_c1 (text_of_link link) ≡ false → ReadsBack (set_hyperlink link)
 unfolding link_command
-link_back parts link same lacks is =
+link_value link is lacks =
     let split = link_parts link in
     let whole : parts_of (text_of_link link) ≡ codes "8" ∷ split.0 = split.1 in
-    let again : link_reading (parts_of (text_of_link link)) ≡ Ok link = link_body_back (joined parts) link (ap link_reading same ∙ is) in
     let clean : any_holds_c1 (parts_of (text_of_link link)) ≡ false =
     any_holds_c1-joined 59 (parts_of (text_of_link link)) (omega arith)
-    ∙ ap holds_c1 (join_with_byte-slice_split 59 (text_of_link link)) ∙ link_parts_lack_c1 parts link is lacks in
+    ∙ ap holds_c1 (join_with_byte-slice_split 59 (text_of_link link)) ∙ lacks in
     let reads : coded_reading (codes "8") split.0 (codes "8" ∷ split.0) ≡ Some (set_hyperlink link) =
     eight_is_link split.0 (codes "8" ∷ split.0)
     ∙ ap (λ ps. option_map set_hyperlink (result_ok (link_reading ps))) (sym whole)
-    ∙ ap (option_map set_hyperlink) (ok_some _ link again) in
+    ∙ ap (option_map set_hyperlink) (ok_some _ link is) in
     ap osc_reading whole ∙ fits (codes "8") split.0 (set_hyperlink link) (ap any_holds_c1 (sym whole) ∙ clean) reads
 
-result_cases : (r : Result (Option Link) LinkError) → ((link : Option Link) × (r ≡ Ok link)) ⊎ ((e : LinkError) × (r ≡ Err e))
+link_back : (parts : List (List ℕ)) (link : Option Link) → parts_of (joined parts) ≡ parts → any_holds_c1 parts ≡ false → link_reading parts ≡ Ok link → ReadsBack (set_hyperlink link)
+link_back parts link same lacks is =
+    link_value link (link_body_back (joined parts) link (ap link_reading same ∙ is)) (link_parts_lack_c1 parts link is lacks)
+
+pub result_cases : (r : Result (Option Link) LinkError) → ((link : Option Link) × (r ≡ Ok link)) ⊎ ((e : LinkError) × (r ≡ Err e))
 result_cases (Ok link) = inl (link, refl)
 result_cases (Err e) = inr (e, refl)
 
@@ -112,7 +116,7 @@ link_case parts command same lacks is = elim (result_cases (link_reading parts))
 
 -- ---- selections
 
-fifty_two_is_selection : (rest parts : List (List ℕ)) → coded_reading (codes "52") rest parts ≡ selection_command rest
+pub fifty_two_is_selection : (rest parts : List (List ℕ)) → coded_reading (codes "52") rest parts ≡ selection_command rest
 unfolding coded_reading
 fifty_two_is_selection rest parts = refl
 
@@ -131,23 +135,23 @@ selection_fits : (rest : List (List ℕ)) (command : Command) → any_holds_c1 r
 selection_fits rest command lacks is =
     fits (codes "52") rest command (rw (code_lacks_c1, lacks) refl) (fifty_two_is_selection rest (codes "52" ∷ rest) ∙ is)
 
-clear_parts : (bits : ℕ) → parts_of (body_of (clear_selection bits)) ≡ codes "52" ∷ letters_of bits ∷ []
+pub clear_parts : (bits : ℕ) → parts_of (body_of (clear_selection bits)) ≡ codes "52" ∷ letters_of bits ∷ []
 clear_parts bits =
     parts_of-at (codes "52") (letters_of bits) (refl, (refl, tt))
     ∙ ap (λ parts. codes "52" ∷ parts) (parts_of-piece (letters_of bits) (letters_piece bits))
 
-lettered_parts : (bits : ℕ) (text : List ℕ) → IsPiece text → parts_of (codes "52;" ++ (letters_of bits ++ semicolon ∷ text)) ≡ codes "52" ∷ letters_of bits ∷ text ∷ []
+pub lettered_parts : (bits : ℕ) (text : List ℕ) → IsPiece text → parts_of (codes "52;" ++ (letters_of bits ++ semicolon ∷ text)) ≡ codes "52" ∷ letters_of bits ∷ text ∷ []
 lettered_parts bits text p =
     parts_of-at (codes "52") (letters_of bits ++ semicolon ∷ text) (refl, (refl, tt))
     ∙ ap (λ parts. codes "52" ∷ parts) (parts_of-at (letters_of bits) text (letters_piece bits) ∙ ap (λ parts. letters_of bits ∷ parts) (parts_of-piece text p))
 
-clear_back : (bits : ℕ) → selection_reading (letters_of bits) ≡ Some bits → ReadsBack (clear_selection bits)
+pub clear_back : (bits : ℕ) → selection_reading (letters_of bits) ≡ Some bits → ReadsBack (clear_selection bits)
 unfolding selection_command clear_reading
 clear_back bits is =
     ap osc_reading (clear_parts bits)
     ∙ selection_fits (letters_of bits ∷ []) (clear_selection bits) (rw (letters_lack_c1 bits) refl) (ap (option_map clear_selection) is)
 
-lettered_back : (bits : ℕ) (text : List ℕ) (command : Command) → selection_reading (letters_of bits) ≡ Some bits → IsPiece text → holds_c1 text ≡ false
+pub lettered_back : (bits : ℕ) (text : List ℕ) (command : Command) → selection_reading (letters_of bits) ≡ Some bits → IsPiece text → holds_c1 text ≡ false
     → data_reading bits text ≡ Some command → osc_reading (parts_of (codes "52;" ++ (letters_of bits ++ semicolon ∷ text))) ≡ command
 unfolding selection_command lettered_reading
 lettered_back bits text command is p lacks does =
@@ -169,7 +173,7 @@ base64_back bits text command b is = elim (option_cases (decoded_of standard tex
   ]
 ]
 
-data_body : (bits : ℕ) (text : List ℕ) (command : Command) → IsBytes text → data_reading bits text ≡ Some command
+pub data_body : (bits : ℕ) (text : List ℕ) (command : Command) → IsBytes text → data_reading bits text ≡ Some command
     → body_of command ≡ codes "52;" ++ (letters_of bits ++ semicolon ∷ text)
 unfolding data_reading
 data_body bits text command b is = elim (cases_Bool (bytes_eq text (codes "?"))) [
@@ -201,7 +205,7 @@ selection_case (letters ∷ text ∷ more ∷ rest) command are bytes lacks is =
 
 -- ---- every command that was read
 
-is_code : (code name : List ℕ) → bytes_eq code name ≡ true → code ≡ name
+pub is_code : (code name : List ℕ) → bytes_eq code name ≡ true → code ≡ name
 is_code code name h = (bytes_eq-Decides code name).0 h
 
 coded_back : (code : List ℕ) (rest : List (List ℕ)) (command : Command) → ArePieces (code ∷ rest) → AllByRecursion IsBytes (code ∷ rest) → any_holds_c1 (code ∷ rest) ≡ false
@@ -253,7 +257,7 @@ split_back : (parts : List (List ℕ)) → (parts ≡ [] → ⊥) → ArePieces 
 split_back [] some are bytes = absurd (some refl)
 split_back (first ∷ rest) some are bytes = parts_back first rest are bytes
 
-parts_bytes : (parts : List (List ℕ)) → AllByRecursion (AllByRecursion (λ b. b < 256)) parts → AllByRecursion IsBytes parts
+pub parts_bytes : (parts : List (List ℕ)) → AllByRecursion (AllByRecursion (λ b. b < 256)) parts → AllByRecursion IsBytes parts
 parts_bytes [] h = tt
 parts_bytes (part ∷ parts) h = (bytes_each part h.0, parts_bytes parts h.1)
 

@@ -194,20 +194,24 @@ selection_known bits known some =
       | inr full ↦ rw (ne_eqb (length (flat_map (letter_if_held bits) letters)) 0 full) back
     ]
 
-pub selection_back : (text : List ℕ) (bits : ℕ) → selection_reading text ≡ Some bits → selection_reading (letters_of bits) ≡ Some bits
+-- and what letters name has some bit, and no other than those of letters
+pub selection_named : (text : List ℕ) (bits : ℕ) → selection_reading text ≡ Some bits → (bit_and bits (all_bits letters) ≡ bits) × (0 < bits)
 unfolding selection_reading
-selection_back text bits h = elim (cases_eq (length text) 0) [
+selection_named text bits h = elim (cases_eq (length text) 0) [
   | inl empty ↦
       let e : default_selection ≡ bits = same_Some _ _ (rw (eq-eqb (length text) 0 empty) at h) in
-      rw (← e) (selection_known default_selection (letters_known (codes "s0") default_selection default_letters) (omega arith))
+      rw (← e) (letters_known (codes "s0") default_selection default_letters, omega arith)
   | inr full ↦
       let e : letters_bits text ≡ Some bits = rw (ne_eqb (length text) 0 full) at h in
-      selection_known bits (letters_known text bits e) (letters_some_bit text bits (omega arith) e)
+      (letters_known text bits e, letters_some_bit text bits (omega arith) e)
 ]
+
+pub selection_back : (text : List ℕ) (bits : ℕ) → selection_reading text ≡ Some bits → selection_reading (letters_of bits) ≡ Some bits
+selection_back text bits h = let named = selection_named text bits h in selection_known bits named.0 named.1
 
 -- ---- the bytes of letters
 
-letter_bytes : (P : ℕ → Type 0) (rows : List Letter) (bits : ℕ) → AllByRecursion (λ l. P l.letter) rows → AllByRecursion P (flat_map (letter_if_held bits) rows)
+pub letter_bytes : (P : ℕ → Type 0) (rows : List Letter) (bits : ℕ) → AllByRecursion (λ l. P l.letter) rows → AllByRecursion P (flat_map (letter_if_held bits) rows)
 letter_bytes P [] bits h = tt
 letter_bytes P (l ∷ rows) bits h = elim (cases_Bool (bit_and bits l.bits == l.bits)) [
   | inl held ↦ rw held (h.0, letter_bytes P rows bits h.1)

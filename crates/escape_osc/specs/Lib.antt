@@ -6,3 +6,4 @@ pub mod Selection
 pub mod ShownParts
 pub mod Text
 pub mod Writable
+pub mod Sizes

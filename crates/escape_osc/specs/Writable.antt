@@ -1,9 +1,13 @@
--- Commands that read back, and those that a byte stream can carry as they are.
-use Rattle.std.specs.Prelude.{◌≡◌, ℕ, ◌==◌, nat_lt, Bool, false, ◌||◌}
+-- Commands that can be written: what is written for them reads back as they are, and a byte stream carries it as it is.
+use Rattle.std.specs.Prelude.{◌≡◌, ℕ, ◌<◌, ◌==◌, ◌-◌, ◌^◌, nat_lt, Bool, false, ◌||◌, List, Option, None, Ok}
 use Rattle.std.specs.List.{list_any}
-use Rattle.escape_osc.specs.Command.{Command}
-use Rattle.escape_osc.specs.Parts.{parts_of, holds_c1}
-use Rattle.escape_osc.specs.Reading.{osc_reading}
+use Rattle.std.specs.Int.RustNames.{bit_and}
+use Rattle.std.specs.Str.{IsUtf8}
+use Rattle.cell_base.specs.Link.{Link}
+use Rattle.cell_base.specs.LinkText.{link_reading, text_of_link}
+use Rattle.escape_osc.specs.Command.{Command, set_icon_name_and_window_title, set_icon_name, set_window_title, current_working_directory, set_hyperlink, set_selection, query_selection, clear_selection, unspecified}
+use Rattle.escape_osc.specs.Parts.{parts_of, joined, holds_c1}
+use Rattle.escape_osc.specs.Reading.{fitting_reading, osc_reading}
 use Rattle.escape_osc.specs.Text.{body_of}
 
 -- a command reads back equal from its body
@@ -14,8 +18,35 @@ ReadsBack command = osc_reading (parts_of (body_of command)) ≡ command
 abbrev pub is_control : ℕ → Bool
 is_control b = nat_lt b 0x20 || (b == 0x7F)
 
--- the parts of a command's body give the command back, and hold no control of any kind
+-- a text holds no control of any kind: no C0 control, no DEL, and no U+0080 to U+009F
+pub record LacksControls (text : List ℕ) : Type 0 where
+  pub no_c0 : list_any is_control text ≡ false
+  pub no_c1 : holds_c1 text ≡ false
+
+-- a set of selections that letters name: of bits 1 to 13, and not empty
+pub record IsSelection (bits : ℕ) : Type 0 where
+  pub named : bit_and bits (2 ^ 14 - 2) ≡ bits
+  pub some : 0 < bits
+
+-- a link, or the end of one, that its own text gives
+abbrev pub IsReadableLink : Option Link → Type 0
+IsReadableLink link = link_reading (parts_of (text_of_link link)) ≡ Ok link
+
+-- a command by value: a text that is UTF-8, a link that its text gives, selections that have letters, and parts that fit
+-- no code and that a body can be cut into
+abbrev pub HasSpelling : Command → Type 0
+HasSpelling (set_icon_name_and_window_title text) = IsUtf8 text
+HasSpelling (set_icon_name text) = IsUtf8 text
+HasSpelling (set_window_title text) = IsUtf8 text
+HasSpelling (current_working_directory text) = IsUtf8 text
+HasSpelling (set_hyperlink link) = IsReadableLink link
+HasSpelling (set_selection bits text) = IsSelection bits × IsUtf8 text
+HasSpelling (query_selection bits) = IsSelection bits
+HasSpelling (clear_selection bits) = IsSelection bits
+HasSpelling (unspecified parts) = (parts_of (joined parts) ≡ parts) × (fitting_reading parts ≡ None)
+
+-- such a command whose body holds no control
 pub record IsWritable (command : Command) : Type 0 where
-  pub reads_back : ReadsBack command
+  pub spelling : HasSpelling command
   pub no_c0 : list_any is_control (body_of command) ≡ false
   pub no_c1 : holds_c1 (body_of command) ≡ false

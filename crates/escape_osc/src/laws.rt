@@ -1,11 +1,15 @@
 //! Laws of the definitions, as functions that do nothing.
 
-ghost use Rattle.std.specs.Prelude.{◌≡◌, ◌↔◌, IsTrue, false};
+ghost use Rattle.std.specs.Prelude.{◌≡◌, ◌↔◌, IsTrue, false, Option, ℕ, List};
+ghost use Rattle.cell_base.specs.Link.{Link};
+ghost use Rattle.cell_base.specs.LinkText.{text_of_link};
 ghost use Rattle.escape_osc.specs.CommandView.{command_of};
-ghost use Rattle.escape_osc.specs.Command.{Command, set_icon_name_and_window_title, set_icon_name, set_window_title, current_working_directory};
+ghost use Rattle.escape_osc.specs.Command.{Command, set_icon_name_and_window_title, set_icon_name, set_window_title, current_working_directory, set_hyperlink};
 ghost use Rattle.escape_osc.specs.Parts.{parts_of, holds_c1};
 ghost use Rattle.escape_osc.specs.Reading.{osc_reading};
-ghost use Rattle.escape_osc.specs.Writable.{IsWritable, ReadsBack};
+ghost use Rattle.escape_osc.specs.Sizes.{EndOfLinkTakesSeven, LinksTakeSeven, TextsTakeSix};
+ghost use Rattle.escape_osc.specs.Text.{body_of};
+ghost use Rattle.escape_osc.specs.Writable.{IsReadableLink, IsWritable, LacksControls, ReadsBack};
 
 use crate::command::OperatingSystemCommand;
 
@@ -21,6 +25,37 @@ pub fn writable_command_reads_back()
     ensures { (command : Command) → IsWritable command → ReadsBack command }
 {}
 
+/// A command that reads back, and whose body holds no control, is one that a byte stream can carry: these are
+/// all that read back from bytes which a stream leaves alone.
+pub fn command_that_reads_back_is_writable()
+    ensures { (command : Command) → ReadsBack command → LacksControls (body_of command) → IsWritable command }
+{}
+
+/// A command that was read from a body without controls of any kind can be written: as the bodies of a byte stream are,
+/// where no skipped byte stood inside a C1 control.
+pub fn read_command_is_writable(body: &[u8])
+    requires { LacksControls body.now }
+    ensures { IsWritable (osc_reading (parts_of body.now)) }
+{
+    let _ = body;
+}
+
+/// A title, the name of an icon or a directory whose text holds no control of any kind can be written.
+pub fn text_is_writable(text: &str)
+    requires { LacksControls text.now }
+    ensures icon_name_and_title { IsWritable (set_icon_name_and_window_title text.now) }
+    ensures icon_name { IsWritable (set_icon_name text.now) }
+    ensures title { IsWritable (set_window_title text.now) }
+    ensures directory { IsWritable (current_working_directory text.now) }
+{
+    let _ = text;
+}
+
+/// A link, or the end of one, that its own text gives can be written where that text holds no control of any kind.
+pub fn link_is_writable()
+    ensures { (link : Option Link) → IsReadableLink link → LacksControls (text_of_link link) → IsWritable (set_hyperlink link) }
+{}
+
 /// A text without U+0080 to U+009F reads back from the body of each command that carries it.
 pub fn text_reads_back(text: &str)
     requires { holds_c1 text.now ≡ false }
@@ -31,6 +66,14 @@ pub fn text_reads_back(text: &str)
 {
     let _ = text;
 }
+
+/// The bytes of a command beside what it carries: six beside a title, the name of an icon or a directory, seven beside
+/// the parameters and the URI of a link, and seven of the end of a link.
+pub fn text_lengths()
+    ensures texts { (text : List ℕ) → TextsTakeSix text }
+    ensures links { LinksTakeSeven }
+    ensures end_of_link { EndOfLinkTakesSeven }
+{}
 
 /// Two commands are equal where their values are, whatever pointers and capacities they have.
 pub fn equality_is_by_value(a: &OperatingSystemCommand, b: &OperatingSystemCommand) -> bool

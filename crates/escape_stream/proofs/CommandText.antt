@@ -12,6 +12,7 @@ use Rattle.escape_osc.specs.Parts.{parts_of, holds_c1, is_c1}
 use Rattle.escape_osc.specs.Reading.{osc_reading}
 use Rattle.escape_osc.specs.Text.{body_of, text_of}
 use Rattle.escape_osc.specs.Writable as osc
+use Rattle.escape_osc.proofs.WritableBack.{writable_back}
 use Rattle.escape_framing.specs.Bytes.{is_stop, is_final, taken}
 use Rattle.escape_framing.specs.Segment.{ControlSequence, OperatingSystemCommand}
 use Rattle.escape_framing.specs.Dispatch.{control_sequence_dispatch, command_dispatch, dispatches_of}
@@ -96,5 +97,5 @@ says_body body bytes actions p n h =
 -- the text of a command, where what is behind it begins with its ESC \
 pub says_command : (c : Command) (bytes : List ℕ) (actions : List StreamAction) → osc.IsWritable c → Says (27 ∷ 92 ∷ bytes) actions → Says (text_of c ++ bytes) (command c ∷ actions)
 says_command c bytes actions w h =
-    says_same (sym (ap (λ x. 27 ∷ 93 ∷ x) (append_assoc (body_of c) (27 ∷ 92 ∷ []) bytes))) (ap (λ x. command x ∷ actions) w.reads_back)
+    says_same (sym (ap (λ x. 27 ∷ 93 ∷ x) (append_assoc (body_of c) (27 ∷ 92 ∷ []) bytes))) (ap (λ x. command x ∷ actions) (writable_back c w))
     (says_body (body_of c) (92 ∷ bytes) actions (plain_bytes (body_of c) w.no_c0) w.no_c1 h)
