@@ -15,3 +15,4 @@ mod FrontLemmas
 mod FrontTrip
 mod PairTrip
 mod SizeLemmas
+mod EqualValues

@@ -27,6 +27,20 @@ pub struct CsiFront<'a> {
     pub rest: &'a [u8],
 }
 
+impl<'a> CsiFront<'a> {
+    /// A copy, which lends the same rest.
+    pub fn try_clone(&self) -> Result<CsiFront<'a>, AllocError>
+        ensures { IfOk result (λ copy. front_of copy ≡ front_of self.now) }
+    {
+        Ok(CsiFront {
+            params: self.params.clone()?,
+            truncated: self.truncated,
+            control: self.control,
+            rest: self.rest,
+        })
+    }
+}
+
 /// Reads the control sequence at the front of `bytes`: `ESC [`, bytes 20h to 3Fh, and a final byte 40h to 7Eh. Where
 /// something else stands there, or the sequence is not whole, it is `None`, which takes no memory.
 pub fn read_csi<'a>(alloc: Global, bytes: &'a [u8]) -> Result<Option<CsiFront<'a>>, AllocError>

@@ -1,6 +1,10 @@
 //! Laws of the readings: functions without a body, each ensuring one.
+ghost use Rattle.std.specs.Prelude.{◌≡◌, ◌↔◌, IsTrue};
+ghost use Rattle.csi_codec.specs.CrackedView.{entries_of};
+ghost use Rattle.csi_codec.specs.FrontView.{front_of};
 ghost use Rattle.csi_codec.specs.Fronts.{OneFront, TextsAreFronts};
 ghost use Rattle.csi_codec.specs.Laws.{ActionsReadBack, SgrListsJoin};
+ghost use Rattle.csi_codec.specs.Sequences.{action_of, rest_of};
 ghost use Rattle.csi_codec.specs.Sizes.{
   SgrsAreShort,
   CursorsAreShort,
@@ -21,6 +25,11 @@ ghost use Rattle.csi_codec.specs.Writable.{
   WritableTextsAreFronts,
   PairsReadBack,
 };
+
+use crate::cracking::Cracked;
+use crate::fronts::CsiFront;
+use crate::parameters::Unspecified;
+use crate::sequences::CSI;
 
 /// The actions of an SGR list, a `;` and another list are those of the one and then those of the other, where the
 /// first is wholly known and does not end in `;`.
@@ -93,3 +102,31 @@ pub fn writable_texts_are_short()
     ensures action { ActionsAreShort }
     ensures pair { PairsAreShort }
 {}
+
+/// Two values of `CSI` are equal where their actions are, wherever these lie in memory.
+pub fn equality_of_sequences_is_by_value(a: &CSI, b: &CSI) -> bool
+    ensures { IsTrue result ↔ (action_of a.now ≡ action_of b.now) }
+{
+    *a == *b
+}
+
+/// Two rests are equal where their parameters, flags and final bytes are.
+pub fn equality_of_rests_is_by_value(a: &Unspecified, b: &Unspecified) -> bool
+    ensures { IsTrue result ↔ (rest_of a.now ≡ rest_of b.now) }
+{
+    *a == *b
+}
+
+/// Two cracked lists are equal where their entries are.
+pub fn equality_of_cracked_lists_is_by_value(a: &Cracked, b: &Cracked) -> bool
+    ensures { IsTrue result ↔ (entries_of a.now ≡ entries_of b.now) }
+{
+    *a == *b
+}
+
+/// Two sequences at the front of some bytes are equal where their parameters, flags, final bytes and rests are.
+pub fn equality_of_fronts_is_by_value(a: &CsiFront, b: &CsiFront) -> bool
+    ensures { IsTrue result ↔ (front_of a.now ≡ front_of b.now) }
+{
+    *a == *b
+}

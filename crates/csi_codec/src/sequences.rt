@@ -65,9 +65,10 @@ impl CSI {
         by_final_byte(alloc, params, parameters_truncated, control)
     }
 
-    /// A copy.
+    /// A copy. Only a request and what is left of a list take memory, and so can be refused.
     pub fn try_clone(&self, alloc: Global) -> Result<Self, AllocError>
-        ensures { IfOk result (λ copy. action_of copy ≡ action_of self.now) }
+        ensures copy { IfOk result (λ copy. action_of copy ≡ action_of self.now) }
+        ensures refused { OnErr result (NeedsMemory (action_of self.now)) }
     {
         match self {
             CSI::Sgr(value) => Ok(CSI::Sgr(*value)),
