@@ -12,10 +12,8 @@ use Rattle.csi_codec.specs.declared.parameters.CsiParam.{CsiParam}
 use Rattle.csi_codec.specs.declared.parameters.CsiParam.TheVariants.{Integer, P}
 use Rattle.csi_codec.specs.declared.rendition.Sgr.{Sgr}
 use Rattle.csi_codec.specs.declared.rendition.Sgr.TheVariants as value
-use Rattle.csi_codec.specs.declared.shapes.Part.{Part}
-use Rattle.csi_codec.specs.declared.shapes.Part.TheVariants.{Sign, Code, Slot}
 use Rattle.csi_codec.specs.Parameters.{is_number, number_within, semicolon_count, semicolon_at, with_semicolon}
-use Rattle.csi_codec.specs.Rendition.{is_part, stands, byte_of, byte_at, palette_at, opaque_at, colour_at, taking, Form, first_form, colour_forms, colour_form, colour_shape, underline_shape, numbered_shape, single_code, sgr_shape, sgr_piece}
+use Rattle.csi_codec.specs.Rendition.{Part, byte_part, number_part, any_number, is_part, stands, byte_of, byte_at, palette_at, opaque_at, colour_at, taking, Form, first_form, colour_forms, colour_form, colour_shape, underline_shape, numbered_shape, single_code, sgr_shape, sgr_piece}
 use Rattle.csi_codec.specs.Actions.{Action, sgr, unspecified, rendition_piece, pieces_from, pieces, all_sgr_tokens, is_sgr_token, csi_reading}
 use Rattle.csi_codec.specs.Laws.{is_semicolon, ends_in_semicolon, all_known, SgrListsJoin}
 use Rattle.csi_codec.proofs.SgrLemmas.{stands-length, sgr_shape_takes, Takes}
@@ -40,9 +38,9 @@ stands-append (part ∷ parts) (t ∷ ts) x h = and_more (is_part part t) (stand
 -- no part of the shape is a `;`
 abbrev no_semicolon : List Part → Bool
 no_semicolon [] = true
-no_semicolon (Sign b ∷ parts) = not (eqb 59 b) && no_semicolon parts
-no_semicolon (Code n ∷ parts) = no_semicolon parts
-no_semicolon (Slot ∷ parts) = no_semicolon parts
+no_semicolon (byte_part b ∷ parts) = not (eqb 59 b) && no_semicolon parts
+no_semicolon (number_part n ∷ parts) = no_semicolon parts
+no_semicolon (any_number ∷ parts) = no_semicolon parts
 
 not_and : (a b : Bool) → (not a && b) ≡ true → (a ≡ false) × (b ≡ true)
 not_and true b h = cc
@@ -51,12 +49,12 @@ not_and false b h = (refl, h)
 -- so it stands in front of a `;` only where it stands without
 stands_open : (parts : List Part) (ts x : List CsiParam) → no_semicolon parts ≡ true → stands parts (ts ++ P 59 ∷ x) ≡ stands parts ts
 stands_open [] ts x n = refl
-stands_open (Sign b ∷ parts) [] x n = rw (not_and (eqb 59 b) (no_semicolon parts) n).0 refl
-stands_open (Code c ∷ parts) [] x n = refl
-stands_open (Slot ∷ parts) [] x n = refl
-stands_open (Sign b ∷ parts) (t ∷ ts) x n = ap (λ v. is_part (Sign b) t && v) (stands_open parts ts x (not_and (eqb 59 b) (no_semicolon parts) n).1)
-stands_open (Code c ∷ parts) (t ∷ ts) x n = ap (λ v. is_part (Code c) t && v) (stands_open parts ts x n)
-stands_open (Slot ∷ parts) (t ∷ ts) x n = ap (λ v. is_part Slot t && v) (stands_open parts ts x n)
+stands_open (byte_part b ∷ parts) [] x n = rw (not_and (eqb 59 b) (no_semicolon parts) n).0 refl
+stands_open (number_part c ∷ parts) [] x n = refl
+stands_open (any_number ∷ parts) [] x n = refl
+stands_open (byte_part b ∷ parts) (t ∷ ts) x n = ap (λ v. is_part (byte_part b) t && v) (stands_open parts ts x (not_and (eqb 59 b) (no_semicolon parts) n).1)
+stands_open (number_part c ∷ parts) (t ∷ ts) x n = ap (λ v. is_part (number_part c) t && v) (stands_open parts ts x n)
+stands_open (any_number ∷ parts) (t ∷ ts) x n = ap (λ v. is_part any_number t && v) (stands_open parts ts x n)
 
 -- ---- Forms of a colour
 
@@ -96,25 +94,25 @@ and_false : (a b : Bool) → b ≡ false → (a && b) ≡ false
 and_false true b h = h
 and_false false b h = refl
 
-sign_conflict : (t : CsiParam) → is_part (Sign 58) t ≡ true → is_part (Sign 59) t ≡ false
+sign_conflict : (t : CsiParam) → is_part (byte_part 58) t ≡ true → is_part (byte_part 59) t ≡ false
 sign_conflict (Integer z) h = cc
 sign_conflict (P c) h = let e : c ≡ 58 = eqb-true c 58 h in rw e refl
 
-code_conflict : (t : CsiParam) → is_part (Code 5) t ≡ true → is_part (Code 2) t ≡ false
+code_conflict : (t : CsiParam) → is_part (number_part 5) t ≡ true → is_part (number_part 2) t ≡ false
 code_conflict (P c) h = cc
 code_conflict (Integer (negsuc m)) h = cc
 code_conflict (Integer (pos m)) h = let e : m ≡ 5 = eqb-true m 5 h in rw e refl
 
-first_conflict : (ps qs : List Part) (ts x : List CsiParam) → stands (Sign 58 ∷ ps) ts ≡ true → stands (Sign 59 ∷ qs) (ts ++ x) ≡ false
+first_conflict : (ps qs : List Part) (ts x : List CsiParam) → stands (byte_part 58 ∷ ps) ts ≡ true → stands (byte_part 59 ∷ qs) (ts ++ x) ≡ false
 first_conflict ps qs [] x h = cc
-first_conflict ps qs (t ∷ ts) x h = rw (sign_conflict t (and_left (is_part (Sign 58) t) (stands ps ts) h)) refl
+first_conflict ps qs (t ∷ ts) x h = rw (sign_conflict t (and_left (is_part (byte_part 58) t) (stands ps ts) h)) refl
 
-second_conflict : (ps qs : List Part) (ts x : List CsiParam) → stands (Sign 59 ∷ Code 5 ∷ ps) ts ≡ true → stands (Sign 59 ∷ Code 2 ∷ qs) (ts ++ x) ≡ false
+second_conflict : (ps qs : List Part) (ts x : List CsiParam) → stands (byte_part 59 ∷ number_part 5 ∷ ps) ts ≡ true → stands (byte_part 59 ∷ number_part 2 ∷ qs) (ts ++ x) ≡ false
 second_conflict ps qs [] x h = cc
-second_conflict ps qs (t ∷ []) x h = let e : false ≡ true = and_right (is_part (Sign 59) t) false h in cc
+second_conflict ps qs (t ∷ []) x h = let e : false ≡ true = and_right (is_part (byte_part 59) t) false h in cc
 second_conflict ps qs (t ∷ u ∷ ts) x h =
-    let r : (is_part (Code 5) u && stands ps ts) ≡ true = and_right (is_part (Sign 59) t) (is_part (Code 5) u && stands ps ts) h in
-    and_false (is_part (Sign 59) t) (is_part (Code 2) u && stands qs (ts ++ x)) (rw (code_conflict u (and_left (is_part (Code 5) u) (stands ps ts) r)) refl)
+    let r : (is_part (number_part 5) u && stands ps ts) ≡ true = and_right (is_part (byte_part 59) t) (is_part (number_part 5) u && stands ps ts) h in
+    and_false (is_part (byte_part 59) t) (is_part (number_part 2) u && stands qs (ts ++ x)) (rw (code_conflict u (and_left (is_part (number_part 5) u) (stands ps ts) r)) refl)
 
 -- what a list of forms finds is found again where the list goes on behind a `;`
 abbrev IsStable : List Form → Type 0
@@ -142,42 +140,42 @@ semicolon_form-stable form forms reads stable apart ts x h = by (stands form.0 t
     by false e k = rw (apart ts (P 59 ∷ x) k) (stable ts x k)
 
 abbrev palette_form : Form
-palette_form = (Sign 58 ∷ Code 5 ∷ Sign 58 ∷ Slot ∷ [], palette_at 3)
+palette_form = (byte_part 58 ∷ number_part 5 ∷ byte_part 58 ∷ any_number ∷ [], palette_at 3)
 
 abbrev palette_semicolons : Form
-palette_semicolons = (Sign 59 ∷ Code 5 ∷ Sign 59 ∷ Slot ∷ [], palette_at 3)
+palette_semicolons = (byte_part 59 ∷ number_part 5 ∷ byte_part 59 ∷ any_number ∷ [], palette_at 3)
 
 abbrev semicolons_rest : List Part
-semicolons_rest = Sign 59 ∷ Slot ∷ Sign 59 ∷ Slot ∷ Sign 59 ∷ Slot ∷ []
+semicolons_rest = byte_part 59 ∷ any_number ∷ byte_part 59 ∷ any_number ∷ byte_part 59 ∷ any_number ∷ []
 
-palettes_apart : (ts x : List CsiParam) → is_some (first_form (palette_form ∷ palette_semicolons ∷ []) ts) ≡ true → stands (Sign 59 ∷ Code 2 ∷ semicolons_rest) (ts ++ x) ≡ false
+palettes_apart : (ts x : List CsiParam) → is_some (first_form (palette_form ∷ palette_semicolons ∷ []) ts) ≡ true → stands (byte_part 59 ∷ number_part 2 ∷ semicolons_rest) (ts ++ x) ≡ false
 palettes_apart ts x h = first (stands palette_form.0 ts) refl h
   where
-    second : (b : Bool) → stands palette_semicolons.0 ts ≡ b → is_some (cond b (taking 4 (palette_at 3 ts)) None) ≡ true → stands (Sign 59 ∷ Code 2 ∷ semicolons_rest) (ts ++ x) ≡ false
-    second true e k = second_conflict (Sign 59 ∷ Slot ∷ []) semicolons_rest ts x e
+    second : (b : Bool) → stands palette_semicolons.0 ts ≡ b → is_some (cond b (taking 4 (palette_at 3 ts)) None) ≡ true → stands (byte_part 59 ∷ number_part 2 ∷ semicolons_rest) (ts ++ x) ≡ false
+    second true e k = second_conflict (byte_part 59 ∷ any_number ∷ []) semicolons_rest ts x e
     second false e k = cc
 
-    first : (b : Bool) → stands palette_form.0 ts ≡ b → is_some (cond b (taking 4 (palette_at 3 ts)) (first_form (palette_semicolons ∷ []) ts)) ≡ true → stands (Sign 59 ∷ Code 2 ∷ semicolons_rest) (ts ++ x) ≡ false
-    first true e k = first_conflict (Code 5 ∷ Sign 58 ∷ Slot ∷ []) (Code 2 ∷ semicolons_rest) ts x e
+    first : (b : Bool) → stands palette_form.0 ts ≡ b → is_some (cond b (taking 4 (palette_at 3 ts)) (first_form (palette_semicolons ∷ []) ts)) ≡ true → stands (byte_part 59 ∷ number_part 2 ∷ semicolons_rest) (ts ++ x) ≡ false
+    first true e k = first_conflict (number_part 5 ∷ byte_part 58 ∷ any_number ∷ []) (number_part 2 ∷ semicolons_rest) ts x e
     first false e k = second (stands palette_semicolons.0 ts) refl k
 
 last_form-stable : IsStable (palette_semicolons ∷ [])
 last_form-stable = semicolon_form-stable palette_semicolons [] (palette_reads palette_semicolons.0 3 (omega arith)) none-stable (λ ts x h. cc)
 
 abbrev alpha_form : Form
-alpha_form = (Sign 58 ∷ Code 6 ∷ Sign 58 ∷ Sign 58 ∷ Slot ∷ Sign 58 ∷ Slot ∷ Sign 58 ∷ Slot ∷ Sign 58 ∷ Slot ∷ [], colour_at 4 6 8 10)
+alpha_form = (byte_part 58 ∷ number_part 6 ∷ byte_part 58 ∷ byte_part 58 ∷ any_number ∷ byte_part 58 ∷ any_number ∷ byte_part 58 ∷ any_number ∷ byte_part 58 ∷ any_number ∷ [], colour_at 4 6 8 10)
 
 abbrev space_form : Form
-space_form = (Sign 58 ∷ Code 2 ∷ Sign 58 ∷ Slot ∷ Sign 58 ∷ Slot ∷ Sign 58 ∷ Slot ∷ Sign 58 ∷ Slot ∷ [], opaque_at 5 7 9)
+space_form = (byte_part 58 ∷ number_part 2 ∷ byte_part 58 ∷ any_number ∷ byte_part 58 ∷ any_number ∷ byte_part 58 ∷ any_number ∷ byte_part 58 ∷ any_number ∷ [], opaque_at 5 7 9)
 
 abbrev no_space_form : Form
-no_space_form = (Sign 58 ∷ Code 2 ∷ Sign 58 ∷ Sign 58 ∷ Slot ∷ Sign 58 ∷ Slot ∷ Sign 58 ∷ Slot ∷ [], opaque_at 4 6 8)
+no_space_form = (byte_part 58 ∷ number_part 2 ∷ byte_part 58 ∷ byte_part 58 ∷ any_number ∷ byte_part 58 ∷ any_number ∷ byte_part 58 ∷ any_number ∷ [], opaque_at 4 6 8)
 
 abbrev bare_form : Form
-bare_form = (Sign 58 ∷ Code 2 ∷ Sign 58 ∷ Slot ∷ Sign 58 ∷ Slot ∷ Sign 58 ∷ Slot ∷ [], opaque_at 3 5 7)
+bare_form = (byte_part 58 ∷ number_part 2 ∷ byte_part 58 ∷ any_number ∷ byte_part 58 ∷ any_number ∷ byte_part 58 ∷ any_number ∷ [], opaque_at 3 5 7)
 
 abbrev semicolons_form : Form
-semicolons_form = (Sign 59 ∷ Code 2 ∷ semicolons_rest, opaque_at 3 5 7)
+semicolons_form = (byte_part 59 ∷ number_part 2 ∷ semicolons_rest, opaque_at 3 5 7)
 
 abbrev palettes : List Form
 palettes = palette_form ∷ palette_semicolons ∷ []

@@ -16,3 +16,5 @@ mod FrontTrip
 mod PairTrip
 mod SizeLemmas
 mod EqualValues
+mod LongestLemmas
+mod ColourLemmas

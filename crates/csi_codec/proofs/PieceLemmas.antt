@@ -5,12 +5,10 @@ use Rattle.csi_codec.specs.declared.parameters.CsiParam.{CsiParam}
 use Rattle.csi_codec.specs.declared.parameters.CsiParam.TheVariants.{Integer, P}
 use Rattle.csi_codec.specs.declared.rendition.Sgr.{Sgr}
 use Rattle.csi_codec.specs.declared.modes.Mode.{Mode}
-use Rattle.csi_codec.specs.declared.pieces.Kind.{Kind}
-use Rattle.csi_codec.specs.declared.pieces.Kind.TheVariants as kind
 use Rattle.csi_codec.specs.Parameters.{semicolon_count, semicolon_at, with_semicolon}
 use Rattle.csi_codec.specs.Modes.{private_mode_reading, mode_reading}
 use Rattle.csi_codec.specs.Rendition.{taking, sgr_shape, sgr_piece}
-use Rattle.csi_codec.specs.Actions.{Action, sgr, mode, unspecified, rendition_piece, mode_piece, piece_of, pieces_from, pieces}
+use Rattle.csi_codec.specs.Actions.{Kind, sgr_pieces, private_mode_pieces, standard_mode_pieces, Action, sgr, mode, unspecified, rendition_piece, mode_piece, piece_of, pieces_from, pieces}
 use Rattle.csi_codec.proofs.SgrLemmas.{Takes, taking-takes, sgr_shape_takes}
 
 -- ---- How many tokens a piece takes
@@ -46,9 +44,9 @@ mode_piece-takes read (Integer z ∷ ts) =
 
 -- a piece takes at least one token, and no more than there are
 pub piece_of-takes : (k : Kind) (final : ℕ) (ts : List CsiParam) → Takes (length ts) (piece_of k final ts)
-piece_of-takes kind.Rendition final ts = rendition_piece-takes ts
-piece_of-takes kind.PrivateModes final ts = mode_piece-takes (private_mode_reading final) ts
-piece_of-takes kind.StandardModes final ts = mode_piece-takes (mode_reading final) ts
+piece_of-takes sgr_pieces final ts = rendition_piece-takes ts
+piece_of-takes private_mode_pieces final ts = mode_piece-takes (private_mode_reading final) ts
+piece_of-takes standard_mode_pieces final ts = mode_piece-takes (mode_reading final) ts
 
 pub piece_of_takes : (k : Kind) (final : ℕ) (ts : List CsiParam) (a : Action) (n : ℕ) → piece_of k final ts ≡ Some (a, n) → (0 < n) × (n ≤ length ts)
 piece_of_takes k final ts a n e = let P : Option (Action × ℕ) → Type 0 = λ found. Takes (length ts) found in subst P e (piece_of-takes k final ts)

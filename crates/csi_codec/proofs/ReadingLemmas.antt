@@ -10,15 +10,13 @@ use Rattle.csi_codec.specs.declared.cursors.Cursor.{Cursor}
 use Rattle.csi_codec.specs.declared.edits.Edit.{Edit}
 use Rattle.csi_codec.specs.declared.devices.Device.{Device}
 use Rattle.csi_codec.specs.declared.modes.Mode.{Mode}
-use Rattle.csi_codec.specs.declared.pieces.Kind.{Kind}
-use Rattle.csi_codec.specs.declared.pieces.Kind.TheVariants as kind
 use Rattle.csi_codec.specs.Parameters.{with_semicolon}
 use Rattle.csi_codec.specs.Cursors.{cursor_reading}
 use Rattle.csi_codec.specs.Edits.{edit_reading}
 use Rattle.csi_codec.specs.Devices.{device_reading}
 use Rattle.csi_codec.specs.Modes.{private_mode_reading, mode_reading}
 use Rattle.csi_codec.specs.Rendition.{taking, sgr_piece}
-use Rattle.csi_codec.specs.Actions.{Action, sgr, cursor, edit, mode, device, unspecified, mode_piece, piece_of, pieces_from, pieces, all_sgr_tokens, sgr_reading, modes_or, lone_reading, lone_or, standard_reading, other_reading, csi_reading}
+use Rattle.csi_codec.specs.Actions.{Kind, sgr_pieces, private_mode_pieces, standard_mode_pieces, Action, sgr, cursor, edit, mode, device, unspecified, mode_piece, piece_of, pieces_from, pieces, all_sgr_tokens, sgr_reading, modes_or, lone_reading, lone_or, standard_reading, other_reading, csi_reading}
 use Rattle.csi_codec.specs.Laws.{KeepsRests}
 use Rattle.csi_codec.proofs.PieceLemmas.{piece_of_takes}
 
@@ -78,18 +76,18 @@ chosen ts false x y h k = k
 
 standard_reading-counted : (truncated : Bool) (final : ℕ) (ts : List CsiParam) → IsCounted ts (standard_reading truncated final ts)
 standard_reading-counted truncated final ts =
-    chosen ts (eqb final 104 || eqb final 108) _ _ (modes_or-counted kind.StandardModes truncated final ts ts (omega arith)) (lone_or-counted truncated final ts)
+    chosen ts (eqb final 104 || eqb final 108) _ _ (modes_or-counted standard_mode_pieces truncated final ts ts (omega arith)) (lone_or-counted truncated final ts)
 
 other_reading-counted : (truncated : Bool) (final : ℕ) (ts : List CsiParam) → IsCounted ts (other_reading truncated final ts)
 other_reading-counted truncated final [] = standard_reading-counted truncated final []
 other_reading-counted truncated final (Integer z ∷ ts) = standard_reading-counted truncated final (Integer z ∷ ts)
 other_reading-counted truncated final (P b ∷ ts) =
-    chosen (P b ∷ ts) (eqb b 63) _ _ (modes_or-counted kind.PrivateModes truncated final ts (P b ∷ ts) (omega arith)) (standard_reading-counted truncated final (P b ∷ ts))
+    chosen (P b ∷ ts) (eqb b 63) _ _ (modes_or-counted private_mode_pieces truncated final ts (P b ∷ ts) (omega arith)) (standard_reading-counted truncated final (P b ∷ ts))
 
 sgr_reading-counted : (truncated : Bool) (final : ℕ) (ts : List CsiParam) → IsCounted ts (sgr_reading truncated final ts)
 sgr_reading-counted truncated final [] = counted_one [] (sgr Reset)
 sgr_reading-counted truncated final (t ∷ ts) =
-    chosen (t ∷ ts) (all_sgr_tokens (t ∷ ts)) _ _ (pieces-counted kind.Rendition truncated final (t ∷ ts) (t ∷ ts) (omega arith) (omega arith)) (counted_one (t ∷ ts) (unspecified (t ∷ ts) truncated final))
+    chosen (t ∷ ts) (all_sgr_tokens (t ∷ ts)) _ _ (pieces-counted sgr_pieces truncated final (t ∷ ts) (t ∷ ts) (omega arith) (omega arith)) (counted_one (t ∷ ts) (unspecified (t ∷ ts) truncated final))
 
 pub csi_reading-counted : (ts : List CsiParam) (truncated : Bool) (final : ℕ) → IsCounted ts (csi_reading ts truncated final)
 unfolding csi_reading
@@ -134,9 +132,9 @@ mode_piece_is_known read (P b ∷ ts) = tt
 mode_piece_is_known read (Integer z ∷ ts) = mode_is_known (Integer z ∷ ts) (read z)
 
 pub piece_is_known : (k : Kind) (final : ℕ) (ts : List CsiParam) → FindsKnown (piece_of k final ts)
-piece_is_known kind.Rendition final ts = sgr_is_known (sgr_piece ts)
-piece_is_known kind.PrivateModes final ts = mode_piece_is_known (private_mode_reading final) ts
-piece_is_known kind.StandardModes final ts = mode_piece_is_known (mode_reading final) ts
+piece_is_known sgr_pieces final ts = sgr_is_known (sgr_piece ts)
+piece_is_known private_mode_pieces final ts = mode_piece_is_known (private_mode_reading final) ts
+piece_is_known standard_mode_pieces final ts = mode_piece_is_known (mode_reading final) ts
 
 drop-next : (ts : List CsiParam) (n : ℕ) (t : CsiParam) (rest : List CsiParam) → (t ∷ rest) ≡ drop n ts → rest ≡ drop (suc n) ts
 drop-next [] zero t rest e = cc
@@ -185,19 +183,19 @@ lone_keeps truncated final ts None None None = keeps-left ts truncated final 0 t
 
 standard_reading-keeps : (truncated : Bool) (final : ℕ) (ts : List CsiParam) → KeepsRests ts truncated final (standard_reading truncated final ts)
 standard_reading-keeps truncated final ts =
-    chosen_keeps ts truncated final (eqb final 104 || eqb final 108) _ _ (modes_or-keeps kind.StandardModes truncated final ts ts 0 refl)
+    chosen_keeps ts truncated final (eqb final 104 || eqb final 108) _ _ (modes_or-keeps standard_mode_pieces truncated final ts ts 0 refl)
     (lone_keeps truncated final ts (cursor_reading final ts) (edit_reading final ts) (device_reading final ts))
 
 other_reading-keeps : (truncated : Bool) (final : ℕ) (ts : List CsiParam) → KeepsRests ts truncated final (other_reading truncated final ts)
 other_reading-keeps truncated final [] = standard_reading-keeps truncated final []
 other_reading-keeps truncated final (Integer z ∷ ts) = standard_reading-keeps truncated final (Integer z ∷ ts)
 other_reading-keeps truncated final (P b ∷ ts) =
-    chosen_keeps (P b ∷ ts) truncated final (eqb b 63) _ _ (modes_or-keeps kind.PrivateModes truncated final ts (P b ∷ ts) 1 refl) (standard_reading-keeps truncated final (P b ∷ ts))
+    chosen_keeps (P b ∷ ts) truncated final (eqb b 63) _ _ (modes_or-keeps private_mode_pieces truncated final ts (P b ∷ ts) 1 refl) (standard_reading-keeps truncated final (P b ∷ ts))
 
 sgr_reading-keeps : (truncated : Bool) (final : ℕ) (ts : List CsiParam) → KeepsRests ts truncated final (sgr_reading truncated final ts)
 sgr_reading-keeps truncated final [] = tt
 sgr_reading-keeps truncated final (t ∷ ts) =
-    chosen_keeps (t ∷ ts) truncated final (all_sgr_tokens (t ∷ ts)) _ _ (pieces-keep kind.Rendition truncated final (t ∷ ts) (t ∷ ts) 0 refl) (keeps-left (t ∷ ts) truncated final 0 (t ∷ ts) refl)
+    chosen_keeps (t ∷ ts) truncated final (all_sgr_tokens (t ∷ ts)) _ _ (pieces-keep sgr_pieces truncated final (t ∷ ts) (t ∷ ts) 0 refl) (keeps-left (t ∷ ts) truncated final 0 (t ∷ ts) refl)
 
 pub csi_reading-keeps : (ts : List CsiParam) (truncated : Bool) (final : ℕ) → KeepsRests ts truncated final (csi_reading ts truncated final)
 unfolding csi_reading

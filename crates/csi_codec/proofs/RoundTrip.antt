@@ -11,15 +11,13 @@ use Rattle.csi_codec.specs.declared.modes.Mode.{Mode}
 use Rattle.csi_codec.specs.declared.cursors.Cursor.{Cursor}
 use Rattle.csi_codec.specs.declared.edits.Edit.{Edit}
 use Rattle.csi_codec.specs.declared.devices.Device.{Device}
-use Rattle.csi_codec.specs.declared.pieces.Kind.{Kind}
-use Rattle.csi_codec.specs.declared.pieces.Kind.TheVariants as kind
 use Rattle.csi_codec.specs.Parameters.{with_semicolon}
 use Rattle.csi_codec.specs.Cursors.{cursor_reading}
 use Rattle.csi_codec.specs.Edits.{edit_reading}
 use Rattle.csi_codec.specs.Devices.{device_reading}
 use Rattle.csi_codec.specs.Modes.{private_mode_reading, mode_reading}
 use Rattle.csi_codec.specs.Rendition.{taking, sgr_shape, sgr_piece}
-use Rattle.csi_codec.specs.Actions.{Action, sgr, cursor, edit, mode, device, unspecified, mode_piece, piece_of, pieces_from, pieces, is_sgr_token, all_sgr_tokens, sgr_reading, modes_or, lone_or, standard_reading, other_reading, csi_reading}
+use Rattle.csi_codec.specs.Actions.{Kind, sgr_pieces, private_mode_pieces, standard_mode_pieces, Action, sgr, cursor, edit, mode, device, unspecified, mode_piece, piece_of, pieces_from, pieces, is_sgr_token, all_sgr_tokens, sgr_reading, modes_or, lone_or, standard_reading, other_reading, csi_reading}
 use Rattle.csi_codec.specs.Writable.{WritableActionsReadBack}
 use Rattle.csi_codec.specs.Laws.{ReadsBack, is_exempt, begins_with_question, EachReadsBack, ActionsReadBack}
 use Rattle.csi_codec.proofs.PieceLemmas.{piece_of_takes, pieces_found, pieces_left}
@@ -45,9 +43,9 @@ first_of a (Some f) = f.0
 
 -- pieces that are modes
 abbrev IsModes : Kind → Type 0
-IsModes kind.Rendition = ⊥
-IsModes kind.PrivateModes = Unit {0}
-IsModes kind.StandardModes = Unit {0}
+IsModes sgr_pieces = ⊥
+IsModes private_mode_pieces = Unit {0}
+IsModes standard_mode_pieces = Unit {0}
 
 module _ (truncated : Bool) where
   -- ---- Pieces
@@ -70,9 +68,9 @@ module _ (truncated : Bool) where
 
   piece-back : (k : Kind) (final : ℕ) (ts : List CsiParam) (a : Action) (n : ℕ) → piece_of k final ts ≡ Some (a, n) → ReadsBack truncated a
   unfolding sgr_piece
-  piece-back kind.Rendition final ts a n e = rendition-back (sgr_shape ts) ts (λ f q. sgr_back truncated f.0 (sgr_shape-writable ts f q)) a n e
-  piece-back kind.PrivateModes final ts a n e = mode_piece-back (private_mode_reading final) (λ z m q. mode_back truncated m (private_mode-writable final z m q)) ts a n e
-  piece-back kind.StandardModes final ts a n e = mode_piece-back (mode_reading final) (λ z m q. mode_back truncated m (standard_mode-writable final z m q)) ts a n e
+  piece-back sgr_pieces final ts a n e = rendition-back (sgr_shape ts) ts (λ f q. sgr_back truncated f.0 (sgr_shape-writable ts f q)) a n e
+  piece-back private_mode_pieces final ts a n e = mode_piece-back (private_mode_reading final) (λ z m q. mode_back truncated m (private_mode-writable final z m q)) ts a n e
+  piece-back standard_mode_pieces final ts a n e = mode_piece-back (mode_reading final) (λ z m q. mode_back truncated m (standard_mode-writable final z m q)) ts a n e
 
   -- ---- A list of pieces
 
@@ -106,17 +104,17 @@ module _ (truncated : Bool) where
   abbrev AreSgr : List CsiParam → Type 0
   AreSgr ts = all_sgr_tokens ts ≡ true
 
-  sgr_left : (t : CsiParam) (ts : List CsiParam) → AreSgr (t ∷ ts) → piece_of kind.Rendition 109 (t ∷ ts) ≡ None → ReadsBack truncated (unspecified (t ∷ ts) truncated 109)
+  sgr_left : (t : CsiParam) (ts : List CsiParam) → AreSgr (t ∷ ts) → piece_of sgr_pieces 109 (t ∷ ts) ≡ None → ReadsBack truncated (unspecified (t ∷ ts) truncated 109)
   unfolding csi_reading
   sgr_left t ts h e =
-      ap (λ b. cond b (pieces kind.Rendition truncated 109 (t ∷ ts)) (unspecified (t ∷ ts) truncated 109 ∷ [])) h
-      ∙ pieces_left kind.Rendition truncated 109 (t ∷ ts) e (omega arith)
+      ap (λ b. cond b (pieces sgr_pieces truncated 109 (t ∷ ts)) (unspecified (t ∷ ts) truncated 109 ∷ [])) h
+      ∙ pieces_left sgr_pieces truncated 109 (t ∷ ts) e (omega arith)
 
   sgr_by : (t : CsiParam) (ts : List CsiParam) (b : Bool) → all_sgr_tokens (t ∷ ts) ≡ b
-      → EachReadsBack (t ∷ ts) truncated 109 (cond b (pieces kind.Rendition truncated 109 (t ∷ ts)) (unspecified (t ∷ ts) truncated 109 ∷ []))
+      → EachReadsBack (t ∷ ts) truncated 109 (cond b (pieces sgr_pieces truncated 109 (t ∷ ts)) (unspecified (t ∷ ts) truncated 109 ∷ []))
   unfolding csi_reading
-  sgr_by t ts true h = pieces-each kind.Rendition 109 (t ∷ ts) AreSgr (λ u us. and_right (is_sgr_token u) (all_sgr_tokens us)) (λ u us r e x. sgr_left u us r e) (t ∷ ts) h
-  sgr_by t ts false h = whole-each (t ∷ ts) 109 (ap (λ b. cond b (pieces kind.Rendition truncated 109 (t ∷ ts)) (unspecified (t ∷ ts) truncated 109 ∷ [])) h)
+  sgr_by t ts true h = pieces-each sgr_pieces 109 (t ∷ ts) AreSgr (λ u us. and_right (is_sgr_token u) (all_sgr_tokens us)) (λ u us r e x. sgr_left u us r e) (t ∷ ts) h
+  sgr_by t ts false h = whole-each (t ∷ ts) 109 (ap (λ b. cond b (pieces sgr_pieces truncated 109 (t ∷ ts)) (unspecified (t ∷ ts) truncated 109 ∷ [])) h)
 
   sgr-each : (ts : List CsiParam) → EachReadsBack ts truncated 109 (sgr_reading truncated 109 ts)
   sgr-each [] = (λ x. sgr_back truncated value.Reset tt, tt)
@@ -127,7 +125,7 @@ module _ (truncated : Bool) where
   abbrev Shorter : List CsiParam → List CsiParam → Type 0
   Shorter whole ts = length ts < length whole
 
-  no_standard : (final : ℕ) (ts : List CsiParam) → (eqb final 104 || eqb final 108) ≡ true → piece_of kind.PrivateModes final ts ≡ None → piece_of kind.StandardModes final ts ≡ None
+  no_standard : (final : ℕ) (ts : List CsiParam) → (eqb final 104 || eqb final 108) ≡ true → piece_of private_mode_pieces final ts ≡ None → piece_of standard_mode_pieces final ts ≡ None
   unfolding mode_piece
   no_standard final [] h e = refl
   no_standard final (P b ∷ ts) h e = refl
@@ -138,16 +136,16 @@ module _ (truncated : Bool) where
       none_from None us q = refl
       none_from (Some m) us q = cc
 
-  no_standard_of : (k : Kind) (final : ℕ) (ts : List CsiParam) → IsModes k → (eqb final 104 || eqb final 108) ≡ true → piece_of k final ts ≡ None → piece_of kind.StandardModes final ts ≡ None
-  no_standard_of kind.Rendition final ts m h e = absurd m
-  no_standard_of kind.PrivateModes final ts m h e = no_standard final ts h e
-  no_standard_of kind.StandardModes final ts m h e = e
+  no_standard_of : (k : Kind) (final : ℕ) (ts : List CsiParam) → IsModes k → (eqb final 104 || eqb final 108) ≡ true → piece_of k final ts ≡ None → piece_of standard_mode_pieces final ts ≡ None
+  no_standard_of sgr_pieces final ts m h e = absurd m
+  no_standard_of private_mode_pieces final ts m h e = no_standard final ts h e
+  no_standard_of standard_mode_pieces final ts m h e = e
 
   -- a list without a `?` that no mode begins is left under h and l
-  standard_whole : (final : ℕ) (ts : List CsiParam) → eqb final 109 ≡ false → (eqb final 104 || eqb final 108) ≡ true → begins_with_question ts ≡ false → piece_of kind.StandardModes final ts ≡ None
+  standard_whole : (final : ℕ) (ts : List CsiParam) → eqb final 109 ≡ false → (eqb final 104 || eqb final 108) ≡ true → begins_with_question ts ≡ false → piece_of standard_mode_pieces final ts ≡ None
       → csi_reading ts truncated final ≡ unspecified ts truncated final ∷ []
   unfolding csi_reading
-  standard_whole final ts o h q e = rw o (plain ts q ∙ rw h (ap (λ found. cond (is_some found) (pieces kind.StandardModes truncated final ts) (unspecified ts truncated final ∷ [])) e))
+  standard_whole final ts o h q e = rw o (plain ts q ∙ rw h (ap (λ found. cond (is_some found) (pieces standard_mode_pieces truncated final ts) (unspecified ts truncated final ∷ [])) e))
     where
       plain : (us : List CsiParam) → begins_with_question us ≡ false → other_reading truncated final us ≡ standard_reading truncated final us
       plain [] r = refl
@@ -189,7 +187,7 @@ module _ (truncated : Bool) where
       let both : EachReadsBack whole truncated final (f.0 ∷ pieces k truncated final (drop f.1 ts)) = (λ y. piece-back k final ts f.0 f.1 e, modes-each k final whole (drop f.1 ts) m o h shorter) in
       subst (λ (actions : List Action). EachReadsBack whole truncated final actions) (sym (pieces_found k truncated final ts f.0 f.1 e)) both
 
-  finals_of_private : (final : ℕ) (ts : List CsiParam) → is_some (piece_of kind.PrivateModes final ts) ≡ true → ((eqb final 104 || eqb final 108) || (eqb final 115 || eqb final 114)) ≡ true
+  finals_of_private : (final : ℕ) (ts : List CsiParam) → is_some (piece_of private_mode_pieces final ts) ≡ true → ((eqb final 104 || eqb final 108) || (eqb final 115 || eqb final 114)) ≡ true
   unfolding mode_piece
   finals_of_private final [] h = cc
   finals_of_private final (P b ∷ ts) h = cc
@@ -225,20 +223,20 @@ module _ (truncated : Bool) where
   or_left false b h = cc
 
   standard_by : (ts : List CsiParam) (final : ℕ) (b : Bool) → (eqb final 104 || eqb final 108) ≡ b → eqb final 109 ≡ false
-      → csi_reading ts truncated final ≡ cond b (modes_or kind.StandardModes truncated final ts ts) (lone_or truncated final ts)
-      → EachReadsBack ts truncated final (cond b (modes_or kind.StandardModes truncated final ts ts) (lone_or truncated final ts))
+      → csi_reading ts truncated final ≡ cond b (modes_or standard_mode_pieces truncated final ts ts) (lone_or truncated final ts)
+      → EachReadsBack ts truncated final (cond b (modes_or standard_mode_pieces truncated final ts ts) (lone_or truncated final ts))
   standard_by ts final true h o w =
-      modes_or-each kind.StandardModes final ts ts (is_some (piece_of kind.StandardModes final ts)) refl tt o (λ x. or_left (eqb final 104 || eqb final 108) (eqb final 115 || eqb final 114) h) (omega arith) w
+      modes_or-each standard_mode_pieces final ts ts (is_some (piece_of standard_mode_pieces final ts)) refl tt o (λ x. or_left (eqb final 104 || eqb final 108) (eqb final 115 || eqb final 114) h) (omega arith) w
   standard_by ts final false h o w = lone_by ts final (cursor_reading final ts) (edit_reading final ts) (device_reading final ts) refl refl refl w
 
   standard-each : (ts : List CsiParam) (final : ℕ) → eqb final 109 ≡ false → csi_reading ts truncated final ≡ standard_reading truncated final ts → EachReadsBack ts truncated final (standard_reading truncated final ts)
   standard-each ts final o w = standard_by ts final (eqb final 104 || eqb final 108) refl o w
 
   question_by : (b : ℕ) (ts : List CsiParam) (final : ℕ) (v : Bool) → eqb final 109 ≡ false
-      → csi_reading (P b ∷ ts) truncated final ≡ cond v (modes_or kind.PrivateModes truncated final ts (P b ∷ ts)) (standard_reading truncated final (P b ∷ ts))
-      → EachReadsBack (P b ∷ ts) truncated final (cond v (modes_or kind.PrivateModes truncated final ts (P b ∷ ts)) (standard_reading truncated final (P b ∷ ts)))
+      → csi_reading (P b ∷ ts) truncated final ≡ cond v (modes_or private_mode_pieces truncated final ts (P b ∷ ts)) (standard_reading truncated final (P b ∷ ts))
+      → EachReadsBack (P b ∷ ts) truncated final (cond v (modes_or private_mode_pieces truncated final ts (P b ∷ ts)) (standard_reading truncated final (P b ∷ ts)))
   question_by b ts final true o w =
-      modes_or-each kind.PrivateModes final (P b ∷ ts) ts (is_some (piece_of kind.PrivateModes final ts)) refl tt o (finals_of_private final ts) (omega arith) w
+      modes_or-each private_mode_pieces final (P b ∷ ts) ts (is_some (piece_of private_mode_pieces final ts)) refl tt o (finals_of_private final ts) (omega arith) w
   question_by b ts final false o w = standard-each (P b ∷ ts) final o w
 
   other-each : (ts : List CsiParam) (final : ℕ) → eqb final 109 ≡ false → csi_reading ts truncated final ≡ other_reading truncated final ts → EachReadsBack ts truncated final (other_reading truncated final ts)

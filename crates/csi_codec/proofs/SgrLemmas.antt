@@ -3,12 +3,11 @@ use Rattle.std.proofs.Common.{◌≡◌, ℕ, ◌+◌, ◌<◌, ◌≤◌, ℤ, 
 use Rattle.cell_base.specs.declared.color.ColorSpec.{ColorSpec}
 use Rattle.csi_codec.specs.declared.parameters.CsiParam.{CsiParam}
 use Rattle.csi_codec.specs.declared.parameters.CsiParam.TheVariants.{Integer, P}
-use Rattle.csi_codec.specs.declared.shapes.Part.{Part}
 use Rattle.cell_base.specs.declared.attributes.Underline.{Underline}
 use Rattle.csi_codec.specs.declared.rendition.Sgr.{Sgr}
 use Rattle.csi_codec.specs.declared.rendition.Sgr.TheVariants as sgr
 use Rattle.csi_codec.specs.Parameters.{is_number, number_within}
-use Rattle.csi_codec.specs.Rendition.{is_part, stands, taking, first_form, colour_form, colour_forms, Form, colour_shape, underline_numbered, underline_or_single, underline_shape, numbered_shape, sgr_shape, single_code}
+use Rattle.csi_codec.specs.Rendition.{Part, is_part, stands, taking, first_form, colour_form, colour_forms, Form, colour_shape, underline_numbered, underline_or_single, underline_shape, numbered_shape, sgr_shape, single_code}
 
 -- what is taken is at least one token, and no more than there are
 abbrev pub Takes : {A : Type 0} → ℕ → Option (A × ℕ) → Type 0

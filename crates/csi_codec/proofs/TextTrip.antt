@@ -16,15 +16,13 @@ use Rattle.csi_codec.specs.declared.modes.Mode.{Mode}
 use Rattle.csi_codec.specs.declared.cursors.Cursor.{Cursor}
 use Rattle.csi_codec.specs.declared.edits.Edit.{Edit}
 use Rattle.csi_codec.specs.declared.devices.Device.{Device}
-use Rattle.csi_codec.specs.declared.pieces.Kind.{Kind}
-use Rattle.csi_codec.specs.declared.pieces.Kind.TheVariants as kind
 use Rattle.csi_codec.specs.Parameters.{token_text, with_semicolon}
 use Rattle.csi_codec.specs.Cursors.{cursor_reading}
 use Rattle.csi_codec.specs.Edits.{edit_reading}
 use Rattle.csi_codec.specs.Devices.{device_reading}
 use Rattle.csi_codec.specs.Modes.{private_mode_reading, mode_reading}
 use Rattle.csi_codec.specs.Rendition.{taking, is_between, sgr_shape, sgr_piece}
-use Rattle.csi_codec.specs.Actions.{Action, sgr, cursor, edit, mode, device, unspecified, mode_piece, piece_of, pieces_from, pieces, all_sgr_tokens, sgr_reading, modes_or, standard_reading, other_reading, csi_reading, spelling_of}
+use Rattle.csi_codec.specs.Actions.{Kind, sgr_pieces, private_mode_pieces, standard_mode_pieces, Action, sgr, cursor, edit, mode, device, unspecified, mode_piece, piece_of, pieces_from, pieces, all_sgr_tokens, sgr_reading, modes_or, standard_reading, other_reading, csi_reading, spelling_of}
 use Rattle.csi_codec.specs.Laws.{ReadsBack, EachReadsBack}
 use Rattle.csi_codec.specs.Texts.{largest_number, is_sign, is_written_number, begins_with_number, is_spellable, all_parameter_bytes, TextReadsBack, EachTextReadsBack, TextsReadBack}
 use Rattle.csi_codec.proofs.TextLemmas.{list_back, decimal_digits, sign_text}
@@ -104,9 +102,9 @@ mode_piece-written read h (Integer z ∷ ts) a n e = moded-written (read z) (Int
 
 piece-written : (k : Kind) (final : ℕ) (ts : List CsiParam) (a : Action) (n : ℕ) → piece_of k final ts ≡ Some (a, n) → IsWritten a
 unfolding sgr_piece
-piece-written kind.Rendition final ts a n e = rendition-written (sgr_shape ts) ts (λ f q. action_written (sgr f.0) (sgr_shape-writable ts f q)) a n e
-piece-written kind.PrivateModes final ts a n e = mode_piece-written (private_mode_reading final) (λ z m q. action_written (mode m) (private_mode-writable final z m q)) ts a n e
-piece-written kind.StandardModes final ts a n e = mode_piece-written (mode_reading final) (λ z m q. action_written (mode m) (standard_mode-writable final z m q)) ts a n e
+piece-written sgr_pieces final ts a n e = rendition-written (sgr_shape ts) ts (λ f q. action_written (sgr f.0) (sgr_shape-writable ts f q)) a n e
+piece-written private_mode_pieces final ts a n e = mode_piece-written (private_mode_reading final) (λ z m q. action_written (mode m) (private_mode-writable final z m q)) ts a n e
+piece-written standard_mode_pieces final ts a n e = mode_piece-written (mode_reading final) (λ z m q. action_written (mode m) (standard_mode-writable final z m q)) ts a n e
 
 module _ (truncated : Bool) (final : ℕ) (low : 64 ≤ final) (high : final ≤ 126) where
   left_written : (ts : List CsiParam) → is_spellable ts ≡ true → IsWritten (unspecified ts truncated final)
@@ -145,17 +143,17 @@ module _ (truncated : Bool) (final : ℕ) (low : 64 ≤ final) (high : final ≤
   lone_by ts None None None p q r h = (left_written ts h, tt)
 
   standard-written : (ts : List CsiParam) → is_spellable ts ≡ true → EachIsWritten (standard_reading truncated final ts)
-  standard-written ts h = chosen (eqb final 104 || eqb final 108) _ _ (modes-written kind.StandardModes ts ts h h)
+  standard-written ts h = chosen (eqb final 104 || eqb final 108) _ _ (modes-written standard_mode_pieces ts ts h h)
       (lone_by ts (cursor_reading final ts) (edit_reading final ts) (device_reading final ts) refl refl refl h)
 
   other-written : (ts : List CsiParam) → is_spellable ts ≡ true → EachIsWritten (other_reading truncated final ts)
   other-written [] h = standard-written [] h
   other-written (Integer z ∷ ts) h = standard-written (Integer z ∷ ts) h
-  other-written (P b ∷ ts) h = chosen (eqb b 63) _ _ (modes-written kind.PrivateModes ts (P b ∷ ts) (spellable-tail (P b) ts h) h) (standard-written (P b ∷ ts) h)
+  other-written (P b ∷ ts) h = chosen (eqb b 63) _ _ (modes-written private_mode_pieces ts (P b ∷ ts) (spellable-tail (P b) ts h) h) (standard-written (P b ∷ ts) h)
 
   sgr-written : (ts : List CsiParam) → is_spellable ts ≡ true → EachIsWritten (sgr_reading truncated final ts)
   sgr-written [] h = (action_written (sgr value.Reset) tt, tt)
-  sgr-written (t ∷ ts) h = chosen (all_sgr_tokens (t ∷ ts)) _ _ (pieces-written kind.Rendition (t ∷ ts) h) (left_written (t ∷ ts) h, tt)
+  sgr-written (t ∷ ts) h = chosen (all_sgr_tokens (t ∷ ts)) _ _ (pieces-written sgr_pieces (t ∷ ts) h) (left_written (t ∷ ts) h, tt)
 
   pub reading-written : (ts : List CsiParam) → is_spellable ts ≡ true → EachIsWritten (csi_reading ts truncated final)
   unfolding csi_reading

@@ -16,8 +16,6 @@ use Rattle.csi_codec.specs.declared.cursors.Cursor.{Cursor}
 use Rattle.csi_codec.specs.declared.edits.Edit.{Edit}
 use Rattle.csi_codec.specs.declared.modes.Mode.{Mode}
 use Rattle.csi_codec.specs.declared.devices.Device.{Device}
-use Rattle.csi_codec.specs.declared.pieces.Kind.{Kind}
-use Rattle.csi_codec.specs.declared.pieces.Kind.TheVariants as kind
 
 -- an action, without where it lies in memory; what is left keeps its parameters, flag and final byte
 pub data Action : Type 0 where
@@ -29,6 +27,12 @@ pub data Action : Type 0 where
   unspecified : List CsiParam → Bool → ℕ → Action
 
 -- ---- Lists of pieces
+
+-- what a list of pieces is made of: SGR, private modes, or modes of the standard
+pub data Kind : Type 0 where
+  sgr_pieces : Kind
+  private_mode_pieces : Kind
+  standard_mode_pieces : Kind
 
 -- an SGR piece, as an action
 abbrev pub rendition_piece : List CsiParam → Option (Action × ℕ)
@@ -42,9 +46,9 @@ mode_piece read (Integer z ∷ ts) = with_semicolon (Integer z ∷ ts) (taking 1
 
 -- the piece at the front of a list: of SGR, of private modes, or of modes of the standard
 abbrev pub piece_of : Kind → ℕ → List CsiParam → Option (Action × ℕ)
-piece_of kind.Rendition final ts = rendition_piece ts
-piece_of kind.PrivateModes final ts = mode_piece (private_mode_reading final) ts
-piece_of kind.StandardModes final ts = mode_piece (mode_reading final) ts
+piece_of sgr_pieces final ts = rendition_piece ts
+piece_of private_mode_pieces final ts = mode_piece (private_mode_reading final) ts
+piece_of standard_mode_pieces final ts = mode_piece (mode_reading final) ts
 
 -- the actions of a list whose first k tokens are used up: piece after piece, and what no piece fits as it is left
 abbrev pub pieces_from : (List CsiParam → Option (Action × ℕ)) → (List CsiParam → Action) → ℕ → List CsiParam → List Action
@@ -72,7 +76,7 @@ all_sgr_tokens (t ∷ ts) = is_sgr_token t && all_sgr_tokens ts
 abbrev pub sgr_reading : Bool → ℕ → List CsiParam → List Action
 sgr_reading truncated final [] = sgr Reset ∷ []
 sgr_reading truncated final (t ∷ ts) =
-    if all_sgr_tokens (t ∷ ts) then pieces kind.Rendition truncated final (t ∷ ts) else unspecified (t ∷ ts) truncated final ∷ []
+    if all_sgr_tokens (t ∷ ts) then pieces sgr_pieces truncated final (t ∷ ts) else unspecified (t ∷ ts) truncated final ∷ []
 
 -- at least one mode must stand, else the whole list is left
 abbrev pub modes_or : Kind → Bool → ℕ → List CsiParam → List CsiParam → List Action
@@ -90,14 +94,14 @@ lone_or truncated final ts = option_map_or (λ known. known ∷ []) (lone_readin
 -- without a `?`: pieces under h and l, else one spelling
 abbrev pub standard_reading : Bool → ℕ → List CsiParam → List Action
 standard_reading truncated final ts =
-    if final == 104 || final == 108 then modes_or kind.StandardModes truncated final ts ts else lone_or truncated final ts
+    if final == 104 || final == 108 then modes_or standard_mode_pieces truncated final ts ts else lone_or truncated final ts
 
 -- under finals other than m: behind a `?` private modes
 abbrev pub other_reading : Bool → ℕ → List CsiParam → List Action
 other_reading truncated final [] = standard_reading truncated final []
 other_reading truncated final (Integer z ∷ ts) = standard_reading truncated final (Integer z ∷ ts)
 other_reading truncated final (P b ∷ ts) =
-    if b == 63 then modes_or kind.PrivateModes truncated final ts (P b ∷ ts) else standard_reading truncated final (P b ∷ ts)
+    if b == 63 then modes_or private_mode_pieces truncated final ts (P b ∷ ts) else standard_reading truncated final (P b ∷ ts)
 
 -- the actions of a list under a flag and a final byte
 unfoldable pub csi_reading : List CsiParam → Bool → ℕ → List Action

@@ -20,3 +20,5 @@ pub mod Keeping
 pub mod FrontView
 pub mod Writable
 pub mod Sizes
+pub mod Longest
+pub mod ColourCases

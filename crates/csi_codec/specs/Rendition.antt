@@ -4,8 +4,6 @@ use Rattle.std.specs.Prelude.{ℕ, ℤ, pos, List, [], ◌∷◌, length, Bool, 
 use Rattle.csi_codec.specs.Parameters.{is_number, number_within, with_semicolon, Spelled, spelled, number_tokens}
 use Rattle.csi_codec.specs.declared.parameters.CsiParam.{CsiParam}
 use Rattle.csi_codec.specs.declared.parameters.CsiParam.TheVariants.{Integer, P}
-use Rattle.csi_codec.specs.declared.shapes.Part.{Part}
-use Rattle.csi_codec.specs.declared.shapes.Part.TheVariants.{Sign, Code, Slot}
 use Rattle.csi_codec.specs.declared.rendition.Sgr.{Sgr}
 use Rattle.csi_codec.specs.declared.rendition.Sgr.TheVariants as sgr
 use Rattle.csi_codec.specs.declared.rendition.Font.TheVariants as font
@@ -20,14 +18,20 @@ use Rattle.cell_base.specs.declared.attributes.VerticalAlign.TheVariants as alig
 
 -- ---- Shapes
 
+-- a part of a shape: a byte, a number, or any number
+pub data Part : Type 0 where
+  byte_part : ℕ → Part
+  number_part : ℕ → Part
+  any_number : Part
+
 -- whether a token is what a part of a shape asks for: that byte, that number, or any number
 abbrev pub is_part : Part → CsiParam → Bool
-is_part (Sign b) (P c) = c == b
-is_part (Sign b) (Integer z) = false
-is_part (Code n) (P c) = false
-is_part (Code n) (Integer z) = is_number n z
-is_part Slot (P c) = false
-is_part Slot (Integer z) = true
+is_part (byte_part b) (P c) = c == b
+is_part (byte_part b) (Integer z) = false
+is_part (number_part n) (P c) = false
+is_part (number_part n) (Integer z) = is_number n z
+is_part any_number (P c) = false
+is_part any_number (Integer z) = true
 
 -- whether a shape stands at the front of a list
 abbrev pub stands : List Part → List CsiParam → Bool
@@ -66,28 +70,28 @@ Form = List Part × (List CsiParam → Option ColorSpec)
 
 -- the parts of a shape: `:` and `;`
 abbrev pub colon : Part
-colon = Sign 58
+colon = byte_part 58
 
 abbrev pub semicolon : Part
-semicolon = Sign 59
+semicolon = byte_part 59
 
 -- the forms, the longest first
 abbrev pub colour_forms : List Form
 colour_forms =
     -- :6::r:g:b:a
-    (colon ∷ Code 6 ∷ colon ∷ colon ∷ Slot ∷ colon ∷ Slot ∷ colon ∷ Slot ∷ colon ∷ Slot ∷ [], colour_at 4 6 8 10)
+    (colon ∷ number_part 6 ∷ colon ∷ colon ∷ any_number ∷ colon ∷ any_number ∷ colon ∷ any_number ∷ colon ∷ any_number ∷ [], colour_at 4 6 8 10)
     -- :2:i:r:g:b, where the colour space i is not looked at
-    ∷ (colon ∷ Code 2 ∷ colon ∷ Slot ∷ colon ∷ Slot ∷ colon ∷ Slot ∷ colon ∷ Slot ∷ [], opaque_at 5 7 9)
+    ∷ (colon ∷ number_part 2 ∷ colon ∷ any_number ∷ colon ∷ any_number ∷ colon ∷ any_number ∷ colon ∷ any_number ∷ [], opaque_at 5 7 9)
     -- :2::r:g:b
-    ∷ (colon ∷ Code 2 ∷ colon ∷ colon ∷ Slot ∷ colon ∷ Slot ∷ colon ∷ Slot ∷ [], opaque_at 4 6 8)
+    ∷ (colon ∷ number_part 2 ∷ colon ∷ colon ∷ any_number ∷ colon ∷ any_number ∷ colon ∷ any_number ∷ [], opaque_at 4 6 8)
     -- :2:r:g:b
-    ∷ (colon ∷ Code 2 ∷ colon ∷ Slot ∷ colon ∷ Slot ∷ colon ∷ Slot ∷ [], opaque_at 3 5 7)
+    ∷ (colon ∷ number_part 2 ∷ colon ∷ any_number ∷ colon ∷ any_number ∷ colon ∷ any_number ∷ [], opaque_at 3 5 7)
     -- ;2;r;g;b
-    ∷ (semicolon ∷ Code 2 ∷ semicolon ∷ Slot ∷ semicolon ∷ Slot ∷ semicolon ∷ Slot ∷ [], opaque_at 3 5 7)
+    ∷ (semicolon ∷ number_part 2 ∷ semicolon ∷ any_number ∷ semicolon ∷ any_number ∷ semicolon ∷ any_number ∷ [], opaque_at 3 5 7)
     -- :5:n
-    ∷ (colon ∷ Code 5 ∷ colon ∷ Slot ∷ [], palette_at 3)
+    ∷ (colon ∷ number_part 5 ∷ colon ∷ any_number ∷ [], palette_at 3)
     -- ;5;n
-    ∷ (semicolon ∷ Code 5 ∷ semicolon ∷ Slot ∷ [], palette_at 3)
+    ∷ (semicolon ∷ number_part 5 ∷ semicolon ∷ any_number ∷ [], palette_at 3)
     ∷ []
 
 -- a value, and how many tokens it takes

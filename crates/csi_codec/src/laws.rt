@@ -4,6 +4,7 @@ ghost use Rattle.csi_codec.specs.CrackedView.{entries_of};
 ghost use Rattle.csi_codec.specs.FrontView.{front_of};
 ghost use Rattle.csi_codec.specs.Fronts.{OneFront, TextsAreFronts};
 ghost use Rattle.csi_codec.specs.Laws.{ActionsReadBack, SgrListsJoin};
+ghost use Rattle.csi_codec.specs.Longest.{LongestShapeDecides};
 ghost use Rattle.csi_codec.specs.Sequences.{action_of, rest_of};
 ghost use Rattle.csi_codec.specs.Sizes.{
   SgrsAreShort,
@@ -130,3 +131,9 @@ pub fn equality_of_fronts_is_by_value(a: &CsiFront, b: &CsiFront) -> bool
 {
     *a == *b
 }
+
+/// The longest shape decides: no listed shape of SGR that stands at the front of a list is longer than the one that is
+/// chosen there.
+pub fn longest_shape_decides()
+    ensures { LongestShapeDecides }
+{}

@@ -13,10 +13,9 @@ mod modes;
 mod one_based;
 mod parameters;
 mod pieces;
-mod rendering;
 mod rendition;
 mod sequences;
-mod shapes;
+mod sgr_reading;
 mod spelling;
 
 pub use cracking::Cracked;

@@ -29,7 +29,7 @@ impl fmt::Display for CsiParam {
     }
 }
 
-/// What is left of a list that has no reading, with the flag and the final byte that it was read under.
+/// The rest of a list that has no reading, with the flag and the final byte that it was read under.
 #[derive(Debug, PartialEq, Eq, Drop)]
 pub struct Unspecified {
     pub params: Vec<CsiParam>,
@@ -38,7 +38,7 @@ pub struct Unspecified {
 }
 
 impl fmt::Display for Unspecified {
-    ghost output = { λ left. Some (spelled_text (spelled left.params.items left.control)) };
+    ghost output = { λ rest. Some (spelled_text (spelled rest.params.items rest.control)) };
 
     fn fmt<W: fmt::Write>(&self, f: &mut fmt::Formatter<W>) -> fmt::Result {
         for token in self.params.iter() {

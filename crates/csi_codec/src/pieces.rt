@@ -1,7 +1,7 @@
-//! Lists of pieces, and spellings that cover a whole list.
-ghost use Rattle.std.specs.Prelude.{◌≡◌, ◌≤◌, IfSome, option_map};
-ghost use Rattle.csi_codec.specs.Actions.{all_sgr_tokens, lone_reading, mode_piece, piece_of};
-ghost use Rattle.csi_codec.specs.Known.{found_action, known_action};
+//! What a reader of a list hands out next, pieces of modes, and spellings that cover a whole list.
+ghost use Rattle.std.specs.Prelude.{◌≡◌, if◌then◌else◌, option_map};
+ghost use Rattle.csi_codec.specs.Actions.{all_sgr_tokens, lone_reading, mode_piece};
+ghost use Rattle.csi_codec.specs.Known.{found_mode, known_action};
 ghost use Rattle.csi_codec.specs.Modes.{mode_reading, private_mode_reading};
 
 use crate::cursors::{Cursor, cursor_reading};
@@ -9,8 +9,6 @@ use crate::devices::{Device, device_reading};
 use crate::edits::{Edit, edit_reading};
 use crate::modes::{Mode, mode_reading, private_mode_reading};
 use crate::parameters::{CsiParam, semicolon_at};
-use crate::rendering::sgr_piece;
-use crate::rendition::Sgr;
 
 /// What a list of pieces is made of.
 #[derive(Clone, Copy, Debug)]
@@ -20,22 +18,23 @@ pub(crate) enum Kind {
     StandardModes,
 }
 
-/// An action that a table has, before it is boxed.
+/// An action that covers a whole list, before it is boxed.
 #[derive(Clone, Copy, Debug)]
 pub(crate) enum Known {
-    Sgr(Sgr),
     Cursor(Cursor),
     Edit(Edit),
-    Mode(Mode),
     Device(Device),
 }
 
-/// What a reader of a list hands out next: nothing, one action, the list as it is left, or its pieces.
+/// How a reader goes on with the list that it has: it has handed out all, or it has read nothing yet (a whole list, or
+/// pieces of which it has not seen that they may stand), or it is within pieces.
 #[derive(Clone, Copy, Debug)]
 pub(crate) enum Pending {
     Done,
-    Lone(Known),
-    Left,
+    Lone,
+    Renditions,
+    Private,
+    Standard,
     Pieces(Kind),
 }
 
@@ -52,43 +51,28 @@ pub(crate) fn all_sgr_tokens(params: &[CsiParam]) -> bool
     true
 }
 
-/// The piece at the front of a list, and how many tokens it takes.
-pub(crate) fn piece(kind: Kind, params: &[CsiParam], control: char) -> Option<(Known, usize)>
-    ensures { option_map found_action result ≡ piece_of kind control params.now }
-{
-    match kind {
-        Kind::Rendition => {
-            let (value, len) = sgr_piece(params)?;
-            Some((Known::Sgr(value), len))
-        }
-        Kind::PrivateModes => private_mode_piece(params, control),
-        Kind::StandardModes => standard_mode_piece(params, control),
-    }
-}
-
+/// The mode at the front of a list of private modes or of those of the standard, and how many tokens it takes.
 #[tactic(auto, unfolding(crate::specs::Actions::mode_piece))]
-fn private_mode_piece(params: &[CsiParam], control: char) -> Option<(Known, usize)>
-    ensures { option_map found_action result ≡ mode_piece (private_mode_reading control) params.now }
+pub(crate) fn mode_piece(private: bool, params: &[CsiParam], control: char) -> Option<(Mode, usize)>
+    ensures { option_map found_mode result
+        ≡ mode_piece (if private then private_mode_reading control else mode_reading control) params.now }
 {
     match params.first().copied()? {
         CsiParam::P(_) => None,
         CsiParam::Integer(value) => {
-            let mode = private_mode_reading(value, control)?;
-            Some((Known::Mode(mode), 1 + semicolon_at(params, 1)))
+            let mode = named_mode(private, value, control)?;
+            Some((mode, 1 + semicolon_at(params, 1)))
         }
     }
 }
 
-#[tactic(auto, unfolding(crate::specs::Actions::mode_piece))]
-fn standard_mode_piece(params: &[CsiParam], control: char) -> Option<(Known, usize)>
-    ensures { option_map found_action result ≡ mode_piece (mode_reading control) params.now }
+fn named_mode(private: bool, value: i64, control: char) -> Option<Mode>
+    ensures { result ≡ (if private then private_mode_reading control else mode_reading control) value }
 {
-    match params.first().copied()? {
-        CsiParam::P(_) => None,
-        CsiParam::Integer(value) => {
-            let mode = mode_reading(value, control)?;
-            Some((Known::Mode(mode), 1 + semicolon_at(params, 1)))
-        }
+    if private {
+        private_mode_reading(value, control)
+    } else {
+        mode_reading(value, control)
     }
 }
 

@@ -1,18 +1,19 @@
 //! CSI sequences: what a list of parameters before a final byte means, action by action.
-ghost use Rattle.std.specs.Prelude.{◌≡◌, ◌<◌, ◌≤◌, IfNone, IfOk, IfSome, OnErr, Some, drop, length, max};
-ghost use Rattle.csi_codec.specs.Actions.{csi_reading, modes_or, sgr_reading, standard_reading, unspecified};
-ghost use Rattle.csi_codec.specs.Known.{known_action};
+ghost use Rattle.std.specs.Prelude.{Bool, ◌≡◌, ◌<◌, ◌≤◌, IfNone, IfOk, IfSome, OnErr, Some, ◌∷◌, [], drop, is_some, length, max, option_map};
+ghost use Rattle.csi_codec.specs.Actions.{csi_reading, lone_or, modes_or, piece_of, pieces, sgr_reading, unspecified};
+ghost use Rattle.csi_codec.specs.Known.{found_action, known_action};
 ghost use Rattle.csi_codec.specs.Laws.{KeepsRests};
-ghost use Rattle.csi_codec.specs.Parsing.{HasNoPiece, IsFirstPiece, pending_actions};
-ghost use Rattle.csi_codec.specs.Sequences.{action_of, csi_text, NeedsMemory, rest_of};
+ghost use Rattle.csi_codec.specs.Parsing.{HasNoPiece, IsFirstPiece, actions_of_reader, kind_of, pending_actions};
+ghost use Rattle.csi_codec.specs.Sequences.{action_of, csi_text, HandsOut, NeedsMemory, rest_of};
 
 use crate::cursors::Cursor;
 use crate::devices::Device;
 use crate::edits::Edit;
 use crate::modes::Mode;
 use crate::parameters::{CsiParam, Unspecified};
-use crate::pieces::{Kind, Known, Pending, all_sgr_tokens, lone_reading, piece};
+use crate::pieces::{Kind, Known, Pending, all_sgr_tokens, lone_reading, mode_piece};
 use crate::rendition::Sgr;
+use crate::sgr_reading::sgr_piece;
 use std::alloc::{AllocError, Global};
 use std::fmt;
 use std::marker::Model;
@@ -39,7 +40,7 @@ impl fmt::Display for CSI {
             CSI::Edit(value) => value.fmt(f),
             CSI::Mode(value) => value.fmt(f),
             CSI::Device(value) => (**value).fmt(f),
-            CSI::Unspecified(left) => (**left).fmt(f),
+            CSI::Unspecified(rest) => (**rest).fmt(f),
         }
     }
 }
@@ -76,8 +77,8 @@ impl CSI {
             CSI::Edit(value) => Ok(CSI::Edit(*value)),
             CSI::Mode(value) => Ok(CSI::Mode(*value)),
             CSI::Device(value) => boxed(alloc, Known::Device(**value)),
-            CSI::Unspecified(left) => {
-                let copy = left.try_clone()?;
+            CSI::Unspecified(rest) => {
+                let copy = rest.try_clone()?;
                 Ok(CSI::Unspecified(Box::new(alloc, copy)?))
             }
         }
@@ -87,30 +88,17 @@ impl CSI {
 /// The actions of a list, in order. After a refusal of memory, and after the last one, it answers `None`.
 #[derive(Drop)]
 pub struct CSIParser<'a> {
-    alloc: Global,
-    params: &'a [CsiParam],
-    truncated: bool,
-    control: char,
-    pending: Pending,
+    reader: Reader<'a>,
 }
 
-/// A reader of a list that hands out what is pending.
-fn reader<'a>(
+/// A list with its final byte, and how a reader goes on with it.
+#[derive(Drop)]
+struct Reader<'a> {
     alloc: Global,
     params: &'a [CsiParam],
     truncated: bool,
     control: char,
     pending: Pending,
-) -> CSIParser<'a>
-    ensures { result ≡ pending_actions pending params.now truncated control }
-{
-    CSIParser {
-        alloc,
-        params,
-        truncated,
-        control,
-        pending,
-    }
 }
 
 /// The reader of a list, by its final byte and whether it begins with `?`.
@@ -123,73 +111,31 @@ fn by_final_byte<'a>(
 ) -> CSIParser<'a>
     ensures { result ≡ csi_reading params.now truncated control }
 {
-    if control == 'm' {
-        rendition(alloc, params, truncated)
-    } else if let Some((CsiParam::P(b'?'), modes)) = params.split_first() {
-        private_modes(alloc, params, modes, truncated, control)
-    } else {
-        standard(alloc, params, truncated, control)
-    }
-}
-
-/// The reader of a list before `m`.
-fn rendition<'a>(alloc: Global, params: &'a [CsiParam], truncated: bool) -> CSIParser<'a>
-    ensures { result ≡ sgr_reading truncated 109 params.now }
-{
-    let pending = if params.is_empty() {
-        Pending::Lone(Known::Sgr(Sgr::Reset))
-    } else if all_sgr_tokens(params) {
-        Pending::Pieces(Kind::Rendition)
-    } else {
-        Pending::Left
-    };
-    reader(alloc, params, truncated, 'm', pending)
-}
-
-/// The reader of a list whose first token is `?` and whose others are `modes`.
-fn private_modes<'a>(
-    alloc: Global,
-    params: &'a [CsiParam],
-    modes: &'a [CsiParam],
-    truncated: bool,
-    control: char,
-) -> CSIParser<'a>
-    ensures { result ≡ modes_or Kind.PrivateModes truncated control modes.now params.now }
-{
-    if piece(Kind::PrivateModes, modes, control).is_some() {
-        reader(
+    let pending = pending_of(params, control);
+    CSIParser {
+        reader: Reader {
             alloc,
-            modes,
+            params,
             truncated,
             control,
-            Pending::Pieces(Kind::PrivateModes),
-        )
-    } else {
-        reader(alloc, params, truncated, control, Pending::Left)
+            pending,
+        },
     }
 }
 
-/// The reader of a list that does not begin with `?`, before another final byte than `m`.
-fn standard<'a>(
-    alloc: Global,
-    params: &'a [CsiParam],
-    truncated: bool,
-    control: char,
-) -> CSIParser<'a>
-    ensures { result ≡ standard_reading truncated control params.now }
+/// How a list is read before a final byte.
+#[tactic(auto, unfolding(crate::specs::Actions::csi_reading))]
+fn pending_of(params: &[CsiParam], control: char) -> Pending
+    ensures { (truncated : Bool) → pending_actions result params.now truncated control ≡ csi_reading params.now truncated control }
 {
-    let pending = if matches!(control, 'h' | 'l') {
-        if piece(Kind::StandardModes, params, control).is_some() {
-            Pending::Pieces(Kind::StandardModes)
-        } else {
-            Pending::Left
-        }
-    } else if let Some(known) = lone_reading(params, control) {
-        Pending::Lone(known)
-    } else {
-        Pending::Left
-    };
-    reader(alloc, params, truncated, control, pending)
+    if control == 'm' {
+        return Pending::Renditions;
+    }
+    match params {
+        [CsiParam::P(b'?'), ..] => Pending::Private,
+        _ if matches!(control, 'h' | 'l') => Pending::Standard,
+        _ => Pending::Lone,
+    }
 }
 
 impl<'a> Model for CSIParser<'a> {
@@ -198,9 +144,9 @@ impl<'a> Model for CSIParser<'a> {
 
     ghost Value = { List Action };
 
-    ghost use Rattle.csi_codec.specs.Parsing.{HasNoPiece, IsFirstPiece, pending_actions};
+    ghost use Rattle.csi_codec.specs.Parsing.{actions_of_reader};
 
-    ghost view = { λ s. pending_actions s.pending s.params.now s.truncated s.control };
+    ghost view = { λ s. actions_of_reader s.reader };
 }
 
 impl<'a> Iterator for CSIParser<'a> {
@@ -215,31 +161,131 @@ impl<'a> Iterator for CSIParser<'a> {
     ghost remaining = { λ s. at_most (length s) };
 
     fn next(&mut self) -> Option<Result<CSI, AllocError>> {
+        self.reader.next()
+    }
+}
+
+impl<'a> Reader<'a> {
+    /// The next action.
+    fn next(&mut self) -> Option<Result<CSI, AllocError>>
+        ensures { HandsOut (actions_of_reader self.old) result (actions_of_reader self.new) }
+    {
         match self.pending {
             Pending::Done => None,
-            Pending::Lone(known) => {
+            Pending::Pieces(kind) => self.next_piece(kind),
+            Pending::Renditions => self.first_rendition(),
+            Pending::Private => self.first_mode(Kind::PrivateModes, tail(self.params)),
+            Pending::Standard => self.first_mode(Kind::StandardModes, self.params),
+            Pending::Lone => self.lone(),
+        }
+    }
+
+    /// The one action of a whole list, or the list itself.
+    fn lone(&mut self) -> Option<Result<CSI, AllocError>>
+        ensures { HandsOut (lone_or self.old.truncated self.old.control self.old.params.now) result (actions_of_reader self.new) }
+    {
+        match lone_reading(self.params, self.control) {
+            Some(known) => {
                 self.pending = Pending::Done;
                 Some(boxed(self.alloc, known))
             }
-            Pending::Left => {
+            None => self.rest(),
+        }
+    }
+
+    /// The list itself, which has no reading.
+    fn rest(&mut self) -> Option<Result<CSI, AllocError>>
+        ensures { HandsOut (unspecified self.old.params.now self.old.truncated self.old.control ∷ []) result (actions_of_reader self.new) }
+    {
+        self.pending = Pending::Done;
+        Some(unspecified(self.alloc, self.params, self.truncated, self.control))
+    }
+
+    /// The first action of a list before `m`.
+    fn first_rendition(&mut self) -> Option<Result<CSI, AllocError>>
+        ensures { HandsOut (sgr_reading self.old.truncated self.old.control self.old.params.now) result (actions_of_reader self.new) }
+    {
+        if self.params.is_empty() {
+            self.pending = Pending::Done;
+            return Some(Ok(CSI::Sgr(Sgr::Reset)));
+        }
+        if all_sgr_tokens(self.params) {
+            self.next_piece(Kind::Rendition)
+        } else {
+            self.rest()
+        }
+    }
+
+    /// The first of some modes, where one stands, or else the list itself.
+    fn first_mode(&mut self, kind: Kind, modes: &'a [CsiParam]) -> Option<Result<CSI, AllocError>>
+        ensures { HandsOut (modes_or (kind_of kind) self.old.truncated self.old.control modes.now self.old.params.now) result (actions_of_reader self.new) }
+    {
+        match split_piece(kind, modes, self.control) {
+            Some((value, others)) => {
+                self.go_on(kind, others);
+                Some(Ok(value))
+            }
+            None => self.rest(),
+        }
+    }
+
+    /// The next piece, or the list itself where no piece stands.
+    fn next_piece(&mut self, kind: Kind) -> Option<Result<CSI, AllocError>>
+        ensures { HandsOut (pieces (kind_of kind) self.old.truncated self.old.control self.old.params.now) result (actions_of_reader self.new) }
+    {
+        match split_piece(kind, self.params, self.control) {
+            Some((value, others)) => {
+                self.go_on(kind, others);
+                Some(Ok(value))
+            }
+            None if self.params.is_empty() => {
                 self.pending = Pending::Done;
-                Some(left(self.alloc, self.params, self.truncated, self.control))
+                None
             }
-            Pending::Pieces(kind) => {
-                let Some((known, rest)) = split_piece(kind, self.params, self.control) else {
-                    self.pending = Pending::Done;
-                    if self.params.is_empty() {
-                        return None;
-                    }
-                    return Some(left(self.alloc, self.params, self.truncated, self.control));
-                };
-                self.params = rest;
-                let item = boxed(self.alloc, known);
-                if item.is_err() {
-                    self.pending = Pending::Done;
-                }
-                Some(item)
-            }
+            None => self.rest(),
+        }
+    }
+
+    /// Goes on with the pieces behind one.
+    #[tactic(auto, using(crate::proofs::PieceLemmas::pieces_none))]
+    fn go_on(&mut self, kind: Kind, others: &'a [CsiParam])
+        ensures { actions_of_reader self.new ≡ pieces (kind_of kind) self.old.truncated self.old.control others.now }
+    {
+        self.params = others;
+        self.pending = if others.is_empty() {
+            Pending::Done
+        } else {
+            Pending::Pieces(kind)
+        };
+    }
+}
+
+/// A list without its first token.
+fn tail(params: &[CsiParam]) -> &[CsiParam]
+    ensures { result.now ≡ drop 1 params.now }
+{
+    match params {
+        [_, others @ ..] => others,
+        [] => params,
+    }
+}
+
+/// The piece at the front of a list, and how many tokens it takes.
+fn piece(kind: Kind, params: &[CsiParam], control: char) -> Option<(CSI, usize)>
+    ensures { option_map found_action result ≡ piece_of (kind_of kind) control params.now }
+{
+    match kind {
+        Kind::Rendition => {
+            let (value, len) = sgr_piece(params)?;
+            Some((CSI::Sgr(value), len))
+        }
+        Kind::PrivateModes => {
+            let (value, len) = mode_piece(true, params, control)?;
+            Some((CSI::Mode(value), len))
+        }
+        Kind::StandardModes => {
+            let (value, len) = mode_piece(false, params, control)?;
+            Some((CSI::Mode(value), len))
         }
     }
 }
@@ -249,13 +295,14 @@ fn split_piece<'a>(
     kind: Kind,
     params: &'a [CsiParam],
     control: char,
-) -> Option<(Known, &'a [CsiParam])>
-    ensures found { IfSome result (λ found. IsFirstPiece kind control params.now (known_action found.0) found.1.now) }
-    ensures none { IfNone result (HasNoPiece kind control params.now) }
+) -> Option<(CSI, &'a [CsiParam])>
+    ensures found { IfSome result (λ found. IsFirstPiece (kind_of kind) control params.now (action_of found.0) found.1.now) }
+    ensures none { IfNone result (HasNoPiece (kind_of kind) control params.now) }
+    ensures stands { is_some result ≡ is_some (piece_of (kind_of kind) control params.now) }
 {
     match piece(kind, params, control) {
         None => None,
-        Some((known, len)) => Some((known, behind(params, len))),
+        Some((value, len)) => Some((value, behind(params, len))),
     }
 }
 
@@ -273,16 +320,14 @@ fn boxed(alloc: Global, known: Known) -> Result<CSI, AllocError>
     ensures err { OnErr result (NeedsMemory (known_action known)) }
 {
     match known {
-        Known::Sgr(value) => Ok(CSI::Sgr(value)),
         Known::Cursor(value) => Ok(CSI::Cursor(value)),
         Known::Edit(value) => Ok(CSI::Edit(value)),
-        Known::Mode(value) => Ok(CSI::Mode(value)),
         Known::Device(value) => Ok(CSI::Device(Box::new(alloc, value)?)),
     }
 }
 
-/// What is left of a list, as a value.
-fn left(
+/// A list without a reading, as a value.
+fn unspecified(
     alloc: Global,
     params: &[CsiParam],
     truncated: bool,
@@ -290,10 +335,10 @@ fn left(
 ) -> Result<CSI, AllocError>
     ensures { IfOk result (λ value. action_of value ≡ unspecified params.now truncated control) }
 {
-    let left = Unspecified {
+    let rest = Unspecified {
         params: Vec::from_slice(alloc, params)?,
         parameters_truncated: truncated,
         control,
     };
-    Ok(CSI::Unspecified(Box::new(alloc, left)?))
+    Ok(CSI::Unspecified(Box::new(alloc, rest)?))
 }

@@ -1,0 +1,229 @@
+-- No listed shape that stands is longer than the one that is chosen.
+use Rattle.std.proofs.Common.{◌≡◌, ℕ, ◌+◌, ◌≤◌, ℤ, pos, negsuc, eqb, Bool, true, false, cond, ◌&&◌, List, [], ◌∷◌, ◌++◌, map, length, Option, Some, None, option_map, option_and_then, arith, refl, ap, sym, subst, ◌∙◌}
+use Rattle.std.proofs.lemmas.Bool.{eqb-true, and_parts}
+use Rattle.cell_base.specs.declared.color.ColorSpec.{ColorSpec}
+use Rattle.cell_base.specs.declared.attributes.Underline.{Underline}
+use Rattle.cell_base.specs.declared.attributes.Underline.TheVariants as underline
+use Rattle.csi_codec.specs.declared.parameters.CsiParam.{CsiParam}
+use Rattle.csi_codec.specs.declared.parameters.CsiParam.TheVariants.{Integer, P}
+use Rattle.csi_codec.specs.declared.rendition.Sgr.{Sgr}
+use Rattle.csi_codec.specs.declared.rendition.Sgr.TheVariants as value
+use Rattle.csi_codec.specs.Parameters.{is_number, number_within}
+use Rattle.csi_codec.specs.Rendition.{Part, number_part, stands, Form, first_form, colour_forms, colour_form, colour_shape, taking, single_code, underline_numbered, underline_or_single, underline_shape, numbered_shape, sgr_shape, colon}
+use Rattle.csi_codec.specs.Longest.{lone_numbers, underline_shapes, colour_shapes, sgr_shapes, NoneIsLonger, LongestShapeDecides}
+
+-- how many tokens a value took
+second : {X : Type 0} (x y : X) (k n : ℕ) → ◌≡◌ {A = Option (X × ℕ)} (Some (x, k)) (Some (y, n)) → k ≡ n
+second {X} x y k n e = let q : ◌≡◌ {A = X × ℕ} (x, k) (y, n) = cc in ap (λ (p : X × ℕ). p.1) q
+
+none-append : (a b : List (List Part)) (ts : List CsiParam) (n : ℕ) → NoneIsLonger a ts n → NoneIsLonger b ts n → NoneIsLonger (a ++ b) ts n
+none-append [] b ts n h k = k
+none-append (shape ∷ a) b ts n h k = (h.0, none-append a b ts n h.1 k)
+
+-- shapes of one part
+ones : (numbers : List ℕ) (ts : List CsiParam) (n : ℕ) → 1 ≤ n → NoneIsLonger (map (λ k. number_part k ∷ []) numbers) ts n
+ones [] ts n h = tt
+ones (k ∷ numbers) ts n h = (λ s. omega arith, ones numbers ts n h)
+
+-- ---- Colours
+
+-- the lengths go down
+abbrev AllShorter : ℕ → List Form → Type 0
+AllShorter n [] = Unit {0}
+AllShorter n (form ∷ forms) = (length form.0 ≤ n) × AllShorter n forms
+
+abbrev LongestFirst : List Form → Type 0
+LongestFirst [] = Unit {0}
+LongestFirst (form ∷ forms) = AllShorter (length form.0) forms × LongestFirst forms
+
+listed : LongestFirst colour_forms
+listed = (
+  (omega arith, (omega arith, (omega arith, (omega arith, (omega arith, (omega arith, tt)))))),
+  (
+    (omega arith, (omega arith, (omega arith, (omega arith, (omega arith, tt))))),
+    (
+      (omega arith, (omega arith, (omega arith, (omega arith, tt)))),
+      ((omega arith, (omega arith, (omega arith, tt))), ((omega arith, (omega arith, tt)), ((omega arith, tt), (tt, tt)))),
+    ),
+  ),
+)
+
+abbrev shapes_of : List Form → List (List Part)
+shapes_of forms = map (λ form. form.0) forms
+
+all_shorter : (forms : List Form) (ts : List CsiParam) (n : ℕ) → AllShorter n forms → NoneIsLonger (shapes_of forms) ts n
+all_shorter [] ts n h = tt
+all_shorter (form ∷ forms) ts n h = (λ s. h.0, all_shorter forms ts n h.1)
+
+taken_length : (k n : ℕ) (c : ColorSpec) (found : Option ColorSpec) → taking k found ≡ Some (c, n) → k ≡ n
+taken_length k n c None e = cc
+taken_length k n c (Some d) e = second d c k n e
+
+first_longest : (forms : List Form) (ts : List CsiParam) (c : ColorSpec) (n : ℕ) → LongestFirst forms → first_form forms ts ≡ Some (c, n) → NoneIsLonger (shapes_of forms) ts n
+first_longest [] ts c n h e = tt
+first_longest (form ∷ forms) ts c n h e = by (first_longest forms ts c n h.1) (stands form.0 ts) refl e
+  where
+    by : (first_form forms ts ≡ Some (c, n) → NoneIsLonger (shapes_of forms) ts n) → (b : Bool) → stands form.0 ts ≡ b → cond b (taking (length form.0) (form.1 ts)) (first_form forms ts) ≡ Some (c, n) → NoneIsLonger (shapes_of (form ∷ forms)) ts n
+    by later true q r =
+        let same : length form.0 ≡ n = taken_length (length form.0) n c (form.1 ts) r in
+        subst (λ (k : ℕ). NoneIsLonger (shapes_of (form ∷ forms)) ts k) same (λ s. omega arith, all_shorter forms ts (length form.0) h.0)
+    by later false q r = (λ s. cc, later r)
+
+-- behind its number
+abbrev behind : ℕ → List Form → List (List Part)
+behind target forms = map (λ form. number_part target ∷ form.0) forms
+
+chosen_colour : (target : ℕ) (forms : List Form) (z : ℤ) (ts : List CsiParam) (n : ℕ) → NoneIsLonger (shapes_of forms) ts n → NoneIsLonger (behind target forms) (Integer z ∷ ts) (n + 1)
+chosen_colour target [] z ts n h = tt
+chosen_colour target (form ∷ forms) z ts n h =
+    (λ s. let stood : stands form.0 ts ≡ true = (and_parts (is_number target z) (stands form.0 ts) s).1 in let short = h.0 stood in omega arith, chosen_colour target forms z ts n h.1)
+
+other_colour : (target : ℕ) (forms : List Form) (z : ℤ) (ts : List CsiParam) (n : ℕ) → is_number target z ≡ false → NoneIsLonger (behind target forms) (Integer z ∷ ts) n
+other_colour target [] z ts n h = tt
+other_colour target (form ∷ forms) z ts n h =
+    (λ s. let is : is_number target z ≡ true = (and_parts (is_number target z) (stands form.0 ts) s).0 in cc, other_colour target forms z ts n h)
+
+byte_colour : (target : ℕ) (forms : List Form) (b : ℕ) (ts : List CsiParam) (n : ℕ) → NoneIsLonger (behind target forms) (P b ∷ ts) n
+byte_colour target [] b ts n = tt
+byte_colour target (form ∷ forms) b ts n = (λ s. cc, byte_colour target forms b ts n)
+
+-- ---- Underlines
+
+abbrev lines : List ℕ → List (List Part)
+lines kinds = map (λ k. number_part 4 ∷ colon ∷ number_part k ∷ []) kinds
+
+other_line : (kinds : List ℕ) (z : ℤ) (ts : List CsiParam) (n : ℕ) → is_number 4 z ≡ false → NoneIsLonger (lines kinds) (Integer z ∷ ts) n
+other_line [] z ts n h = tt
+other_line (k ∷ kinds) z ts n h =
+    (λ s. let is : is_number 4 z ≡ true = (and_parts (is_number 4 z) (stands (colon ∷ number_part k ∷ []) ts) s).0 in cc, other_line kinds z ts n h)
+
+byte_line : (kinds : List ℕ) (b : ℕ) (ts : List CsiParam) (n : ℕ) → NoneIsLonger (lines kinds) (P b ∷ ts) n
+byte_line [] b ts n = tt
+byte_line (k ∷ kinds) b ts n = (λ s. cc, byte_line kinds b ts n)
+
+number_is : (k : ℕ) (z : ℤ) → is_number k z ≡ true → z ≡ pos k
+number_is k (negsuc m) h = cc
+number_is k (pos m) h = ap pos (eqb-true m k h)
+
+-- the kinds that there are
+abbrev AreKinds : List ℕ → Type 0
+AreKinds [] = Unit {0}
+AreKinds (k ∷ kinds) = ((u : Underline) × (underline_numbered (pos k) ≡ Some u)) × AreKinds kinds
+
+lined_length : (found : Option Underline) (v : Sgr) (n : ℕ) (u : Underline) → found ≡ Some u → underline_or_single found ≡ Some (v, n) → 3 ≤ n
+lined_length None v n u q e = cc
+lined_length (Some line) v n u q e =
+    let same : 3 ≡ n = second (value.Underline line) v 3 n e in
+    omega arith
+
+line_length : (k b : ℕ) (w : ℤ) (v : Sgr) (n : ℕ) (u : Underline) → underline_numbered (pos k) ≡ Some u → eqb b 58 ≡ true → is_number k w ≡ true
+    → underline_or_single (cond (eqb b 58) (underline_numbered w) None) ≡ Some (v, n) → 3 ≤ n
+line_length k b w v n u named is kind e =
+    lined_length (cond (eqb b 58) (underline_numbered w) None) v n u
+    (ap (λ t. cond t (underline_numbered w) None) is ∙ ap underline_numbered (number_is k w kind) ∙ named) e
+
+chosen_line : (kinds : List ℕ) (ts : List CsiParam) (v : Sgr) (n : ℕ) → AreKinds kinds → underline_shape ts ≡ Some (v, n) → NoneIsLonger (lines kinds) (Integer (pos 4) ∷ ts) n
+chosen_line [] ts v n h e = tt
+chosen_line (k ∷ kinds) ts v n h e = (λ s. by ts s e, chosen_line kinds ts v n h.1 e)
+  where
+    by : (us : List CsiParam) → stands (colon ∷ number_part k ∷ []) us ≡ true → underline_shape us ≡ Some (v, n) → 3 ≤ n
+    by [] s q = cc
+    by (Integer z ∷ us) s q = cc
+    by (P b ∷ []) s q = let both = and_parts (eqb b 58) false s in cc
+    by (P b ∷ P d ∷ us) s q = let both = and_parts (eqb b 58) false s in cc
+    by (P b ∷ Integer w ∷ us) s q =
+        let both = and_parts (eqb b 58) (is_number k w && true) s in
+        let kind = and_parts (is_number k w) true both.1 in
+        line_length k b w v n h.0.0 h.0.1 both.0 kind.0 q
+
+underlines : AreKinds (0 ∷ 1 ∷ 2 ∷ 3 ∷ 4 ∷ 5 ∷ [])
+underlines = ((_, refl), ((_, refl), ((_, refl), ((_, refl), ((_, refl), ((_, refl), tt))))))
+
+-- ---- Every shape
+
+module _ (ts : List CsiParam) (n : ℕ) (some : 1 ≤ n) where
+  every : NoneIsLonger underline_shapes ts n → NoneIsLonger (colour_shapes 38) ts n → NoneIsLonger (colour_shapes 48) ts n → NoneIsLonger (colour_shapes 58) ts n → NoneIsLonger sgr_shapes ts n
+  every under fore back line = (
+    λ s. some,
+    none-append (map (λ k. number_part k ∷ []) lone_numbers) (underline_shapes ++ (colour_shapes 38 ++ (colour_shapes 48 ++ colour_shapes 58))) ts n (ones lone_numbers ts n some)
+        (none-append underline_shapes (colour_shapes 38 ++ (colour_shapes 48 ++ colour_shapes 58)) ts n under (none-append (colour_shapes 38) (colour_shapes 48 ++ colour_shapes 58) ts n fore (none-append (colour_shapes 48) (colour_shapes 58) ts n back line))),
+  )
+
+sgr_length : (k n : ℕ) (v : Sgr) (found : Option Sgr) → taking k found ≡ Some (v, n) → k ≡ n
+sgr_length k n v None e = cc
+sgr_length k n v (Some d) e = second d v k n e
+
+-- a colour that was chosen
+coloured : (target : ColorSpec → Sgr) (ts : List CsiParam) (v : Sgr) (n : ℕ) → colour_shape target ts ≡ Some (v, n) → (m : ℕ) × ((m + 1 ≡ n) × NoneIsLonger (shapes_of colour_forms) ts m)
+unfolding colour_form
+coloured target ts v n e = by (first_form colour_forms ts) refl e
+  where
+    by : (found : Option (ColorSpec × ℕ)) → first_form colour_forms ts ≡ found → option_map {U = Sgr × ℕ} (λ form. (target form.0, form.1 + 1)) found ≡ Some (v, n)
+        → (m : ℕ) × ((m + 1 ≡ n) × NoneIsLonger (shapes_of colour_forms) ts m)
+    by None q r = cc
+    by (Some f) q r =
+        (f.1, (second (target f.0) v (f.1 + 1) n r, first_longest colour_forms ts f.0 f.1 listed q))
+
+number_at : (k : ℕ) (z : ℤ) (b : Bool) → is_number k z ≡ b → z ≡ pos k → b ≡ is_number k (pos k)
+number_at k z b h e = sym h ∙ ap (is_number k) e
+
+module _ (z : ℤ) (ts : List CsiParam) (v : Sgr) (n : ℕ) where
+  no_line : is_number 4 z ≡ false → NoneIsLonger underline_shapes (Integer z ∷ ts) n
+  no_line h = other_line (0 ∷ 1 ∷ 2 ∷ 3 ∷ 4 ∷ 5 ∷ []) z ts n h
+
+  -- a number that a token is, it is no other
+  not_number : (k j : ℕ) → is_number k z ≡ true → eqb k j ≡ false → is_number j z ≡ false
+  not_number k j h d = ap (is_number j) (number_is k z h) ∙ d
+
+  a_colour : (target : ℕ) (make : ColorSpec → Sgr) → colour_shape make ts ≡ Some (v, n) → NoneIsLonger (colour_shapes target) (Integer z ∷ ts) n × (1 ≤ n)
+  a_colour target make e =
+      let c = coloured make ts v n e in
+      let some : 1 ≤ n = omega (arith, c.1.0) in
+      (subst (λ (k : ℕ). NoneIsLonger (colour_shapes target) (Integer z ∷ ts) k) c.1.0 (chosen_colour target colour_forms z ts c.0 c.1.1), some)
+
+  another : (target : ℕ) → is_number target z ≡ false → NoneIsLonger (colour_shapes target) (Integer z ∷ ts) n
+  another target h = other_colour target colour_forms z ts n h
+
+  line_some : (found : Option Underline) → underline_or_single found ≡ Some (v, n) → 1 ≤ n
+  line_some None e = let same : 1 ≡ n = second (value.Underline underline.Single) v 1 n e in omega arith
+  line_some (Some line) e = let same : 3 ≡ n = second (value.Underline line) v 3 n e in omega arith
+
+  underline_some : (us : List CsiParam) → underline_shape us ≡ Some (v, n) → 1 ≤ n
+  underline_some [] e = line_some None e
+  underline_some (Integer w ∷ us) e = line_some None e
+  underline_some (P b ∷ []) e = line_some None e
+  underline_some (P b ∷ P d ∷ us) e = line_some None e
+  underline_some (P b ∷ Integer w ∷ us) e = line_some (cond (eqb b 58) (underline_numbered w) None) e
+
+  by_number : (single : Option Sgr) (a b c d : Bool) → is_number 38 z ≡ a → is_number 48 z ≡ b → is_number 58 z ≡ c → is_number 4 z ≡ d
+      → cond a (colour_shape value.Foreground ts) (cond b (colour_shape value.Background ts) (cond c (colour_shape value.UnderlineColor ts) (cond d (underline_shape ts) (taking 1 single)))) ≡ Some (v, n)
+      → NoneIsLonger sgr_shapes (Integer z ∷ ts) n
+  by_number single true b c d p q r s e =
+      let found = a_colour 38 value.Foreground e in
+      every (Integer z ∷ ts) n found.1 (no_line (not_number 38 4 p refl)) found.0 (another 48 (not_number 38 48 p refl)) (another 58 (not_number 38 58 p refl))
+  by_number single false true c d p q r s e =
+      let found = a_colour 48 value.Background e in
+      every (Integer z ∷ ts) n found.1 (no_line (not_number 48 4 q refl)) (another 38 p) found.0 (another 58 (not_number 48 58 q refl))
+  by_number single false false true d p q r s e =
+      let found = a_colour 58 value.UnderlineColor e in
+      every (Integer z ∷ ts) n found.1 (no_line (not_number 58 4 r refl)) (another 38 p) (another 48 q) found.0
+  by_number single false false false true p q r s e =
+      let under : NoneIsLonger underline_shapes (Integer z ∷ ts) n =
+      subst (λ (y : ℤ). NoneIsLonger underline_shapes (Integer y ∷ ts) n) (sym (number_is 4 z s)) (chosen_line (0 ∷ 1 ∷ 2 ∷ 3 ∷ 4 ∷ 5 ∷ []) ts v n underlines e) in
+      every (Integer z ∷ ts) n (underline_some ts e) under (another 38 p) (another 48 q) (another 58 r)
+  by_number single false false false false p q r s e =
+      let one : 1 ≡ n = sgr_length 1 n v single e in
+      every (Integer z ∷ ts) n (omega arith) (no_line s) (another 38 p) (another 48 q) (another 58 r)
+
+number_longest : (z : ℤ) (ts : List CsiParam) (v : Sgr) (n : ℕ) → numbered_shape z ts ≡ Some (v, n) → NoneIsLonger sgr_shapes (Integer z ∷ ts) n
+unfolding numbered_shape
+number_longest z ts v n e =
+    by_number z ts v n (option_and_then single_code (number_within 255 z)) (is_number 38 z) (is_number 48 z) (is_number 58 z) (is_number 4 z) refl refl refl refl e
+
+pub longest_shape_decides-lem : LongestShapeDecides
+unfolding sgr_shape
+longest_shape_decides-lem [] v n e = cc
+longest_shape_decides-lem (P b ∷ ts) v n e =
+    let one : 1 ≡ n = sgr_length 1 n v (cond (eqb b 59) (Some value.Reset) None) e in
+    every (P b ∷ ts) n (omega arith) (byte_line (0 ∷ 1 ∷ 2 ∷ 3 ∷ 4 ∷ 5 ∷ []) b ts n) (byte_colour 38 colour_forms b ts n) (byte_colour 48 colour_forms b ts n) (byte_colour 58 colour_forms b ts n)
+longest_shape_decides-lem (Integer z ∷ ts) v n e = number_longest z ts v n e
