@@ -5,3 +5,5 @@ pub mod Pieces
 pub mod ReadingSteps
 pub mod SameTexts
 pub mod TextsReading
+pub mod PlainClusters
+pub mod NarrowAscii

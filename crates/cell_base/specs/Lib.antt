@@ -11,6 +11,7 @@ pub mod CellContent
 pub mod CellLent
 pub mod CellText
 pub mod CellView
+pub mod LawfulCell
 pub mod Cluster
 pub mod Row
 pub mod SameAttributes

@@ -1,8 +1,10 @@
 //! Cells: a text of one cluster with its width and attributes.
-ghost use Rattle.std.specs.Prelude.{◌≡◌, ◌≤◌, ◌↔◌, encode_utf8, IfOk, IsTrue};
+ghost use Rattle.std.specs.Prelude.{◌≡◌, ◌≤◌, ◌↔◌, true, [], ◌∷◌, encode_utf8, IfOk, IsTrue};
 ghost use Rattle.std.specs.Borrow.{sem};
 ghost use Rattle.cell_base.specs.Attributes.{plain};
 ghost use Rattle.cell_base.specs.CellContent.{cell_of, blank_cell};
+ghost use Rattle.cell_base.specs.LawfulCell.{IsCell};
+ghost use Rattle.text_clusters.specs.Plain.{is_printable};
 
 use crate::cell_attributes::CellAttributes;
 use crate::cell_text::{CellText, shows_as_space};
@@ -25,8 +27,11 @@ impl Model for Cell {
     ghost Value = { CellContent };
 
     ghost use Rattle.cell_base.specs.CellView.{content_of};
+    ghost use Rattle.cell_base.specs.LawfulCell.{IsCell};
 
     ghost view = { content_of };
+
+    ghost invariant = { λ c. IsCell (content_of c) };
 }
 
 impl Cell {
@@ -79,6 +84,18 @@ impl Cell {
         })
     }
 
+    /// The cell of a printable ASCII character (20h to 7Eh), of one column.
+    pub fn new_ascii(character: u8, attrs: CellAttributes) -> Cell
+        requires { is_printable character ≡ true }
+        ensures { result ≡ cell_of (character ∷ []) 1 attrs }
+    {
+        Cell {
+            text: CellText::of_ascii(character),
+            wide: false,
+            attributes: attrs,
+        }
+    }
+
     /// A space with plain attributes.
     pub fn blank() -> Cell
         ensures { result ≡ blank_cell plain }
@@ -106,7 +123,9 @@ impl Cell {
 
     /// The columns that the cell takes: 1 or 2.
     pub fn width(&self) -> usize
-        ensures { result ≡ self.now.width }
+        ensures value { result ≡ self.now.width }
+        ensures some { 1 ≤ result }
+        ensures most { result ≤ 2 }
     {
         if self.wide { 2 } else { 1 }
     }
@@ -124,6 +143,13 @@ impl Cell {
         ensures value { result.now ≡ self.old.attributes }
     {
         &mut self.attributes
+    }
+
+    // What each cell keeps.
+    pub(crate) fn is_lawful(&self)
+        ensures { IsCell self.now }
+    {
+        let _text = &self.text;
     }
 
     // Whether text, width and attributes are the same.

@@ -1,14 +1,16 @@
 //! The text of a cell.
-ghost use Rattle.std.specs.Prelude.{◌≡◌, IfOk, IsTrue, ◌↔◌};
+ghost use Rattle.std.specs.Prelude.{◌≡◌, ◌<◌, [], ◌∷◌, IfOk, IsTrue, ◌↔◌};
 ghost use Rattle.cell_base.specs.CellContent.{cell_text, shows_as_space};
 ghost use Rattle.cell_base.specs.CellText.{text_bytes};
 
+use crate::letter::Letter;
 use std::alloc::{AllocError, Global};
 
-// A space takes no memory.
+// A space and a lone ASCII character take no memory.
 #[derive(Debug, Drop)]
 pub(crate) enum CellText {
     Space,
+    Ascii(Letter),
     Owned(String),
 }
 
@@ -20,7 +22,20 @@ impl CellText {
         if shows_as_space(text) || text == " " {
             return Ok(CellText::Space);
         }
+        if let [byte] = text.as_bytes() {
+            if *byte < 128 {
+                return Ok(CellText::of_ascii(*byte));
+            }
+        }
         Ok(CellText::Owned(String::from_str(alloc, text)?))
+    }
+
+    // The text of one ASCII character.
+    pub(crate) fn of_ascii(byte: u8) -> CellText
+        requires { byte < 128 }
+        ensures { text_bytes result ≡ byte ∷ [] }
+    {
+        CellText::Ascii(Letter::new(byte))
     }
 
     pub(crate) fn as_str(&self) -> &str
@@ -28,6 +43,7 @@ impl CellText {
     {
         match self {
             CellText::Space => " ",
+            CellText::Ascii(letter) => letter.as_str(),
             CellText::Owned(text) => text.as_str(),
         }
     }
@@ -37,6 +53,7 @@ impl CellText {
     {
         match self {
             CellText::Space => Ok(CellText::Space),
+            CellText::Ascii(letter) => Ok(CellText::Ascii(*letter)),
             CellText::Owned(text) => Ok(CellText::Owned(text.clone()?)),
         }
     }

@@ -1,6 +1,7 @@
-ghost use Rattle.std.specs.Prelude.{◌≡◌, ℕ, ◌≤◌, List, [], ◌∷◌};
+ghost use Rattle.std.specs.Prelude.{◌≡◌, ℕ, ◌≤◌, true, List, [], ◌∷◌, IsTrue};
 ghost use Rattle.std.proofs.Common.{arith};
 ghost use Rattle.cell_base.specs.Cluster.{program_width, program_width_le, program_width-space};
+ghost use Rattle.text_clusters.specs.Plain.{is_printable};
 
 use unicode_width::UnicodeWidthStr;
 
@@ -13,6 +14,15 @@ pub trait Widths {
     /// The columns of a cluster: 0, 1 or 2.
     fn width(&self, cluster: &str) -> u8
         ensures { result ≡ width_of self.now cluster.now };
+
+    /// Whether it is known that each printable ASCII character (20h to 7Eh) by itself takes one
+    /// column; runs of them are then set without being measured one by one. To answer `false` is
+    /// never wrong.
+    fn has_narrow_ascii(&self) -> bool
+        ensures { IsTrue result → (byte : ℕ) → is_printable byte ≡ true → width_of self.now (byte ∷ []) ≡ 1 }
+    {
+        false
+    }
 
     /// No text takes more than two columns.
     ghost at_most_two: { (widths : Self) (text : List ℕ) → width_of widths text ≤ 2 };
@@ -37,5 +47,12 @@ impl Widths for ProgramWidth {
         ensures { result ≡ program_width cluster.now }
     {
         cluster.width().min(2) as u8
+    }
+
+    fn has_narrow_ascii(&self) -> bool
+        ensures narrow { (byte : ℕ) → is_printable byte ≡ true → program_width (byte ∷ []) ≡ 1 }
+        ensures known { IsTrue result }
+    {
+        true
     }
 }

@@ -9,6 +9,7 @@ pub mod LentSteps
 pub mod LinkLemmas
 pub mod PlaceLemmas
 pub mod ReadLemmas
+pub mod RowLaws
 pub mod VisibleLemmas
 pub mod WordLemmas
 pub mod WrapLemmas

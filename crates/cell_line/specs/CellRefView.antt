@@ -20,6 +20,10 @@ abbrev pub copied_by : CellRef → CellContent
 copied_by (of_cell column cell) = cell.now
 copied_by (of_cluster column text width attributes) = cell_of text.now (one_or_two width) attributes.now
 
+-- the cell that a copy of what is shown is
+abbrev pub copy_of : CellContent → CellContent
+copy_of cell = cell_of cell.text cell.width cell.attributes
+
 -- the cells that are left
 abbrev pub cells_left : VisibleCellIter → List VisibleCell
 cells_left s = visible_from s.cell_index (row_of_cells s.cells.now)

@@ -1,8 +1,10 @@
 //! Visible cells, lent from a line.
-ghost use Rattle.std.specs.Prelude.{◌≡◌, ◌↔◌, IsTrue, IfOk};
-ghost use Rattle.cell_line.specs.CellRefView.{shown_by, copied_by};
+ghost use Rattle.std.specs.Prelude.{◌≡◌, ◌↔◌, false, IsTrue, IfOk};
+ghost use Rattle.cell_base.specs.CellContent.{shows_as_space};
+ghost use Rattle.cell_line.specs.CellRefView.{shown_by, copied_by, copy_of};
 
 use crate::row::column_count;
+use cell_base::laws::cells_are_lawful;
 use cell_base::{Cell, CellAttributes};
 use std::alloc::{AllocError, Global};
 
@@ -64,12 +66,18 @@ impl<'a> CellRef<'a> {
         }
     }
 
-    /// A copy of the cell.
+    /// A copy of the cell: of one whose text shows as a space a space of width 1, of any other what
+    /// is shown.
     pub fn as_cell(&self, alloc: Global) -> Result<Cell, AllocError>
-        ensures { IfOk result (λ cell. cell ≡ copied_by self.now) }
+        ensures copy { IfOk result (λ cell. cell ≡ copied_by self.now) }
+        ensures shown { IfOk result (λ cell. cell ≡ copy_of (shown_by self.now).cell) }
+        ensures same { IfOk result (λ cell. shows_as_space (shown_by self.now).cell.text ≡ false → cell ≡ (shown_by self.now).cell) }
     {
         match self {
-            CellRef::CellRef { cell, .. } => cell.try_clone(),
+            CellRef::CellRef { cell, .. } => {
+                cells_are_lawful(cell);
+                cell.try_clone()
+            }
             CellRef::ClusterRef {
                 text,
                 width,

@@ -1,15 +1,48 @@
 //! Laws of the definitions: the cut of a line into clusters, and what some edits and questions of
 //! lines give. Each is the contract of a function that does nothing.
-ghost use Rattle.std.specs.Prelude.{◌≡◌, ◌++◌, List, [], ◌∷◌, Bool, true, codes};
+ghost use Rattle.std.specs.Prelude.{◌≡◌, ℕ, ◌+◌, ◌<◌, ◌≤◌, ◌++◌, suc, nat_le, List, [], ◌∷◌, Bool, true, false, codes, length, replicate};
+ghost use Rattle.std.specs.List.{flat_map};
 ghost use Rattle.cell_base.specs.Attributes.{plain};
-ghost use Rattle.cell_base.specs.Row.{Narrow};
+ghost use Rattle.cell_base.specs.CellContent.{CellContent};
+ghost use Rattle.cell_base.specs.Row.{Narrow, Row, set_columns};
+ghost use Rattle.cell_rows.specs.WholeRow.{IsWhole};
 ghost use Rattle.cell_base.specs.declared.ranges.DoubleClickRange.TheVariants.{Range, RangeWithWrap};
-ghost use Rattle.cell_line.specs.LineContent.{line_of};
+ghost use Rattle.cell_line.specs.LineContent.{line_of, cell_columns};
+ghost use Rattle.cell_line.specs.RowEdits.{cut, cut_front, with_cell, overlaid, filled};
 ghost use Rattle.cell_line.specs.LineCalls.{new, resize, wrap, split_off_kept, split_off, append_line, compute_double_click_range, columns_as_str, columns_as_line, set_cell, insert_cell, remove_cell, erase_cell, erase_cell_with_margin, prune_trailing_blanks, fill_range, as_str};
 ghost use Rattle.cell_line.specs.Groups.{groups_by, AreGroupsOf};
-ghost use Rattle.cell_line.specs.VisibleCells.{VisibleCell};
+ghost use Rattle.cell_line.specs.VisibleCells.{VisibleCell, visible_cells, visible_from, row_of_visible};
 ghost use Rattle.cell_line.specs.Words.{columns_between};
 ghost use Rattle.cell_line.specs.Samples.{letters, wide_letter, letter_cell, is_word};
+
+use crate::line::Line;
+
+/// The columns of a line are whole: each left half has its right half behind it, and no right half
+/// stands elsewhere. So the columns of its visible cells are its columns.
+pub fn lines_are_whole(line: &Line)
+    ensures whole { IsWhole line.now.columns }
+    ensures row { row_of_visible (visible_cells line.now.columns) ≡ line.now.columns }
+{
+    line.is_whole();
+}
+
+/// The columns of the visible cells of a whole row are the row; and the visible cells of a row in
+/// which columns were set are those before them, theirs, and those behind them.
+pub fn rows_and_their_cells()
+    ensures row { (row : Row) → IsWhole row → row_of_visible (visible_cells row) ≡ row }
+    ensures joined { (at : ℕ) (first : Row) (second : Row) → visible_from at (first ++ second) ≡ visible_from at first ++ visible_from (at + length first) second }
+    ensures set { (row : Row) (at : ℕ) (columns : Row) → at ≤ length row → visible_cells (set_columns row at columns) ≡ visible_cells (cut at row) ++ visible_from at columns ++ visible_from (at + length columns) (cut_front (at + length columns) row) }
+{}
+
+/// Within a row a cell that is set takes its columns, cells that are set side by side take theirs at
+/// once, and so does a cell of one column that is set at each of some columns.
+pub fn cells_set_within()
+    ensures one { (row : Row) (at : ℕ) (cell : CellContent) → at + length (cell_columns cell) ≤ length row → with_cell row at cell ≡ set_columns row at (cell_columns cell) }
+    ensures next { (row : Row) (at : ℕ) (cell : CellContent) (cells : List CellContent) → at + length (cell_columns cell) ≤ length row → overlaid row at (cell ∷ cells) ≡ overlaid (set_columns row at (cell_columns cell)) (at + length (cell_columns cell)) cells }
+    ensures side_by_side { (row : Row) (at : ℕ) (cells : List CellContent) → 0 < length cells → at + length (flat_map cell_columns cells) ≤ length row → overlaid row at cells ≡ set_columns row at (flat_map cell_columns cells) }
+    ensures len { (row : Row) (at : ℕ) (cells : List CellContent) → at + length (flat_map cell_columns cells) ≤ length row → length (overlaid row at cells) ≡ length row }
+    ensures same { (row : Row) (start : ℕ) (count : ℕ) (cell : CellContent) → nat_le 2 cell.width ≡ false → start + suc count ≤ length row → filled row start (suc count) cell ≡ set_columns row start (replicate (suc count) (Narrow cell.text cell.attributes)) }
+{}
 
 /// Whatever the rule, the groups of cells are a cut of them by that rule, and there is no other: so
 /// for clusters, for zones and for the rows of a wrapped line.

@@ -15,6 +15,8 @@ ghost use Rattle.cell_line.specs.Links.{without_implicit, column_with};
 ghost use Rattle.cell_line.specs.Words.{Answers};
 ghost use Rattle.cell_line.specs.LentCells.{LendsCells, LendsSlice};
 ghost use Rattle.cell_line.specs.CellRefView.{shown_by, cells_left};
+ghost use Rattle.cell_line.specs.VisibleCells.{row_of_visible};
+ghost use Rattle.cell_rows.specs.WholeRow.{IsWhole};
 
 use crate::cell_ref::CellRef;
 use crate::clusters::CellCluster;
@@ -380,11 +382,20 @@ impl Line {
         Ok(())
     }
 
-    /// The visible cells, each with its first column, in order.
+    /// The visible cells, each with its first column, in order. Their columns, side by side, are the
+    /// line's.
     pub fn visible_cells(&self) -> VisibleCellIter<'_>
-        ensures { cells_left result ≡ visible_cells self.now }
+        ensures cells { cells_left result ≡ visible_cells self.now }
+        ensures row { row_of_visible (cells_left result) ≡ self.now.columns }
     {
         VisibleCellIter::new(&self.cells)
+    }
+
+    // Each left half has its right half behind it, and no right half stands elsewhere.
+    pub(crate) fn is_whole(&self)
+        ensures { IsWhole self.now.columns }
+    {
+        let _cells = &self.cells;
     }
 
     /// The clusters of the visible cells, in order.

@@ -9,7 +9,7 @@ use Rattle.cell_line.proofs.line.Line.cluster.Goals as goal
 
 pub returns : goal.returns
 returns c =
-    let yielded = YieldsList-from_first shown_by cells_left {s = c.visible_cells.result} (visible_cells c.args.self.now.columns) c.visible_cells.ensures in
+    let yielded = YieldsList-from_first shown_by cells_left {s = c.visible_cells.result} (visible_cells c.args.self.now.columns) c.visible_cells.ensures.cells in
     IfOk-weaker c.make_cluster.result _ _
     (λ clusters p. p.2 ∙ ap cell_clusters (items_from_drains p.0 (p.1.1.0, p.1.1.1, λ _. (p.1.0, p.1.1.2)) yielded))
     c.make_cluster.ensures

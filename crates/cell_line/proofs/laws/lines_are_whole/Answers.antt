@@ -1,0 +1,5 @@
+use Rattle.cell_line.proofs.RowLaws.{row_again}
+use Rattle.cell_line.proofs.laws.lines_are_whole.Goals as goal
+
+pub returns-clause-row : goal.returns-clause-row
+returns-clause-row c = row_again 0 c.args.line.now.columns c.is_whole.ensures

@@ -1,0 +1,4 @@
+pub mod CharacterFacts
+pub mod CutLemmas
+pub mod PlainLemmas
+pub mod TextLemmas

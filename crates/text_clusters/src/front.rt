@@ -1,0 +1,71 @@
+//! The front of a text, cut off so that the clusters of the text are those of both parts.
+ghost use Rattle.std.specs.Prelude.{◌≡◌, ◌↔◌, ◌++◌, ◌∷◌, ◌&&◌, [], true, not, nat_lt, min, length, map, take, drop, slice_index, IfSome, IsNone};
+ghost use Rattle.std.specs.List.{list_all, prefix_len};
+ghost use Rattle.unicode_segmentation.specs.Grapheme.{graphemes};
+ghost use Rattle.text_clusters.specs.Plain.{is_printable, each, plain_len};
+
+use unicode_segmentation::UnicodeSegmentation;
+
+// Whether the byte is a printable ASCII character.
+fn is_printable(byte: u8) -> bool
+    ensures { result ≡ is_printable byte }
+{
+    32 <= byte && byte < 127
+}
+
+// How many of the first `most` bytes stand in printable characters at the front.
+fn printable_run(text: &str, most: usize) -> usize
+    ensures { result ≡ prefix_len is_printable (take most text.now) }
+{
+    text.as_bytes()
+        .iter()
+        .take(most)
+        .take_while(|byte| is_printable(**byte))
+        .count()
+}
+
+// Whether a byte stands at a place that isn't a printable character.
+fn is_other_at(text: &str, place: usize) -> bool
+    ensures { result ≡ (nat_lt place (length text.now) && not (is_printable (slice_index text.now place))) }
+{
+    match text.as_bytes().get(place) {
+        None => false,
+        Some(byte) => !is_printable(*byte),
+    }
+}
+
+// How many bytes of plain text stand at the front, of `most` at the most.
+fn plain_len(text: &str, most: usize) -> usize
+    ensures { result ≡ min most (plain_len text.now) }
+{
+    let run = printable_run(text, most);
+    if is_other_at(text, run) {
+        run.saturating_sub(1)
+    } else {
+        run
+    }
+}
+
+/// Cuts a text behind its plain front, or behind `most` bytes of it: printable ASCII characters (20h
+/// to 7Eh), each of which is a cluster by itself. The last of them goes to the rest where another
+/// character follows it, which may join it. No more than `most` bytes and one are looked at.
+pub fn split_plain(text: &str, most: usize) -> (&str, &str)
+    ensures front { result.0.now ≡ take (min most (plain_len text.now)) text.now }
+    ensures rest { result.1.now ≡ drop (min most (plain_len text.now)) text.now }
+    ensures printable { list_all is_printable result.0.now ≡ true }
+    ensures clusters { graphemes true text.now ≡ each result.0.now ++ graphemes true result.1.now }
+{
+    text.split_at(plain_len(text, most))
+}
+
+/// Cuts off the first cluster of a text; the rest has the other clusters.
+pub fn split_first_cluster(text: &str) -> Option<(&str, &str)>
+    ensures none { IsNone result ↔ (text.now ≡ []) }
+    ensures whole { IfSome result (λ parts. text.now ≡ parts.0.now ++ parts.1.now) }
+    ensures clusters { IfSome result (λ parts. graphemes true text.now ≡ parts.0.now ∷ graphemes true parts.1.now) }
+    ensures alone { IfSome result (λ parts. graphemes true parts.0.now ≡ parts.0.now ∷ []) }
+{
+    let mut clusters = text.graphemes(true);
+    let first = clusters.next()?;
+    Some((first, clusters.as_str()))
+}

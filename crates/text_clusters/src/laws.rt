@@ -1,0 +1,28 @@
+//! Laws of the cut: each is the contract of a function that does nothing.
+ghost use Rattle.std.specs.Prelude.{◌≡◌, ℕ, ◌<◌, [], ◌∷◌, ◌++◌, List, true, length, map, take, drop};
+ghost use Rattle.std.specs.List.{concat, prefix_len};
+ghost use Rattle.unicode_segmentation.specs.Grapheme.{graphemes};
+ghost use Rattle.text_clusters.specs.Plain.{is_printable, each};
+
+/// Each cluster of a text is by itself one cluster.
+pub fn clusters_stand_alone(text: &str)
+    ensures { map (graphemes true) (graphemes true text.now) ≡ map (λ cluster. cluster ∷ []) (graphemes true text.now) }
+{
+    let _text = text;
+}
+
+/// The clusters of a text, joined, are the text; and what stands behind some of them has the others
+/// as its clusters.
+pub fn clusters_behind_clusters(text: &str)
+    ensures joined { concat (graphemes true text.now) ≡ text.now }
+    ensures behind { (count : ℕ) → graphemes true (concat (drop count (graphemes true text.now))) ≡ drop count (graphemes true text.now) }
+{
+    let _text = text;
+}
+
+/// Where a text begins with printable ASCII characters, each of them that another one follows is a
+/// cluster by itself, and the clusters of the rest follow; and so is each of a text of nothing else.
+pub fn plain_clusters()
+    ensures followed { (count : ℕ) (text : List ℕ) → count < prefix_len is_printable text → graphemes true text ≡ each (take count text) ++ graphemes true (drop count text) }
+    ensures alone { (text : List ℕ) → prefix_len is_printable text ≡ length text → graphemes true text ≡ each text }
+{}

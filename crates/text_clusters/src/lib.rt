@@ -1,0 +1,8 @@
+//! The cut of a text into extended grapheme clusters (UAX 29): its laws, and the front of a text cut
+//! off by them.
+#![tactic(auto)]
+
+mod front;
+pub mod laws;
+
+pub use front::{split_first_cluster, split_plain};
