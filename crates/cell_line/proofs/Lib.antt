@@ -9,7 +9,9 @@ pub mod LentSteps
 pub mod LinkLemmas
 pub mod PlaceLemmas
 pub mod ReadLemmas
+pub mod RegionLemmas
 pub mod RowLaws
+pub mod RunLemmas
 pub mod VisibleLemmas
 pub mod WordLemmas
 pub mod WrapLemmas

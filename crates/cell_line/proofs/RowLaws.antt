@@ -1,18 +1,18 @@
 -- Rows of lines are whole, and so are the cells that are seen of them; what the words for rows give within a row.
-use Rattle.std.proofs.Common.{◌≡◌, ℕ, zero, suc, ◌+◌, ◌-◌, ◌<◌, ◌≤◌, Bool, true, false, List, [], ◌∷◌, ◌++◌, length, take, drop, replicate, refl, sym, ap, subst, ◌∙◌, append_assoc, append-nil, length-append, arith}
-use Rattle.std.specs.Prelude.{nat_le, if◌then◌else◌}
+use Rattle.std.proofs.Common.{◌≡◌, ℕ, zero, suc, ◌+◌, ◌-◌, ◌<◌, ◌≤◌, false, List, [], ◌∷◌, ◌++◌, length, take, replicate, refl, sym, ap, subst, ◌∙◌, append-nil, length-append, arith}
+use Rattle.std.specs.Prelude.{nat_le}
 use Rattle.std.specs.List.{flat_map}
 use Rattle.std.proofs.lemmas.List.{length-take-le, length-replicate}
 use Rattle.cell_base.specs.Attributes.{Attributes}
 use Rattle.cell_base.specs.CellContent.{CellContent, row_of_cells}
-use Rattle.cell_base.specs.Row.{Narrow, LeftHalf, RightHalf, Row, columns_of, plain_row, closed_end, closed_start, set_columns}
+use Rattle.cell_base.specs.Row.{Narrow, LeftHalf, RightHalf, Row, plain_row, set_columns}
 use Rattle.cell_rows.specs.WholeRow.{IsWhole}
-use Rattle.cell_rows.proofs.RowLemmas.{length-closed_end, length-closed_start, length-set_columns, whole-append, whole-set_columns, set_columns-again}
+use Rattle.cell_rows.proofs.RowLemmas.{length-closed_end, length-set_columns, set_columns-again}
 use Rattle.cell_line.specs.LineContent.{cell_columns}
 use Rattle.cell_line.specs.RowEdits.{cut, cut_front, padded, with_cell, overlaid, filled}
 use Rattle.cell_line.specs.VisibleCells.{VisibleCell, visible_from, visible_cells, row_of_visible}
 use Rattle.cell_line.proofs.CellLemmas.{by_test, row_wide, row_narrow}
-use Rattle.cell_line.proofs.CutLemmas.{columns_narrow, columns_wide, length-cell_columns}
+use Rattle.cell_line.proofs.CutLemmas.{columns_narrow, columns_wide}
 
 -- ---- whole rows
 

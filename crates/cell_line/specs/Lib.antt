@@ -12,9 +12,11 @@ pub mod OpenRows
 pub mod OpenZones
 pub mod Places
 pub mod ReadCells
+pub mod Region
 pub mod RowEdits
 pub mod SameLine
 pub mod Samples
+pub mod TextRuns
 pub mod VisibleCells
 pub mod Words
 pub mod Wrapped

@@ -6,9 +6,11 @@ use Rattle.cell_base.specs.declared.ranges.ZoneRange.{ZoneRange}
 use Rattle.cell_base.specs.Attributes.{Attributes, plain}
 use Rattle.cell_base.specs.CellContent.{CellContent, blank_cell, cell_of, row_of_cells}
 use Rattle.cell_base.specs.SameCell.{same_cell}
-use Rattle.cell_base.specs.Row.{blank, plain_row}
+use Rattle.cell_base.specs.Row.{blank, plain_row, set_columns}
 use Rattle.cell_line.specs.LineContent.{LineContent, line_of, changed, changed_unless_empty, with_bits, same_bits, text_cells, text_row}
+use Rattle.cell_line.specs.Region.{region}
 use Rattle.cell_line.specs.RowEdits.{cut, cut_front, resized, with_cell, overlaid, with_inserted, removed, erased, erased_within, pruned_row, filled}
+use Rattle.cell_line.specs.TextRuns.{fitting_cells, text_on}
 use Rattle.cell_line.specs.VisibleCells.{VisibleCell, visible_cells as visible, texts_joined, cells_between, row_of_visible, cell_at, has_link, is_whitespace_row, ends_wrapped, row_end_wrapped}
 use Rattle.cell_line.specs.Wrapped.{rows_of, texts_kept}
 use Rattle.cell_line.specs.Zones.{zones}
@@ -159,6 +161,18 @@ set_cell_grapheme line at text width attributes number = set_cell line at (cell_
 abbrev pub overlay_text_with_attribute : LineContent → ℕ → List ℕ → Attributes → ℕ → (List ℕ → ℕ) → LineContent
 overlay_text_with_attribute line at text attributes number width_of = changed line number (overlaid line.columns at (text_cells width_of text attributes))
 
+-- blanks with these attributes in place of the columns of a range; the number stays
+abbrev pub set_blanks : LineContent → ℕ → ℕ → Attributes → LineContent
+set_blanks line start end attributes = record line { columns = set_columns line.columns start (replicate (end - start) (blank attributes)) }
+
+-- a cell with these attributes for each cluster of a text, side by side from the start of a range on as far as they fit in it; the number stays
+abbrev pub set_text : LineContent → ℕ → ℕ → List ℕ → Attributes → (List ℕ → ℕ) → LineContent
+set_text line start end text attributes width_of = record line { columns = text_on width_of end attributes line.columns start text }
+
+-- how many clusters of the text that sets
+abbrev pub set_clusters : ℕ → ℕ → List ℕ → Attributes → (List ℕ → ℕ) → ℕ
+set_clusters start end text attributes width_of = length (fitting_cells width_of (end - start) text attributes)
+
 -- ---- inserting and removing
 
 -- the last column within the margin is removed, if the line has it; then, padded with plain blanks to the place, the cell's columns are inserted there
@@ -210,6 +224,10 @@ has_hyperlink line = has_link line.columns
 -- each visible cell with its first column, in order
 abbrev pub visible_cells : LineContent → List VisibleCell
 visible_cells line = visible line.columns
+
+-- the visible cells of a range of columns: a cell that an edge cuts is a blank with its attributes for each column within
+abbrev pub visible_cells_between : LineContent → ℕ → ℕ → List VisibleCell
+visible_cells_between line start end = region start end line.columns
 
 -- the clusters of these, as long as may be, in order
 abbrev pub cluster : LineContent → List ClusterContent

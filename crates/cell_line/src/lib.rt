@@ -8,7 +8,9 @@ mod line;
 mod places;
 mod query;
 mod read_cells;
+mod region;
 mod row;
+mod runs;
 mod text;
 mod visible_cells;
 mod words;
@@ -18,6 +20,7 @@ mod zones;
 pub use cell_ref::CellRef;
 pub use clusters::CellCluster;
 pub use line::Line;
+pub use region::RegionIter;
 pub use visible_cells::VisibleCellIter;
 
 #[cfg(test)]

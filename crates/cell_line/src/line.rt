@@ -1,5 +1,5 @@
 //! A row of columns with a number and bits.
-ghost use Rattle.std.specs.Prelude.{◌≡◌, true, ℕ, ◌≤◌, ◌-◌, ◌==◌, ◌&&◌, ◌++◌, List, [], Bool, length, map, replicate, min, nat_lt, IfOk, OnOk, OnErr, IsTrue, ◌↔◌, string_bytes, if◌then◌else◌};
+ghost use Rattle.std.specs.Prelude.{◌≡◌, true, ℕ, ◌≤◌, ◌-◌, ◌==◌, ◌&&◌, ◌++◌, List, [], Bool, length, drop, map, replicate, min, nat_lt, IfOk, OnOk, OnErr, IsTrue, ◌↔◌, string_bytes, if◌then◌else◌};
 ghost use Rattle.std.specs.Cow.{cow_str_bytes};
 ghost use Rattle.std.specs.Option.{option_map};
 ghost use Rattle.cell_base.specs.declared.attributes.LineAttribute.TheVariants.{SingleWidthLine, DoubleWidthLine, DoubleHeightTopHalfLine, DoubleHeightBottomHalfLine};
@@ -9,19 +9,23 @@ ghost use Rattle.cell_base.specs.Row.{plain_row, blank};
 ghost use Rattle.cell_base.specs.SameCell.{same_cell};
 ghost use Rattle.std.specs.Borrow.{sem};
 ghost use Rattle.cell_line.specs.LineContent.{changed, IsRefused};
-ghost use Rattle.cell_line.specs.LineCalls.{with_width_and_cell, with_width, from_cells, new, from_text, from_text_with_wrapped_last_col, try_from_text, resize, resize_and_clear, wrap, changed_since, update_last_change_seqno, set_single_width, set_double_width, set_double_height_top, set_double_height_bottom, is_single_width, is_double_width, is_double_height_top, is_double_height_bottom, semantic_zone_ranges, invalidate_implicit_hyperlinks, split_off_kept, split_off, append_line, compute_double_click_range, columns_as_str, columns_as_line, set_cell, set_cell_clearing_image_placements, set_cell_grapheme, overlay_text_with_attribute, insert_cell, remove_cell, erase_cell, erase_cell_with_margin, prune_trailing_blanks, fill_range, len, current_seqno, as_str, has_hyperlink, visible_cells, cluster, get_cell, is_whitespace, compress_for_scrollback, last_cell_was_wrapped, set_last_cell_was_wrapped};
+ghost use Rattle.cell_line.specs.LineCalls.{with_width_and_cell, with_width, from_cells, new, from_text, from_text_with_wrapped_last_col, try_from_text, resize, resize_and_clear, wrap, changed_since, update_last_change_seqno, set_single_width, set_double_width, set_double_height_top, set_double_height_bottom, is_single_width, is_double_width, is_double_height_top, is_double_height_bottom, semantic_zone_ranges, invalidate_implicit_hyperlinks, split_off_kept, split_off, append_line, compute_double_click_range, columns_as_str, columns_as_line, set_cell, set_cell_clearing_image_placements, set_cell_grapheme, set_blanks, set_text, set_clusters, overlay_text_with_attribute, insert_cell, remove_cell, erase_cell, erase_cell_with_margin, prune_trailing_blanks, fill_range, len, current_seqno, as_str, has_hyperlink, visible_cells, visible_cells_between, cluster, get_cell, is_whitespace, compress_for_scrollback, last_cell_was_wrapped, set_last_cell_was_wrapped};
 ghost use Rattle.cell_line.specs.RowEdits.{filled};
 ghost use Rattle.cell_line.specs.Links.{without_implicit, column_with};
 ghost use Rattle.cell_line.specs.Words.{Answers};
 ghost use Rattle.cell_line.specs.LentCells.{LendsCells, LendsSlice};
 ghost use Rattle.cell_line.specs.CellRefView.{shown_by, cells_left};
+ghost use Rattle.cell_line.specs.Region.{region_left};
+ghost use Rattle.cell_line.specs.TextRuns.{text_behind};
 ghost use Rattle.cell_line.specs.VisibleCells.{row_of_visible};
+ghost use Rattle.cell_base.specs.Cluster.{clusters};
 ghost use Rattle.cell_rows.specs.WholeRow.{IsWhole};
 
 use crate::cell_ref::CellRef;
 use crate::clusters::CellCluster;
+use crate::region::RegionIter;
 use crate::visible_cells::VisibleCellIter;
-use crate::{query, row, text, words, wrap, zones};
+use crate::{query, row, runs, text, words, wrap, zones};
 use cell_base::{
     Cell, CellAttributes, DoubleClickRange, LineAttribute, SEQ_ZERO, SequenceNo, Widths, ZoneRange,
 };
@@ -284,6 +288,52 @@ impl Line {
         self.set_cell(idx, cluster, seqno)
     }
 
+    /// Makes the columns of a range blanks with these attributes. A half of a wide cell that is left
+    /// alone on either side becomes a blank with that cell's attributes, also where the range is
+    /// empty. Number and bits stay.
+    pub fn set_blanks(
+        &mut self,
+        cols: Range<usize>,
+        attrs: &CellAttributes,
+    ) -> Result<(), AllocError>
+        requires order { cols.start ≤ cols.end }
+        requires within { cols.end ≤ length self.old.columns }
+        ensures done { OnOk result (self.new ≡ set_blanks self.old cols.start cols.end attrs.now) }
+        ensures refused { OnErr result (IsRefused self.old self.new) }
+    {
+        runs::set_blanks(&mut self.cells, cols.start, cols.end, attrs)?;
+        Ok(())
+    }
+
+    /// Sets a cell for each cluster of a text, as UAX 29 cuts it, side by side from the start of a
+    /// range on, up to the first that doesn't fit before its end. Answers the text that is left,
+    /// whose clusters are those that weren't set. Number, bits and the count of columns stay.
+    pub fn set_text<'a, W: Widths>(
+        &mut self,
+        cols: Range<usize>,
+        text: &'a str,
+        attrs: &CellAttributes,
+        w: &W,
+    ) -> Result<&'a str, AllocError>
+        requires order { cols.start ≤ cols.end }
+        requires within { cols.end ≤ length self.old.columns }
+        ensures done { OnOk result (self.new ≡ set_text self.old cols.start cols.end text.now attrs.now (W.width_of w.now)) }
+        ensures left { IfOk result (λ left. left.now ≡ text_behind (set_clusters cols.start cols.end text.now attrs.now (W.width_of w.now)) text.now) }
+        ensures rest { IfOk result (λ left. clusters left.now ≡ drop (set_clusters cols.start cols.end text.now attrs.now (W.width_of w.now)) (clusters text.now)) }
+        ensures refused { OnErr result (IsRefused self.old self.new) }
+    {
+        let left = runs::set_text(
+            self.alloc,
+            &mut self.cells,
+            cols.start,
+            cols.end,
+            text,
+            attrs,
+            w,
+        )?;
+        Ok(left)
+    }
+
     /// Inserts a cell before column `x`, behind plain blanks where the line doesn't reach so far.
     /// The last column within `right_margin` columns goes before that, if it is there.
     pub fn insert_cell(
@@ -389,6 +439,16 @@ impl Line {
         ensures row { row_of_visible (cells_left result) ≡ self.now.columns }
     {
         VisibleCellIter::new(&self.cells)
+    }
+
+    /// The visible cells of a range of columns, each with its first column, in order. Of a cell that
+    /// an edge cuts the columns within are blanks with its attributes.
+    pub fn visible_cells_between(&self, cols: Range<usize>) -> RegionIter<'_>
+        requires order { cols.start ≤ cols.end }
+        requires within { cols.end ≤ length self.now.columns }
+        ensures { region_left result ≡ visible_cells_between self.now cols.start cols.end }
+    {
+        RegionIter::new(&self.cells, cols.start, cols.end)
     }
 
     // Each left half has its right half behind it, and no right half stands elsewhere.

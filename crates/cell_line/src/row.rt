@@ -24,7 +24,7 @@ pub(crate) fn column_count(cell: &Cell) -> usize
 }
 
 // Whether the cell that is read last before `at` is a wide one whose second column is at `at`.
-fn is_halved(cells: &[Cell], at: usize) -> bool
+pub(crate) fn is_halved(cells: &[Cell], at: usize) -> bool
     requires { at ≤ length cells.now }
     ensures { result ≡ ends_halved (take at cells.now) }
 {
@@ -38,7 +38,7 @@ fn is_halved(cells: &[Cell], at: usize) -> bool
 }
 
 // The cell takes the place of the one that is there.
-fn put(cells: &mut Vec<Cell>, at: usize, cell: Cell)
+pub(crate) fn put(cells: &mut Vec<Cell>, at: usize, cell: Cell)
     requires { at < vec_len cells.old }
     ensures { cells.new.items ≡ slice_set cells.old.items at cell }
 {
@@ -77,7 +77,7 @@ fn cut_at(cells: &mut Vec<Cell>, at: usize) -> Result<(), AllocError>
 }
 
 // Wide cells whose columns stand on both sides of `start`, or of `end`, become blanks.
-fn open(cells: &mut Vec<Cell>, start: usize, end: usize) -> Result<(), AllocError>
+pub(crate) fn open(cells: &mut Vec<Cell>, start: usize, end: usize) -> Result<(), AllocError>
     requires order { start ≤ end }
     requires within { end ≤ vec_len cells.old }
     ensures len { vec_len cells.new ≡ vec_len cells.old }
@@ -93,9 +93,10 @@ fn open(cells: &mut Vec<Cell>, start: usize, end: usize) -> Result<(), AllocErro
 }
 
 // The cell takes its columns from `at` on.
-fn write_cell(cells: &mut Vec<Cell>, at: usize, cell: Cell) -> Result<(), AllocError>
+pub(crate) fn write_cell(cells: &mut Vec<Cell>, at: usize, cell: Cell) -> Result<(), AllocError>
     requires { at + length (cell_columns cell) ≤ vec_len cells.old }
-    ensures { OnOk result (row_of_cells cells.new.items ≡ set_columns (row_of_cells cells.old.items) at (cell_columns cell)) }
+    ensures len { vec_len cells.new ≡ vec_len cells.old }
+    ensures row { OnOk result (row_of_cells cells.new.items ≡ set_columns (row_of_cells cells.old.items) at (cell_columns cell)) }
 {
     let count = column_count(&cell);
     open(cells, at, at + count)?;

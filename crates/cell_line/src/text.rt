@@ -1,7 +1,6 @@
 //! Texts as cells of a line: a cell for each extended grapheme cluster (UAX 29).
 ghost use Rattle.std.specs.Prelude.{◌≡◌, false, IfOk, OnOk};
 ghost use Rattle.cell_base.specs.CellContent.{row_of_cells};
-ghost use Rattle.cell_base.specs.Cluster.{read_cluster as read};
 ghost use Rattle.cell_line.specs.CellList.{ends_halved};
 ghost use Rattle.cell_line.specs.LineContent.{text_cells, text_row};
 ghost use Rattle.cell_line.specs.RowEdits.{overlaid};
@@ -10,20 +9,6 @@ use crate::row::{column_count, push_cell, set_cell};
 use cell_base::{Cell, CellAttributes, Widths};
 use std::alloc::{AllocError, Global};
 use unicode_segmentation::UnicodeSegmentation;
-
-/// U+FFFD.
-const REPLACEMENT: &str = "\u{fffd}";
-
-// What by itself would be cut further is read as U+FFFD.
-fn read_cluster(cluster: &str) -> &str
-    ensures { result.now ≡ read cluster.now }
-{
-    if cluster.graphemes(true).count() == 1 {
-        cluster
-    } else {
-        REPLACEMENT
-    }
-}
 
 // A cell for each cluster of the text, and a blank behind each wide one.
 pub(crate) fn cells_of_text<W: Widths>(
@@ -36,7 +21,7 @@ pub(crate) fn cells_of_text<W: Widths>(
 {
     let mut cells = Vec::new(alloc);
     for cluster in text.graphemes(true) {
-        let cell = Cell::new_grapheme(alloc, read_cluster(cluster), attrs.try_clone()?, w)?;
+        let cell = Cell::new_grapheme(alloc, cluster, attrs.try_clone()?, w)?;
         push_cell(&mut cells, cell)?;
     }
     Ok(cells)
@@ -55,7 +40,7 @@ pub(crate) fn overlay<W: Widths>(
 {
     let mut at = start;
     for cluster in text.graphemes(true) {
-        let cell = Cell::new_grapheme(alloc, read_cluster(cluster), attrs.try_clone()?, w)?;
+        let cell = Cell::new_grapheme(alloc, cluster, attrs.try_clone()?, w)?;
         let end = at.checked_add(column_count(&cell)).ok_or(AllocError)?;
         set_cell(cells, at, cell)?;
         at = end;

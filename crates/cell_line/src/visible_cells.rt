@@ -24,6 +24,17 @@ impl<'a> VisibleCellIter<'a> {
     }
 }
 
+impl<'a> VisibleCellIter<'a> {
+    // Those of cells of which the first stands at a column.
+    pub(crate) fn from_column(cells: &'a [Cell], cell_index: usize) -> VisibleCellIter<'a>
+        requires { cell_index + length cells.now < 2 ^ 64 }
+        ensures cells { result.cells.now ≡ cells.now }
+        ensures index { result.cell_index ≡ cell_index }
+    {
+        VisibleCellIter { cells, cell_index }
+    }
+}
+
 impl<'a> Iterator for VisibleCellIter<'a> {
     type Item = CellRef<'a>;
 

@@ -7,8 +7,8 @@ use Rattle.cell_line.proofs.CutLemmas.{between_narrow, between_wide, set_one, se
 use Rattle.cell_line.proofs.row.write_cell.Goals as goal
 use Rattle.cell_line.proofs.row.write_cell.Goals.{then-count-eq2, else-count-eq2}
 
-pub returns : goal.returns
-returns c =
+pub returns-clause-row : goal.returns-clause-row
+returns-clause-row c =
     let x = c.open.new.cells.items in
     let r = row_of_cells c.args.cells.now.items in
     let count = c.column_count-count.ensures in

@@ -3,7 +3,6 @@ use Rattle.std.specs.Prelude.{map}
 use Rattle.std.specs.List.{flat_map}
 use Rattle.unicode_segmentation.specs.Iter.{graphemes_left}
 use Rattle.cell_base.specs.CellContent.{cell_of, row_of_cells}
-use Rattle.cell_base.specs.Cluster.{read_cluster}
 use Rattle.cell_line.specs.CellList.{ends_halved}
 use Rattle.cell_line.specs.LineContent.{cell_columns, text_row}
 use Rattle.cell_line.proofs.text.cells_of_text.Given as goal
@@ -12,6 +11,6 @@ use Rattle.cell_line.proofs.text.cells_of_text.Given as goal
 abbrev pub invariant-loop-cluster : goal.invariant-loop-cluster
 invariant-loop-cluster g l = record {
   whole : ends_halved l.cells.items ≡ false;
-  row : row_of_cells l.cells.items ++ flat_map cell_columns (map (λ cluster. cell_of cluster (g.W.Widths.width_of l.w cluster) l.attrs) (map read_cluster (graphemes_left l.cluster-iterator)))
+  row : row_of_cells l.cells.items ++ flat_map cell_columns (map (λ cluster. cell_of cluster (g.W.Widths.width_of l.w cluster) l.attrs) (graphemes_left l.cluster-iterator))
       ≡ text_row (g.W.Widths.width_of l.w) l.text l.attrs;
 }

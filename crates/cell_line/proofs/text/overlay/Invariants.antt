@@ -2,7 +2,6 @@ use Rattle.std.proofs.Common.{◌≡◌}
 use Rattle.std.specs.Prelude.{map}
 use Rattle.unicode_segmentation.specs.Iter.{graphemes_left}
 use Rattle.cell_base.specs.CellContent.{cell_of, row_of_cells}
-use Rattle.cell_base.specs.Cluster.{read_cluster}
 use Rattle.cell_line.specs.LineContent.{text_cells}
 use Rattle.cell_line.specs.RowEdits.{overlaid}
 use Rattle.cell_line.proofs.text.overlay.Given as goal
@@ -10,5 +9,5 @@ use Rattle.cell_line.proofs.text.overlay.Given as goal
 -- what is set so far, and then what is left, is the whole
 abbrev pub invariant-loop-cluster : goal.invariant-loop-cluster
 invariant-loop-cluster g l =
-    overlaid (row_of_cells l.cells.items) l.at (map (λ cluster. cell_of cluster (g.W.Widths.width_of l.w cluster) l.attrs) (map read_cluster (graphemes_left l.cluster-iterator)))
+    overlaid (row_of_cells l.cells.items) l.at (map (λ cluster. cell_of cluster (g.W.Widths.width_of l.w cluster) l.attrs) (graphemes_left l.cluster-iterator))
     ≡ overlaid (row_of_cells l.initial.cells.items) l.start (text_cells (g.W.Widths.width_of l.w) l.text l.attrs)

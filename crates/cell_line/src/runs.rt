@@ -1,0 +1,172 @@
+//! Columns of a row that are set at once: blanks, and the cells of a text as far as they fit.
+ghost use Rattle.std.specs.Prelude.{◌≡◌, ◌+◌, ◌-◌, ◌≤◌, ◌<◌, ◌++◌, true, length, take, drop, map, replicate, vec_len, OnOk, IfOk, MatchOption};
+ghost use Rattle.std.specs.List.{list_all};
+ghost use Rattle.text_clusters.specs.Plain.{is_printable};
+ghost use Rattle.cell_base.specs.CellContent.{row_of_cells, blank_cell};
+ghost use Rattle.cell_base.specs.Row.{set_columns, blank};
+ghost use Rattle.cell_line.specs.RowEdits.{overlaid};
+ghost use Rattle.cell_line.specs.TextRuns.{plain_cells, text_on, text_left, Leads, Stops};
+
+use crate::row::{column_count, open, put, write_cell};
+use cell_base::{Cell, CellAttributes, Widths};
+use std::alloc::{AllocError, Global};
+use text_clusters::{split_first_cluster, split_plain};
+
+// Blanks stand in the places of a range.
+fn write_blanks(
+    cells: &mut Vec<Cell>,
+    start: usize,
+    end: usize,
+    attrs: &CellAttributes,
+) -> Result<(), AllocError>
+    requires order { start ≤ end }
+    requires within { end ≤ vec_len cells.old }
+    ensures len { vec_len cells.new ≡ vec_len cells.old }
+    ensures items { OnOk result (cells.new.items ≡ take start cells.old.items ++ replicate (end - start) (blank_cell attrs.now) ++ drop end cells.old.items) }
+{
+    for at in start..end {
+        put(cells, at, Cell::blank_with_attrs(attrs.try_clone()?));
+    }
+    Ok(())
+}
+
+// Blanks take the columns of a range.
+pub(crate) fn set_blanks(
+    cells: &mut Vec<Cell>,
+    start: usize,
+    end: usize,
+    attrs: &CellAttributes,
+) -> Result<(), AllocError>
+    requires order { start ≤ end }
+    requires within { end ≤ vec_len cells.old }
+    ensures { OnOk result (row_of_cells cells.new.items ≡ set_columns (row_of_cells cells.old.items) start (replicate (end - start) (blank attrs.now))) }
+{
+    open(cells, start, end)?;
+    write_blanks(cells, start, end, attrs)?;
+    Ok(())
+}
+
+// Cells of one printable character each stand from a place on.
+fn write_plain(
+    cells: &mut Vec<Cell>,
+    start: usize,
+    bytes: &[u8],
+    attrs: &CellAttributes,
+) -> Result<(), AllocError>
+    requires printable { list_all is_printable bytes.now ≡ true }
+    requires within { start + length bytes.now ≤ vec_len cells.old }
+    ensures len { vec_len cells.new ≡ vec_len cells.old }
+    ensures items { OnOk result (cells.new.items ≡ take start cells.old.items ++ plain_cells bytes.now attrs.now ++ drop (start + length bytes.now) cells.old.items) }
+{
+    for index in 0..bytes.len() {
+        let cell = Cell::new_ascii(bytes[index], attrs.try_clone()?);
+        put(cells, start + index, cell);
+    }
+    Ok(())
+}
+
+// Printable characters take their columns from `at` on.
+fn set_plain(
+    cells: &mut Vec<Cell>,
+    at: usize,
+    text: &str,
+    attrs: &CellAttributes,
+) -> Result<(), AllocError>
+    requires printable { list_all is_printable text.now ≡ true }
+    requires within { at + length text.now ≤ vec_len cells.old }
+    ensures len { vec_len cells.new ≡ vec_len cells.old }
+    ensures row { OnOk result (row_of_cells cells.new.items ≡ overlaid (row_of_cells cells.old.items) at (plain_cells text.now attrs.now)) }
+{
+    if text.is_empty() {
+        return Ok(());
+    }
+    open(cells, at, at + text.len())?;
+    write_plain(cells, at, text.as_bytes(), attrs)?;
+    Ok(())
+}
+
+// Sets the plain front of a text as far as it fits before `end`; answers the next column and the
+// rest.
+fn set_plain_front<'a, W: Widths>(
+    cells: &mut Vec<Cell>,
+    at: usize,
+    end: usize,
+    text: &'a str,
+    attrs: &CellAttributes,
+    w: &W,
+) -> Result<(usize, &'a str), AllocError>
+    requires order { at ≤ end }
+    requires within { end ≤ vec_len cells.old }
+    ensures len { vec_len cells.new ≡ vec_len cells.old }
+    ensures leads { IfOk result (λ next. Leads (W.width_of w.now) end attrs.now (row_of_cells cells.old.items) at text.now (row_of_cells cells.new.items) next.0 next.1.now) }
+{
+    if !w.has_narrow_ascii() {
+        return Ok((at, text));
+    }
+    let (front, rest) = split_plain(text, end - at);
+    set_plain(cells, at, front, attrs)?;
+    Ok((at + front.len(), rest))
+}
+
+// Sets the first cluster of a text if it fits before `end`; answers the next column and the rest.
+fn set_first_cluster<'a, W: Widths>(
+    alloc: Global,
+    cells: &mut Vec<Cell>,
+    at: usize,
+    end: usize,
+    text: &'a str,
+    attrs: &CellAttributes,
+    w: &W,
+) -> Result<Option<(usize, &'a str)>, AllocError>
+    requires order { at ≤ end }
+    requires within { end ≤ vec_len cells.old }
+    ensures len { vec_len cells.new ≡ vec_len cells.old }
+    ensures leads { IfOk result (λ next. MatchOption next
+        ((row_of_cells cells.new.items ≡ row_of_cells cells.old.items) × Stops (W.width_of w.now) end attrs.now (row_of_cells cells.old.items) at text.now)
+        (λ n. (at < n.0) × Leads (W.width_of w.now) end attrs.now (row_of_cells cells.old.items) at text.now (row_of_cells cells.new.items) n.0 n.1.now)) }
+{
+    if at == end {
+        return Ok(None);
+    }
+    let Some((cluster, rest)) = split_first_cluster(text) else {
+        return Ok(None);
+    };
+    let cell = Cell::new_grapheme(alloc, cluster, attrs.try_clone()?, w)?;
+    let count = column_count(&cell);
+    if end - at < count {
+        return Ok(None);
+    }
+    write_cell(cells, at, cell)?;
+    Ok(Some((at + count, rest)))
+}
+
+// Sets each cluster of a text side by side from `start` on, as far as they fit before `end`; answers
+// the text that is left.
+pub(crate) fn set_text<'a, W: Widths>(
+    alloc: Global,
+    cells: &mut Vec<Cell>,
+    start: usize,
+    end: usize,
+    text: &'a str,
+    attrs: &CellAttributes,
+    w: &W,
+) -> Result<&'a str, AllocError>
+    requires order { start ≤ end }
+    requires within { end ≤ vec_len cells.old }
+    ensures row { OnOk result (row_of_cells cells.new.items ≡ text_on (W.width_of w.now) end attrs.now (row_of_cells cells.old.items) start text.now) }
+    ensures left { IfOk result (λ left. left.now ≡ text_left (W.width_of w.now) end attrs.now start text.now) }
+{
+    let mut at = start;
+    let mut left = text;
+    while at < end {
+        let (place, rest) = set_plain_front(cells, at, end, left, attrs, w)?;
+        match set_first_cluster(alloc, cells, place, end, rest, attrs, w)? {
+            None => return Ok(rest),
+            Some((next, behind)) => {
+                at = next;
+                left = behind;
+            }
+        }
+    }
+    Ok(left)
+}
