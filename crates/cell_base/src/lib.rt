@@ -35,6 +35,3 @@ pub use hyperlink::Hyperlink;
 pub use link_error::LinkError;
 pub use ranges::{DoubleClickRange, ZoneRange};
 pub use widths::{ProgramWidth, Widths};
-
-#[cfg(test)]
-mod tests;

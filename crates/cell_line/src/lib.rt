@@ -22,6 +22,3 @@ pub use clusters::CellCluster;
 pub use line::Line;
 pub use region::RegionIter;
 pub use visible_cells::VisibleCellIter;
-
-#[cfg(test)]
-mod tests;

@@ -29,6 +29,3 @@ pub use one_based::OneBased;
 pub use parameters::{CrackError, CsiParam, Unspecified};
 pub use rendition::{Font, Sgr};
 pub use sequences::{CSI, CSIParser};
-
-#[cfg(test)]
-mod tests;

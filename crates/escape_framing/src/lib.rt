@@ -7,8 +7,6 @@ pub mod error;
 pub mod framer;
 pub mod laws;
 mod parameters;
-#[cfg(test)]
-mod tests;
 
 pub use dispatch::Dispatch;
 pub use error::FramerError;

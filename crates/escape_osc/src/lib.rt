@@ -12,6 +12,3 @@ mod show;
 
 pub use command::OperatingSystemCommand;
 pub use selection::Selection;
-
-#[cfg(test)]
-mod tests;

@@ -20,6 +20,3 @@ pub use encoding::encode;
 pub use error::ParseError;
 pub use escape_osc::{OperatingSystemCommand, Selection};
 pub use parser::Parser;
-
-#[cfg(test)]
-mod tests;

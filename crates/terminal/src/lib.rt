@@ -8,8 +8,6 @@ mod error;
 pub mod laws;
 mod screen;
 mod terminal;
-#[cfg(test)]
-mod tests;
 mod watched;
 
 pub use cell_base::{ProgramWidth, SequenceNo, Widths};

@@ -1,0 +1,180 @@
+//! Calls that edit the line, with their arguments in the order of the call's and the number last.
+use crate::call::Call;
+use crate::fault::Fault;
+use crate::lines::told;
+use crate::sheet::Sheet;
+use cell_base::{Cell, CellAttributes, ProgramWidth};
+use cell_line::Line;
+
+// Calls that take a cell.
+fn edit_by_cell(line: &mut Line, call: &Call<'_>, cell: Cell, sheet: &mut Sheet) {
+    let number = call.last_number(sheet);
+    let at = call.number(1, sheet);
+    match call.word(0) {
+        "set_cell" => told(line.set_cell(at, cell, number), sheet),
+        "insert_cell" => {
+            let margin = call.number_from_one(3, sheet);
+            told(line.insert_cell(at, cell, margin, number), sheet);
+        }
+        _ => told(
+            line.set_cell_clearing_image_placements(at, cell, number),
+            sheet,
+        ),
+    }
+}
+
+// Calls that take attributes, and a text or none.
+fn edit_by_attributes(
+    line: &mut Line,
+    call: &Call<'_>,
+    text: &str,
+    attrs: CellAttributes,
+    sheet: &mut Sheet,
+) {
+    let number = call.last_number(sheet);
+    let at = call.number(1, sheet);
+    match call.word(0) {
+        "set_cell_grapheme" => {
+            let width = call.number_from_one(3, sheet).min(2);
+            told(
+                line.set_cell_grapheme(at, text, width, attrs, number),
+                sheet,
+            );
+        }
+        "overlay_text_with_attribute" => {
+            let done = line.overlay_text_with_attribute(at, text, attrs, number, &ProgramWidth);
+            told(done, sheet);
+        }
+        "erase_cell_with_margin" => {
+            let margin = call.number_from_one(2, sheet);
+            told(
+                line.erase_cell_with_margin(at, margin, number, attrs),
+                sheet,
+            );
+        }
+        _ => told(line.resize_and_clear(at, number, attrs), sheet),
+    }
+}
+
+// Calls that take numbers alone.
+fn edit_by_numbers(line: &mut Line, call: &Call<'_>, sheet: &mut Sheet) -> bool {
+    let number = call.last_number(sheet);
+    match call.word(0) {
+        "resize" => told(line.resize(call.number(1, sheet), number), sheet),
+        "erase_cell" => told(line.erase_cell(call.number(1, sheet), number), sheet),
+        "remove_cell" => told(line.remove_cell(call.number(1, sheet), number), sheet),
+        "prune_trailing_blanks" => told(line.prune_trailing_blanks(number), sheet),
+        "invalidate_implicit_hyperlinks" => {
+            told(line.invalidate_implicit_hyperlinks(number), sheet);
+        }
+        _ => {
+            let wrapped = call.word(1) == "true";
+            told(line.set_last_cell_was_wrapped(wrapped, number), sheet);
+        }
+    }
+    true
+}
+
+// Number and bits.
+fn set_bits(line: &mut Line, call: &Call<'_>, sheet: &mut Sheet) -> bool {
+    let number = call.last_number(sheet);
+    match call.word(0) {
+        "update_last_change_seqno" => line.update_last_change_seqno(number),
+        "set_single_width" => line.set_single_width(number),
+        "set_double_width" => line.set_double_width(number),
+        "set_double_height_top" => line.set_double_height_top(number),
+        _ => line.set_double_height_bottom(number),
+    }
+    true
+}
+
+// The line of a text goes behind the line.
+fn append(line: &mut Line, call: &Call<'_>, sheet: &mut Sheet) -> Result<(), Fault> {
+    let text = call.text(1)?;
+    let other = Line::try_from_text(call.alloc(), text.as_str(), &ProgramWidth)?;
+    told(line.append_line(other, call.last_number(sheet)), sheet);
+    Ok(())
+}
+
+// Writes one of the cells that the line lends, and says how many it lends.
+fn write_lent(line: &mut Line, at: usize, cell: Cell, sheet: &mut Sheet) -> Result<(), Fault> {
+    let cells = line.cells_mut()?;
+    sheet.show(&cells.len());
+    match cells.get_mut(at) {
+        Some(lent) => *lent = cell,
+        None => sheet.fail(Fault::Number),
+    }
+    Ok(())
+}
+
+// Makes one of the cells italic that the line lends for changes of attributes, and says how many it lends.
+fn slant_lent(line: &mut Line, at: usize, sheet: &mut Sheet) -> Result<(), Fault> {
+    let cells = line.cells_mut_for_attr_changes_only()?;
+    sheet.show(&cells.len());
+    if let Some(lent) = cells.get_mut(at) {
+        lent.attrs_mut().set_italic(true);
+    }
+    Ok(())
+}
+
+/// Makes a call that edits the line, by its name: its arguments in order, the number last. `cells_mut PLACE CELL` writes a
+/// cell that is lent, `cells_mut_for_attr_changes_only PLACE` makes one italic; both say how many are lent. Whether it is
+/// such a call.
+pub fn edit(
+    line: &mut Line,
+    call: &Call<'_>,
+    pen: &CellAttributes,
+    sheet: &mut Sheet,
+) -> Result<bool, Fault> {
+    match call.word(0) {
+        "compress_for_scrollback" => told(line.compress_for_scrollback(), sheet),
+        "append_line" => append(line, call, sheet)?,
+        "cells_mut" => write_lent(line, call.number(1, sheet), call.cell(2, pen)?, sheet)?,
+        "cells_mut_for_attr_changes_only" => slant_lent(line, call.number(1, sheet), sheet)?,
+        "fill_range" => {
+            let columns = call.number(1, sheet)..call.number(2, sheet);
+            let cell = call.cell(3, pen)?;
+            told(
+                line.fill_range(columns, &cell, call.last_number(sheet)),
+                sheet,
+            );
+        }
+        _ => return edit_more(line, call, pen, sheet),
+    }
+    Ok(true)
+}
+
+// Calls that stand together by what they take.
+fn edit_more(
+    line: &mut Line,
+    call: &Call<'_>,
+    pen: &CellAttributes,
+    sheet: &mut Sheet,
+) -> Result<bool, Fault> {
+    match call.word(0) {
+        "resize"
+        | "erase_cell"
+        | "remove_cell"
+        | "prune_trailing_blanks"
+        | "invalidate_implicit_hyperlinks"
+        | "set_last_cell_was_wrapped" => { Ok(edit_by_numbers(line, call, sheet)) }
+        "update_last_change_seqno"
+        | "set_single_width"
+        | "set_double_width"
+        | "set_double_height_top"
+        | "set_double_height_bottom" => Ok(set_bits(line, call, sheet)),
+        "set_cell" | "insert_cell" | "set_cell_clearing_image_placements" => {
+            edit_by_cell(line, call, call.cell(2, pen)?, sheet);
+            Ok(true)
+        }
+        "set_cell_grapheme"
+        | "overlay_text_with_attribute"
+        | "erase_cell_with_margin"
+        | "resize_and_clear" => {
+            let text = call.text(2)?;
+            edit_by_attributes(line, call, text.as_str(), pen.try_clone()?, sheet);
+            Ok(true)
+        }
+        _ => Ok(false),
+    }
+}

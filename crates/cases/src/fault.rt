@@ -1,0 +1,90 @@
+//! Why a row can't be run.
+ghost use Rattle.std.specs.Prelude.{◌≡◌};
+ghost use Rattle.cases.specs.declared.fault.Fault.TheVariants.{Memory, Write};
+
+use escape_framing::FramerError;
+use escape_stream::ParseError;
+use std::alloc::{AllocError, AllocFailed};
+use std::io;
+use terminal::TerminalError;
+use thiserror::Error;
+
+/// Why a row can't be run.
+#[derive(Clone, Copy, Debug, Error)]
+pub enum Fault {
+    /// There was no memory.
+    #[error("out of memory")]
+    Memory,
+    /// A report could not be written.
+    #[error("cannot write")]
+    Write,
+    /// The rows stand under no heading that names a kind.
+    #[error("no such kind of case")]
+    Kind,
+    /// No arrow stands between the arguments and the answer.
+    #[error("no ` => `")]
+    Arrow,
+    /// A kind takes another number of arguments.
+    #[error("another number of arguments is wanted")]
+    Columns,
+    /// A `\` is followed by nothing that it may stand before.
+    #[error("no such escape")]
+    Escape,
+    /// A text was wanted, and these bytes are none.
+    #[error("not UTF-8")]
+    Utf8,
+    /// A number was wanted, or another one.
+    #[error("not a number that can stand here")]
+    Number,
+    /// A word names no call, attribute or type.
+    #[error("no such word")]
+    Word,
+}
+
+impl From<AllocError> for Fault {
+    ghost from_gives = { λ _ e. e ≡ Memory };
+
+    fn from(_error: AllocError) -> Fault {
+        Fault::Memory
+    }
+}
+
+impl<T: Drop> From<AllocFailed<T>> for Fault {
+    ghost from_gives = { λ _ e. e ≡ Memory };
+
+    fn from(_error: AllocFailed<T>) -> Fault {
+        Fault::Memory
+    }
+}
+
+impl From<ParseError> for Fault {
+    ghost from_gives = { λ _ e. e ≡ Memory };
+
+    fn from(_error: ParseError) -> Fault {
+        Fault::Memory
+    }
+}
+
+impl From<FramerError> for Fault {
+    ghost from_gives = { λ _ e. e ≡ Memory };
+
+    fn from(_error: FramerError) -> Fault {
+        Fault::Memory
+    }
+}
+
+impl From<TerminalError> for Fault {
+    ghost from_gives = { λ _ e. e ≡ Memory };
+
+    fn from(_error: TerminalError) -> Fault {
+        Fault::Memory
+    }
+}
+
+impl From<io::Error> for Fault {
+    ghost from_gives = { λ _ e. e ≡ Write };
+
+    fn from(_error: io::Error) -> Fault {
+        Fault::Write
+    }
+}

@@ -1,0 +1,107 @@
+//! Dispatches of streams.
+use crate::fault::Fault;
+use crate::row::Row;
+use crate::sheet::Sheet;
+use escape_framing::{Dispatch, Framer};
+
+// The tokens of a control sequence in brackets, with `!` behind them where some were dropped.
+fn say_parameters(framer: &Framer, sheet: &mut Sheet) {
+    sheet.word("CSI[");
+    for token in framer.parameters() {
+        sheet.add_shown(token);
+    }
+    sheet.add(if framer.parameters_truncated() {
+        b"]!"
+    } else {
+        b"]"
+    });
+}
+
+// A name, bytes in brackets, and bytes behind them.
+fn say_body(name: &str, body: &[u8], behind: &[u8], sheet: &mut Sheet) {
+    sheet.word(name);
+    sheet.add(b"[");
+    sheet.add(body);
+    sheet.add(b"]");
+    sheet.add(behind);
+}
+
+// A character between quotes, a control or data by its number, an escape sequence behind ESC, and what others hold in
+// brackets.
+fn say_dispatch(framer: &Framer, dispatch: &Dispatch, sheet: &mut Sheet) {
+    match dispatch {
+        Dispatch::Print(character) => {
+            sheet.word("'");
+            sheet.add_shown(character);
+            sheet.add(b"'");
+        }
+        Dispatch::Control(byte) => {
+            sheet.word("^");
+            sheet.add_hex(*byte);
+        }
+        Dispatch::Escape {
+            intermediate,
+            control,
+        } => {
+            sheet.word("ESC");
+            if let Some(byte) = intermediate {
+                sheet.add(&[*byte]);
+            }
+            sheet.add(&[*control]);
+        }
+        Dispatch::ControlSequence { control } => {
+            say_parameters(framer, sheet);
+            sheet.add(&[*control]);
+        }
+        Dispatch::OperatingSystemCommand(body) => say_body("OSC", body, b"", sheet),
+        Dispatch::Enter { header, byte } => say_body("DCS", header, &[*byte], sheet),
+        Dispatch::Data(byte) => {
+            sheet.word("=");
+            sheet.add_hex(*byte);
+        }
+        Dispatch::Exit => sheet.word("END"),
+    }
+}
+
+// What a byte hands out.
+fn say_fed(framer: &mut Framer, byte: u8, sheet: &mut Sheet) -> Result<(), Fault> {
+    let dispatches = framer.feed(byte)?;
+    for dispatch in &dispatches {
+        if let Some(dispatch) = dispatch {
+            say_dispatch(framer, dispatch, sheet);
+        }
+    }
+    Ok(())
+}
+
+// What some bytes hand out, with a word behind what each byte does, if there is one.
+fn say_all(
+    framer: &mut Framer,
+    bytes: &[u8],
+    mark: Option<&str>,
+    sheet: &mut Sheet,
+) -> Result<(), Fault> {
+    for byte in bytes {
+        say_fed(framer, *byte, sheet)?;
+        if let Some(mark) = mark {
+            sheet.word(mark);
+        }
+    }
+    Ok(())
+}
+
+/// `BYTES => DISPATCHES | idle or open`: what a stream hands out, and whether something is unfinished behind it.
+pub fn framing(row: &Row<'_>, sheet: &mut Sheet) -> Result<(), Fault> {
+    let bytes = row.bytes(0)?;
+    let mut framer = Framer::new(row.alloc());
+    say_all(&mut framer, &bytes, None, sheet)?;
+    sheet.column();
+    sheet.word(if framer.is_idle() { "idle" } else { "open" });
+    Ok(())
+}
+
+/// `BYTES => DISPATCHES`: the same with a `/` behind what each byte hands out.
+pub fn places(row: &Row<'_>, sheet: &mut Sheet) -> Result<(), Fault> {
+    let bytes = row.bytes(0)?;
+    say_all(&mut Framer::new(row.alloc()), &bytes, Some("/"), sheet)
+}

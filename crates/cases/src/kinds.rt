@@ -1,0 +1,63 @@
+//! What runs a case, by the name of its kind.
+use crate::fault::Fault;
+use crate::row::Row;
+use crate::sheet::Sheet;
+use crate::{codes, commands, framing, lines, screens, sequences, streams, values};
+
+// How many arguments a kind takes.
+fn count_of(kind: &str) -> usize {
+    match kind {
+        "csi tokens" | "cell" => 3,
+        "csi" | "code" | "esc" | "text" | "line" | "question" | "screen" | "settled screen" => 2,
+        _ => 1,
+    }
+}
+
+// A kind of values, lines and screens.
+fn answer_value(kind: &str, row: &Row<'_>, sheet: &mut Sheet) -> Result<(), Fault> {
+    match kind {
+        "link" => commands::link(row, sheet),
+        "color" => values::color(row, sheet),
+        "text" => values::text(row, sheet),
+        "cell" => values::cell(row, sheet),
+        "attributes" => values::attribute(row, sheet),
+        "line" => lines::edited(row, sheet),
+        "question" => lines::asked(row, sheet),
+        "screen" => screens::screen(row, sheet),
+        "settled screen" => screens::settled(row, sheet),
+        _ => Err(Fault::Kind),
+    }
+}
+
+// A kind of streams and commands.
+fn answer_stream(kind: &str, row: &Row<'_>, sheet: &mut Sheet) -> Result<(), Fault> {
+    match kind {
+        "osc" => commands::osc(row, sheet),
+        "selection" => commands::selection(row, sheet),
+        "framing" => framing::framing(row, sheet),
+        "framing places" => framing::places(row, sheet),
+        "stream" => streams::stream(row, sheet),
+        "list" => streams::list(row, sheet),
+        "joined" => streams::joined(row, sheet),
+        "first" => streams::first(row, sheet),
+        "first settled" => streams::first_settled(row, sheet),
+        _ => answer_value(kind, row, sheet),
+    }
+}
+
+/// Writes what the call of a kind answers for these arguments.
+pub fn answer(kind: &str, row: &Row<'_>, sheet: &mut Sheet) -> Result<(), Fault> {
+    if row.count() != count_of(kind) {
+        return Err(Fault::Columns);
+    }
+    match kind {
+        "csi" => sequences::csi(row, sheet),
+        "csi tokens" => sequences::csi_tokens(row, sheet),
+        "csi front" => sequences::front(row, sheet),
+        "csi entries" => sequences::cracked(row, sheet),
+        "csi place" => sequences::place(row, sheet),
+        "code" => codes::code(row, sheet),
+        "esc" => sequences::esc(row, sheet),
+        _ => answer_stream(kind, row, sheet),
+    }
+}

@@ -1,0 +1,96 @@
+//! Lines that are made, edited and asked.
+use crate::call::Call;
+use crate::fault::Fault;
+use crate::row::Row;
+use crate::sheet::Sheet;
+use crate::{edits, makers, questions};
+use cell_base::{CellAttributes, ProgramWidth};
+use cell_line::Line;
+use std::alloc::{AllocError, Global};
+
+/// What calls work on: a line, the lines that were cut off it, and the attributes of the cells and texts that calls are given.
+#[derive(Drop)]
+pub struct Page {
+    pub line: Line,
+    pub rows: Vec<Line>,
+    pub pen: CellAttributes,
+}
+
+/// Answers a refusal of memory as a word.
+pub fn told(outcome: Result<(), AllocError>, sheet: &mut Sheet) {
+    sheet.word_if(outcome.is_err(), "refused");
+}
+
+// Makes one call.
+fn make_call(page: &mut Page, call: &Call<'_>, sheet: &mut Sheet) -> Result<(), Fault> {
+    if makers::make(page, call, sheet)? {
+        Ok(())
+    } else if edits::edit(&mut page.line, call, &page.pen, sheet)? {
+        Ok(())
+    } else {
+        questions::ask(&page.line, call, sheet)
+    }
+}
+
+// A page with the line of a text, its attributes plain and its number 0.
+fn page_of(alloc: Global, text: &str) -> Result<Page, Fault> {
+    Ok(Page {
+        line: Line::try_from_text(alloc, text, &ProgramWidth)?,
+        rows: Vec::new(alloc),
+        pen: CellAttributes::blank(),
+    })
+}
+
+// Makes the calls of a column, which have `; ` between them.
+fn make_calls(page: &mut Page, row: &Row<'_>, sheet: &mut Sheet) -> Result<(), Fault> {
+    for words in row.column(1).split(';') {
+        let call = Call::read(row.alloc(), words)?;
+        make_call(page, &call, sheet)?;
+    }
+    Ok(())
+}
+
+// The size at which the line is shown.
+fn size_of(line: &Line) -> &'static str {
+    if line.is_double_width() {
+        "double width"
+    } else if line.is_double_height_top() {
+        "double height, top"
+    } else if line.is_double_height_bottom() {
+        "double height, bottom"
+    } else {
+        "single"
+    }
+}
+
+// The line's text, columns, number and size.
+fn say_line(line: &Line, sheet: &mut Sheet) -> Result<(), Fault> {
+    let text = line.columns_as_str(0..usize::MAX)?;
+    let whole = line.as_str()?;
+    sheet.quoted(whole.as_str());
+    sheet.word_if(text.as_str() != whole.as_str(), "(in columns another)");
+    sheet.column();
+    sheet.show(&line.len());
+    sheet.column();
+    sheet.show(&line.current_seqno());
+    sheet.column();
+    let size = size_of(line);
+    sheet.word(size);
+    sheet.word_if(line.is_single_width() != (size == "single"), "(or not)");
+    Ok(())
+}
+
+/// `TEXT | CALLS => TEXT | COLUMNS | NUMBER | SIZE`: the line of a text with number 0 behind these calls.
+pub fn edited(row: &Row<'_>, sheet: &mut Sheet) -> Result<(), Fault> {
+    let text = row.text(0)?;
+    let mut page = page_of(row.alloc(), text.as_str())?;
+    make_calls(&mut page, row, sheet)?;
+    say_line(&page.line, sheet)
+}
+
+/// `TEXT | CALLS => ANSWERS`: what these calls answer of the line of a text.
+pub fn asked(row: &Row<'_>, sheet: &mut Sheet) -> Result<(), Fault> {
+    let text = row.text(0)?;
+    let mut page = page_of(row.alloc(), text.as_str())?;
+    make_calls(&mut page, row, sheet)
+}

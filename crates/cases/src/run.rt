@@ -1,0 +1,142 @@
+//! A text of cases, run line by line.
+use crate::fault::Fault;
+use crate::row::Row;
+use crate::sheet::Sheet;
+use crate::tally::Tally;
+use crate::{escapes, kinds};
+use std::alloc::Global;
+use std::io::Write;
+
+// What begins a case whose answer must differ from the one that is written.
+const MUST_DIFFER: &str = "differs:";
+
+/// Where a line stands.
+#[derive(Clone, Copy)]
+struct Place<'a> {
+    file: &'a str,
+    line: usize,
+}
+
+// What a case asks for, and what came.
+#[derive(Drop)]
+struct Outcome {
+    expected: Vec<u8>,
+    came: Vec<u8>,
+}
+
+// The bytes that the columns of an answer stand for, each with a bar before it but the first.
+fn expected_of(alloc: Global, text: &str) -> Result<Vec<u8>, Fault> {
+    let mut sheet = Sheet::new(alloc);
+    let mut is_first = true;
+    for column in text.split('|') {
+        if !is_first {
+            sheet.column();
+        }
+        is_first = false;
+        sheet.add(&escapes::read(alloc, column.trim())?);
+    }
+    sheet.finish()
+}
+
+// Runs the case of a line.
+fn outcome_of(alloc: Global, kind: &str, line: &str) -> Result<Outcome, Fault> {
+    let (arguments, answer) = line.split_once(" =>").ok_or(Fault::Arrow)?;
+    let row = Row::read(alloc, arguments)?;
+    let expected = expected_of(alloc, answer)?;
+    let mut sheet = Sheet::new(alloc);
+    kinds::answer(kind, &row, &mut sheet)?;
+    let came = sheet.finish()?;
+    Ok(Outcome { expected, came })
+}
+
+// Writes what a case asks for and what came.
+fn write_outcome<W: Write>(
+    alloc: Global,
+    place: Place<'_>,
+    kind: &str,
+    outcome: &Outcome,
+    out: &mut W,
+) -> Result<(), Fault> {
+    let Place { file, line } = place;
+    let expected = escapes::written(alloc, &outcome.expected)?;
+    let came = escapes::written(alloc, &outcome.came)?;
+    writeln!(
+        out,
+        "{file}:{line}: {kind}\n  expected  {expected}\n  came      {came}"
+    )?;
+    Ok(())
+}
+
+// Runs the case of a line, and writes it where it is not as it is said.
+fn run_case<W: Write>(
+    alloc: Global,
+    place: Place<'_>,
+    kind: &str,
+    line: &str,
+    tally: &mut Tally,
+    out: &mut W,
+) -> Result<(), Fault> {
+    let differing = line.strip_prefix(MUST_DIFFER);
+    let outcome = outcome_of(alloc, kind, differing.unwrap_or(line))?;
+    let is_same = outcome.expected.as_slice() == outcome.came.as_slice();
+    let is_right = is_same == differing.is_none();
+    tally.count(alloc, kind, is_right)?;
+    if is_right {
+        return Ok(());
+    }
+    write_outcome(alloc, place, kind, &outcome, out)
+}
+
+// Runs a line that holds a case, and says so where it can't be read.
+fn run_line<W: Write>(
+    alloc: Global,
+    place: Place<'_>,
+    kind: &str,
+    line: &str,
+    tally: &mut Tally,
+    out: &mut W,
+) -> Result<(), Fault> {
+    match run_case(alloc, place, kind, line, tally, out) {
+        Ok(()) => Ok(()),
+        Err(Fault::Memory) => Err(Fault::Memory),
+        Err(Fault::Write) => Err(Fault::Write),
+        Err(fault) => {
+            tally.count_unread();
+            let Place { file, line } = place;
+            writeln!(out, "{file}:{line}: {fault}")?;
+            Ok(())
+        }
+    }
+}
+
+// The kind that a heading names.
+fn heading_of(line: &str) -> Option<&str> {
+    line.strip_prefix('[')?.strip_suffix(']')
+}
+
+/// Runs the cases of a text: lines `ARGUMENTS => ANSWER` below a heading `[KIND]`. Empty lines and those that begin with
+/// `//` say nothing. Each line that can't be read and each case that differs is written to `out`.
+pub fn run<W: Write>(
+    alloc: Global,
+    file: &str,
+    text: &str,
+    tally: &mut Tally,
+    out: &mut W,
+) -> Result<(), Fault> {
+    let mut kind = "";
+    let mut number = 0usize;
+    for line in text.lines() {
+        number = number.saturating_add(1);
+        let line = line.trim_end();
+        if line.is_empty() || line.starts_with("//") {
+            continue;
+        }
+        if let Some(named) = heading_of(line) {
+            kind = named;
+            continue;
+        }
+        let place = Place { file, line: number };
+        run_line(alloc, place, kind, line, tally, out)?;
+    }
+    Ok(())
+}

@@ -1,0 +1,24 @@
+//! Tests over the public calls of all crates, of what tables of cases can't show: bounds that a caller's own type meets,
+//! readers and writers that fail, iterators, equality, copies, conversions and refusals.
+#![tactic(auto)]
+
+#[cfg(test)]
+mod attributes;
+#[cfg(test)]
+mod clusters;
+#[cfg(test)]
+mod colors;
+#[cfg(test)]
+mod commands;
+#[cfg(test)]
+mod lines;
+#[cfg(test)]
+mod sequences;
+#[cfg(test)]
+mod service;
+#[cfg(test)]
+mod streams;
+#[cfg(test)]
+mod texts;
+#[cfg(test)]
+mod widths;

@@ -1,0 +1,77 @@
+//! Width values of a caller's own, in cells and on screens, and terminals that are fed nothing.
+use cell_base::{Cell, CellAttributes};
+use std::process::Abort;
+use terminal::{ProgramWidth, Terminal, Widths};
+
+// The program's widths, by another value.
+struct OwnWidth;
+
+impl Widths for OwnWidth {
+    ghost use Rattle.cell_base.specs.Cluster.{program_width, program_width_le, program_width-space};
+
+    ghost width_of = { λ _ text. program_width text };
+
+    ghost at_most_two = { λ _ text. program_width_le text };
+
+    ghost space_is_one = { λ _. program_width-space };
+
+    fn width(&self, cluster: &str) -> u8 {
+        ProgramWidth.width(cluster)
+    }
+}
+
+// Each text takes one column.
+#[derive(Clone, Copy)]
+struct Single;
+
+impl Widths for Single {
+    ghost use Rattle.std.proofs.Common.{arith, refl};
+
+    ghost width_of = { λ _ _. 1 };
+
+    ghost at_most_two = { λ _ _. omega arith };
+
+    ghost space_is_one = { λ _. refl };
+
+    fn width(&self, _cluster: &str) -> u8 {
+        1
+    }
+}
+
+#[test]
+fn cells_of_own_widths(rt: HostRuntime) {
+    let cell = Cell::new(rt.alloc(), 'e', CellAttributes::blank(), &OwnWidth).expect(&rt, "memory");
+    assert_eq!(rt; cell.str(), "e");
+}
+
+// The column that a text leads to, whatever the widths.
+fn assert_leads_to<R: Abort + AllocGlobal, W: Widths + Drop>(
+    rt: &R,
+    widths: W,
+    input: &[u8],
+    column: usize,
+) {
+    let mut terminal = Terminal::new(rt.alloc(), 9, 1, widths).expect(rt, "memory");
+    assert!(rt; terminal.feed(input).is_ok());
+    assert!(rt; terminal.settle().is_ok());
+    assert_eq!(rt; terminal.surface().cursor_position().0, column);
+}
+
+#[test]
+fn widths_are_lent(rt: HostRuntime) {
+    assert_leads_to(&rt, ProgramWidth, b"ab c", 4);
+    assert_leads_to(&rt, ProgramWidth, b"\xe3\x81\x8b", 2);
+    assert_leads_to(&rt, Single, b"\xe3\x81\x8b", 1);
+}
+
+#[test]
+fn nothing_fed_changes_nothing(rt: HostRuntime) {
+    let mut terminal = Terminal::new(rt.alloc(), 4, 3, ProgramWidth).expect(&rt, "memory");
+    assert!(rt; terminal.feed(b"").is_ok());
+    assert!(rt; terminal.settle().is_ok());
+    assert_eq!(rt; terminal.current_number(), 0);
+    assert!(rt; !terminal.is_failed());
+    let (width, height) = terminal.surface().dimensions();
+    assert_eq!(rt; width, 4);
+    assert_eq!(rt; height, 3);
+}
