@@ -116,13 +116,12 @@ pub fn read_text(alloc: Global, text: &str) -> Result<String, Fault> {
 
 // A character, by itself where it is a printable one of ASCII and no `\`.
 fn push_shown(text: &mut String, character: char) -> Result<(), Fault> {
+    let number = u32::from(character);
     match character {
         '\\' => text.push_str("\\\\")?,
         ' '..='~' => text.push(character)?,
-        _ => {
-            let number = u32::from(character);
-            write!(text, "\\u{{{number:x}}}")?;
-        }
+        '\0'..='\u{7f}' => write!(text, "\\x{number:02x}")?,
+        _ => write!(text, "\\u{{{number:x}}}")?,
     }
     Ok(())
 }

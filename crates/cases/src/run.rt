@@ -60,9 +60,14 @@ fn write_outcome<W: Write>(
     let Place { file, line } = place;
     let expected = escapes::written(alloc, &outcome.expected)?;
     let came = escapes::written(alloc, &outcome.came)?;
+    let fault = if expected.as_str() == came.as_str() {
+        "must differ"
+    } else {
+        "differs"
+    };
     writeln!(
         out,
-        "{file}:{line}: {kind}\n  expected  {expected}\n  came      {came}"
+        "{file}:{line}: {kind} {fault}\n  expected  {expected}\n  came      {came}"
     )?;
     Ok(())
 }

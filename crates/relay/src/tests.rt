@@ -1,7 +1,9 @@
+//! The program on readers and writers that give and take a few bytes at a time, and fail.
 use crate::service::serve;
 use std::alloc::Global;
 use std::io;
 use std::io::{ErrorKind, Read, Write};
+use std::process::Abort;
 
 /// Gives its bytes a few at a time, and fails at a read.
 #[derive(Drop)]
@@ -68,41 +70,65 @@ fn output_of(alloc: Global, most: usize, writes_left: usize) -> Output {
 
 const SHOW: [&str; 6] = ["relay", "--width", "4", "--height", "3", "--show"];
 
-/// The status, and what was written to the writer and to faults.
-fn served(
-    alloc: Global,
+const NOTHING: &[u8] = b"";
+
+/// What a run answers and writes.
+#[derive(Drop)]
+struct Run {
+    status: u8,
+    text: Vec<u8>,
+    told: Vec<u8>,
+}
+
+/// A run of the words on a reader that gives so many bytes at a time and fails behind so many reads, and on a writer that takes
+/// so many bytes at a time and fails behind so many writes.
+fn run_of<R: AllocGlobal>(
+    rt: &R,
     words: &[&str],
-    mut input: Input,
-    mut output: Output,
-    mut faults: Output,
-) -> (u8, Vec<u8>, Vec<u8>) {
-    let status = serve(alloc, words, &mut input, &mut output, &mut faults);
+    reads: (usize, usize),
+    writes: (usize, usize),
+) -> Run {
+    let mut input = input_in(reads.0, reads.1);
+    let mut output = output_of(rt.alloc(), writes.0, writes.1);
+    let mut faults = output_of(rt.alloc(), 100, 100);
+    let status = serve(rt.alloc(), words, &mut input, &mut output, &mut faults);
     let Output { text, .. } = output;
     let Output { text: told, .. } = faults;
-    (status, text, told)
+    Run { status, text, told }
+}
+
+/// The run of the words has that status, and writes this and tells that.
+fn assert_run<R: Abort + AllocGlobal>(
+    rt: &R,
+    words: &[&str],
+    reads: (usize, usize),
+    writes: (usize, usize),
+    expected: (u8, &[u8], &[u8]),
+) {
+    let run = run_of(rt, words, reads, writes);
+    assert_eq!(rt; run.status, expected.0);
+    assert_eq!(rt; run.text.as_slice(), expected.1);
+    assert_eq!(rt; run.told.as_slice(), expected.2);
 }
 
 #[test]
 fn shows_the_rows(rt: HostRuntime) {
-    let alloc = rt.alloc();
     for most in [1, 5, 100] {
-        let (status, text, told) = served(
-            alloc,
-            &SHOW,
-            input_in(most, 100),
-            output_of(alloc, most, 100),
-            output_of(alloc, 100, 100),
-        );
-        assert_eq!(rt; status, 0);
-        assert_eq!(rt; text.as_slice(), ROWS);
-        assert!(rt; told.is_empty());
+        assert_run(&rt, &SHOW, (most, 100), (most, 100), (0, ROWS, NOTHING));
     }
+}
+
+/// The words show the rows.
+fn assert_shown<R: Abort + AllocGlobal>(rt: &R, words: &[&str]) {
+    let run = run_of(rt, words, (100, 100), (100, 100));
+    assert_eq!(rt; run.status, 0);
+    assert_eq!(rt; run.text.as_slice(), ROWS);
 }
 
 #[test]
 fn takes_each_option_of_a_command_line(rt: HostRuntime) {
-    let alloc = rt.alloc();
-    let lines: [&[&str]; 3] = [
+    assert_shown(
+        &rt,
         &[
             "relay",
             "--show",
@@ -113,118 +139,76 @@ fn takes_each_option_of_a_command_line(rt: HostRuntime) {
             "--width",
             "4",
         ],
-        &["relay", "--width=4", "--height=3"],
+    );
+    assert_shown(&rt, &["relay", "--width=4", "--height=3"]);
+    assert_shown(
+        &rt,
         &["relay", "--every", "1", "--width", "4", "--height", "3"],
-    ];
-    for words in lines {
-        let (status, text, _) = served(
-            alloc,
-            words,
-            input_in(100, 100),
-            output_of(alloc, 100, 100),
-            output_of(alloc, 100, 100),
-        );
-        assert_eq!(rt; status, 0);
-        assert_eq!(rt; text.as_slice(), ROWS);
-    }
+    );
 }
 
 #[test]
 fn tells_of_a_read_that_fails(rt: HostRuntime) {
-    let alloc = rt.alloc();
     for reads in 0..4 {
-        let (status, text, told) = served(
-            alloc,
-            &SHOW,
-            input_in(5, reads),
-            output_of(alloc, 100, 100),
-            output_of(alloc, 100, 100),
-        );
-        assert_eq!(rt; status, 1, "after {reads} reads");
-        assert!(rt; text.is_empty());
-        assert_eq!(rt; told.as_slice(), b"relay: cannot read\n".as_slice());
+        let expected = (1, NOTHING, b"relay: cannot read\n".as_slice());
+        assert_run(&rt, &SHOW, (5, reads), (100, 100), expected);
     }
+}
+
+/// A write fails behind these bytes of the rows.
+fn assert_cut<R: Abort + AllocGlobal>(rt: &R, writes: (usize, usize), text: &[u8]) {
+    let told = b"relay: cannot write\n".as_slice();
+    assert_run(rt, &SHOW, (100, 100), writes, (1, text, told));
 }
 
 #[test]
 fn tells_of_a_write_that_fails(rt: HostRuntime) {
-    let alloc = rt.alloc();
-    for (most, writes) in [(3, 0), (3, 1), (3, 4), (0, 100)] {
-        let (status, text, told) = served(
-            alloc,
-            &SHOW,
-            input_in(100, 100),
-            output_of(alloc, most, writes),
-            output_of(alloc, 100, 100),
-        );
-        assert_eq!(rt; status, 1, "after {writes} writes of {most}");
-        assert!(rt; ROWS.starts_with(text.as_slice()));
-        assert_eq!(rt; told.as_slice(), b"relay: cannot write\n".as_slice());
-    }
+    assert_cut(&rt, (3, 0), NOTHING);
+    assert_cut(&rt, (3, 1), b"foo");
+    assert_cut(&rt, (3, 4), b"foob\naarb\naz");
+    assert_cut(&rt, (0, 100), NOTHING);
 }
 
 #[test]
 fn drops_a_fault_while_faults_are_written(rt: HostRuntime) {
-    let alloc = rt.alloc();
-    let (status, _, told) = served(
-        alloc,
-        &SHOW,
-        input_in(5, 0),
-        output_of(alloc, 100, 100),
-        output_of(alloc, 100, 0),
-    );
+    let mut input = input_in(5, 0);
+    let mut output = output_of(rt.alloc(), 100, 100);
+    let mut faults = output_of(rt.alloc(), 100, 0);
+    let status = serve(rt.alloc(), &SHOW, &mut input, &mut output, &mut faults);
     assert_eq!(rt; status, 1);
-    assert!(rt; told.is_empty());
+    assert!(rt; faults.text.is_empty());
+}
+
+/// The words are refused, and nothing is shown.
+fn assert_refused<R: Abort + AllocGlobal>(rt: &R, words: &[&str]) {
+    let run = run_of(rt, words, (100, 100), (100, 100));
+    assert_eq!(rt; run.status, 2);
+    assert!(rt; run.text.is_empty());
+    assert!(rt; run.told.starts_with(b"error: ".as_slice()));
 }
 
 #[test]
 fn refuses_bad_command_lines(rt: HostRuntime) {
-    let alloc = rt.alloc();
-    let lines: [&[&str]; 8] = [
-        &["relay", "--width", "0"],
-        &["relay", "--width", "4097"],
-        &["relay", "--height", "0"],
-        &["relay", "--height", "x"],
-        &["relay", "--every", "0"],
-        &["relay", "--every", "4294967296"],
-        &["relay", "--depth", "3"],
-        &["relay", "file"],
-    ];
-    for words in lines {
-        let (status, text, told) = served(
-            alloc,
-            words,
-            input_in(100, 100),
-            output_of(alloc, 100, 100),
-            output_of(alloc, 100, 100),
-        );
-        assert_eq!(rt; status, 2);
-        assert!(rt; text.is_empty());
-        assert!(rt; told.starts_with(b"error: ".as_slice()));
-    }
+    assert_refused(&rt, &["relay", "--width", "0"]);
+    assert_refused(&rt, &["relay", "--width", "4097"]);
+    assert_refused(&rt, &["relay", "--height", "0"]);
+    assert_refused(&rt, &["relay", "--height", "x"]);
+    assert_refused(&rt, &["relay", "--every", "0"]);
+    assert_refused(&rt, &["relay", "--every", "4294967296"]);
+    assert_refused(&rt, &["relay", "--depth", "3"]);
+    assert_refused(&rt, &["relay", "file"]);
 }
 
 #[test]
 fn help_goes_to_the_writer(rt: HostRuntime) {
-    let alloc = rt.alloc();
-    let words = ["relay", "--help"];
-    let (status, text, told) = served(
-        alloc,
-        &words,
-        input_in(100, 100),
-        output_of(alloc, 7, 1000),
-        output_of(alloc, 100, 100),
-    );
-    assert_eq!(rt; status, 0);
-    assert!(rt; text.starts_with(b"Keeps the screen".as_slice()));
-    assert!(rt; told.is_empty());
-    let (status, _, told) = served(
-        alloc,
-        &words,
-        input_in(100, 100),
-        output_of(alloc, 7, 0),
-        output_of(alloc, 100, 100),
-    );
-    assert_eq!(rt; status, 1);
-    assert_eq!(rt; told.as_slice(), b"relay: cannot write\n".as_slice());
+    let run = run_of(&rt, &["relay", "--help"], (100, 100), (7, 1000));
+    assert_eq!(rt; run.status, 0);
+    assert!(rt; run.text.starts_with(b"Keeps the screen".as_slice()));
+    assert!(rt; run.told.is_empty());
+}
+
+#[test]
+fn help_that_cannot_be_written(rt: HostRuntime) {
+    let expected = (1, NOTHING, b"relay: cannot write\n".as_slice());
+    assert_run(&rt, &["relay", "--help"], (100, 100), (7, 0), expected);
 }
