@@ -1,12 +1,9 @@
-//! What a reader of a list hands out next, pieces of modes, and spellings that cover a whole list.
+//! How a reader of a list goes on, and pieces of modes.
 ghost use Rattle.std.specs.Prelude.{◌≡◌, if◌then◌else◌, option_map};
-ghost use Rattle.csi_codec.specs.Actions.{all_sgr_tokens, lone_reading, mode_piece};
-ghost use Rattle.csi_codec.specs.Known.{found_mode, known_action};
+ghost use Rattle.csi_codec.specs.Actions.{all_sgr_tokens, mode_piece};
+ghost use Rattle.csi_codec.specs.Known.{found_mode};
 ghost use Rattle.csi_codec.specs.Modes.{mode_reading, private_mode_reading};
 
-use crate::cursors::{Cursor, cursor_reading};
-use crate::devices::{Device, device_reading};
-use crate::edits::{Edit, edit_reading};
 use crate::modes::{Mode, mode_reading, private_mode_reading};
 use crate::parameters::{CsiParam, semicolon_at};
 
@@ -16,14 +13,6 @@ pub(crate) enum Kind {
     Rendition,
     PrivateModes,
     StandardModes,
-}
-
-/// An action that covers a whole list, before it is boxed.
-#[derive(Clone, Copy, Debug)]
-pub(crate) enum Known {
-    Cursor(Cursor),
-    Edit(Edit),
-    Device(Device),
 }
 
 /// How a reader goes on with the list that it has: it has handed out all, or it has read nothing yet (a whole list, or
@@ -73,18 +62,5 @@ fn named_mode(private: bool, value: i64, control: char) -> Option<Mode>
         private_mode_reading(value, control)
     } else {
         mode_reading(value, control)
-    }
-}
-
-/// What one spelling that covers the whole list means.
-pub(crate) fn lone_reading(params: &[CsiParam], control: char) -> Option<Known>
-    ensures { option_map known_action result ≡ lone_reading control params.now }
-{
-    if let Some(value) = cursor_reading(params, control) {
-        Some(Known::Cursor(value))
-    } else if let Some(value) = edit_reading(params, control) {
-        Some(Known::Edit(value))
-    } else {
-        Some(Known::Device(device_reading(params, control)?))
     }
 }

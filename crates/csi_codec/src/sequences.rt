@@ -1,17 +1,17 @@
 //! CSI sequences: what a list of parameters before a final byte means, action by action.
 ghost use Rattle.std.specs.Prelude.{Bool, ◌≡◌, ◌<◌, ◌≤◌, IfNone, IfOk, IfSome, OnErr, Some, ◌∷◌, [], drop, is_some, length, max, option_map};
-ghost use Rattle.csi_codec.specs.Actions.{csi_reading, lone_or, modes_or, piece_of, pieces, sgr_reading, unspecified};
-ghost use Rattle.csi_codec.specs.Known.{found_action, known_action};
+ghost use Rattle.csi_codec.specs.Actions.{device, csi_reading, lone_or, modes_or, piece_of, pieces, sgr_reading, unspecified};
+ghost use Rattle.csi_codec.specs.Known.{found_action};
 ghost use Rattle.csi_codec.specs.Laws.{KeepsRests};
 ghost use Rattle.csi_codec.specs.Parsing.{HasNoPiece, IsFirstPiece, actions_of_reader, kind_of, pending_actions};
 ghost use Rattle.csi_codec.specs.Sequences.{action_of, csi_text, HandsOut, NeedsMemory, rest_of};
 
-use crate::cursors::Cursor;
-use crate::devices::Device;
-use crate::edits::Edit;
+use crate::cursors::{Cursor, cursor_reading};
+use crate::devices::{Device, device_reading};
+use crate::edits::{Edit, edit_reading};
 use crate::modes::Mode;
 use crate::parameters::{CsiParam, Unspecified};
-use crate::pieces::{Kind, Known, Pending, all_sgr_tokens, lone_reading, mode_piece};
+use crate::pieces::{Kind, Pending, all_sgr_tokens, mode_piece};
 use crate::rendition::Sgr;
 use crate::sgr_reading::sgr_piece;
 use std::alloc::{AllocError, Global};
@@ -76,7 +76,7 @@ impl CSI {
             CSI::Cursor(value) => Ok(CSI::Cursor(*value)),
             CSI::Edit(value) => Ok(CSI::Edit(*value)),
             CSI::Mode(value) => Ok(CSI::Mode(*value)),
-            CSI::Device(value) => boxed(alloc, Known::Device(**value)),
+            CSI::Device(value) => request(alloc, **value),
             CSI::Unspecified(rest) => {
                 let copy = rest.try_clone()?;
                 Ok(CSI::Unspecified(Box::new(alloc, copy)?))
@@ -160,18 +160,24 @@ impl<'a> Iterator for CSIParser<'a> {
 
     ghost remaining = { λ s. at_most (length s) };
 
+    #[inline(always)]
     fn next(&mut self) -> Option<Result<CSI, AllocError>> {
+        if let Pending::Done = self.reader.pending {
+            return None;
+        }
         self.reader.next()
     }
 }
 
 impl<'a> Reader<'a> {
     /// The next action.
+    #[inline(never)]
     fn next(&mut self) -> Option<Result<CSI, AllocError>>
         ensures { HandsOut (actions_of_reader self.old) result (actions_of_reader self.new) }
     {
         match self.pending {
             Pending::Done => None,
+            Pending::Pieces(Kind::Rendition) => self.next_piece(Kind::Rendition),
             Pending::Pieces(kind) => self.next_piece(kind),
             Pending::Renditions => self.first_rendition(),
             Pending::Private => self.first_mode(Kind::PrivateModes, tail(self.params)),
@@ -184,16 +190,25 @@ impl<'a> Reader<'a> {
     fn lone(&mut self) -> Option<Result<CSI, AllocError>>
         ensures { HandsOut (lone_or self.old.truncated self.old.control self.old.params.now) result (actions_of_reader self.new) }
     {
-        match lone_reading(self.params, self.control) {
-            Some(known) => {
+        if let Some(value) = cursor_reading(self.params, self.control) {
+            self.pending = Pending::Done;
+            return Some(Ok(CSI::Cursor(value)));
+        }
+        if let Some(value) = edit_reading(self.params, self.control) {
+            self.pending = Pending::Done;
+            return Some(Ok(CSI::Edit(value)));
+        }
+        match device_reading(self.params, self.control) {
+            Some(value) => {
                 self.pending = Pending::Done;
-                Some(boxed(self.alloc, known))
+                Some(request(self.alloc, value))
             }
             None => self.rest(),
         }
     }
 
     /// The list itself, which has no reading.
+    #[inline(never)]
     fn rest(&mut self) -> Option<Result<CSI, AllocError>>
         ensures { HandsOut (unspecified self.old.params.now self.old.truncated self.old.control ∷ []) result (actions_of_reader self.new) }
     {
@@ -202,6 +217,7 @@ impl<'a> Reader<'a> {
     }
 
     /// The first action of a list before `m`.
+    #[inline(always)]
     fn first_rendition(&mut self) -> Option<Result<CSI, AllocError>>
         ensures { HandsOut (sgr_reading self.old.truncated self.old.control self.old.params.now) result (actions_of_reader self.new) }
     {
@@ -230,6 +246,7 @@ impl<'a> Reader<'a> {
     }
 
     /// The next piece, or the list itself where no piece stands.
+    #[inline(always)]
     fn next_piece(&mut self, kind: Kind) -> Option<Result<CSI, AllocError>>
         ensures { HandsOut (pieces (kind_of kind) self.old.truncated self.old.control self.old.params.now) result (actions_of_reader self.new) }
     {
@@ -248,6 +265,7 @@ impl<'a> Reader<'a> {
 
     /// Goes on with the pieces behind one.
     #[tactic(auto, using(crate::proofs::PieceLemmas::pieces_none))]
+    #[inline(always)]
     fn go_on(&mut self, kind: Kind, others: &'a [CsiParam])
         ensures { actions_of_reader self.new ≡ pieces (kind_of kind) self.old.truncated self.old.control others.now }
     {
@@ -271,6 +289,7 @@ fn tail(params: &[CsiParam]) -> &[CsiParam]
 }
 
 /// The piece at the front of a list, and how many tokens it takes.
+#[inline(always)]
 fn piece(kind: Kind, params: &[CsiParam], control: char) -> Option<(CSI, usize)>
     ensures { option_map found_action result ≡ piece_of (kind_of kind) control params.now }
 {
@@ -291,6 +310,7 @@ fn piece(kind: Kind, params: &[CsiParam], control: char) -> Option<(CSI, usize)>
 }
 
 /// The piece at the front of a list, and what follows it.
+#[inline(always)]
 fn split_piece<'a>(
     kind: Kind,
     params: &'a [CsiParam],
@@ -307,6 +327,7 @@ fn split_piece<'a>(
 }
 
 /// What stands behind the first `len` tokens.
+#[inline(always)]
 fn behind(params: &[CsiParam], len: usize) -> &[CsiParam]
     requires { len ≤ length params.now }
     ensures { result.now ≡ drop len params.now }
@@ -314,16 +335,11 @@ fn behind(params: &[CsiParam], len: usize) -> &[CsiParam]
     &params[len..]
 }
 
-/// A known action as a value; a request is boxed.
-fn boxed(alloc: Global, known: Known) -> Result<CSI, AllocError>
-    ensures ok { IfOk result (λ value. action_of value ≡ known_action known) }
-    ensures err { OnErr result (NeedsMemory (known_action known)) }
+/// A request as a value, which is boxed.
+fn request(alloc: Global, value: Device) -> Result<CSI, AllocError>
+    ensures { IfOk result (λ sequence. action_of sequence ≡ device value) }
 {
-    match known {
-        Known::Cursor(value) => Ok(CSI::Cursor(value)),
-        Known::Edit(value) => Ok(CSI::Edit(value)),
-        Known::Device(value) => Ok(CSI::Device(Box::new(alloc, value)?)),
-    }
+    Ok(CSI::Device(Box::new(alloc, value)?))
 }
 
 /// A list without a reading, as a value.

@@ -177,6 +177,7 @@ fn color_form(params: &[CsiParam]) -> Option<(ColorSpec, usize)>
 
 /// What a number that stands alone means.
 #[tactic(auto, unfolding(crate::specs::Rendition::single_code))]
+#[inline(always)]
 fn single_code(code: u8) -> Option<Sgr>
     ensures { result ≡ single_code code }
 {
@@ -255,6 +256,7 @@ fn underline_shape(params: &[CsiParam]) -> Option<(Sgr, usize)>
 
 /// What the longest shape at the front of a list that begins with a number stands for, and how many tokens it takes.
 #[tactic(auto, unfolding(crate::specs::Rendition::numbered_shape))]
+#[inline(always)]
 fn numbered_shape(value: i64, params: &[CsiParam]) -> Option<(Sgr, usize)>
     ensures shape { result ≡ numbered_shape value params.now }
     ensures short { IfSome result (λ found. found.1 ≤ 12) }
@@ -279,6 +281,7 @@ fn numbered_shape(value: i64, params: &[CsiParam]) -> Option<(Sgr, usize)>
 
 /// What the longest shape at the front of a list stands for, and how many tokens it takes.
 #[tactic(auto, unfolding(crate::specs::Rendition::sgr_shape))]
+#[inline(always)]
 fn sgr_shape(params: &[CsiParam]) -> Option<(Sgr, usize)>
     ensures shape { result ≡ sgr_shape params.now }
     ensures short { IfSome result (λ found. found.1 ≤ 12) }
@@ -293,6 +296,7 @@ fn sgr_shape(params: &[CsiParam]) -> Option<(Sgr, usize)>
 
 /// What the piece at the front of a list stands for, and how many tokens it takes with the `;` right behind it.
 #[tactic(auto, unfolding(crate::specs::Rendition::sgr_piece))]
+#[inline(always)]
 pub(crate) fn sgr_piece(params: &[CsiParam]) -> Option<(Sgr, usize)>
     ensures { result ≡ sgr_piece params.now }
 {
