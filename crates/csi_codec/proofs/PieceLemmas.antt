@@ -75,10 +75,10 @@ pieces_found k truncated final (t ∷ ts) a (suc n) e =
     sub_one n = omega arith
 
 -- where none stands the list is left
-pub pieces_left : (k : Kind) (truncated : Bool) (final : ℕ) (ts : List CsiParam) → piece_of k final ts ≡ None → 0 < length ts → pieces k truncated final ts ≡ unspecified ts truncated final ∷ []
+pub pieces_rest : (k : Kind) (truncated : Bool) (final : ℕ) (ts : List CsiParam) → piece_of k final ts ≡ None → 0 < length ts → pieces k truncated final ts ≡ unspecified ts truncated final ∷ []
 unfolding pieces
-pieces_left k truncated final [] e h = absurd (omega arith)
-pieces_left k truncated final (t ∷ ts) e h =
+pieces_rest k truncated final [] e h = absurd (omega arith)
+pieces_rest k truncated final (t ∷ ts) e h =
     let left : List CsiParam → Action = λ rest. unspecified rest truncated final in
     let piece : List CsiParam → Option (Action × ℕ) = piece_of k final in
     ap (λ found. option_map_or (λ f. f.0 ∷ pieces_from piece left (f.1 - 1) ts) found (left (t ∷ ts) ∷ [])) e

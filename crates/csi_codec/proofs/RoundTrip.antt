@@ -20,7 +20,7 @@ use Rattle.csi_codec.specs.Rendition.{taking, sgr_shape, sgr_piece}
 use Rattle.csi_codec.specs.Actions.{Kind, sgr_pieces, private_mode_pieces, standard_mode_pieces, Action, sgr, cursor, edit, mode, device, unspecified, mode_piece, piece_of, pieces_from, pieces, is_sgr_token, all_sgr_tokens, sgr_reading, modes_or, lone_or, standard_reading, other_reading, csi_reading}
 use Rattle.csi_codec.specs.Writable.{WritableActionsReadBack}
 use Rattle.csi_codec.specs.Laws.{ReadsBack, is_exempt, begins_with_question, EachReadsBack, ActionsReadBack}
-use Rattle.csi_codec.proofs.PieceLemmas.{piece_of_takes, pieces_found, pieces_left}
+use Rattle.csi_codec.proofs.PieceLemmas.{piece_of_takes, pieces_found, pieces_rest}
 use Rattle.csi_codec.proofs.ReadWritable.{cursor_reading-writable, edit_reading-writable, private_mode-writable, standard_mode-writable, sgr_shape-writable}
 use Rattle.csi_codec.proofs.TableBack.{cursor_back, edit_back, device_back}
 use Rattle.csi_codec.proofs.SgrBack.{sgr_back}
@@ -95,7 +95,7 @@ module _ (truncated : Bool) where
     unfolding pieces
     pieces-each ts h = from-each 0 ts h
 
-  -- a list that is left whole reads back as it is
+  -- a list that stays whole reads back as it is
   whole-each : (ts : List CsiParam) (final : ℕ) → csi_reading ts truncated final ≡ unspecified ts truncated final ∷ [] → EachReadsBack ts truncated final (unspecified ts truncated final ∷ [])
   whole-each ts final e = (λ x. e, tt)
 
@@ -104,16 +104,16 @@ module _ (truncated : Bool) where
   abbrev AreSgr : List CsiParam → Type 0
   AreSgr ts = all_sgr_tokens ts ≡ true
 
-  sgr_left : (t : CsiParam) (ts : List CsiParam) → AreSgr (t ∷ ts) → piece_of sgr_pieces 109 (t ∷ ts) ≡ None → ReadsBack truncated (unspecified (t ∷ ts) truncated 109)
+  sgr_rest : (t : CsiParam) (ts : List CsiParam) → AreSgr (t ∷ ts) → piece_of sgr_pieces 109 (t ∷ ts) ≡ None → ReadsBack truncated (unspecified (t ∷ ts) truncated 109)
   unfolding csi_reading
-  sgr_left t ts h e =
+  sgr_rest t ts h e =
       ap (λ b. cond b (pieces sgr_pieces truncated 109 (t ∷ ts)) (unspecified (t ∷ ts) truncated 109 ∷ [])) h
-      ∙ pieces_left sgr_pieces truncated 109 (t ∷ ts) e (omega arith)
+      ∙ pieces_rest sgr_pieces truncated 109 (t ∷ ts) e (omega arith)
 
   sgr_by : (t : CsiParam) (ts : List CsiParam) (b : Bool) → all_sgr_tokens (t ∷ ts) ≡ b
       → EachReadsBack (t ∷ ts) truncated 109 (cond b (pieces sgr_pieces truncated 109 (t ∷ ts)) (unspecified (t ∷ ts) truncated 109 ∷ []))
   unfolding csi_reading
-  sgr_by t ts true h = pieces-each sgr_pieces 109 (t ∷ ts) AreSgr (λ u us. and_right (is_sgr_token u) (all_sgr_tokens us)) (λ u us r e x. sgr_left u us r e) (t ∷ ts) h
+  sgr_by t ts true h = pieces-each sgr_pieces 109 (t ∷ ts) AreSgr (λ u us. and_right (is_sgr_token u) (all_sgr_tokens us)) (λ u us r e x. sgr_rest u us r e) (t ∷ ts) h
   sgr_by t ts false h = whole-each (t ∷ ts) 109 (ap (λ b. cond b (pieces sgr_pieces truncated 109 (t ∷ ts)) (unspecified (t ∷ ts) truncated 109 ∷ [])) h)
 
   sgr-each : (ts : List CsiParam) → EachReadsBack ts truncated 109 (sgr_reading truncated 109 ts)
@@ -141,7 +141,7 @@ module _ (truncated : Bool) where
   no_standard_of private_mode_pieces final ts m h e = no_standard final ts h e
   no_standard_of standard_mode_pieces final ts m h e = e
 
-  -- a list without a `?` that no mode begins is left under h and l
+  -- a list without a `?` that no mode begins stays as it is under h and l
   standard_whole : (final : ℕ) (ts : List CsiParam) → eqb final 109 ≡ false → (eqb final 104 || eqb final 108) ≡ true → begins_with_question ts ≡ false → piece_of standard_mode_pieces final ts ≡ None
       → csi_reading ts truncated final ≡ unspecified ts truncated final ∷ []
   unfolding csi_reading
@@ -163,10 +163,10 @@ module _ (truncated : Bool) where
       by true b p q = refl
       by false b p q = absurd (false≢true (sym q ∙ p))
 
-  modes_left : (k : Kind) (final : ℕ) (whole : List CsiParam) → IsModes k → eqb final 109 ≡ false → ((eqb final 104 || eqb final 108) || (eqb final 115 || eqb final 114)) ≡ true
+  modes_rest : (k : Kind) (final : ℕ) (whole : List CsiParam) → IsModes k → eqb final 109 ≡ false → ((eqb final 104 || eqb final 108) || (eqb final 115 || eqb final 114)) ≡ true
       → (t : CsiParam) (ts : List CsiParam) → Shorter whole (t ∷ ts) → piece_of k final (t ∷ ts) ≡ None → is_exempt whole final (unspecified (t ∷ ts) truncated final) ≡ false
       → ReadsBack truncated (unspecified (t ∷ ts) truncated final)
-  modes_left k final whole m o h t ts s e x =
+  modes_rest k final whole m o h t ts s e x =
       let not_exempt : (begins_with_question (t ∷ ts) || (eqb final 115 || eqb final 114)) ≡ false = exempt_not final whole (t ∷ ts) s o x in
       let parts : (begins_with_question (t ∷ ts) ≡ false) × ((eqb final 115 || eqb final 114) ≡ false) = or_false (begins_with_question (t ∷ ts)) (eqb final 115 || eqb final 114) not_exempt in
       let standard : (eqb final 104 || eqb final 108) ≡ true = under_h_or_l final h parts.1 in
@@ -174,7 +174,7 @@ module _ (truncated : Bool) where
 
   modes-each : (k : Kind) (final : ℕ) (whole ts : List CsiParam) → IsModes k → eqb final 109 ≡ false → ((eqb final 104 || eqb final 108) || (eqb final 115 || eqb final 114)) ≡ true
       → Shorter whole ts → EachReadsBack whole truncated final (pieces k truncated final ts)
-  modes-each k final whole ts m o h s = pieces-each k final whole (Shorter whole) (λ t us r. omega arith) (modes_left k final whole m o h) ts s
+  modes-each k final whole ts m o h s = pieces-each k final whole (Shorter whole) (λ t us r. omega arith) (modes_rest k final whole m o h) ts s
 
   -- the first mode stands, and so the others are those of a shorter list
   standing-each : (k : Kind) (final : ℕ) (whole ts : List CsiParam) (found : Option (Action × ℕ)) → IsModes k → eqb final 109 ≡ false

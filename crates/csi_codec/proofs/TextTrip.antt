@@ -107,15 +107,15 @@ piece-written private_mode_pieces final ts a n e = mode_piece-written (private_m
 piece-written standard_mode_pieces final ts a n e = mode_piece-written (mode_reading final) (λ z m q. action_written (mode m) (standard_mode-writable final z m q)) ts a n e
 
 module _ (truncated : Bool) (final : ℕ) (low : 64 ≤ final) (high : final ≤ 126) where
-  left_written : (ts : List CsiParam) → is_spellable ts ≡ true → IsWritten (unspecified ts truncated final)
-  left_written ts h = record { params = h; low = low; high = high }
+  rest_written : (ts : List CsiParam) → is_spellable ts ≡ true → IsWritten (unspecified ts truncated final)
+  rest_written ts h = record { params = h; low = low; high = high }
 
   abbrev from : Kind → ℕ → List CsiParam → List Action
   from k = pieces_from (piece_of k final) (λ rest. unspecified rest truncated final)
 
   from_found : (k : Kind) (t : CsiParam) (ts : List CsiParam) (others : ℕ → List Action) (found : Option (Action × ℕ)) → piece_of k final (t ∷ ts) ≡ found → is_spellable (t ∷ ts) ≡ true
       → ((j : ℕ) → EachIsWritten (others j)) → EachIsWritten (option_map_or (λ f. f.0 ∷ others (f.1 - 1)) found (unspecified (t ∷ ts) truncated final ∷ []))
-  from_found k t ts others None e h each = (left_written (t ∷ ts) h, tt)
+  from_found k t ts others None e h each = (rest_written (t ∷ ts) h, tt)
   from_found k t ts others (Some f) e h each = (piece-written k final (t ∷ ts) f.0 f.1 e, each (f.1 - 1))
 
   from-each : (k : Kind) (j : ℕ) (ts : List CsiParam) → is_spellable ts ≡ true → EachIsWritten (from k j ts)
@@ -133,14 +133,14 @@ module _ (truncated : Bool) (final : ℕ) (low : 64 ≤ final) (high : final ≤
   chosen false x y h k = k
 
   modes-written : (k : Kind) (ts whole : List CsiParam) → is_spellable ts ≡ true → is_spellable whole ≡ true → EachIsWritten (modes_or k truncated final ts whole)
-  modes-written k ts whole h w = chosen (is_some (piece_of k final ts)) _ _ (pieces-written k ts h) (left_written whole w, tt)
+  modes-written k ts whole h w = chosen (is_some (piece_of k final ts)) _ _ (pieces-written k ts h) (rest_written whole w, tt)
 
   lone_by : (ts : List CsiParam) (c : Option Cursor) (e : Option Edit) (d : Option Device) → cursor_reading final ts ≡ c → edit_reading final ts ≡ e → device_reading final ts ≡ d → is_spellable ts ≡ true
       → EachIsWritten (option_map_or (λ known. known ∷ []) (option_or (option_map cursor c) (option_or (option_map edit e) (option_map device d))) (unspecified ts truncated final ∷ []))
   lone_by ts (Some c) e d p q r h = (action_written (cursor c) (cursor_reading-writable final ts c p), tt)
   lone_by ts None (Some e) d p q r h = (action_written (edit e) (edit_reading-writable final ts e q), tt)
   lone_by ts None None (Some d) p q r h = (action_written (device d) tt, tt)
-  lone_by ts None None None p q r h = (left_written ts h, tt)
+  lone_by ts None None None p q r h = (rest_written ts h, tt)
 
   standard-written : (ts : List CsiParam) → is_spellable ts ≡ true → EachIsWritten (standard_reading truncated final ts)
   standard-written ts h = chosen (eqb final 104 || eqb final 108) _ _ (modes-written standard_mode_pieces ts ts h h)
@@ -153,7 +153,7 @@ module _ (truncated : Bool) (final : ℕ) (low : 64 ≤ final) (high : final ≤
 
   sgr-written : (ts : List CsiParam) → is_spellable ts ≡ true → EachIsWritten (sgr_reading truncated final ts)
   sgr-written [] h = (action_written (sgr value.Reset) tt, tt)
-  sgr-written (t ∷ ts) h = chosen (all_sgr_tokens (t ∷ ts)) _ _ (pieces-written sgr_pieces (t ∷ ts) h) (left_written (t ∷ ts) h, tt)
+  sgr-written (t ∷ ts) h = chosen (all_sgr_tokens (t ∷ ts)) _ _ (pieces-written sgr_pieces (t ∷ ts) h) (rest_written (t ∷ ts) h, tt)
 
   pub reading-written : (ts : List CsiParam) → is_spellable ts ≡ true → EachIsWritten (csi_reading ts truncated final)
   unfolding csi_reading

@@ -17,7 +17,7 @@ use Rattle.csi_codec.specs.declared.edits.Edit.{Edit}
 use Rattle.csi_codec.specs.declared.modes.Mode.{Mode}
 use Rattle.csi_codec.specs.declared.devices.Device.{Device}
 
--- an action, without where it lies in memory; what is left keeps its parameters, flag and final byte
+-- an action, without where it lies in memory; the rest of a list keeps its parameters, flag and final byte
 pub data Action : Type 0 where
   sgr : Sgr → Action
   cursor : Cursor → Action
@@ -50,12 +50,12 @@ piece_of sgr_pieces final ts = rendition_piece ts
 piece_of private_mode_pieces final ts = mode_piece (private_mode_reading final) ts
 piece_of standard_mode_pieces final ts = mode_piece (mode_reading final) ts
 
--- the actions of a list whose first k tokens are used up: piece after piece, and what no piece fits as it is left
+-- the actions of a list whose first k tokens are used up: piece after piece, and what no piece fits as it is
 abbrev pub pieces_from : (List CsiParam → Option (Action × ℕ)) → (List CsiParam → Action) → ℕ → List CsiParam → List Action
-pieces_from piece left k [] = []
-pieces_from piece left (suc k) (t ∷ ts) = pieces_from piece left k ts
-pieces_from piece left zero (t ∷ ts) =
-    option_map_or (λ found. found.0 ∷ pieces_from piece left (found.1 - 1) ts) (piece (t ∷ ts)) (left (t ∷ ts) ∷ [])
+pieces_from piece rest k [] = []
+pieces_from piece rest (suc k) (t ∷ ts) = pieces_from piece rest k ts
+pieces_from piece rest zero (t ∷ ts) =
+    option_map_or (λ found. found.0 ∷ pieces_from piece rest (found.1 - 1) ts) (piece (t ∷ ts)) (rest (t ∷ ts) ∷ [])
 
 -- the actions of a list of pieces, under a flag and a final byte
 unfoldable pub pieces : Kind → Bool → ℕ → List CsiParam → List Action
@@ -78,7 +78,7 @@ sgr_reading truncated final [] = sgr Reset ∷ []
 sgr_reading truncated final (t ∷ ts) =
     if all_sgr_tokens (t ∷ ts) then pieces sgr_pieces truncated final (t ∷ ts) else unspecified (t ∷ ts) truncated final ∷ []
 
--- at least one mode must stand, else the whole list is left
+-- at least one mode must stand, else the whole list stays as it is
 abbrev pub modes_or : Kind → Bool → ℕ → List CsiParam → List CsiParam → List Action
 modes_or modes truncated final ts whole =
     if is_some (piece_of modes final ts) then pieces modes truncated final ts else unspecified whole truncated final ∷ []

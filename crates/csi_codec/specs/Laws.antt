@@ -8,7 +8,7 @@ use Rattle.csi_codec.specs.Actions.{Action, sgr, cursor, edit, mode, device, uns
 abbrev pub IsSuffix : List CsiParam → List CsiParam → Type 0
 IsSuffix rest ts = (n : ℕ) × (rest ≡ drop n ts)
 
--- what is left is a suffix of the list, keeps the flag and the final byte, and comes last
+-- the rest is a suffix of the list, keeps the flag and the final byte, and comes last
 abbrev pub KeepsRests : List CsiParam → Bool → ℕ → List Action → Type 0
 KeepsRests ts truncated final [] = Unit {0}
 KeepsRests ts truncated final (unspecified rest flag control ∷ others) =
@@ -29,7 +29,7 @@ ends_in_semicolon [] = false
 ends_in_semicolon (t ∷ []) = is_semicolon t
 ends_in_semicolon (t ∷ u ∷ ts) = ends_in_semicolon (u ∷ ts)
 
--- no action is what is left
+-- no action is the rest of a list
 abbrev pub is_known : Action → Bool
 is_known (unspecified rest truncated final) = false
 is_known (sgr value) = true
@@ -67,7 +67,7 @@ begins_with_question [] = false
 begins_with_question (Integer z ∷ ts) = false
 begins_with_question (P b ∷ ts) = b == 63
 
--- the exception: what is left of modes, behind some that stand, and that begins with a `?` or stands under s or r
+-- the exception: a rest of modes, behind some that stand, and that begins with a `?` or stands under s or r
 abbrev pub is_exempt : List CsiParam → ℕ → Action → Bool
 is_exempt ts final (unspecified rest truncated control) =
     nat_lt (length rest) (length ts) && not (final == 109) && (begins_with_question rest || (final == 115 || final == 114))

@@ -105,7 +105,7 @@ spelled_text s = flat_map token_text s.params ++ encode_utf8 s.control
 abbrev pub number_tokens : ℕ → List CsiParam
 number_tokens n = Integer (pos n) ∷ []
 
--- a count, left out where it is 1
+-- a count, not written where it is 1
 abbrev pub count_tokens : ℕ → List CsiParam
 count_tokens n = if n == 1 then [] else number_tokens n
 
@@ -113,7 +113,7 @@ count_tokens n = if n == 1 then [] else number_tokens n
 abbrev pub pair_tokens : ℕ → ℕ → List CsiParam
 pair_tokens a b = Integer (pos a) ∷ P 59 ∷ Integer (pos b) ∷ []
 
--- the extent of an erasure, left out where it is 0
+-- the extent of an erasure, not written where it is 0
 abbrev pub extent_tokens : ℕ → List CsiParam
 extent_tokens n = if n == 0 then [] else number_tokens n
 

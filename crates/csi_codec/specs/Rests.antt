@@ -1,4 +1,4 @@
--- What is left of a list, without where it lies in memory.
+-- The rest of a list, without where it lies in memory.
 use Rattle.std.specs.Prelude.{◌≡◌}
 use Rattle.csi_codec.specs.declared.parameters.Unspecified.{Unspecified}
 

@@ -9,7 +9,7 @@ use Rattle.csi_codec.specs.declared.sequences.CSI.TheVariants as csi
 
 -- a CSI value without where it lies in memory
 abbrev pub rest_of : Unspecified → Action
-rest_of left = unspecified left.params.items left.parameters_truncated left.control
+rest_of rest = unspecified rest.params.items rest.parameters_truncated rest.control
 
 abbrev pub action_of : CSI → Action
 action_of (csi.Sgr value) = sgr value
@@ -17,9 +17,9 @@ action_of (csi.Cursor value) = cursor value
 action_of (csi.Edit value) = edit value
 action_of (csi.Mode value) = mode value
 action_of (csi.Device value) = device value.value
-action_of (csi.Unspecified left) = rest_of left.value
+action_of (csi.Unspecified rest) = rest_of rest.value
 
--- requests and what is left are boxed, and so need memory
+-- requests and the rest of a list are boxed, and so need memory
 abbrev pub NeedsMemory : Action → Type 0
 NeedsMemory (device value) = Unit {0}
 NeedsMemory (unspecified params truncated final) = Unit {0}
@@ -29,8 +29,8 @@ abbrev pub FirstNeedsMemory : List Action → Type 0
 FirstNeedsMemory [] = ⊥
 FirstNeedsMemory (first ∷ others) = NeedsMemory first
 
--- one step of the iterator: the first of the actions that are left, or nothing where none is left;
--- where memory was refused no action is left
+-- one step of the iterator: the first of the actions that are to come, or nothing where none is;
+-- where memory was refused no action is to come
 abbrev pub HandsOut : List Action → Option (Result CSI AllocError) → List Action → Type 0
 HandsOut before None after = (before ≡ []) × (after ≡ [])
 HandsOut before (Some (Ok value)) after = before ≡ action_of value ∷ after

@@ -120,7 +120,7 @@ IsWritableSgr (value.Foreground c) = IsColour c
 IsWritableSgr (value.Background c) = IsColour c
 IsWritableSgr (value.UnderlineColor c) = IsColour c
 
--- an action that a program can build and write; what is left of a list is none
+-- an action that a program can build and write; the rest of a list is none
 abbrev pub IsWritable : Action → Type 0
 IsWritable (sgr v) = IsWritableSgr v
 IsWritable (cursor c) = IsWritableCursor c

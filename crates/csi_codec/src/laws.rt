@@ -39,7 +39,7 @@ pub fn sgr_lists_join()
 {}
 
 /// The parameters and the final byte that are written for an action of a list mean that action, under the same flag;
-/// but for what is left of modes behind some that stand, where it begins with `?` or stands under `s` or `r`.
+/// but for a rest of modes behind some that stand, where it begins with `?` or stands under `s` or `r`.
 pub fn actions_read_back()
     ensures { ActionsReadBack }
 {}
@@ -50,7 +50,7 @@ pub fn parameters_read_back()
 {}
 
 /// The printed actions of a spellable list with a final byte from `@` to `~` read back under the same flag; but for
-/// what is left of modes behind some that stand, where it begins with `?` or stands under `s` or `r`.
+/// a rest of modes behind some that stand, where it begins with `?` or stands under `s` or `r`.
 pub fn texts_read_back()
     ensures { TextsReadBack }
 {}

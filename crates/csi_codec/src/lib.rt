@@ -16,6 +16,7 @@ mod pieces;
 mod rendition;
 mod sequences;
 mod sgr_reading;
+mod sgr_spelling;
 mod spelling;
 
 pub use cracking::Cracked;

@@ -47,7 +47,7 @@ impl fmt::Display for CSI {
 
 impl CSI {
     /// Reads a list of parameters before a final byte. The flag says that parameters were dropped; it changes no
-    /// reading, and what is left keeps it. Nothing is allocated until the actions are asked for.
+    /// reading, and the rest keeps it. Nothing is allocated until the actions are asked for.
     pub fn parse<'a>(
         alloc: Global,
         params: &'a [CsiParam],
@@ -60,13 +60,13 @@ impl CSI {
         ensures some { 0 < length result }
         ensures bounded { length result ≤ max 1 (length params.now) }
 
-        // What is left is a suffix of the list, keeps the flag and the final byte, and comes last.
+        // The rest is a suffix of the list, keeps the flag and the final byte, and comes last.
         ensures rests { KeepsRests params.now parameters_truncated control result }
     {
         by_final_byte(alloc, params, parameters_truncated, control)
     }
 
-    /// A copy. Only a request and what is left of a list take memory, and so can be refused.
+    /// A copy. Only a request and the rest of a list take memory, and so can be refused.
     pub fn try_clone(&self, alloc: Global) -> Result<Self, AllocError>
         ensures copy { IfOk result (λ copy. action_of copy ≡ action_of self.now) }
         ensures refused { OnErr result (NeedsMemory (action_of self.now)) }

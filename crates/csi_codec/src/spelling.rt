@@ -66,7 +66,7 @@ pub(crate) fn number_spelling(number: u32, control: char) -> Spelling
     Spelling::new(&[CsiParam::Integer(i64::from(number))], control)
 }
 
-/// A count, left out where it is 1.
+/// A count, not written where it is 1.
 pub(crate) fn count_spelling(count: u32, control: char) -> Spelling
     ensures { result ≡ spelled (count_tokens count) control }
 {
@@ -86,7 +86,7 @@ pub(crate) fn pair_spelling(a: OneBased, b: OneBased, control: char) -> Spelling
     Spelling::new(&[first, CsiParam::P(b';'), second], control)
 }
 
-/// The extent of an erasure, left out where it is 0.
+/// The extent of an erasure, not written where it is 0.
 pub(crate) fn erase_spelling(extent: u16, control: char) -> Spelling
     ensures { result ≡ spelled (extent_tokens extent) control }
 {

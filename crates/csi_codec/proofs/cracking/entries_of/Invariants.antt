@@ -1,4 +1,4 @@
--- The entries so far, then those of what is left, are the whole.
+-- The entries so far, then those of the rest, are the whole.
 use Rattle.std.proofs.Common.{◌≡◌, ◌++◌, drop}
 use Rattle.csi_codec.specs.Cracking.{entries, cracked}
 use Rattle.csi_codec.proofs.cracking.entries_of.Given as goal

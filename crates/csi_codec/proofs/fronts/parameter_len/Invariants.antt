@@ -1,4 +1,4 @@
--- The bytes so far, and those of what is left, are the whole.
+-- The bytes so far, and those of the rest, are the whole.
 use Rattle.std.proofs.Common.{◌≡◌, ◌+◌, drop}
 use Rattle.csi_codec.specs.Keeping.{parameter_len}
 use Rattle.csi_codec.proofs.fronts.parameter_len.Given as goal

@@ -3,7 +3,7 @@ use Rattle.std.proofs.Common.{◌∷◌, sym, ap, ◌∙◌}
 use Rattle.csi_codec.specs.Actions.{pieces}
 use Rattle.csi_codec.specs.Sequences.{action_of}
 use Rattle.csi_codec.specs.Parsing.{kind_of}
-use Rattle.csi_codec.proofs.PieceLemmas.{piece_of_takes, pieces_found, pieces_left, pieces_none}
+use Rattle.csi_codec.proofs.PieceLemmas.{piece_of_takes, pieces_found, pieces_rest, pieces_none}
 use Rattle.csi_codec.proofs.sequences.split_piece.Goals as goal
 
 pub behind-requires : goal.behind-requires
@@ -12,7 +12,7 @@ behind-requires c = (piece_of_takes (kind_of c.args.kind) c.args.control c.args.
 pub returns-in-None-clause-none : goal.returns-in-None-clause-none
 returns-in-None-clause-none c = record {
   none = λ truncated h. pieces_none (kind_of c.args.kind) truncated c.args.control c.args.params.now h;
-  rest = λ truncated h. pieces_left (kind_of c.args.kind) truncated c.args.control c.args.params.now (sym c.in-None.ensures) h;
+  rest = λ truncated h. pieces_rest (kind_of c.args.kind) truncated c.args.control c.args.params.now (sym c.in-None.ensures) h;
 }
 
 pub returns-in-Some-clause-found : goal.returns-in-Some-clause-found
