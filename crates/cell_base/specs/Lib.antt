@@ -1,4 +1,6 @@
 pub mod AttributeChange
+pub mod AttributeValue
+pub mod AttributeValueOf
 pub mod Attributes
 pub mod AttributesView
 pub mod Color

@@ -5,7 +5,7 @@ use Rattle.cell_base.specs.Attributes.{Attributes, plain}
 use Rattle.cell_base.specs.Cluster.{clusters}
 use Rattle.cell_base.specs.Row.{Row, space, plain_row, columns_of, set_columns, row_text}
 
--- Rows of `width` columns, the cursor's column and row counted from 0, whether it is shown, and the pen's attributes.
+-- Rows of `width` columns, the cursor's column and row counted from 0, whether it is shown, the pen's attributes, and the title, a text.
 -- At column `width` a wrap is pending.
 pub record Screen : Type 0 where
   pub width : ℕ
@@ -14,6 +14,7 @@ pub record Screen : Type 0 where
   pub row : ℕ
   pub visible : Bool
   pub pen : Attributes
+  pub title : List ℕ
 
 -- what each screen keeps
 pub record IsScreen (screen : Screen) : Type 0 where
@@ -25,9 +26,9 @@ pub record IsScreen (screen : Screen) : Type 0 where
 abbrev pub height : Screen → ℕ
 height screen = length screen.rows
 
--- plain blanks, with the cursor at home
+-- plain blanks, with the cursor at home and no title
 abbrev pub new_screen : ℕ → ℕ → Screen
-new_screen width height = record { width = width; rows = replicate height (plain_row width); column = 0; row = 0; visible = true; pen = plain }
+new_screen width height = record { width = width; rows = replicate height (plain_row width); column = 0; row = 0; visible = true; pen = plain; title = [] }
 
 -- the first row goes, and a plain one comes below
 abbrev pub scrolled : Screen → Screen

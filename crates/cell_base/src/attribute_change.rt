@@ -25,11 +25,13 @@ pub enum AttributeChange {
 
 impl AttributeChange {
     ghost use Rattle.cell_base.specs.AttributeChange.{changed_by};
+    ghost use Rattle.cell_base.specs.AttributeValueOf.{attribute_value};
 
     /// A copy that shares the link.
     pub fn try_clone(&self) -> Result<AttributeChange, AllocError>
-        ensures { IfOk result
+        ensures effect { IfOk result
             (λ copy. (a : Attributes) → changed_by a copy ≡ changed_by a self.now) }
+        ensures value { IfOk result (λ copy. attribute_value copy ≡ attribute_value self.now) }
     {
         Ok(match self {
             AttributeChange::Intensity(value) => AttributeChange::Intensity(*value),

@@ -1,1 +1,2 @@
+pub mod LawfulScreens
 pub mod RowLemmas

@@ -1,7 +1,6 @@
 pub mod KindLemmas
 pub mod DecoderLemmas
 pub mod ScreenLemmas
-pub mod LawfulScreens
 pub mod VecLemmas
 pub mod MeaningLemmas
 pub mod FeedLemmas

@@ -3,7 +3,7 @@ use Rattle.cell_base.specs.Row.{plain_row}
 use Rattle.cell_base.specs.Screen.{Screen, IsScreen, scrolled}
 use Rattle.terminal.specs.ColumnView.{rows_in}
 use Rattle.terminal.specs.ScreenView.{screen_of}
-use Rattle.terminal.proofs.LawfulScreens.{scrolled_is, scrolled_view}
+use Rattle.cell_rows.proofs.LawfulScreens.{scrolled_is, scrolled_view}
 use Rattle.terminal.proofs.VecLemmas.{written}
 use Rattle.terminal.proofs.screen.Screen.line_feed.Goals as goal
 

@@ -5,7 +5,7 @@ use Rattle.cell_base.specs.Row.{columns_of, set_columns}
 use Rattle.cell_base.specs.Screen.{Screen, IsScreen}
 use Rattle.terminal.specs.ColumnView.{glyph_text, rows_in}
 use Rattle.terminal.specs.ScreenView.{screen_of}
-use Rattle.terminal.proofs.LawfulScreens.{write_columns_is, written_view}
+use Rattle.cell_rows.proofs.LawfulScreens.{write_columns_is, written_view}
 use Rattle.terminal.proofs.ScreenLemmas.{length-columns_of}
 use Rattle.terminal.proofs.VecLemmas.{written}
 use Rattle.terminal.proofs.screen.Screen.write.Goals as goal

@@ -1,12 +1,14 @@
 -- What is done to a screen leaves a screen.
-use Rattle.std.proofs.Common.{◌≡◌, ℕ, zero, suc, ◌+◌, ◌-◌, ◌<◌, ◌≤◌, ◌⊎◌, Bool, true, false, cond, List, [], ◌∷◌, ◌++◌, length, get_or, take, drop, set, refl, sym, ap, subst, ◌∙◌, arith, length-append, length-drop, length-take, length-set}
-use Rattle.std.specs.Prelude.{All, ◌==◌, replicate}
+use Rattle.std.proofs.Common.{◌≡◌, ℕ, zero, suc, ◌+◌, ◌<◌, ◌≤◌, Bool, true, false, List, [], ◌∷◌, ◌++◌, length, get_or, drop, set, refl, sym, ap, ◌∙◌, arith, length-append, length-drop, length-set}
+use Rattle.std.specs.Prelude.{All, ◌==◌, ◌&&◌, nat_lt, nat_le, replicate, if◌then◌else◌}
+use Rattle.std.proofs.lemmas.Bool.{ltb-true, ltb-false}
 use Rattle.std.proofs.lemmas.Bool.Decides.{nat_tests}
 use Rattle.std.proofs.lemmas.List.{length-replicate}
 use Rattle.std.proofs.lemmas.List.Elements.{All-append, All-drop, All-set}
 use Rattle.cell_base.specs.Attributes.{plain}
-use Rattle.cell_base.specs.Row.{Row, blank, plain_row, closed_end, closed_start, set_columns}
-use Rattle.cell_base.specs.Screen.{Screen, IsScreen, height, scrolled, line_feed, carriage_return, write_columns}
+use Rattle.cell_base.specs.Row.{Row, space, blank, plain_row, columns_of, set_columns}
+use Rattle.cell_base.specs.Screen.{Screen, IsScreen, height, new_screen, scrolled, line_feed, carriage_return, write_columns, cluster_columns, put}
+use Rattle.cell_rows.proofs.RowLemmas.{length-set_columns}
 
 abbrev IsEven : ℕ → Row → Type 0
 IsEven width row = length row ≡ width
@@ -43,18 +45,6 @@ scrolled_view s rows h e = ap (λ (l : List Row). record s { rows = l }) (e ∙ 
 
 -- ---- columns that are written
 
-length-closed_end : (r : Row) → length (closed_end r) ≡ length r
-length-closed_end [] = refl
-length-closed_end (x ∷ []) = refl
-length-closed_end (x ∷ y ∷ r) = ap suc (length-closed_end (y ∷ r))
-
-length-closed_start : (r : Row) → length (closed_start r) ≡ length r
-length-closed_start [] = refl
-length-closed_start (x ∷ r) = refl
-
-length-set_columns : (r : Row) (at : ℕ) (columns : Row) → at + length columns ≤ length r → length (set_columns r at columns) ≡ length r
-length-set_columns r at columns h = omega (arith, length-append (closed_end (take at r) ++ columns) (closed_start (drop (at + length columns) r)), length-append (closed_end (take at r)) columns, length-closed_end (take at r), length-closed_start (drop (at + length columns) r), length-take at r, length-drop (at + length columns) r)
-
 -- the row of the cursor is as wide as the screen
 pub cursor_row : (s : Screen) → IsScreen s → length (get_or s.rows s.row []) ≡ s.width
 cursor_row s h = h.even s.row [] h.row_in
@@ -74,3 +64,44 @@ write_columns_is s columns h fits =
 pub written_view : (s : Screen) (rows : List Row) (columns : Row) (k : ℕ) → length columns ≡ k
     → rows ≡ set s.rows s.row (set_columns (get_or s.rows s.row []) s.column columns) → record s { rows = rows; column = s.column + k } ≡ write_columns columns s
 written_view s rows columns k e f = (λ i. record s { rows = f i; column = s.column + sym e i })
+
+-- ---- new screens, and clusters that are put
+
+same_rows : (width n : ℕ) → All (IsEven width) (replicate n (plain_row width))
+same_rows width zero k d h = absurd (omega arith)
+same_rows width (suc n) zero d h = length-replicate width (blank plain)
+same_rows width (suc n) (suc k) d h = same_rows width n k d (omega arith)
+
+pub new_screen_is : (width n : ℕ) → 0 < width → 0 < n → IsScreen (new_screen width n)
+new_screen_is width n w h = record {
+  wide_enough = w;
+  even = same_rows width n;
+  column_in = omega arith;
+  row_in = let k = length-replicate n (plain_row width) in omega arith;
+}
+
+-- columns that are written where they fit, in the next row if not
+pub written_is : (s : Screen) (columns : Row) → IsScreen s → length columns ≤ s.width → IsScreen (write_columns columns (if nat_lt s.width (s.column + length columns) then carriage_return (line_feed s) else s))
+written_is s columns h fits = by_test (nat_lt s.width (s.column + length columns)) refl
+  where
+    wide_after : (x : Bool) → (s.row + 1 == height s) ≡ x → (line_feed s).width ≡ s.width
+    wide_after true e = rw e refl
+    wide_after false e = rw e refl
+
+    by_test : (x : Bool) → nat_lt s.width (s.column + length columns) ≡ x → IsScreen (write_columns columns (if nat_lt s.width (s.column + length columns) then carriage_return (line_feed s) else s))
+    by_test true e =
+        let w = wide_after (s.row + 1 == height s) refl in
+        rw e (write_columns_is (carriage_return (line_feed s)) columns (carriage_return_is (line_feed s) (line_feed_is s h)) (omega arith))
+    by_test false e = let le = ltb-false s.width (s.column + length columns) e in rw e (write_columns_is s columns h (omega arith))
+
+-- a cluster takes one column, or two where there are two
+cluster_fits : (width_of : List ℕ → ℕ) (s : Screen) (cluster : List ℕ) → IsScreen s → length (cluster_columns width_of s cluster) ≤ s.width
+cluster_fits width_of s cluster h = fits (nat_le 2 (width_of cluster)) (nat_lt 1 s.width) refl
+  where
+    fits : (wide room : Bool) → nat_lt 1 s.width ≡ room → length (columns_of (if nat_le 2 (width_of cluster) && s.width == 1 then space else cluster) (wide && room) s.pen) ≤ s.width
+    fits true true e = ltb-true 1 s.width e
+    fits true false e = h.wide_enough
+    fits false room e = h.wide_enough
+
+pub put_is : (width_of : List ℕ → ℕ) (s : Screen) (cluster : List ℕ) → IsScreen s → IsScreen (put width_of s cluster)
+put_is width_of s cluster h = written_is s (cluster_columns width_of s cluster) h (cluster_fits width_of s cluster h)

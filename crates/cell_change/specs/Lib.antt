@@ -1,0 +1,2 @@
+pub mod ChangeValue
+pub mod ValueOf
