@@ -1,5 +1,5 @@
 //! Cells: a text of one cluster with its width and attributes.
-ghost use Rattle.std.specs.Prelude.{◌≡◌, ◌≤◌, ◌↔◌, true, [], ◌∷◌, encode_utf8, IfOk, IsTrue};
+ghost use Rattle.std.specs.Prelude.{◌≡◌, ◌≤◌, ◌↔◌, true, [], ◌∷◌, encode_utf8, IfOk, OnOk, OnErr, IsTrue};
 ghost use Rattle.std.specs.Borrow.{sem};
 ghost use Rattle.cell_base.specs.Attributes.{plain};
 ghost use Rattle.cell_base.specs.CellContent.{cell_of, blank_cell};
@@ -94,6 +94,19 @@ impl Cell {
             wide: false,
             attributes: attrs,
         }
+    }
+
+    /// Becomes the cell of a printable ASCII character (20h to 7Eh), of one column. It asks for no
+    /// memory of its own; a refused one stays as it was.
+    pub fn set_ascii(&mut self, character: u8, attrs: &CellAttributes) -> Result<(), AllocError>
+        requires { is_printable character ≡ true }
+        ensures done { OnOk result (self.new ≡ cell_of (character ∷ []) 1 attrs.now) }
+        ensures refused { OnErr result (self.new ≡ self.old) }
+    {
+        self.attributes.copy_from(attrs)?;
+        self.text = CellText::of_ascii(character);
+        self.wide = false;
+        Ok(())
     }
 
     /// A space with plain attributes.

@@ -1,5 +1,5 @@
 //! The attributes of a cell.
-ghost use Rattle.std.specs.Prelude.{◌≡◌, ◌↔◌, IfOk, IsTrue};
+ghost use Rattle.std.specs.Prelude.{◌≡◌, ◌↔◌, IfOk, OnOk, OnErr, IsTrue};
 ghost use Rattle.std.specs.Option.{option_map};
 ghost use Rattle.cell_base.specs.Attributes.{plain, sgr_only, style_of};
 ghost use Rattle.cell_base.specs.AttributeChange.{changed_by};
@@ -399,6 +399,20 @@ impl CellAttributes {
             && self.background == other.background
             && self.underline_color == other.underline_color
             && same_hyperlink(self.hyperlink(), other.hyperlink())
+    }
+
+    /// Becomes a copy of other attributes that shares their link; a refused one stays as it was.
+    pub fn copy_from(&mut self, other: &CellAttributes) -> Result<(), AllocError>
+        ensures done { OnOk result (self.new ≡ other.now) }
+        ensures refused { OnErr result (self.new ≡ self.old) }
+    {
+        let hyperlink = other.hyperlink.clone()?;
+        self.style = other.style;
+        self.foreground = other.foreground;
+        self.background = other.background;
+        self.underline_color = other.underline_color;
+        self.hyperlink = hyperlink;
+        Ok(())
     }
 
     /// A copy that shares the link.

@@ -1,8 +1,8 @@
 //! Columns of a row that are set at once: blanks, and the cells of a text as far as they fit.
-ghost use Rattle.std.specs.Prelude.{◌≡◌, ◌+◌, ◌-◌, ◌≤◌, ◌<◌, ◌++◌, true, length, take, drop, map, replicate, vec_len, OnOk, IfOk, MatchOption};
+ghost use Rattle.std.specs.Prelude.{◌≡◌, ◌+◌, ◌-◌, ◌≤◌, ◌<◌, ◌++◌, [], ◌∷◌, true, length, take, drop, map, replicate, slice_set, vec_len, OnOk, IfOk, MatchOption};
 ghost use Rattle.std.specs.List.{list_all};
 ghost use Rattle.text_clusters.specs.Plain.{is_printable};
-ghost use Rattle.cell_base.specs.CellContent.{row_of_cells, blank_cell};
+ghost use Rattle.cell_base.specs.CellContent.{row_of_cells, blank_cell, cell_of};
 ghost use Rattle.cell_base.specs.Row.{set_columns, blank};
 ghost use Rattle.cell_line.specs.RowEdits.{overlaid};
 ghost use Rattle.cell_line.specs.TextRuns.{plain_cells, text_on, text_left, Leads, Stops};
@@ -46,6 +46,21 @@ pub(crate) fn set_blanks(
     Ok(())
 }
 
+// The cell at a place becomes that of a printable character.
+fn put_ascii(
+    cells: &mut Vec<Cell>,
+    at: usize,
+    character: u8,
+    attrs: &CellAttributes,
+) -> Result<(), AllocError>
+    requires printable { is_printable character ≡ true }
+    requires within { at < vec_len cells.old }
+    ensures len { vec_len cells.new ≡ vec_len cells.old }
+    ensures items { OnOk result (cells.new.items ≡ slice_set cells.old.items at (cell_of (character ∷ []) 1 attrs.now)) }
+{
+    cells[at].set_ascii(character, attrs)
+}
+
 // Cells of one printable character each stand from a place on.
 fn write_plain(
     cells: &mut Vec<Cell>,
@@ -59,8 +74,7 @@ fn write_plain(
     ensures items { OnOk result (cells.new.items ≡ take start cells.old.items ++ plain_cells bytes.now attrs.now ++ drop (start + length bytes.now) cells.old.items) }
 {
     for index in 0..bytes.len() {
-        let cell = Cell::new_ascii(bytes[index], attrs.try_clone()?);
-        put(cells, start + index, cell);
+        put_ascii(cells, start + index, bytes[index], attrs)?;
     }
     Ok(())
 }

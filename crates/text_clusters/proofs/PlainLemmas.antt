@@ -207,3 +207,13 @@ module _ (text : List ℕ) where
         let is : here ≡ length text = omega arith in
         let k = plain_all (eq-eqb here (length text) is) in
         omega arith)
+
+-- ---- the first bytes
+
+pub take_at_most : (n : ℕ) (xs : List ℕ) → take (min n (length xs)) xs ≡ take n xs
+take_at_most n xs = by_test (nat_lt n (length xs))
+    (λ t. let less = ltb-true n (length xs) t in let is : min n (length xs) ≡ n = omega arith in ap (λ m. take m xs) is)
+    (λ t.
+    let ge = ltb-false n (length xs) t in
+    let is : min n (length xs) ≡ length xs = omega arith in
+    ap (λ m. take m xs) is ∙ take_all (length xs) xs (omega arith) ∙ sym (take_all n xs ge))

@@ -13,13 +13,21 @@ fn is_printable(byte: u8) -> bool
     32 <= byte && byte < 127
 }
 
+// The first `most` bytes, or all if there are fewer.
+#[tactic(auto, using(crate::proofs::PlainLemmas::take_at_most))]
+fn first_bytes(text: &str, most: usize) -> &[u8]
+    ensures { result.now ≡ take most text.now }
+{
+    let bytes = text.as_bytes();
+    &bytes[..most.min(bytes.len())]
+}
+
 // How many of the first `most` bytes stand in printable characters at the front.
 fn printable_run(text: &str, most: usize) -> usize
     ensures { result ≡ prefix_len is_printable (take most text.now) }
 {
-    text.as_bytes()
+    first_bytes(text, most)
         .iter()
-        .take(most)
         .take_while(|byte| is_printable(**byte))
         .count()
 }

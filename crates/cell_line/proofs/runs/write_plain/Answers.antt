@@ -1,7 +1,6 @@
-use Rattle.std.proofs.Common.{◌∙◌, ◌+◌, ◌∷◌, [], ap, get_or, length, set, arith}
+use Rattle.std.proofs.Common.{◌∙◌, ◌+◌, ◌∷◌, [], ap, get_or, length, arith}
 use Rattle.std.proofs.lemmas.List.{length-set}
-use Rattle.cell_base.specs.Attributes.{Attributes}
-use Rattle.cell_base.specs.CellContent.{CellContent, cell_of}
+use Rattle.cell_base.specs.CellContent.{cell_of}
 use Rattle.cell_line.proofs.RunLemmas.{plain_more}
 use Rattle.cell_line.proofs.runs.write_plain.Goals as goal
 
@@ -12,7 +11,7 @@ loop-index-preserved c =
     let i = c.loop-index.index in
     let bytes = c.args.bytes.now in
     let a = c.args.attrs.now in
-    let made = c.put.ensures ∙ ap (λ (x : CellContent). set now (c.args.start + i) x) (c.new_ascii-cell.ensures ∙ ap (λ (b : Attributes). cell_of (get_or bytes i 0 ∷ []) 1 b) c.in_ok-try_clone.ensures) in
+    let made = c.in_ok-put_ascii.ensures.items in
     let n = length-set now (c.args.start + i) (cell_of (get_or bytes i 0 ∷ []) 1 a) in
     let v = c.args.cells.now.ok.0 in
     record {
