@@ -12,14 +12,7 @@ use Rattle.csi_codec.specs.Rendition.{is_between}
 use Rattle.csi_codec.specs.Texts.{largest_number, begun_token, tokens_behind, tokens_of, all_parameter_bytes}
 use Rattle.csi_codec.specs.Fronts.{most_tokens, Front, IsSequence, HasNoFront, OneFront}
 use Rattle.csi_codec.specs.Keeping.{parameter_len, Kept, keep, keep_all, kept_of, nothing_kept, Taken, nothing_taken, kept_with, number_ended, TakesByte}
-
-and_left : (a b : Bool) → (a && b) ≡ true → a ≡ true
-and_left true b h = refl
-and_left false b h = cc
-
-and_right : (a b : Bool) → (a && b) ≡ true → b ≡ true
-and_right true b h = h
-and_right false b h = cc
+use Rattle.csi_codec.proofs.BoolLemmas.{and_left, and_right}
 
 both_true : (a b : Bool) → a ≡ true → b ≡ true → (a && b) ≡ true
 both_true true b h k = k

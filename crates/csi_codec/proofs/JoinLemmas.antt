@@ -17,6 +17,7 @@ use Rattle.csi_codec.specs.Rendition.{Part, byte_part, number_part, any_number, 
 use Rattle.csi_codec.specs.Actions.{Action, sgr, unspecified, rendition_piece, pieces_from, pieces, all_sgr_tokens, is_sgr_token, csi_reading}
 use Rattle.csi_codec.specs.Laws.{is_semicolon, ends_in_semicolon, all_known, SgrListsJoin}
 use Rattle.csi_codec.proofs.SgrLemmas.{stands-length, sgr_shape_takes, Takes}
+use Rattle.csi_codec.proofs.BoolLemmas.{and_left, and_right}
 
 -- ---- Shapes at the front of a longer list
 
@@ -81,14 +82,6 @@ colour_reads parts i j k m p q r u ts x s =
     rw (byte_at-append ts x i (omega arith), byte_at-append ts x j (omega arith), byte_at-append ts x k (omega arith), byte_at-append ts x m (omega arith)) refl
 
 -- ---- The first form that stands
-
-and_left : (a b : Bool) → (a && b) ≡ true → a ≡ true
-and_left true b h = refl
-and_left false b h = cc
-
-and_right : (a b : Bool) → (a && b) ≡ true → b ≡ true
-and_right true b h = h
-and_right false b h = cc
 
 and_false : (a b : Bool) → b ≡ false → (a && b) ≡ false
 and_false true b h = h

@@ -1,3 +1,4 @@
+mod BoolLemmas
 mod SgrLemmas
 mod PieceLemmas
 mod ReadingLemmas

@@ -1,5 +1,5 @@
 -- What the readings give can be written.
-use Rattle.std.proofs.Common.{◌≡◌, ℕ, ◌+◌, ◌≤◌, ℤ, pos, negsuc, eqb, leb, Bool, true, false, cond, ◌&&◌, List, [], ◌∷◌, Option, Some, None, option_map, option_and_then, slice_get, arith, refl, subst}
+use Rattle.std.proofs.Common.{◌≡◌, ℕ, ◌+◌, ◌≤◌, ℤ, pos, negsuc, eqb, leb, Bool, true, false, cond, List, [], ◌∷◌, Option, Some, None, option_map, option_and_then, slice_get, arith, refl, subst}
 use Rattle.std.proofs.lemmas.Bool.{leb-true}
 use Rattle.cell_base.specs.declared.color.ColorSpec.{ColorSpec}
 use Rattle.cell_base.specs.declared.color.ColorSpec.TheVariants as color
@@ -24,6 +24,7 @@ use Rattle.csi_codec.specs.Modes.{dec_private_mode_named, dec_mode_by, dec_mode_
 use Rattle.csi_codec.specs.Rendition.{stands, byte_of, byte_at, palette_at, opaque_at, colour_at, colour, taking, Form, first_form, colour_forms, colour_form, colour_shape, listed_or, single_codes, ranged_code, single_code, is_between, underline_numbered, underline_or_single, underline_shape, numbered_shape, sgr_shape}
 use Rattle.csi_codec.specs.Writable.{IsPlace, IsWritableCursor, IsWritableEdit, IsWritablePrivateMode, IsWritableStandardMode, IsWritableMode, IsColour, IsWritableSgr}
 use Rattle.csi_codec.proofs.BackLemmas.{EachLine, read_by-each, made, count_valid, pair_valid}
+use Rattle.csi_codec.proofs.BoolLemmas.{and_left, and_right}
 
 same_value : {A : Type 0} (Q : A → Type 0) (x y : A) → Some x ≡ Some y → Q x → Q y
 same_value Q x y e h = let q : x ≡ y = cc in subst Q q h
@@ -208,14 +209,6 @@ first_form-valid (form ∷ forms) ts f h e =
     form_by (stands form.0 ts) (taking _ (form.1 ts)) (first_form forms ts) f (taken-valid _ (form.1 ts) f (h.0 ts)) (first_form-valid forms ts f h.1) e
 
 -- ---- Numbers and shapes of SGR
-
-and_left : (a b : Bool) → (a && b) ≡ true → a ≡ true
-and_left true b h = refl
-and_left false b h = cc
-
-and_right : (a b : Bool) → (a && b) ≡ true → b ≡ true
-and_right true b h = h
-and_right false b h = cc
 
 abbrev EachListed : List (ℕ × Sgr) → Type 0
 EachListed [] = Unit {0}

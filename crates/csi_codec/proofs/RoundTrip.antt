@@ -1,5 +1,5 @@
 -- Each action of a list reads back.
-use Rattle.std.proofs.Common.{◌≡◌, ℕ, zero, suc, ◌-◌, ◌<◌, ◌≤◌, ℤ, eqb, Bool, true, false, cond, ◌&&◌, ◌||◌, List, [], ◌∷◌, length, length-drop, drop, Option, Some, None, option_map, arith, refl, sym, ap, ◌∙◌, subst}
+use Rattle.std.proofs.Common.{◌≡◌, ℕ, zero, suc, ◌-◌, ◌<◌, ◌≤◌, ℤ, eqb, Bool, true, false, cond, ◌||◌, List, [], ◌∷◌, length, length-drop, drop, Option, Some, None, option_map, arith, refl, sym, ap, ◌∙◌, subst}
 use Rattle.std.specs.Prelude.{is_some}
 use Rattle.std.specs.Option.{option_map_or, option_or}
 use Rattle.std.proofs.lemmas.Bool.{eqb-true, le-leb, false≢true}
@@ -25,10 +25,7 @@ use Rattle.csi_codec.proofs.ReadWritable.{cursor_reading-writable, edit_reading-
 use Rattle.csi_codec.proofs.TableBack.{cursor_back, edit_back, device_back}
 use Rattle.csi_codec.proofs.SgrBack.{sgr_back}
 use Rattle.csi_codec.proofs.ModeBack.{mode_back, neither_mode, some_private}
-
-and_right : (a b : Bool) → (a && b) ≡ true → b ≡ true
-and_right true b h = h
-and_right false b h = cc
+use Rattle.csi_codec.proofs.BoolLemmas.{and_right}
 
 or_false : (a b : Bool) → (a || b) ≡ false → (a ≡ false) × (b ≡ false)
 or_false true b h = cc

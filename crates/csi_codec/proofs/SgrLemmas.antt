@@ -1,5 +1,5 @@
 -- How many tokens the shapes of SGR take.
-use Rattle.std.proofs.Common.{◌≡◌, ℕ, ◌+◌, ◌<◌, ◌≤◌, ℤ, eqb, Bool, true, false, cond, ◌&&◌, List, [], ◌∷◌, length, Option, Some, None, IfSome, option_map, option_and_then, arith, refl}
+use Rattle.std.proofs.Common.{◌≡◌, ℕ, ◌+◌, ◌<◌, ◌≤◌, ℤ, eqb, Bool, true, false, cond, List, [], ◌∷◌, length, Option, Some, None, IfSome, option_map, option_and_then, arith, refl}
 use Rattle.cell_base.specs.declared.color.ColorSpec.{ColorSpec}
 use Rattle.csi_codec.specs.declared.parameters.CsiParam.{CsiParam}
 use Rattle.csi_codec.specs.declared.parameters.CsiParam.TheVariants.{Integer, P}
@@ -8,6 +8,7 @@ use Rattle.csi_codec.specs.declared.rendition.Sgr.{Sgr}
 use Rattle.csi_codec.specs.declared.rendition.Sgr.TheVariants as sgr
 use Rattle.csi_codec.specs.Parameters.{is_number, number_within}
 use Rattle.csi_codec.specs.Rendition.{Part, is_part, stands, taking, first_form, colour_form, colour_forms, Form, colour_shape, underline_numbered, underline_or_single, underline_shape, numbered_shape, sgr_shape, single_code}
+use Rattle.csi_codec.proofs.BoolLemmas.{and_right}
 
 -- what is taken is at least one token, and no more than there are
 abbrev pub Takes : {A : Type 0} → ℕ → Option (A × ℕ) → Type 0
@@ -19,10 +20,6 @@ AtMost n found = IfSome found (λ f. f.1 ≤ n)
 pub takes_le : {A : Type 0} (m n : ℕ) (found : Option (A × ℕ)) → m ≤ n → Takes m found → Takes n found
 takes_le m n None h t = tt
 takes_le m n (Some f) h t = (t.0, omega (arith, t.1))
-
-and_right : (a b : Bool) → (a && b) ≡ true → b ≡ true
-and_right true b h = h
-and_right false b h = cc
 
 -- a shape is no longer than the list that it stands at the front of
 pub stands-length : (parts : List Part) (ts : List CsiParam) → stands parts ts ≡ true → length parts ≤ length ts

@@ -21,10 +21,7 @@ impl fmt::Display for CsiParam {
     fn fmt<W: fmt::Write>(&self, f: &mut fmt::Formatter<W>) -> fmt::Result {
         match *self {
             CsiParam::Integer(number) => write!(f, "{number}"),
-            CsiParam::P(byte) => {
-                let character = char::from(byte);
-                write!(f, "{character}")
-            }
+            CsiParam::P(byte) => f.write_char(char::from(byte)),
         }
     }
 }
@@ -42,10 +39,9 @@ impl fmt::Display for Unspecified {
 
     fn fmt<W: fmt::Write>(&self, f: &mut fmt::Formatter<W>) -> fmt::Result {
         for token in self.params.iter() {
-            write!(f, "{token}")?;
+            token.fmt(f)?;
         }
-        let control = self.control;
-        write!(f, "{control}")
+        f.write_char(self.control)
     }
 }
 

@@ -33,7 +33,7 @@ impl fmt::Display for CSI {
     ghost output = { λ csi. Some (csi_text (action_of csi)) };
 
     fn fmt<W: fmt::Write>(&self, f: &mut fmt::Formatter<W>) -> fmt::Result {
-        write!(f, "\x1b[")?;
+        f.write_str("\x1b[")?;
         match self {
             CSI::Sgr(value) => value.fmt(f),
             CSI::Cursor(value) => value.fmt(f),

@@ -34,10 +34,9 @@ impl fmt::Display for Spelling {
 
     fn fmt<W: fmt::Write>(&self, f: &mut fmt::Formatter<W>) -> fmt::Result {
         for token in &self.tokens[..self.count] {
-            write!(f, "{token}")?;
+            token.fmt(f)?;
         }
-        let control = self.control;
-        write!(f, "{control}")
+        f.write_char(self.control)
     }
 }
 
