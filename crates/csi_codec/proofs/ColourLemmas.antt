@@ -129,7 +129,7 @@ alphas (P b ∷ ts) = elim (cases_Bool (eqb b 58)) [
   ]
 ]
 
-number_is : (k : ℕ) (z : ℤ) → is_number k z ≡ true → z ≡ pos k
+pub number_is : (k : ℕ) (z : ℤ) → is_number k z ≡ true → z ≡ pos k
 number_is k (negsuc m) h = cc
 number_is k (pos m) h = ap pos (eqb-true m k h)
 

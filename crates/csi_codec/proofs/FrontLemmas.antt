@@ -1,5 +1,5 @@
 -- The tokens of parameter bytes, taken byte by byte, and the sequence at the front of some bytes.
-use Rattle.std.proofs.Common.{◌≡◌, ℕ, suc, ◌+◌, ◌-◌, ◌*◌, ◌^◌, ◌<◌, ◌≤◌, pos, min, ltb, Bool, true, false, cond, ◌&&◌, List, [], ◌∷◌, ◌++◌, length, take, drop, Some, None, arith, refl, ap, sym, ◌∙◌}
+use Rattle.std.proofs.Common.{◌≡◌, ℕ, suc, ◌+◌, ◌-◌, ◌*◌, ◌^◌, ◌<◌, ◌≤◌, pos, min, ltb, Bool, true, false, cond, List, [], ◌∷◌, ◌++◌, length, take, drop, Some, None, arith, refl, ap, sym, ◌∙◌}
 use Rattle.std.specs.Prelude.{unwrap_or}
 use Rattle.std.specs.Char.{is_ascii_digit}
 use Rattle.std.proofs.lemmas.List.{append-nil, take-append-drop, append_assoc, take-append-le, length-take, length-append, take_all, drop_all}
@@ -12,11 +12,7 @@ use Rattle.csi_codec.specs.Rendition.{is_between}
 use Rattle.csi_codec.specs.Texts.{largest_number, begun_token, tokens_behind, tokens_of, all_parameter_bytes}
 use Rattle.csi_codec.specs.Fronts.{most_tokens, Front, IsSequence, HasNoFront, OneFront}
 use Rattle.csi_codec.specs.Keeping.{parameter_len, Kept, keep, keep_all, kept_of, nothing_kept, Taken, nothing_taken, kept_with, number_ended, TakesByte}
-use Rattle.csi_codec.proofs.BoolLemmas.{and_left, and_right}
-
-both_true : (a b : Bool) → a ≡ true → b ≡ true → (a && b) ≡ true
-both_true true b h k = k
-both_true false b h k = cc
+use Rattle.csi_codec.proofs.BoolLemmas.{and_left, and_right, both_true}
 
 not_parameter : (b : ℕ) → 64 ≤ b → is_between 32 63 b ≡ false
 not_parameter b h = grind (arith, nat_tests)

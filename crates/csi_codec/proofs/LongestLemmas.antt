@@ -1,6 +1,6 @@
 -- No listed shape that stands is longer than the one that is chosen.
-use Rattle.std.proofs.Common.{◌≡◌, ℕ, ◌+◌, ◌≤◌, ℤ, pos, negsuc, eqb, Bool, true, false, cond, ◌&&◌, List, [], ◌∷◌, ◌++◌, map, length, Option, Some, None, option_map, option_and_then, arith, refl, ap, sym, subst, ◌∙◌}
-use Rattle.std.proofs.lemmas.Bool.{eqb-true, and_parts}
+use Rattle.std.proofs.Common.{◌≡◌, ℕ, ◌+◌, ◌≤◌, ℤ, pos, eqb, Bool, true, false, cond, ◌&&◌, List, [], ◌∷◌, ◌++◌, map, length, Option, Some, None, option_map, option_and_then, arith, refl, ap, sym, subst, ◌∙◌}
+use Rattle.std.proofs.lemmas.Bool.{and_parts}
 use Rattle.cell_base.specs.declared.color.ColorSpec.{ColorSpec}
 use Rattle.cell_base.specs.declared.attributes.Underline.{Underline}
 use Rattle.cell_base.specs.declared.attributes.Underline.TheVariants as underline
@@ -11,6 +11,7 @@ use Rattle.csi_codec.specs.declared.rendition.Sgr.TheVariants as value
 use Rattle.csi_codec.specs.Parameters.{is_number, number_within}
 use Rattle.csi_codec.specs.Rendition.{Part, number_part, stands, Form, first_form, colour_forms, colour_form, colour_shape, taking, single_code, underline_numbered, underline_or_single, underline_shape, numbered_shape, sgr_shape, colon}
 use Rattle.csi_codec.specs.Longest.{lone_numbers, underline_shapes, colour_shapes, sgr_shapes, NoneIsLonger, LongestShapeDecides}
+use Rattle.csi_codec.proofs.ColourLemmas.{number_is}
 
 -- how many tokens a value took
 second : {X : Type 0} (x y : X) (k n : ℕ) → ◌≡◌ {A = Option (X × ℕ)} (Some (x, k)) (Some (y, n)) → k ≡ n
@@ -100,10 +101,6 @@ other_line (k ∷ kinds) z ts n h =
 byte_line : (kinds : List ℕ) (b : ℕ) (ts : List CsiParam) (n : ℕ) → NoneIsLonger (lines kinds) (P b ∷ ts) n
 byte_line [] b ts n = tt
 byte_line (k ∷ kinds) b ts n = (λ s. cc, byte_line kinds b ts n)
-
-number_is : (k : ℕ) (z : ℤ) → is_number k z ≡ true → z ≡ pos k
-number_is k (negsuc m) h = cc
-number_is k (pos m) h = ap pos (eqb-true m k h)
 
 -- the kinds that there are
 abbrev AreKinds : List ℕ → Type 0

@@ -29,11 +29,7 @@ use Rattle.csi_codec.proofs.TextLemmas.{list_back, decimal_digits, sign_text}
 use Rattle.csi_codec.proofs.ReadWritable.{cursor_reading-writable, edit_reading-writable, private_mode-writable, standard_mode-writable, sgr_shape-writable}
 use Rattle.csi_codec.proofs.Written.{IsWritten, action_written}
 use Rattle.csi_codec.proofs.RoundTrip.{as_actions, first_of, actions_read_back-lem}
-use Rattle.csi_codec.proofs.BoolLemmas.{and_left, and_right}
-
-both_true : (a b : Bool) → a ≡ true → b ≡ true → (a && b) ≡ true
-both_true true b h k = k
-both_true false b h k = cc
+use Rattle.csi_codec.proofs.BoolLemmas.{and_left, and_right, both_true}
 
 -- ---- Bytes
 
