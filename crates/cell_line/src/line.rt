@@ -510,7 +510,13 @@ impl Line {
             lines.push(self)?;
             return Ok(lines);
         }
-        wrap::rows(self.alloc, &self.cells, width, seqno)
+        let Line {
+            alloc,
+            number: _,
+            bits: _,
+            cells,
+        } = self;
+        wrap::rows(alloc, cells, width, seqno)
     }
 
     /// Whether a cell has a link.

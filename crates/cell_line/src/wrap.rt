@@ -110,15 +110,14 @@ fn place(
 // The cells up to the last that isn't one space, in rows of a width.
 pub(crate) fn rows(
     alloc: Global,
-    cells: &[Cell],
+    mut cells: Vec<Cell>,
     width: usize,
     seqno: SequenceNo,
 ) -> Result<Vec<Line>, AllocError>
-    ensures { IfOk result (λ lines. lines.items ≡ map (line_of seqno) (rows_from width [] (contents (texts_up_to (visible_cells (row_of_cells cells.now)))))) }
+    ensures { IfOk result (λ lines. lines.items ≡ map (line_of seqno) (rows_from width [] (contents (texts_up_to (visible_cells (row_of_cells cells.items)))))) }
 {
-    let mut whole = copy(alloc, cells)?;
-    close_end(&mut whole)?;
-    fill_rows(alloc, &whole, width, seqno)
+    close_end(&mut cells)?;
+    fill_rows(alloc, &cells, width, seqno)
 }
 
 fn fill_rows(

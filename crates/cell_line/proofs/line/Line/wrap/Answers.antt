@@ -15,7 +15,7 @@ pub returns : goal.returns
 returns c =
     let line = c.args.self in
     let spaces : is_whitespace_row line.columns ≡ false = sym c.is_whitespace.ensures ∙ c.if-is_whitespace.false in
-    let columns : row_of_cells c.deref.result.now ≡ line.columns = ap row_of_cells c.deref.ensures.value ∙ ap (λ (l : LineContent). l.columns) c.self.view_is in
+    let columns : row_of_cells c.self.inside.cells.items ≡ line.columns = ap (λ (l : LineContent). l.columns) c.self.view_is in
     let kept = texts_kept (visible_cells line.columns) in
     IfOk-weaker c.rows.result _ _
     (λ lines p. p
