@@ -1,6 +1,10 @@
 //! Changes: what is asked of a screen, as a value.
 #![tactic(auto)]
 
+mod cell_writer;
 mod change;
+pub mod laws;
+mod texts;
 
+pub use cell_writer::CellWriter;
 pub use change::Change;
