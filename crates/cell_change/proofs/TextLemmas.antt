@@ -1,6 +1,6 @@
 -- Texts of cells, and texts that are joined.
-use Rattle.std.proofs.Common.{◌≡◌, ℕ, zero, suc, ◌<◌, ◌∙◌, Bool, true, false, List, [], ◌∷◌, ◌++◌, length, map, drop, refl, sym, ap, ap₂, Bor, arith}
-use Rattle.std.specs.Prelude.{◌==◌, if◌then◌else◌}
+use Rattle.std.proofs.Common.{◌≡◌, ℕ, zero, suc, ◌<◌, ◌≤◌, take, get_or, ◌∙◌, Bool, true, false, List, [], ◌∷◌, ◌++◌, length, map, drop, refl, sym, ap, ap₂, Bor, arith}
+use Rattle.std.specs.Prelude.{◌==◌, ◌&&◌, not, if◌then◌else◌}
 use Rattle.std.specs.List.{flat_map, concat}
 use Rattle.std.specs.Str.{bytes_eq}
 use Rattle.std.specs.Cmp.{unsigned_Decides}
@@ -8,6 +8,7 @@ use Rattle.std.proofs.lemmas.List.{append-nil}
 use Rattle.std.proofs.lemmas.Bool.{and_parts, false≢true}
 use Rattle.std.proofs.lemmas.Slice.Eq.{bytes_eq-Decides}
 use Rattle.unicode_segmentation.specs.Grapheme.{graphemes}
+use Rattle.text_clusters.specs.Plain.{each}
 use Rattle.cell_change.specs.Texts.{same_texts, stay_apart, texts}
 
 -- both answers of a test
@@ -97,3 +98,48 @@ texts_each [] text joined apart = no_texts
 texts_each (cell ∷ cells) text joined apart =
     let whole = joined ∙ joined_now (cell ∷ cells) in
     each_text cell.now (map (λ c. c.now) cells) (ap (λ (t : List ℕ). same_texts (graphemes true t) (map (λ c. c.now) (cell ∷ cells))) (sym whole) ∙ sym apart)
+
+-- ---- texts whose front is plain
+
+-- as many texts on both sides, and others behind them
+pub in_two_parts : (xs ys : List (List ℕ)) (front : List ℕ) (cells : List (Bor (List ℕ))) → xs ≡ each front ++ ys → length front ≤ length cells
+    → (same_texts (each front) (map (λ cell. cell.now) (take (length front) cells)) && same_texts ys (map (λ cell. cell.now) (drop (length front) cells))) ≡ same_texts xs (map (λ cell. cell.now) cells)
+in_two_parts xs ys [] cells e p = ap (λ (ts : List (List ℕ)). same_texts ts (map (λ cell. cell.now) cells)) (sym e)
+in_two_parts xs ys (byte ∷ front) [] e p = absurd (omega (arith, p))
+in_two_parts xs ys (byte ∷ front) (cell ∷ cells) e p =
+    by_test (bytes_eq (byte ∷ []) cell.now)
+    (λ t.
+    ap (λ b. (b && same_texts (each front) (map (λ c. c.now) (take (length front) cells))) && same_texts ys (map (λ c. c.now) (drop (length front) cells))) t
+    ∙ in_two_parts (each front ++ ys) ys front cells refl (omega (arith, p))
+    ∙ sym (ap (λ (ts : List (List ℕ)). same_texts ts (map (λ c. c.now) (cell ∷ cells))) e ∙ ap (λ b. b && same_texts (each front ++ ys) (map (λ c. c.now) cells)) t))
+    (λ t.
+    ap (λ b. (b && same_texts (each front) (map (λ c. c.now) (take (length front) cells))) && same_texts ys (map (λ c. c.now) (drop (length front) cells))) t
+    ∙ sym (ap (λ (ts : List (List ℕ)). same_texts ts (map (λ c. c.now) (cell ∷ cells))) e ∙ ap (λ b. b && same_texts (each front ++ ys) (map (λ c. c.now) cells)) t))
+
+-- fewer texts on the right
+pub too_few : (xs ys : List (List ℕ)) (front : List ℕ) (cells : List (Bor (List ℕ))) → xs ≡ each front ++ ys → length cells < length front → false ≡ same_texts xs (map (λ cell. cell.now) cells)
+too_few xs ys [] cells e p = absurd (omega (arith, p))
+too_few xs ys (byte ∷ front) [] e p = sym (ap (λ (ts : List (List ℕ)). same_texts ts []) e)
+too_few xs ys (byte ∷ front) (cell ∷ cells) e p =
+    by_test (bytes_eq (byte ∷ []) cell.now)
+    (λ t.
+    too_few (each front ++ ys) ys front cells refl (omega (arith, p))
+    ∙ sym (ap (λ (ts : List (List ℕ)). same_texts ts (map (λ c. c.now) (cell ∷ cells))) e ∙ ap (λ b. b && same_texts (each front ++ ys) (map (λ c. c.now) cells)) t))
+    (λ t. sym (ap (λ (ts : List (List ℕ)). same_texts ts (map (λ c. c.now) (cell ∷ cells))) e ∙ ap (λ b. b && same_texts (each front ++ ys) (map (λ c. c.now) cells)) t))
+
+pub two_parts_whole : (xs ys : List (List ℕ)) (front bytes : List ℕ) (cells first others : List (Bor (List ℕ))) (same : Bool) → xs ≡ each front ++ ys → bytes ≡ front → length front ≤ length cells → first ≡ take (length front) cells → others ≡ drop (length front) cells
+    → same ≡ same_texts (each bytes) (map (λ cell. cell.now) first) → (same && same_texts ys (map (λ cell. cell.now) others)) ≡ same_texts xs (map (λ cell. cell.now) cells)
+two_parts_whole xs ys front bytes cells first others same e b p f o s =
+    (λ i. (s ∙ (λ j. same_texts (each (b j)) (map (λ cell. cell.now) (f j)))) i && same_texts ys (map (λ cell. cell.now) (o i)))
+    ∙ in_two_parts xs ys front cells e p
+
+-- the text of a letter, found at a place on both sides
+pub letter_step : (bytes : List ℕ) (cells : List (Bor (List ℕ))) (at count : ℕ) (d : Bor (List ℕ)) → count ≡ 1 → at < length bytes → at < length cells → false ≡ not (bytes_eq (get_or cells at d).now (take count (drop at bytes)))
+    → same_texts (each (drop (suc at) bytes)) (map (λ cell. cell.now) (drop (suc at) cells)) ≡ same_texts (each (drop at bytes)) (map (λ cell. cell.now) (drop at cells))
+letter_step [] cells at count d one p q e = absurd (omega (arith, p))
+letter_step (byte ∷ bytes) [] at count d one p q e = absurd (omega (arith, q))
+letter_step (byte ∷ bytes) (cell ∷ cells) zero count d one p q e =
+    let same : bytes_eq cell.now (byte ∷ []) ≡ true = by_test (bytes_eq cell.now (byte ∷ [])) (λ t. t) (λ t. absurd (false≢true (e ∙ ap (λ (n : ℕ). not (bytes_eq cell.now (take n (byte ∷ bytes)))) one ∙ ap not t))) in
+    let is : byte ∷ [] ≡ cell.now = sym ((bytes_eq-Decides cell.now (byte ∷ [])).0 same) in
+    sym (ap (λ b. b && same_texts (each bytes) (map (λ c. c.now) cells)) ((bytes_eq-Decides (byte ∷ []) cell.now).1 is))
+letter_step (byte ∷ bytes) (cell ∷ cells) (suc at) count d one p q e = letter_step bytes cells at count d one (omega (arith, p)) (omega (arith, q)) e

@@ -1,16 +1,31 @@
 //! The texts by which cells are written.
-ghost use Rattle.std.specs.Prelude.{◌≡◌, ◌++◌, true, map, OnOk};
+ghost use Rattle.std.specs.Prelude.{◌≡◌, ◌++◌, true, length, map, OnOk};
 ghost use Rattle.unicode_segmentation.specs.Grapheme.{graphemes};
+ghost use Rattle.text_clusters.specs.Plain.{each};
 ghost use Rattle.cell_change.specs.ChangeValue.{Text};
 ghost use Rattle.cell_change.specs.Texts.{texts, same_texts};
 ghost use Rattle.cell_change.specs.ValueOf.{value_of};
 
 use crate::change::Change;
 use std::alloc::{AllocError, Global};
+use text_clusters::split_plain;
 use unicode_segmentation::UnicodeSegmentation;
 
+// Whether each byte is one of the texts, in turn.
+fn are_letters(bytes: &[u8], cells: &[&str]) -> bool
+    requires { length bytes.now ≡ length cells.now }
+    ensures { result ≡ same_texts (each bytes.now) (map (λ cell. cell.now) cells.now) }
+{
+    for at in 0..bytes.len() {
+        if cells[at].as_bytes() != &bytes[at..at + 1] {
+            return false;
+        }
+    }
+    true
+}
+
 // Whether the clusters of a text are these, each in turn.
-fn has_clusters(text: &str, cells: &[&str]) -> bool
+fn are_clusters(text: &str, cells: &[&str]) -> bool
     ensures { result ≡ same_texts (graphemes true text.now) (map (λ cell. cell.now) cells.now) }
 {
     let mut clusters = text.graphemes(true);
@@ -25,6 +40,18 @@ fn has_clusters(text: &str, cells: &[&str]) -> bool
         }
     }
     clusters.next().is_none()
+}
+
+// The same, where plain text at the front is not walked cluster by cluster.
+fn has_clusters(text: &str, cells: &[&str]) -> bool
+    ensures { result ≡ same_texts (graphemes true text.now) (map (λ cell. cell.now) cells.now) }
+{
+    let (front, rest) = split_plain(text, text.len());
+    if cells.len() < front.len() {
+        return false;
+    }
+    let (first, others) = cells.split_at(front.len());
+    are_letters(front.as_bytes(), first) && are_clusters(rest, others)
 }
 
 // A text for each cell.

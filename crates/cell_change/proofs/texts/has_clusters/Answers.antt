@@ -1,11 +1,19 @@
-use Rattle.std.proofs.Common.{◌∙◌, List, ℕ, sym, ap, arith}
-use Rattle.std.specs.Prelude.{map, drop}
-use Rattle.cell_change.specs.Texts.{same_texts}
-use Rattle.cell_change.proofs.TextLemmas.{none_are_left}
+use Rattle.std.proofs.Common.{true, false, ◌∙◌}
+use Rattle.unicode_segmentation.specs.Grapheme.{graphemes}
+use Rattle.cell_change.proofs.TextLemmas.{too_few, two_parts_whole}
 use Rattle.cell_change.proofs.texts.has_clusters.Goals as goal
 
-pub returns-in-None : goal.returns-in-None
-returns-in-None c =
-    sym (none_are_left c.args.cells.now c.loop-cell.cell-index (omega (arith, c.loop-cell-test.true)))
-    ∙ ap (λ (left : List (List ℕ)). same_texts left (map (λ cell. cell.now) (drop c.loop-cell.cell-index c.args.cells.now))) (sym c.in-None.ensures.steps.0)
-    ∙ c.loop-cell.invariant
+pub returns-then-cells-front : goal.returns-then-cells-front
+returns-then-cells-front c = too_few (graphemes true c.args.text.now) _ c.split_plain.result.0.now c.args.cells.now c.split_plain.ensures.clusters c.if-cells-front.true
+
+pub returns-then-are_letters : goal.returns-then-are_letters
+returns-then-are_letters c =
+    c.are_clusters.ensures
+    ∙ two_parts_whole (graphemes true c.args.text.now) _ c.split_plain.result.0.now c.as_bytes.result.now c.args.cells.now c.split_at.result.0.now c.split_at.result.1.now true
+    c.split_plain.ensures.clusters c.as_bytes.ensures.value c.if-cells-front.false c.split_at.ensures.front c.split_at.ensures.back c.if-are_letters.ensures
+
+pub returns-else-are_letters : goal.returns-else-are_letters
+returns-else-are_letters c =
+    c.if-are_letters.false
+    ∙ two_parts_whole (graphemes true c.args.text.now) _ c.split_plain.result.0.now c.as_bytes.result.now c.args.cells.now c.split_at.result.0.now c.split_at.result.1.now false
+    c.split_plain.ensures.clusters c.as_bytes.ensures.value c.if-cells-front.false c.split_at.ensures.front c.split_at.ensures.back c.if-are_letters.ensures

@@ -3,7 +3,7 @@ use Rattle.std.specs.Prelude.{map, drop}
 use Rattle.unicode_segmentation.specs.Grapheme.{graphemes}
 use Rattle.unicode_segmentation.specs.Iter.{graphemes_left}
 use Rattle.cell_change.specs.Texts.{same_texts}
-use Rattle.cell_change.proofs.texts.has_clusters.Given as goal
+use Rattle.cell_change.proofs.texts.are_clusters.Given as goal
 
 -- what is left on both sides is the same where the whole is
 abbrev pub invariant-loop-cell : goal.invariant-loop-cell
