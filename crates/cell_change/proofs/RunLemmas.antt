@@ -10,7 +10,7 @@ use Rattle.cell_change.specs.CellChanges.{attributes_due, runs_written, cells_wr
 use Rattle.cell_change.specs.CellRuns.{CellRun, before_runs, cell_runs}
 use Rattle.cell_change.specs.ChangeValue.{ChangeValue, AllAttributes, Text}
 use Rattle.cell_change.specs.Texts.{texts}
-use Rattle.cell_change.specs.Written.{Written, finished, with_cell}
+use Rattle.cell_change.specs.Written.{Written, begun, finished, with_change, with_attributes, with_cell}
 use Rattle.cell_change.proofs.TextLemmas.{by_test, no_texts}
 
 texts_of : List (List ℕ) → List ChangeValue
@@ -143,3 +143,24 @@ pen_is_behind w (cell ∷ cells) =
     ∙ by_test (same_attributes cell.attributes w.pen)
     (λ e. ap (λ b. pen_behind (if b then w else record { changes = finished w ++ AllAttributes cell.attributes ∷ []; pen = cell.attributes; cells = [] }).pen cells) e ∙ ap (λ (p : Attributes). pen_behind p cells) (sym (same_is cell.attributes w.pen e)))
     (λ e. ap (λ b. pen_behind (if b then w else record { changes = finished w ++ AllAttributes cell.attributes ∷ []; pen = cell.attributes; cells = [] }).pen cells) e)
+
+-- ---- what else is written
+
+pub nothing_written : (pen : Attributes) → finished (begun pen) ≡ []
+nothing_written pen = ap (map Text) no_texts
+
+pub change_written : (change : ChangeValue) (w : Written) → finished (with_change change w) ≡ finished w ++ change ∷ []
+change_written change w = ap (λ (ts : List (List ℕ)). (finished w ++ change ∷ []) ++ map Text ts) no_texts ∙ append-nil (finished w ++ change ∷ [])
+
+pub attributes_written : (a : Attributes) (w : Written) → finished (with_attributes a w) ≡ finished w ++ attributes_due w.pen a
+attributes_written a w =
+    by_test (same_attributes a w.pen)
+    (λ e.
+    ap (λ b. finished (if b then w else record { changes = finished w ++ AllAttributes a ∷ []; pen = a; cells = [] })) e
+    ∙ sym (append-nil (finished w))
+    ∙ ap (λ (due : List ChangeValue). finished w ++ due) (sym (due_none w.pen a e)))
+    (λ e.
+    ap (λ b. finished (if b then w else record { changes = finished w ++ AllAttributes a ∷ []; pen = a; cells = [] })) e
+    ∙ ap (λ (ts : List (List ℕ)). (finished w ++ AllAttributes a ∷ []) ++ map Text ts) no_texts
+    ∙ append-nil (finished w ++ AllAttributes a ∷ [])
+    ∙ ap (λ (due : List ChangeValue). finished w ++ due) (sym (due_some w.pen a e)))

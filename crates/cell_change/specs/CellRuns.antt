@@ -26,7 +26,7 @@ cell_runs [] = []
 cell_runs (cell ∷ cells) = before_runs cell (cell_runs cells)
 
 -- whether a cell is one space, plain but for this background
-abbrev pub is_blank_of : ColorAttribute → CellContent → Bool
+unfoldable pub is_blank_of : ColorAttribute → CellContent → Bool
 is_blank_of color cell = bytes_eq cell.text space && same_attributes cell.attributes (blank_of color)
 
 -- the background of the blanks at the end, if there are any

@@ -10,7 +10,8 @@ use Rattle.cell_base.specs.Row.{Column, Narrow, LeftHalf, RightHalf, Row, blank}
 use Rattle.cell_line.specs.CellList.{ends_halved}
 use Rattle.cell_line.specs.LineContent.{LineContent, changed, changed_unless_empty}
 use Rattle.cell_line.specs.LineCalls.{update_last_change_seqno}
-use Rattle.cell_line.specs.RowEdits.{is_plain_blank, up_to_last, pruned_row}
+use Rattle.cell_change.specs.UpToLast.{up_to_last}
+use Rattle.cell_line.specs.RowEdits.{is_plain_blank, pruned_row}
 use Rattle.cell_line.specs.VisibleCells.{mark_cell, VisibleCell, visible_at, visible_from, row_of_visible, with_end_wrapped, row_end_wrapped}
 use Rattle.cell_line.proofs.CutLemmas.{row_narrow_any}
 use Rattle.cell_line.proofs.CellLemmas.{by_test, row_wide, row_narrow, halved_wide, halved_narrow, halved_more, row_joined}

@@ -5,7 +5,7 @@ use Rattle.std.specs.List.{list_all, list_any}
 use Rattle.std.proofs.lemmas.Bool.{le-leb, false≢true}
 use Rattle.std.proofs.lemmas.Bool.Decides.{leb_tells}
 use Rattle.cell_base.specs.Row.{Narrow, LeftHalf, RightHalf, Row}
-use Rattle.cell_line.specs.RowEdits.{up_to_last}
+use Rattle.cell_change.specs.UpToLast.{up_to_last}
 use Rattle.cell_line.specs.VisibleCells.{VisibleCell, visible_from}
 use Rattle.cell_line.specs.OpenZones.{is_kept_by}
 use Rattle.cell_line.proofs.CellLemmas.{by_test}
@@ -43,7 +43,7 @@ all_or_any passes [] = refl
 all_or_any passes (v ∷ cells) =
     elim (passes v) as (λ t. (not t || list_any (λ w. not (passes w)) cells) ≡ not (t && list_all passes cells)) [ true ↦ all_or_any passes cells | false ↦ refl ]
 
-up_to_none : (passes : VisibleCell → Bool) (cells : List VisibleCell) → list_all passes cells ≡ true → up_to_last (λ v. not (passes v)) cells ≡ []
+pub up_to_none : (passes : VisibleCell → Bool) (cells : List VisibleCell) → list_all passes cells ≡ true → up_to_last (λ v. not (passes v)) cells ≡ []
 up_to_none passes [] p = refl
 up_to_none passes (v ∷ cells) p = ap (λ t. if t then v ∷ up_to_last (λ w. not (passes w)) cells else []) (all_or_any passes (v ∷ cells) ∙ ap not p)
 
@@ -56,20 +56,20 @@ some_up_to passes (v ∷ cells) p = subst (λ (vs : List VisibleCell). 0 < lengt
 
 -- ---- the column of the last
 
-last_of_none : (passes : VisibleCell → Bool) (last : Option ℕ) (cells : List VisibleCell) → list_all passes cells ≡ true → fold (λ o v. if passes v then o else Some v.column) last cells ≡ last
+pub last_of_none : (passes : VisibleCell → Bool) (last : Option ℕ) (cells : List VisibleCell) → list_all passes cells ≡ true → fold (λ o v. if passes v then o else Some v.column) last cells ≡ last
 last_of_none passes last [] p = refl
 last_of_none passes last (v ∷ cells) p =
     by_test (passes v)
     (λ b. ap (λ t. fold (λ o w. if passes w then o else Some w.column) (if t then last else Some v.column) cells) b ∙ last_of_none passes last cells (sym (ap (λ t. t && list_all passes cells) b) ∙ p))
     (λ b. absurd (false≢true (sym (ap (λ t. t && list_all passes cells) b) ∙ p)))
 
-record Kept (passes : VisibleCell → Bool) (last : Option ℕ) (at : ℕ) (cells : List VisibleCell) : Type 0 where
-  column : ℕ
-  is : fold (λ o v. if passes v then o else Some v.column) last cells ≡ Some column
-  behind : at ≤ column
-  front : filter (λ v. nat_le v.column column) cells ≡ up_to_last (λ v. not (passes v)) cells
+pub record Kept (passes : VisibleCell → Bool) (last : Option ℕ) (at : ℕ) (cells : List VisibleCell) : Type 0 where
+  pub column : ℕ
+  pub is : fold (λ o v. if passes v then o else Some v.column) last cells ≡ Some column
+  pub behind : at ≤ column
+  pub front : filter (λ v. nat_le v.column column) cells ≡ up_to_last (λ v. not (passes v)) cells
 
-kept : (passes : VisibleCell → Bool) (last : Option ℕ) (at : ℕ) (cells : List VisibleCell) → AreInOrder at cells → list_all passes cells ≡ false → Kept passes last at cells
+pub kept : (passes : VisibleCell → Bool) (last : Option ℕ) (at : ℕ) (cells : List VisibleCell) → AreInOrder at cells → list_all passes cells ≡ false → Kept passes last at cells
 kept passes last at [] c p = absurd (false≢true (sym p))
 kept passes last at (v ∷ cells) c p =
     let after = if passes v then last else Some v.column in
@@ -100,7 +100,7 @@ kept passes last at (v ∷ cells) c p =
           ∙ sym (up_to_some passes v cells p);
     })
 
-all_pass : (cells : List VisibleCell) → filter (λ v. true) cells ≡ cells
+pub all_pass : (cells : List VisibleCell) → filter (λ v. true) cells ≡ cells
 all_pass [] = refl
 all_pass (v ∷ cells) = ap (λ (vs : List VisibleCell). v ∷ vs) (all_pass cells)
 

@@ -1,4 +1,5 @@
 pub mod CellLemmas
+pub mod ChangeLemmas
 pub mod ClusterLemmas
 pub mod CutLemmas
 pub mod EndLemmas

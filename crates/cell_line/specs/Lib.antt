@@ -8,6 +8,7 @@ pub mod LineCalls
 pub mod LineContent
 pub mod LineView
 pub mod Links
+pub mod OpenChanges
 pub mod OpenRows
 pub mod OpenZones
 pub mod Places

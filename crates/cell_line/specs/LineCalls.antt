@@ -7,11 +7,13 @@ use Rattle.cell_base.specs.Attributes.{Attributes, plain}
 use Rattle.cell_base.specs.CellContent.{CellContent, blank_cell, cell_of, row_of_cells}
 use Rattle.cell_base.specs.SameCell.{same_cell}
 use Rattle.cell_base.specs.Row.{blank, plain_row, set_columns}
+use Rattle.cell_change.specs.CellChanges.{row_written}
+use Rattle.cell_change.specs.ChangeValue.{ChangeValue}
 use Rattle.cell_line.specs.LineContent.{LineContent, line_of, changed, changed_unless_empty, with_bits, same_bits, text_cells, text_row}
 use Rattle.cell_line.specs.Region.{region}
 use Rattle.cell_line.specs.RowEdits.{cut, cut_front, resized, with_cell, overlaid, with_inserted, removed, erased, erased_within, pruned_row, filled}
 use Rattle.cell_line.specs.TextRuns.{fitting_cells, text_on}
-use Rattle.cell_line.specs.VisibleCells.{VisibleCell, visible_cells as visible, texts_joined, cells_between, row_of_visible, cell_at, has_link, is_whitespace_row, ends_wrapped, row_end_wrapped}
+use Rattle.cell_line.specs.VisibleCells.{VisibleCell, contents, visible_cells as visible, texts_joined, cells_between, row_of_visible, cell_at, has_link, is_whitespace_row, ends_wrapped, row_end_wrapped}
 use Rattle.cell_line.specs.Wrapped.{rows_of, texts_kept}
 use Rattle.cell_line.specs.Zones.{zones}
 use Rattle.cell_line.specs.Links.{has_implicit_link, without_implicit, column_with}
@@ -232,6 +234,10 @@ visible_cells_between line start end = region start end line.columns
 -- the clusters of these, as long as may be, in order
 abbrev pub cluster : LineContent → List ClusterContent
 cluster line = cell_clusters (visible line.columns)
+
+-- the changes that write the line with these attributes in force at first, on blanks: each run of visible cells of equal attributes has its attributes, unless they are in force, and then its texts; in place of blanks at the end, plain but for one background, their attributes stand, where other cells stand before them, and a clear to the end of the line, unless the background is the default
+abbrev pub changes : LineContent → Attributes → List ChangeValue
+changes line start = row_written start (contents (visible line.columns))
 
 -- the visible cell that begins at the column, if one does
 abbrev pub get_cell : LineContent → ℕ → Option VisibleCell

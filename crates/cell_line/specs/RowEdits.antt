@@ -1,11 +1,11 @@
 -- What edits of a line do to its columns. A half that is left alone becomes a blank with the wide cell's attributes.
-use Rattle.std.specs.Prelude.{ℕ, zero, suc, ◌+◌, ◌-◌, Bool, false, ◌&&◌, ◌||◌, not, nat_lt, nat_le, List, [], ◌∷◌, ◌++◌, length, take, drop, if◌then◌else◌}
-use Rattle.std.specs.List.{list_any}
+use Rattle.std.specs.Prelude.{ℕ, zero, suc, ◌+◌, ◌-◌, Bool, false, ◌&&◌, not, nat_lt, nat_le, List, [], ◌∷◌, ◌++◌, length, take, drop, if◌then◌else◌}
 use Rattle.std.specs.Str.{bytes_eq}
 use Rattle.cell_base.specs.Attributes.{Attributes, plain}
 use Rattle.cell_base.specs.CellContent.{CellContent}
 use Rattle.cell_base.specs.SameAttributes.{same_attributes}
 use Rattle.cell_base.specs.Row.{Column, Narrow, LeftHalf, RightHalf, Row, space, blank, plain_row, closed_end, closed_start, set_columns}
+use Rattle.cell_change.specs.UpToLast.{up_to_last}
 use Rattle.cell_line.specs.LineContent.{cell_columns}
 
 -- the first columns
@@ -55,11 +55,6 @@ abbrev pub is_plain_blank : Column → Bool
 is_plain_blank (Narrow text attributes) = bytes_eq text space && same_attributes attributes plain
 is_plain_blank (LeftHalf text attributes) = false
 is_plain_blank (RightHalf attributes) = false
-
--- a list up to its last element that passes a test
-abbrev pub up_to_last : {A : Type 0} → (A → Bool) → List A → List A
-up_to_last passes [] = []
-up_to_last passes (x ∷ xs) = if passes x || list_any passes xs then x ∷ up_to_last passes xs else []
 
 -- the plain blanks at the end go
 abbrev pub pruned_row : Row → Row

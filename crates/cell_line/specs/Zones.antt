@@ -8,7 +8,7 @@ use Rattle.cell_base.specs.Attributes.{plain}
 use Rattle.cell_base.specs.CellContent.{blank_cell}
 use Rattle.cell_base.specs.SameCell.{same_cell}
 use Rattle.cell_line.specs.Groups.{groups_by}
-use Rattle.cell_line.specs.RowEdits.{up_to_last}
+use Rattle.cell_change.specs.UpToLast.{up_to_last}
 use Rattle.cell_line.specs.VisibleCells.{VisibleCell, first_column, last_column}
 
 abbrev pub same_type : SemanticType → SemanticType → Bool

@@ -2,6 +2,7 @@
 #![tactic(auto)]
 
 mod cell_ref;
+mod changes;
 mod clusters;
 pub mod laws;
 mod line;

@@ -8,8 +8,9 @@ ghost use Rattle.cell_base.specs.CellContent.{row_of_cells, cell_of, blank_cell}
 ghost use Rattle.cell_base.specs.Row.{plain_row, blank};
 ghost use Rattle.cell_base.specs.SameCell.{same_cell};
 ghost use Rattle.std.specs.Borrow.{sem};
+ghost use Rattle.cell_change.specs.ValueOf.{value_of};
 ghost use Rattle.cell_line.specs.LineContent.{changed, IsRefused};
-ghost use Rattle.cell_line.specs.LineCalls.{with_width_and_cell, with_width, from_cells, new, from_text, from_text_with_wrapped_last_col, try_from_text, resize, resize_and_clear, wrap, changed_since, update_last_change_seqno, set_single_width, set_double_width, set_double_height_top, set_double_height_bottom, is_single_width, is_double_width, is_double_height_top, is_double_height_bottom, semantic_zone_ranges, invalidate_implicit_hyperlinks, split_off_kept, split_off, append_line, compute_double_click_range, columns_as_str, columns_as_line, set_cell, set_cell_clearing_image_placements, set_cell_grapheme, set_blanks, set_text, set_clusters, overlay_text_with_attribute, insert_cell, remove_cell, erase_cell, erase_cell_with_margin, prune_trailing_blanks, fill_range, len, current_seqno, as_str, has_hyperlink, visible_cells, visible_cells_between, cluster, get_cell, is_whitespace, compress_for_scrollback, last_cell_was_wrapped, set_last_cell_was_wrapped};
+ghost use Rattle.cell_line.specs.LineCalls.{with_width_and_cell, with_width, from_cells, new, from_text, from_text_with_wrapped_last_col, try_from_text, resize, resize_and_clear, wrap, changed_since, update_last_change_seqno, set_single_width, set_double_width, set_double_height_top, set_double_height_bottom, is_single_width, is_double_width, is_double_height_top, is_double_height_bottom, semantic_zone_ranges, invalidate_implicit_hyperlinks, split_off_kept, split_off, append_line, compute_double_click_range, columns_as_str, columns_as_line, set_cell, set_cell_clearing_image_placements, set_cell_grapheme, set_blanks, set_text, set_clusters, overlay_text_with_attribute, insert_cell, remove_cell, erase_cell, erase_cell_with_margin, prune_trailing_blanks, fill_range, len, current_seqno, as_str, has_hyperlink, visible_cells, visible_cells_between, cluster, changes, get_cell, is_whitespace, compress_for_scrollback, last_cell_was_wrapped, set_last_cell_was_wrapped};
 ghost use Rattle.cell_line.specs.RowEdits.{filled};
 ghost use Rattle.cell_line.specs.Links.{without_implicit, column_with};
 ghost use Rattle.cell_line.specs.Words.{Answers};
@@ -25,10 +26,11 @@ use crate::cell_ref::CellRef;
 use crate::clusters::CellCluster;
 use crate::region::RegionIter;
 use crate::visible_cells::VisibleCellIter;
-use crate::{query, row, runs, text, words, wrap, zones};
+use crate::{changes, query, row, runs, text, words, wrap, zones};
 use cell_base::{
     Cell, CellAttributes, DoubleClickRange, LineAttribute, SEQ_ZERO, SequenceNo, Widths, ZoneRange,
 };
+use cell_change::Change;
 use std::alloc::{AllocError, Global};
 use std::borrow::CowStr;
 use std::marker::Model;
@@ -463,6 +465,19 @@ impl Line {
         ensures { IfOk result (λ clusters. clusters.items ≡ cluster self.now) }
     {
         CellCluster::make_cluster(self.alloc, 0, self.visible_cells())
+    }
+
+    /// The changes that write the line where the pen has these attributes, on blanks of the default
+    /// background: each run of neighbours of equal attributes has its attributes, unless the pen has
+    /// them, and then its texts, joined where the clusters of the joined text (UAX 29) are the cells.
+    /// Blanks at the end, plain but for one background, aren't written: their attributes stand for
+    /// them, where other cells stand before them, and a clear to the end of the line, unless their
+    /// background is the default one.
+    pub fn changes(&self, start_attr: &CellAttributes) -> Result<Vec<Change>, AllocError>
+        ensures { IfOk result (λ found. map value_of found.items ≡ changes self.now start_attr.now) }
+    {
+        let found = changes::changes(self.alloc, &self.cells, start_attr)?;
+        Ok(found)
     }
 
     /// The visible cell that begins at a column.

@@ -1,0 +1,182 @@
+//! The changes that write a line.
+ghost use Rattle.std.specs.Prelude.{◌≡◌, ◌++◌, [], ◌∷◌, not, map, filter, OnOk, IfOk, Some, if◌then◌else◌};
+ghost use Rattle.cell_base.specs.Attributes.{blank_of};
+ghost use Rattle.cell_base.specs.CellContent.{row_of_cells};
+ghost use Rattle.cell_change.specs.CellChanges.{cells_written, clear_due, row_written};
+ghost use Rattle.cell_change.specs.CellRuns.{is_blank_of, background_at_end};
+ghost use Rattle.cell_change.specs.ValueOf.{value_of};
+ghost use Rattle.cell_change.specs.Written.{finished, with_cells};
+ghost use Rattle.cell_line.specs.CellRefView.{shown_by};
+ghost use Rattle.cell_line.specs.OpenChanges.{background_of, last_beside, written_with_clear};
+ghost use Rattle.cell_line.specs.OpenZones.{is_kept_by};
+ghost use Rattle.cell_line.specs.VisibleCells.{visible_cells, contents};
+
+use crate::cell_ref::CellRef;
+use crate::query::is_space;
+use crate::visible_cells::VisibleCellIter;
+use crate::zones::is_kept;
+use cell_base::{Cell, CellAttributes, ColorAttribute};
+use cell_change::{CellWriter, Change};
+use std::alloc::{AllocError, Global};
+
+// Plain attributes on a background.
+fn blank_attrs(color: ColorAttribute) -> CellAttributes
+    ensures { result ≡ blank_of color }
+{
+    let mut attrs = CellAttributes::blank();
+    attrs.set_background(color);
+    attrs
+}
+
+// Whether the cell is one space, plain but for this background.
+#[tactic(auto, unfolding(cell_change::specs::CellRuns::is_blank_of))]
+fn is_blank_of(color: ColorAttribute, cell: &CellRef<'_>) -> bool
+    ensures { result ≡ is_blank_of color (shown_by cell.now).cell }
+{
+    is_space(cell.str()) && *cell.attrs() == blank_attrs(color)
+}
+
+// The background of a cell that is one space, plain but for its background.
+fn background_of(cell: &CellRef<'_>) -> Option<ColorAttribute>
+    ensures { result ≡ background_of (shown_by cell.now).cell }
+{
+    let color = cell.attrs().background();
+    if is_blank_of(color, cell) {
+        Some(color)
+    } else {
+        None
+    }
+}
+
+// The background of the blanks at the end.
+fn background_at_end(cells: &[Cell]) -> Option<ColorAttribute>
+    ensures { result ≡ background_at_end (contents (visible_cells (row_of_cells cells.now))) }
+{
+    let mut found = None;
+    for cell in VisibleCellIter::new(cells) {
+        found = background_of(&cell);
+    }
+    found
+}
+
+// The column of the cell, unless it is a blank of this background.
+fn column_beside(color: ColorAttribute, last: Option<usize>, cell: &CellRef<'_>) -> Option<usize>
+    ensures { result ≡ (if is_blank_of color (shown_by cell.now).cell then last else Some (shown_by cell.now).column) }
+{
+    if is_blank_of(color, cell) {
+        last
+    } else {
+        Some(cell.cell_index())
+    }
+}
+
+// The column of the last cell that isn't a blank of this background.
+fn last_beside(cells: &[Cell], color: ColorAttribute) -> Option<usize>
+    ensures { result ≡ last_beside color (visible_cells (row_of_cells cells.now)) }
+{
+    let mut last = None;
+    for cell in VisibleCellIter::new(cells) {
+        last = column_beside(color, last, &cell);
+    }
+    last
+}
+
+// Writes the cells up to a column, or all.
+fn write_cells<'a>(
+    writer: &mut CellWriter<'a>,
+    cells: &'a [Cell],
+    last: Option<usize>,
+) -> Result<(), AllocError>
+    ensures { OnOk result (writer.new ≡ with_cells writer.old (contents (filter (λ v. is_kept_by last v.column) (visible_cells (row_of_cells cells.now))))) }
+{
+    for cell in VisibleCellIter::new(cells) {
+        if is_kept(last, cell.cell_index()) {
+            writer.push_cell(cell.str(), cell.attrs())?;
+        }
+    }
+    Ok(())
+}
+
+// Clears to the end of the row, where the background isn't the default.
+fn write_clear(writer: &mut CellWriter<'_>, color: ColorAttribute) -> Result<(), AllocError>
+    ensures { OnOk result (finished writer.new ≡ finished writer.old ++ clear_due color) }
+{
+    match color {
+        ColorAttribute::Default => Ok(()),
+        _ => {
+            writer.push_change(Change::ClearToEndOfLine(color))?;
+            Ok(())
+        }
+    }
+}
+
+// A clear alone.
+fn clear_alone(
+    alloc: Global,
+    start: &CellAttributes,
+    color: ColorAttribute,
+) -> Result<Vec<Change>, AllocError>
+    ensures { IfOk result (λ changes. map value_of changes.items ≡ clear_due color) }
+{
+    let mut writer = CellWriter::new(alloc, start);
+    write_clear(&mut writer, color)?;
+    let changes = writer.finish()?;
+    Ok(changes)
+}
+
+// All cells.
+fn all_written(
+    alloc: Global,
+    cells: &[Cell],
+    start: &CellAttributes,
+) -> Result<Vec<Change>, AllocError>
+    ensures { IfOk result (λ changes. map value_of changes.items ≡ cells_written start.now (contents (visible_cells (row_of_cells cells.now)))) }
+{
+    let mut writer = CellWriter::new(alloc, start);
+    write_cells(&mut writer, cells, None)?;
+    let changes = writer.finish()?;
+    Ok(changes)
+}
+
+// The cells up to a column, and a clear behind them.
+fn written_with_clear(
+    alloc: Global,
+    cells: &[Cell],
+    start: &CellAttributes,
+    last: usize,
+    color: ColorAttribute,
+) -> Result<Vec<Change>, AllocError>
+    ensures { IfOk result (λ changes. map value_of changes.items ≡ written_with_clear start.now (contents (filter (λ v. is_kept_by (Some last) v.column) (visible_cells (row_of_cells cells.now)))) color) }
+{
+    let blank = blank_attrs(color);
+    let mut writer = CellWriter::new(alloc, start);
+    write_cells(&mut writer, cells, Some(last))?;
+    writer.set_attributes(&blank)?;
+    write_clear(&mut writer, color)?;
+    let changes = writer.finish()?;
+    Ok(changes)
+}
+
+// The changes that write the cells on blanks.
+pub(crate) fn changes(
+    alloc: Global,
+    cells: &[Cell],
+    start: &CellAttributes,
+) -> Result<Vec<Change>, AllocError>
+    ensures { IfOk result (λ changes. map value_of changes.items ≡ row_written start.now (contents (visible_cells (row_of_cells cells.now)))) }
+{
+    let Some(color) = background_at_end(cells) else {
+        let changes = all_written(alloc, cells, start)?;
+        return Ok(changes);
+    };
+    match last_beside(cells, color) {
+        None => {
+            let changes = clear_alone(alloc, start, color)?;
+            Ok(changes)
+        }
+        Some(last) => {
+            let changes = written_with_clear(alloc, cells, start, last, color)?;
+            Ok(changes)
+        }
+    }
+}
