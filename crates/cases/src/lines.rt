@@ -3,7 +3,7 @@ use crate::call::Call;
 use crate::fault::Fault;
 use crate::row::Row;
 use crate::sheet::Sheet;
-use crate::{edits, makers, questions};
+use crate::{changes, edits, makers, questions, runs};
 use cell_base::{CellAttributes, ProgramWidth};
 use cell_line::Line;
 use std::alloc::{AllocError, Global};
@@ -21,14 +21,24 @@ pub fn told(outcome: Result<(), AllocError>, sheet: &mut Sheet) {
     sheet.word_if(outcome.is_err(), "refused");
 }
 
-// Makes one call.
-fn make_call(page: &mut Page, call: &Call<'_>, sheet: &mut Sheet) -> Result<(), Fault> {
+// Makes a call that gives another line, one that edits it, or one that asks something.
+fn make_or_ask(page: &mut Page, call: &Call<'_>, sheet: &mut Sheet) -> Result<(), Fault> {
     if makers::make(page, call, sheet)? {
         Ok(())
     } else if edits::edit(&mut page.line, call, &page.pen, sheet)? {
         Ok(())
     } else {
         questions::ask(&page.line, call, sheet)
+    }
+}
+
+// Makes one call.
+fn make_call(page: &mut Page, call: &Call<'_>, sheet: &mut Sheet) -> Result<(), Fault> {
+    match call.word(0) {
+        "changes" => changes::say(&page.line, &page.pen, sheet),
+        "set_blanks" | "set_text" => runs::set(&mut page.line, call, &page.pen, sheet),
+        "visible_cells_between" => runs::say_between(&page.line, call, sheet),
+        _ => make_or_ask(page, call, sheet),
     }
 }
 

@@ -4,6 +4,7 @@
 mod actions;
 mod attributes;
 mod call;
+mod changes;
 mod codes;
 mod commands;
 mod edits;
@@ -16,6 +17,7 @@ mod makers;
 mod questions;
 mod row;
 mod run;
+mod runs;
 mod screens;
 mod sequences;
 mod sheet;

@@ -23,8 +23,8 @@ fn yes_or_no(line: &Line, call: &Call<'_>, sheet: &mut Sheet) -> bool {
     }
 }
 
-// A cell: its first column, its width and its text, which its copy has too.
-fn say_cell(cell: &CellRef<'_>, call: &Call<'_>, sheet: &mut Sheet) -> Result<(), Fault> {
+/// Says a cell: its first column, its width and its text, which its copy has too.
+pub fn say_cell(cell: &CellRef<'_>, call: &Call<'_>, sheet: &mut Sheet) -> Result<(), Fault> {
     sheet.show(&cell.cell_index());
     sheet.show(&cell.width());
     sheet.quoted(cell.str());

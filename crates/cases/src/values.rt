@@ -1,4 +1,7 @@
 //! Colours, widths and cells.
+ghost use Rattle.std.specs.Prelude.{◌≡◌, true};
+ghost use Rattle.text_clusters.specs.Plain.{is_printable};
+
 use crate::attributes;
 use crate::fault::Fault;
 use crate::row::{Row, number_up_to};
@@ -7,7 +10,7 @@ use cell_base::{
     Cell, CellAttributes, ProgramWidth, RgbColor, grapheme_column_width, is_white_space_char,
     is_white_space_grapheme, unicode_column_width,
 };
-use std::alloc::Global;
+use std::alloc::{AllocError, Global};
 
 // A colour by its numbers and its two texts.
 fn say_color(color: RgbColor, alloc: Global, sheet: &mut Sheet) -> Result<(), Fault> {
@@ -49,6 +52,29 @@ pub fn text(row: &Row<'_>, sheet: &mut Sheet) -> Result<(), Fault> {
     Ok(())
 }
 
+// A printable character, which is the first of a text; a space where it isn't one.
+fn printable_of(text: &str) -> u8
+    ensures { is_printable result ≡ true }
+{
+    match text.bytes().next() {
+        Some(byte) if 32 <= byte && byte < 127 => byte,
+        _ => b' ',
+    }
+}
+
+// The cell of a printable character: a new one, or an italic one of か in whose place it is set.
+fn ascii_cell(row: &Row<'_>, text: &str, attrs: CellAttributes) -> Result<Cell, AllocError> {
+    let character = printable_of(text);
+    if row.column(0) == "new_ascii" {
+        return Ok(Cell::new_ascii(character, attrs));
+    }
+    let mut italic = CellAttributes::blank();
+    italic.set_italic(true);
+    let mut cell = Cell::new_grapheme(row.alloc(), "か", italic, &ProgramWidth)?;
+    cell.set_ascii(character, &attrs)?;
+    Ok(cell)
+}
+
 // The cell that a call makes of a text.
 fn made_cell(row: &Row<'_>, text: &str) -> Result<Cell, Fault> {
     let alloc = row.alloc();
@@ -61,6 +87,7 @@ fn made_cell(row: &Row<'_>, text: &str) -> Result<Cell, Fault> {
             &ProgramWidth,
         ),
         "new_grapheme" => Cell::new_grapheme(alloc, text, attrs, &ProgramWidth),
+        "new_ascii" | "set_ascii" => ascii_cell(row, text, attrs),
         "new_grapheme_with_width" => {
             let width = number_up_to(2, row.column(2))?;
             Cell::new_grapheme_with_width(alloc, text, width, attrs)
