@@ -1,7 +1,7 @@
 -- A link that a reading gave reads back equal from its text.
 use Rattle.std.proofs.Common.{◌≡◌, ℕ, ◌<◌, Bool, true, false, cond, eqb, List, [], ◌∷◌, ◌++◌, length, map, refl, sym, ◌∙◌, ap, subst, arith, fold}
-use Rattle.std.specs.Prelude.{◌&&◌, Option, Some, None, Result, Ok, Err, IfOk}
-use Rattle.std.specs.List.{join_with_byte, AllByRecursion, list_all}
+use Rattle.std.specs.Prelude.{◌&&◌, ◌||◌, ◌==◌, not, Option, Some, None, Result, Ok, Err, IfOk, String}
+use Rattle.std.specs.List.{join_with_byte, AllByRecursion, list_all, list_any}
 use Rattle.std.specs.List.Sorted.{IsStrictlySortedBy}
 use Rattle.std.specs.Map.{keys_of}
 use Rattle.std.specs.Ordering.{nat_cmp, match_ordering}
@@ -10,11 +10,12 @@ use Rattle.std.specs.declared.cmp.Ordering.{Ordering}
 use Rattle.std.specs.declared.cmp.Ordering.TheVariants.{Less, Equal, Greater}
 use Rattle.std.specs.Cmp.Lexicographic.{slice_cmp, nat_list_cmp_total}
 use Rattle.std.specs.Str.{IsUtf8, is_utf8}
-use Rattle.std.proofs.lemmas.Str.{IsUtf8-from_is_utf8, is_utf8-from_IsUtf8}
-use Rattle.std.proofs.lemmas.Bool.{and_parts, and_from, cond-false, ne_eqb}
+use Rattle.std.specs.String.{string_bytes}
+use Rattle.std.proofs.lemmas.Str.{IsUtf8-from_is_utf8, is_utf8-from_IsUtf8, IsUtf8-string_bytes}
+use Rattle.std.proofs.lemmas.Bool.{and_parts, and_from, cond-false, ne_eqb, false≢true}
 use Rattle.std.proofs.lemmas.List.Splits.{join_with_byte-slice_split, length-slice_split}
-use Rattle.cell_base.specs.Link.{Link, Param}
-use Rattle.cell_base.specs.LinkText.{param_text, params_text, link_text, text_of_link, pieces, is_param, param_of, by_key, param_pieces, params_of, texts_reading, link_reading}
+use Rattle.cell_base.specs.Link.{Link, Param, texts_of}
+use Rattle.cell_base.specs.LinkText.{param_text, params_text, link_text, text_of_link, pieces, is_param, param_of, by_key, param_pieces, params_of, texts_reading, link_reading, is_value_text, is_key_text, is_writable, is_empty_link, IsReadBack}
 use Rattle.cell_base.specs.declared.link_error.LinkError.TheVariants.{Utf8, Params}
 use Rattle.cell_base.proofs.Pieces.{Lacks, EachLacks, all_joined, all_front, all_back, pieces_lack, pieces_more, pieces_joined, joined_lacks, each_lacks, utf8_around, utf8_before, utf8_behind, joined_utf8, each_utf8, cut_joined, before_lacks, before_is, after_is, has_byte}
 use Rattle.cell_base.proofs.TextsReading.{reading_by}
@@ -81,9 +82,9 @@ texts_utf8 (p ∷ ps) h = (utf8_around 61 p.0 p.1 (omega arith) h.0.0.utf8 h.0.1
 
 -- ---- the parameters of a text
 
-record IsPrinted (qs : List Param) : Type 0 where
-  each : EachParam qs
-  sorted : IsStrictlySortedBy (slice_cmp nat_cmp) (keys_of qs)
+pub record IsPrinted (qs : List Param) : Type 0 where
+  pub each : EachParam qs
+  pub sorted : IsStrictlySortedBy (slice_cmp nat_cmp) (keys_of qs)
 
 abbrev by_colon : List ℕ → List (List ℕ)
 by_colon = pieces 58
@@ -235,3 +236,133 @@ when_ok (Err e) P h = tt
 
 pub body_law : (body : List ℕ) → IfOk (link_reading (pieces 59 body)) (λ link. link_reading (pieces 59 (text_of_link link)) ≡ Ok link)
 body_law body = when_ok (link_reading (pieces 59 body)) _ (body_back body)
+
+-- ---- a link that reads back
+
+nothing_is : (c : ℕ) (t : List ℕ) → list_any (λ b. b == c) t ≡ false → Lacks c t
+nothing_is c [] e = tt
+nothing_is c (b ∷ t) e = elim (b == c) as (λ x. (x || list_any (λ d. d == c) t) ≡ false → (x ≡ false) × Lacks c t) [ true ↦ λ f. absurd (false≢true (sym f)) | false ↦ λ f. (refl, nothing_is c t f) ] e
+
+is_nothing : (c : ℕ) (t : List ℕ) → Lacks c t → list_any (λ b. b == c) t ≡ false
+is_nothing c [] h = refl
+is_nothing c (b ∷ t) h = ap (λ x. x || list_any (λ d. d == c) t) h.0 ∙ is_nothing c t h.1
+
+not_true : (b : Bool) → not b ≡ true → b ≡ false
+not_true true e = absurd (false≢true e)
+not_true false e = refl
+
+value_is : (v : List ℕ) → IsUtf8 v → is_value_text v ≡ true → IsValue v
+value_is v u e =
+    let both = and_parts (not (list_any (λ b. b == 58) v)) (not (list_any (λ b. b == 59) v)) e in
+    record { no_colon = nothing_is 58 v (not_true _ both.0); no_semicolon = nothing_is 59 v (not_true _ both.1); utf8 = u }
+
+is_value_of : (v : List ℕ) → Lacks 58 v → Lacks 59 v → is_value_text v ≡ true
+is_value_of v c s = and_from _ _ (ap not (is_nothing 58 v c)) (ap not (is_nothing 59 v s))
+
+key_is : (k : List ℕ) → IsUtf8 k → is_key_text k ≡ true → IsKey k
+key_is k u e =
+    let both = and_parts (not (is_param k)) (is_value_text k) e in
+    let v = value_is k u both.1 in
+    record { no_equals = nothing_is 61 k (not_true _ both.0); no_colon = v.no_colon; no_semicolon = v.no_semicolon; utf8 = u }
+
+abbrev pub EachText : List Param → Type 0
+EachText = AllByRecursion (λ p. IsUtf8 p.0 × IsUtf8 p.1)
+
+each_is : (qs : List Param) → EachText qs → list_all is_writable qs ≡ true → EachParam qs
+each_is [] u e = tt
+each_is (q ∷ qs) u e =
+    let both = and_parts (is_writable q) (list_all is_writable qs) e in
+    let parts = and_parts (is_key_text q.0) (is_value_text q.1) both.0 in
+    ((key_is q.0 u.0.0 parts.0, value_is q.1 u.0.1 parts.1), each_is qs u.1 both.1)
+
+is_each : (qs : List Param) → EachParam qs → list_all is_writable qs ≡ true
+is_each [] h = refl
+is_each (q ∷ qs) h =
+    let k = h.0.0 in
+    let v = h.0.1 in
+    and_from (is_writable q) (list_all is_writable qs)
+    (and_from (is_key_text q.0) (is_value_text q.1) (and_from _ _ (ap not (is_nothing 61 q.0 k.no_equals)) (is_value_of q.0 k.no_colon k.no_semicolon)) (is_value_of q.1 v.no_colon v.no_semicolon))
+    (is_each qs h.1)
+
+-- the text of writable parameters and a URI, not both empty, reads as the link
+writable_reads : (qs : List Param) (U : List ℕ) → IsPrinted qs → IsUtf8 U → (eqb (length qs) 0 && eqb (length U) 0) ≡ false → IsReadBack (record { params = qs; uri = U; implicit = false })
+unfolding link_text texts_reading
+writable_reads qs U h u some =
+    let r = reads_back qs h in
+    let none : (eqb (length (params_text qs)) 0 && eqb (length U) 0) ≡ false = no_text qs some in
+    text_parts (params_text qs) U r.lacks
+    ∙ (λ i. cond (none i) (Ok None) (cond (and_from (is_utf8 (params_text qs)) (is_utf8 U) r.utf8 (is_utf8-from_IsUtf8 U u) i) (cond (r.are i) (Ok (Some (record { params = r.back i; uri = U; implicit = false }))) (Err Params)) (Err Utf8)))
+  where
+    no_text : (ps : List Param) → (eqb (length ps) 0 && eqb (length U) 0) ≡ false → (eqb (length (params_text ps)) 0 && eqb (length U) 0) ≡ false
+    no_text [] e = e
+    no_text (p ∷ ps) e = ap (λ b. b && eqb (length U) 0) (text_long p ps)
+
+-- what a reading gave is given, not empty, and writable
+record IsRead (l : Link) : Type 0 where
+  printed : IsPrinted l.params
+  given : l.implicit ≡ false
+  some : is_empty_link l ≡ false
+
+empty_text : (qs : List Param) (U : List ℕ) → (eqb (length (params_text qs)) 0 && eqb (length U) 0) ≡ false → (eqb (length qs) 0 && eqb (length U) 0) ≡ false
+empty_text [] U e = e
+empty_text (q ∷ qs) U e = ap (λ b. b && eqb (length U) 0) (ne_eqb (length (q ∷ qs)) 0 (λ p. absurd (omega (arith, p))))
+
+read_by : (P U : List ℕ) (b1 b2 b3 : Bool) (l : Link) → (eqb (length P) 0 && eqb (length U) 0) ≡ b1 → (is_utf8 P && is_utf8 U) ≡ b2 → list_all is_param (param_pieces P) ≡ b3 → Lacks 59 P
+    → reading_by b1 b2 b3 P U ≡ Ok (Some l) → IsRead l
+read_by P U true b2 b3 l e1 e2 e3 s e = absurd (cc)
+read_by P U false false b3 l e1 e2 e3 s e = absurd (cc)
+read_by P U false true false l e1 e2 e3 s e = absurd (cc)
+read_by P U false true true l e1 e2 e3 s e =
+    let is : record { params = params_of P; uri = U; implicit = false } ≡ l = cc in
+    let both = and_parts (is_utf8 P) (is_utf8 U) e2 in
+    subst IsRead is (record {
+      printed = params_printed P e3 s (IsUtf8-from_is_utf8 P both.0);
+      given = refl;
+      some = empty_text (params_of P) U (ap (λ b. b && eqb (length U) 0) (same_empty P) ∙ e1);
+    })
+
+parts_read : (ts : List (List ℕ)) (l : Link) → EachLacks 59 ts → link_reading ts ≡ Ok (Some l) → IsRead l
+unfolding link_reading texts_reading
+parts_read [] l s e = absurd (cc)
+parts_read (a ∷ []) l s e = absurd (cc)
+parts_read (a ∷ p ∷ []) l s e = absurd (cc)
+parts_read (a ∷ p ∷ u ∷ us) l s e =
+    let U : List ℕ = join_with_byte 59 (u ∷ us) in
+    read_by p U (eqb (length p) 0 && eqb (length U) 0) (is_utf8 p && is_utf8 U) (list_all is_param (param_pieces p)) l refl refl refl s.1.0 e
+
+-- both ways
+pub written_back : (l : Link) → EachText l.params → IsUtf8 l.uri → IsStrictlySortedBy (slice_cmp nat_cmp) (keys_of l.params) → l.implicit ≡ false → is_empty_link l ≡ false → list_all is_writable l.params ≡ true → IsReadBack l
+written_back l u v sorted given some writable =
+    subst IsReadBack (λ i. record { params = l.params; uri = l.uri; implicit = sym given i })
+    (writable_reads l.params l.uri (record { each = each_is l.params u writable; sorted = sorted }) v some)
+
+pub back_is_given : (l : Link) → IsReadBack l → l.implicit ≡ false
+back_is_given l e = (parts_read (pieces 59 (link_text l)) l (pieces_lack 59 (link_text l)) e).given
+
+pub back_is_some : (l : Link) → IsReadBack l → is_empty_link l ≡ false
+back_is_some l e = (parts_read (pieces 59 (link_text l)) l (pieces_lack 59 (link_text l)) e).some
+
+pub back_is_writable : (l : Link) → IsReadBack l → list_all is_writable l.params ≡ true
+back_is_writable l e = is_each l.params (parts_read (pieces 59 (link_text l)) l (pieces_lack 59 (link_text l)) e).printed.each
+
+-- ---- the texts of a map
+
+pub each_text : {Z : Type 0} (es : List (String Z × String Z)) → EachText (texts_of es)
+each_text [] = tt
+each_text (e ∷ es) = ((IsUtf8-string_bytes e.0, IsUtf8-string_bytes e.1), each_text es)
+
+-- a link's texts, of which the keys are in order
+pub link_written_back : {Z : Type 0} (es : List (String Z × String Z)) (uri : String Z) (implicit : Bool) (l : Link) → record { params = texts_of es; uri = string_bytes uri; implicit = implicit } ≡ l
+    → IsStrictlySortedBy (slice_cmp nat_cmp) (keys_of (texts_of es)) → implicit ≡ false → false ≡ is_empty_link l → list_all is_writable (texts_of es) ≡ true → IsReadBack l
+link_written_back es uri implicit l is sorted given some writable =
+    let link : Link = record { params = texts_of es; uri = string_bytes uri; implicit = implicit } in
+    subst IsReadBack is (written_back link (each_text es) (IsUtf8-string_bytes uri) sorted given (ap is_empty_link is ∙ sym some) writable)
+
+below_texts : {Z : Type 0} (k : String Z) (es : List (String Z × String Z)) → AllByRecursion (λ y. slice_cmp nat_cmp (string_bytes k) (string_bytes y) ≡ Less) (keys_of es) → AllByRecursion (λ y. slice_cmp nat_cmp (string_bytes k) y ≡ Less) (keys_of (texts_of es))
+below_texts k [] h = tt
+below_texts k (e ∷ es) h = (h.0, below_texts k es h.1)
+
+pub texts_in_order : {Z : Type 0} (es : List (String Z × String Z)) → IsStrictlySortedBy (λ a b. slice_cmp nat_cmp (string_bytes a) (string_bytes b)) (keys_of es) → IsStrictlySortedBy (slice_cmp nat_cmp) (keys_of (texts_of es))
+unfolding IsStrictlySortedBy
+texts_in_order [] h = tt
+texts_in_order (e ∷ es) h = (below_texts e.0 es h.0, texts_in_order es h.1)

@@ -1,5 +1,5 @@
 -- The text of a link, and its reading. OSC 8 carries a link as `8;params;uri`, where the params are `key=value` joined by `:` (Koblinger, "Hyperlinks in terminal emulators"). `:` is 58, `;` is 59, `=` is 61.
-use Rattle.std.specs.Prelude.{◌≡◌, ◌⊎◌, ℕ, Bool, false, ◌&&◌, ◌==◌, if◌then◌else◌, List, [], ◌∷◌, ◌++◌, map, fold, length, Option, Some, None, Result, Ok, Err, MatchResult}
+use Rattle.std.specs.Prelude.{◌≡◌, ◌⊎◌, ℕ, Bool, false, ◌&&◌, ◌==◌, not, if◌then◌else◌, List, [], ◌∷◌, ◌++◌, map, fold, length, Option, Some, None, Result, Ok, Err, MatchResult}
 use Rattle.std.specs.List.{slice_split, join_with_byte, before_first, after_first, list_any, list_all}
 use Rattle.std.specs.Ordering.{nat_cmp}
 use Rattle.std.specs.Cmp.Lexicographic.{slice_cmp}
@@ -69,3 +69,21 @@ link_reading _ = Err PartCount
 -- r is the reading, but that want of memory may stand in place of what it reads, never in place of a refusal
 abbrev pub IsUnlessMemory : Result (Option Link) LinkError → Result (Option Link) LinkError → Type 0
 IsUnlessMemory reading r = MatchResult reading (λ link. (r ≡ Ok link) ⊎ (r ≡ Err Memory)) (λ e. r ≡ Err e)
+
+-- whether a text stands in a link's text as it is: a value where it has no `:` and no `;`, a key where it has no `=` either
+abbrev pub is_value_text : List ℕ → Bool
+is_value_text text = not (list_any (λ b. b == 58) text) && not (list_any (λ b. b == 59) text)
+
+abbrev pub is_key_text : List ℕ → Bool
+is_key_text text = not (is_param text) && is_value_text text
+
+abbrev pub is_writable : Param → Bool
+is_writable p = is_key_text p.0 && is_value_text p.1
+
+-- neither parameters nor a URI
+abbrev pub is_empty_link : Link → Bool
+is_empty_link link = length link.params == 0 && length link.uri == 0
+
+-- what the link's text reads as, from its parts between `;`, is the link
+abbrev pub IsReadBack : Link → Type 0
+IsReadBack link = link_reading (pieces 59 (link_text link)) ≡ Ok (Some link)

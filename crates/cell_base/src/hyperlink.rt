@@ -1,14 +1,18 @@
 //! Links: a URI with parameters, as OSC 8 carries them.
 ghost use Rattle.std.specs.Prelude.{◌≡◌, ◌↔◌, [], ◌∷◌, ◌<◌, length, map, IfOk, IsTrue, IfErr, Some, Ok, Err, false, true, codes};
 ghost use Rattle.std.specs.Fmt.{WritesOnOk};
-ghost use Rattle.std.specs.List.{join_with_byte};
+ghost use Rattle.std.specs.List.{join_with_byte, list_all};
+ghost use Rattle.std.specs.Cmp.Lexicographic.{slice_cmp};
+ghost use Rattle.std.specs.List.Sorted.{IsStrictlySortedBy};
+ghost use Rattle.std.specs.Map.{keys_of};
+ghost use Rattle.std.specs.Ordering.{nat_cmp};
 ghost use Rattle.std.specs.Str.{is_utf8};
 ghost use Rattle.std.specs.String.{string_bytes};
-ghost use Rattle.cell_base.specs.LinkText.{link_text, link_reading, params_of, params_text, texts_reading, IsUnlessMemory};
+ghost use Rattle.cell_base.specs.LinkText.{link_text, link_reading, params_of, params_text, texts_reading, is_empty_link, is_writable, IsReadBack, IsUnlessMemory};
 ghost use Rattle.cell_base.specs.Link.{texts_of};
 
 use crate::link_error::LinkError;
-use crate::link_reading::{are_empty, are_params, as_texts, join_parts, read_params};
+use crate::link_reading::{are_empty, are_params, as_texts, is_writable, join_parts, read_params};
 use std::alloc::{AllocError, Global};
 use std::collections::BTreeMap;
 use std::fmt;
@@ -39,7 +43,7 @@ impl Hyperlink {
         ensures { IfOk result (λ l. l ≡ record { params = []; uri = uri.now; implicit = false }) }
     {
         let uri = String::from_str(alloc, uri)?;
-        Ok(Hyperlink::new_with_params(uri, BTreeMap::new(alloc)))
+        Ok(Hyperlink::given(uri, BTreeMap::new(alloc)))
     }
 
     /// A link that was found in a text.
@@ -67,11 +71,27 @@ impl Hyperlink {
         let uri = String::from_str(alloc, uri)?;
         let mut params = BTreeMap::new(alloc);
         params.insert(String::from_str(alloc, "id")?, String::from_str(alloc, id)?)?;
-        Ok(Hyperlink::new_with_params(uri, params))
+        Ok(Hyperlink::given(uri, params))
     }
 
     /// A link to a URI with parameters.
-    pub fn new_with_params(uri: String, params: BTreeMap<String, String>) -> Hyperlink
+    pub fn new_with_params(
+        alloc: Global,
+        uri: &str,
+        params: BTreeMap<String, String>,
+    ) -> Result<Hyperlink, AllocError>
+        ensures { IfOk result (λ l. l ≡ record {
+          params = texts_of params.entries;
+          uri = uri.now;
+          implicit = false;
+        }) }
+    {
+        let uri = String::from_str(alloc, uri)?;
+        Ok(Hyperlink::given(uri, params))
+    }
+
+    // A link that was given.
+    fn given(uri: String, params: BTreeMap<String, String>) -> Hyperlink
         ensures { result ≡ record {
           params = texts_of params.entries;
           uri = string_bytes uri;
@@ -130,7 +150,30 @@ impl Hyperlink {
     {
         let uri = join_parts(alloc, uri)?;
         let params = read_params(alloc, params)?;
-        Ok(Hyperlink::new_with_params(uri, params))
+        Ok(Hyperlink::given(uri, params))
+    }
+
+    /// Whether what an OSC 8 of the link's text says is the link again. It is so where the link was
+    /// given by a program and has a URI or parameters, no key holds `=`, `:` or `;`, and no value `:`
+    /// or `;`. Takes no memory.
+    pub fn reads_back(&self) -> bool
+        ensures { IsTrue result ↔ IsReadBack self.now }
+    {
+        if self.implicit {
+            return false;
+        }
+        if self.is_empty() {
+            return false;
+        }
+        are_in_order(&self.params);
+        are_writable(&self.params)
+    }
+
+    // Whether there are neither parameters nor a URI.
+    fn is_empty(&self) -> bool
+        ensures { result ≡ is_empty_link self.now }
+    {
+        self.params.is_empty() && self.uri.is_empty()
     }
 
     // Whether the texts are the same.
@@ -231,4 +274,23 @@ fn same_params(a: &BTreeMap<String, String>, b: &BTreeMap<String, String>) -> bo
     ensures { IsTrue result ↔ (texts_of a.now.entries ≡ texts_of b.now.entries) }
 {
     *a == *b
+}
+
+// Whether each key and each value stands in a link's text as it is.
+fn are_writable(params: &BTreeMap<String, String>) -> bool
+    ensures { result ≡ list_all is_writable (texts_of params.now.entries) }
+{
+    for (key, value) in params {
+        if !is_writable(key.as_str(), value.as_str()) {
+            return false;
+        }
+    }
+    true
+}
+
+// The keys are in the order of their bytes.
+fn are_in_order(params: &BTreeMap<String, String>)
+    ensures { IsStrictlySortedBy (slice_cmp nat_cmp) (keys_of (texts_of params.now.entries)) }
+{
+    let _count = params.len();
 }

@@ -1,10 +1,10 @@
 //! Reading a link from the parts of an OSC 8.
 ghost use Rattle.std.specs.Prelude.{◌≡◌, ◌<◌, ◌==◌, ◌&&◌, true, length, map, is_some, IfSome, IfOk, OnOk};
-ghost use Rattle.std.specs.List.{before_first, after_first, list_all, join_with_byte};
+ghost use Rattle.std.specs.List.{before_first, after_first, list_all, list_any, join_with_byte};
 ghost use Rattle.std.specs.Str.{is_utf8};
 ghost use Rattle.std.specs.String.{string_bytes};
 ghost use Rattle.cell_base.specs.Link.{texts_of};
-ghost use Rattle.cell_base.specs.LinkText.{is_param, param_of, param_pieces, params_of, put_param};
+ghost use Rattle.cell_base.specs.LinkText.{is_key_text, is_param, is_value_text, is_writable, param_of, param_pieces, params_of, put_param};
 
 use std::alloc::{AllocError, Global};
 use std::collections::BTreeMap;
@@ -56,6 +56,37 @@ fn has_equals(pair: &str) -> bool
     ensures { result ≡ is_param pair.now }
 {
     pair.contains('=')
+}
+
+fn has_colon(text: &str) -> bool
+    ensures { result ≡ list_any (λ b. b == 58) text.now }
+{
+    text.contains(':')
+}
+
+fn has_semicolon(text: &str) -> bool
+    ensures { result ≡ list_any (λ b. b == 59) text.now }
+{
+    text.contains(';')
+}
+
+// Whether a text stands in a link's text as it is: a value, a key, both.
+fn is_value(text: &str) -> bool
+    ensures { result ≡ is_value_text text.now }
+{
+    !has_colon(text) && !has_semicolon(text)
+}
+
+fn is_key(text: &str) -> bool
+    ensures { result ≡ is_key_text text.now }
+{
+    !has_equals(text) && is_value(text)
+}
+
+pub(crate) fn is_writable(key: &str, value: &str) -> bool
+    ensures { result ≡ is_writable (key.now, value.now) }
+{
+    is_key(key) && is_value(value)
 }
 
 // Whether each pair of the text has a `=`.

@@ -1,0 +1,6 @@
+use Rattle.std.proofs.Common.{arith}
+use Rattle.cell_base.proofs.ReadingSteps.{contains_answer}
+use Rattle.cell_base.proofs.link_reading.has_colon.Goals as goal
+
+pub returns : goal.returns
+returns c = contains_answer 58 _ _ c.contains.ensures.cases (omega arith)
