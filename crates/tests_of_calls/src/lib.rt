@@ -5,6 +5,8 @@
 #[cfg(test)]
 mod attributes;
 #[cfg(test)]
+mod changes;
+#[cfg(test)]
 mod clusters;
 #[cfg(test)]
 mod colors;

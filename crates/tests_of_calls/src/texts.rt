@@ -48,7 +48,7 @@ fn link_with_params<R: Abort + AllocGlobal>(rt: &R) -> Hyperlink {
     let mut params = BTreeMap::new(rt.alloc());
     assert!(rt; params.insert(text_of(rt, "b"), text_of(rt, "2")).is_ok());
     assert!(rt; params.insert(text_of(rt, "a"), text_of(rt, "1")).is_ok());
-    Hyperlink::new_with_params(text_of(rt, "u"), params)
+    Hyperlink::new_with_params(rt.alloc(), "u", params).expect(rt, "memory")
 }
 
 #[test]
@@ -71,4 +71,35 @@ fn found_links(rt: HostRuntime) {
     assert!(rt; !plain.is_implicit());
     assert!(rt; plain != found);
     assert_eq!(rt; plain.uri(), "u");
+}
+
+// Whether the link of one parameter reads back from its text.
+fn reads_back<R: Abort + AllocGlobal>(rt: &R, uri: &str, key: &str, value: &str) -> bool {
+    let mut params = BTreeMap::new(rt.alloc());
+    assert!(rt; params.insert(text_of(rt, key), text_of(rt, value)).is_ok());
+    let link = Hyperlink::new_with_params(rt.alloc(), uri, params).expect(rt, "memory");
+    link.reads_back()
+}
+
+#[test]
+fn links_that_read_back(rt: HostRuntime) {
+    assert!(rt; reads_back(&rt, "u", "a", "1"));
+    assert!(rt; reads_back(&rt, "", "a", "1"));
+    assert!(rt; reads_back(&rt, "u;v=w:x", "", ""));
+    assert!(rt; reads_back(&rt, "u", "a", "b=c"));
+    assert!(rt; !reads_back(&rt, "u", "a=b", "1"));
+    assert!(rt; !reads_back(&rt, "u", "a:b", "1"));
+    assert!(rt; !reads_back(&rt, "u", "a", "1:2"));
+    assert!(rt; !reads_back(&rt, "u", "a;b", "1"));
+    assert!(rt; !reads_back(&rt, "u", "a", "1;2"));
+}
+
+#[test]
+fn links_without_params_that_read_back(rt: HostRuntime) {
+    let given = Hyperlink::new(rt.alloc(), "u").expect(&rt, "memory");
+    let found = Hyperlink::new_implicit(rt.alloc(), "u").expect(&rt, "memory");
+    let empty = Hyperlink::new(rt.alloc(), "").expect(&rt, "memory");
+    assert!(rt; given.reads_back());
+    assert!(rt; !found.reads_back());
+    assert!(rt; !empty.reads_back());
 }
