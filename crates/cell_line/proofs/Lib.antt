@@ -1,6 +1,7 @@
 pub mod CellLemmas
 pub mod ChangeLemmas
 pub mod ClusterLemmas
+pub mod ColumnLemmas
 pub mod CutLemmas
 pub mod EndLemmas
 pub mod GroupLemmas

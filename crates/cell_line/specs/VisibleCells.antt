@@ -1,5 +1,5 @@
 -- The visible cells of a row, and what is asked of them.
-use Rattle.std.specs.Prelude.{ℕ, ◌+◌, Bool, false, ◌&&◌, ◌==◌, nat_lt, nat_le, List, [], ◌∷◌, Option, find, filter, fold, map, is_some}
+use Rattle.std.specs.Prelude.{ℕ, ◌+◌, Bool, false, ◌&&◌, ◌==◌, nat_lt, nat_le, List, [], ◌∷◌, Option, Some, None, find, filter, fold, map, is_some}
 use Rattle.std.specs.List.{flat_map, list_any, list_all}
 use Rattle.std.specs.Str.{bytes_eq}
 use Rattle.cell_base.specs.Attributes.{Attributes}
@@ -24,6 +24,11 @@ visible_from at (RightHalf attributes ∷ row) = visible_from (at + 1) row
 
 abbrev pub visible_cells : Row → List VisibleCell
 visible_cells row = visible_from 0 row
+
+-- the first cell, if there is one
+abbrev pub first_of : List VisibleCell → Option VisibleCell
+first_of [] = None
+first_of (v ∷ cells) = Some v
 
 -- the columns of cells, side by side
 abbrev pub row_of_visible : List VisibleCell → Row

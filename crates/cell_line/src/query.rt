@@ -1,5 +1,5 @@
 //! What is asked of the cells of a line, which are read from the left.
-ghost use Rattle.std.specs.Prelude.{◌≡◌, ◌↔◌, ◌++◌, not, IsTrue, OnOk, filter, string_bytes};
+ghost use Rattle.std.specs.Prelude.{◌≡◌, ◌≤◌, ◌↔◌, ◌++◌, length, drop, not, IsTrue, OnOk, filter, string_bytes};
 ghost use Rattle.std.specs.List.{list_any, list_all};
 ghost use Rattle.std.specs.Str.{bytes_eq};
 ghost use Rattle.std.specs.Option.{option_map};
@@ -7,12 +7,12 @@ ghost use Rattle.cell_base.specs.Attributes.{plain};
 ghost use Rattle.cell_base.specs.CellContent.{row_of_cells};
 ghost use Rattle.cell_base.specs.Row.{space};
 ghost use Rattle.cell_base.specs.SameAttributes.{same_attributes};
-ghost use Rattle.cell_line.specs.VisibleCells.{visible_cells, contents, cell_at, cells_between, texts_joined, has_link, is_whitespace_row, ends_wrapped};
+ghost use Rattle.cell_line.specs.VisibleCells.{visible_cells, visible_from, first_of, contents, cell_at, cells_between, texts_joined, has_link, is_whitespace_row, ends_wrapped};
 ghost use Rattle.cell_line.specs.CellRefView.{shown_by};
 ghost use Rattle.cell_line.specs.Links.{has_implicit_link};
 
 use crate::cell_ref::CellRef;
-use crate::row::has_implicit;
+use crate::row::{has_implicit, is_halved};
 use crate::visible_cells::VisibleCellIter;
 use cell_base::Cell;
 use std::alloc::AllocError;
@@ -24,16 +24,25 @@ pub(crate) fn is_space(text: &str) -> bool
     text == " "
 }
 
-// The cell that begins at the column.
+// The first cell of those from a column on.
+fn first_from(cells: &[Cell], column: usize) -> Option<CellRef<'_>>
+    requires { column ≤ length cells.now }
+    ensures { option_map shown_by result ≡ first_of (visible_from column (row_of_cells (drop column cells.now))) }
+{
+    VisibleCellIter::from_column(&cells[column..], column).next()
+}
+
+// The cell that begins at the column. Only the wide cells right before it are looked at.
 pub(crate) fn cell_at(cells: &[Cell], column: usize) -> Option<CellRef<'_>>
     ensures { option_map shown_by result ≡ cell_at column (row_of_cells cells.now) }
 {
-    for cell in VisibleCellIter::new(cells) {
-        if cell.cell_index() == column {
-            return Some(cell);
-        }
+    if cells.len() <= column {
+        return None;
     }
-    None
+    if is_halved(cells, column) {
+        return None;
+    }
+    first_from(cells, column)
 }
 
 // The texts of the cells that begin from `start` on and before `end` go behind the text.
