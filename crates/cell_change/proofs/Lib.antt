@@ -1,2 +1,3 @@
+pub mod EqualChanges
 pub mod RunLemmas
 pub mod TextLemmas
