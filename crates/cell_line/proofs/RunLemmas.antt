@@ -167,6 +167,15 @@ overlaid-append row at (x ∷ xs) ys =
     let on : at + length (cell_columns x) + length (flat_map cell_columns xs) ≡ at + length (cell_columns x ++ flat_map cell_columns xs) = omega arith in
     overlaid-append (with_cell row at x) (at + length (cell_columns x)) xs ys ∙ ap (λ n. overlaid (overlaid row at (x ∷ xs)) n ys) on
 
+-- the columns of two lists of cells
+columns-append : (xs ys : List CellContent) → length (flat_map cell_columns (xs ++ ys)) ≡ length (flat_map cell_columns xs) + length (flat_map cell_columns ys)
+columns-append [] ys = omega arith
+columns-append (x ∷ xs) ys =
+    let first = length-append (cell_columns x) (flat_map cell_columns (xs ++ ys)) in
+    let both = length-append (cell_columns x) (flat_map cell_columns xs) in
+    let rest = columns-append xs ys in
+    omega (arith, first, both, rest)
+
 -- ---- the cells of a text
 
 module _ (width_of : List ℕ → ℕ) (a : Attributes) where
@@ -202,9 +211,13 @@ module _ (width_of : List ℕ → ℕ) (a : Attributes) where
       let plain = plain_length front a in
       let bytes = each_length front in
       let fits = ap length fit in
+      let rest_cells = fitting (end - (at + length front)) (text_cells width_of rest a) in
+      let wide : length (flat_map cell_columns (fitting (end - at) (text_cells width_of text a))) ≡ length (flat_map cell_columns (plain_cells front a)) + length (flat_map cell_columns rest_cells) =
+      ap (λ (cs : List CellContent). length (flat_map cell_columns cs)) fit ∙ columns-append (plain_cells front a) rest_cells in
       let drops : length (each front) + length (fitting (end - (at + length front)) (text_cells width_of rest a)) ≡ length (fitting (end - at) (text_cells width_of text a)) = omega arith in
       record {
         columns = sym (ap (overlaid row at) fit ∙ overlaid-append row at (plain_cells front a) _ ∙ (λ i. overlaid (sym is i) (on i) (fitting (end - (at + length front)) (text_cells width_of rest a))));
+        behind = omega (arith, wide, count);
         left = ap concat (sym (drop-append-add (each front) (graphemes true rest) (length (fitting (end - (at + length front)) (text_cells width_of rest a)))) ∙ (λ i. drop (drops i) (sym e i)));
         order = omega arith;
         within = omega arith;
@@ -218,9 +231,13 @@ module _ (width_of : List ℕ → ℕ) (a : Attributes) where
       let room : end - at - length (cell_columns cell) ≡ end - (at + length (cell_columns cell)) = omega arith in
       let fit : fitting (end - at) (text_cells width_of text a) ≡ cell ∷ fitting (end - (at + length (cell_columns cell))) (text_cells width_of rest a) =
       ap (fitting (end - at)) cells ∙ fitting_cell (end - at) cell (text_cells width_of rest a) k ∙ ap (λ n. cell ∷ fitting n (text_cells width_of rest a)) room in
+      let rest_cells = fitting (end - (at + length (cell_columns cell))) (text_cells width_of rest a) in
+      let wide : length (flat_map cell_columns (fitting (end - at) (text_cells width_of text a))) ≡ length (cell_columns cell) + length (flat_map cell_columns rest_cells) =
+      ap (λ (cs : List CellContent). length (flat_map cell_columns cs)) fit ∙ length-append (cell_columns cell) (flat_map cell_columns rest_cells) in
       record {
         columns = sym (ap (overlaid row at) fit ∙ overlaid_next row at cell (fitting (end - (at + length (cell_columns cell))) (text_cells width_of rest a)) (omega arith) ∙ ap (λ (r : Row). overlaid r (at + length (cell_columns cell)) (fitting (end - (at + length (cell_columns cell))) (text_cells width_of rest a))) (sym step));
         left = sym (λ i. concat (drop (length (fit i)) (e i)));
+        behind = omega (arith, wide);
         order = omega arith;
         within = omega arith;
         whole = whole;
@@ -230,6 +247,7 @@ module _ (width_of : List ℕ → ℕ) (a : Attributes) where
   stopped row at end text whole e = record {
     columns = ap (overlaid row at) e;
     left = ap (λ (cs : List CellContent). text_behind (length cs) text) e ∙ whole;
+    behind = let none = ap (λ (cs : List CellContent). length (flat_map cell_columns cs)) e in omega (arith, none);
   }
 
   pub stops_full : (row : Row) (at end : ℕ) (text : List ℕ) → concat (graphemes true text) ≡ text → end ≤ at → Stops width_of end a row at text
@@ -246,7 +264,7 @@ module _ (width_of : List ℕ → ℕ) (a : Attributes) where
       stopped row at end text whole (ap (fitting (end - at)) (cells_first text g rest e alone ∙ ap (λ c. c ∷ text_cells width_of rest a) (sym is)) ∙ fitting_stops (end - at) cell (text_cells width_of rest a) h)
 
   pub leads_same : (row : Row) (at end : ℕ) (text : List ℕ) → at ≤ end → concat (graphemes true text) ≡ text → Leads width_of end a row at text row at text
-  leads_same row at end text o whole = record { columns = refl; left = refl; order = omega arith; within = o; whole = whole }
+  leads_same row at end text o whole = record { columns = refl; left = refl; behind = refl; order = omega arith; within = o; whole = whole }
 
 -- ---- the rest of a text
 

@@ -1,6 +1,6 @@
 -- Texts that are set on a row as far as they fit.
-use Rattle.std.specs.Prelude.{◌≡◌, ℕ, ◌-◌, ◌≤◌, nat_le, List, [], ◌∷◌, length, drop, map, true, if◌then◌else◌}
-use Rattle.std.specs.List.{concat}
+use Rattle.std.specs.Prelude.{◌≡◌, ℕ, ◌+◌, ◌-◌, ◌≤◌, nat_le, List, [], ◌∷◌, length, drop, map, true, if◌then◌else◌}
+use Rattle.std.specs.List.{concat, flat_map}
 use Rattle.unicode_segmentation.specs.Grapheme.{graphemes}
 use Rattle.cell_base.specs.Attributes.{Attributes}
 use Rattle.cell_base.specs.CellContent.{CellContent, cell_of}
@@ -29,6 +29,10 @@ text_on width_of end attributes row at text = overlaid row at (fitting_cells wid
 abbrev pub text_left : (List ℕ → ℕ) → ℕ → Attributes → ℕ → List ℕ → List ℕ
 text_left width_of end attributes at text = text_behind (length (fitting_cells width_of (end - at) text attributes)) text
 
+-- the column behind the cells of a text that fit
+abbrev pub place_behind : (List ℕ → ℕ) → ℕ → Attributes → ℕ → List ℕ → ℕ
+place_behind width_of end attributes at text = at + length (flat_map cell_columns (fitting_cells width_of (end - at) text attributes))
+
 -- a cell of one column for each byte
 abbrev pub plain_cells : List ℕ → Attributes → List CellContent
 plain_cells text attributes = map (λ byte. cell_of (byte ∷ []) 1 attributes) text
@@ -37,6 +41,7 @@ plain_cells text attributes = map (λ byte. cell_of (byte ∷ []) 1 attributes) 
 pub record Leads (width_of : List ℕ → ℕ) (end : ℕ) (attributes : Attributes) (row : Row) (at : ℕ) (text : List ℕ) (next : Row) (place : ℕ) (rest : List ℕ) : Type 0 where
   pub columns : text_on width_of end attributes next place rest ≡ text_on width_of end attributes row at text
   pub left : text_left width_of end attributes place rest ≡ text_left width_of end attributes at text
+  pub behind : place_behind width_of end attributes place rest ≡ place_behind width_of end attributes at text
   pub order : at ≤ place
   pub within : place ≤ end
   pub whole : concat (graphemes true rest) ≡ rest
@@ -45,3 +50,4 @@ pub record Leads (width_of : List ℕ → ℕ) (end : ℕ) (attributes : Attribu
 pub record Stops (width_of : List ℕ → ℕ) (end : ℕ) (attributes : Attributes) (row : Row) (at : ℕ) (text : List ℕ) : Type 0 where
   pub columns : text_on width_of end attributes row at text ≡ row
   pub left : text_left width_of end attributes at text ≡ text
+  pub behind : place_behind width_of end attributes at text ≡ at

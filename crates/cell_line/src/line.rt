@@ -10,7 +10,7 @@ ghost use Rattle.cell_base.specs.SameCell.{same_cell};
 ghost use Rattle.std.specs.Borrow.{sem};
 ghost use Rattle.cell_change.specs.ValueOf.{value_of};
 ghost use Rattle.cell_line.specs.LineContent.{changed, IsRefused};
-ghost use Rattle.cell_line.specs.LineCalls.{with_width_and_cell, with_width, from_cells, new, from_text, from_text_with_wrapped_last_col, try_from_text, resize, resize_and_clear, wrap, changed_since, update_last_change_seqno, set_single_width, set_double_width, set_double_height_top, set_double_height_bottom, is_single_width, is_double_width, is_double_height_top, is_double_height_bottom, semantic_zone_ranges, invalidate_implicit_hyperlinks, split_off_kept, split_off, append_line, compute_double_click_range, columns_as_str, columns_as_line, set_cell, set_cell_clearing_image_placements, set_cell_grapheme, set_blanks, set_text, set_clusters, overlay_text_with_attribute, insert_cell, remove_cell, erase_cell, erase_cell_with_margin, prune_trailing_blanks, fill_range, len, current_seqno, as_str, has_hyperlink, visible_cells, visible_cells_between, cluster, changes, get_cell, is_whitespace, compress_for_scrollback, last_cell_was_wrapped, set_last_cell_was_wrapped};
+ghost use Rattle.cell_line.specs.LineCalls.{with_width_and_cell, with_width, from_cells, new, from_text, from_text_with_wrapped_last_col, try_from_text, resize, resize_and_clear, wrap, changed_since, update_last_change_seqno, set_single_width, set_double_width, set_double_height_top, set_double_height_bottom, is_single_width, is_double_width, is_double_height_top, is_double_height_bottom, semantic_zone_ranges, invalidate_implicit_hyperlinks, split_off_kept, split_off, append_line, compute_double_click_range, columns_as_str, columns_as_line, set_cell, set_cell_clearing_image_placements, set_cell_grapheme, set_blanks, set_text, set_clusters, set_text_end, overlay_text_with_attribute, insert_cell, remove_cell, erase_cell, erase_cell_with_margin, prune_trailing_blanks, fill_range, len, current_seqno, as_str, has_hyperlink, visible_cells, visible_cells_between, cluster, changes, get_cell, is_whitespace, compress_for_scrollback, last_cell_was_wrapped, set_last_cell_was_wrapped};
 ghost use Rattle.cell_line.specs.RowEdits.{filled};
 ghost use Rattle.cell_line.specs.Links.{without_implicit, column_with};
 ghost use Rattle.cell_line.specs.Words.{Answers};
@@ -308,23 +308,25 @@ impl Line {
     }
 
     /// Sets a cell for each cluster of a text, as UAX 29 cuts it, side by side from the start of a
-    /// range on, up to the first that doesn't fit before its end. Answers the text that is left,
-    /// whose clusters are those that weren't set. Number, bits and the count of columns stay.
+    /// range on, up to the first that doesn't fit before its end. Answers the column behind them, and
+    /// the text that is left, whose clusters are those that weren't set. Number, bits and the count
+    /// of columns stay.
     pub fn set_text<'a, W: Widths>(
         &mut self,
         cols: Range<usize>,
         text: &'a str,
         attrs: &CellAttributes,
         w: &W,
-    ) -> Result<&'a str, AllocError>
+    ) -> Result<(usize, &'a str), AllocError>
         requires order { cols.start ≤ cols.end }
         requires within { cols.end ≤ length self.old.columns }
         ensures done { OnOk result (self.new ≡ set_text self.old cols.start cols.end text.now attrs.now (W.width_of w.now)) }
-        ensures left { IfOk result (λ left. left.now ≡ text_behind (set_clusters cols.start cols.end text.now attrs.now (W.width_of w.now)) text.now) }
-        ensures rest { IfOk result (λ left. clusters left.now ≡ drop (set_clusters cols.start cols.end text.now attrs.now (W.width_of w.now)) (clusters text.now)) }
+        ensures behind { IfOk result (λ r. r.0 ≡ set_text_end cols.start cols.end text.now attrs.now (W.width_of w.now)) }
+        ensures left { IfOk result (λ r. r.1.now ≡ text_behind (set_clusters cols.start cols.end text.now attrs.now (W.width_of w.now)) text.now) }
+        ensures rest { IfOk result (λ r. clusters r.1.now ≡ drop (set_clusters cols.start cols.end text.now attrs.now (W.width_of w.now)) (clusters text.now)) }
         ensures refused { OnErr result (IsRefused self.old self.new) }
     {
-        let left = runs::set_text(
+        let (at, left) = runs::set_text(
             self.alloc,
             &mut self.cells,
             cols.start,
@@ -333,7 +335,7 @@ impl Line {
             attrs,
             w,
         )?;
-        Ok(left)
+        Ok((at, left))
     }
 
     /// Inserts a cell before column `x`, behind plain blanks where the line doesn't reach so far.

@@ -5,7 +5,7 @@ ghost use Rattle.text_clusters.specs.Plain.{is_printable};
 ghost use Rattle.cell_base.specs.CellContent.{row_of_cells, blank_cell, cell_of};
 ghost use Rattle.cell_base.specs.Row.{set_columns, blank};
 ghost use Rattle.cell_line.specs.RowEdits.{overlaid};
-ghost use Rattle.cell_line.specs.TextRuns.{plain_cells, text_on, text_left, Leads, Stops};
+ghost use Rattle.cell_line.specs.TextRuns.{place_behind, plain_cells, text_on, text_left, Leads, Stops};
 
 use crate::row::{column_count, open, put, write_cell};
 use cell_base::{Cell, CellAttributes, Widths};
@@ -155,7 +155,7 @@ fn set_first_cluster<'a, W: Widths>(
 }
 
 // Sets each cluster of a text side by side from `start` on, as far as they fit before `end`; answers
-// the text that is left.
+// the column behind them and the text that is left.
 pub(crate) fn set_text<'a, W: Widths>(
     alloc: Global,
     cells: &mut Vec<Cell>,
@@ -164,23 +164,24 @@ pub(crate) fn set_text<'a, W: Widths>(
     text: &'a str,
     attrs: &CellAttributes,
     w: &W,
-) -> Result<&'a str, AllocError>
+) -> Result<(usize, &'a str), AllocError>
     requires order { start ≤ end }
     requires within { end ≤ vec_len cells.old }
     ensures row { OnOk result (row_of_cells cells.new.items ≡ text_on (W.width_of w.now) end attrs.now (row_of_cells cells.old.items) start text.now) }
-    ensures left { IfOk result (λ left. left.now ≡ text_left (W.width_of w.now) end attrs.now start text.now) }
+    ensures behind { IfOk result (λ r. r.0 ≡ place_behind (W.width_of w.now) end attrs.now start text.now) }
+    ensures left { IfOk result (λ r. r.1.now ≡ text_left (W.width_of w.now) end attrs.now start text.now) }
 {
     let mut at = start;
     let mut left = text;
     while at < end {
         let (place, rest) = set_plain_front(cells, at, end, left, attrs, w)?;
         match set_first_cluster(alloc, cells, place, end, rest, attrs, w)? {
-            None => return Ok(rest),
+            None => return Ok((place, rest)),
             Some((next, behind)) => {
                 at = next;
                 left = behind;
             }
         }
     }
-    Ok(left)
+    Ok((at, left))
 }

@@ -12,4 +12,4 @@ set_text-requires-clause-within g c =
     omega arith
 
 pub returns-clause-rest : goal.returns-clause-rest
-returns-clause-rest g c = clusters_left _ c.args.text.now c.in_ok-left.left.now c.utf8.text c.in_ok-left.ensures.left
+returns-clause-rest g c = clusters_left _ c.args.text.now c.in_ok-at.left.now c.utf8.text c.in_ok-at.ensures.left
