@@ -1,0 +1,2 @@
+pub mod EffectLaws
+pub mod StrokeLaws
