@@ -1,0 +1,60 @@
+-- Canvases that go to the next row.
+use Rattle.std.proofs.Common.{◌≡◌, ℕ, zero, suc, ◌+◌, ◌<◌, ◌≤◌, Bool, true, false, List, [], ◌∷◌, ◌++◌, length, drop, map, refl, sym, ap, subst, ◌∙◌, arith}
+use Rattle.std.specs.Prelude.{All, ◌==◌, ◌&&◌, if◌then◌else◌}
+use Rattle.std.proofs.lemmas.Bool.Decides.{nat_tests}
+use Rattle.std.proofs.lemmas.List.{map-append, drop-map}
+use Rattle.std.proofs.lemmas.List.Elements.{All-append, All-drop}
+use Rattle.cell_base.specs.declared.attributes.LineAttribute.{LineAttribute}
+use Rattle.cell_base.specs.declared.attributes.LineAttribute.TheVariants.{SingleWidthLine}
+use Rattle.cell_base.specs.Row.{plain_row}
+use Rattle.cell_base.specs.Screen.{height, scrolled}
+use Rattle.cell_line.specs.LineContent.{LineContent, line_of}
+use Rattle.screen_canvas.specs.Canvas.{Canvas, IsDrawn, Shows, display_of, line_at}
+use Rattle.screen_canvas.specs.Rows.{cleared}
+use Rattle.screen_canvas.proofs.LineLemmas.{same_display, rows_shown, line_width, shows_by}
+use Rattle.screen_effects.specs.Display.{Display}
+use Rattle.screen_effects.specs.Strokes.{CarriageReturn, LineFeed, stroke_done}
+use Rattle.screen_effects.proofs.StrokeLaws.{stroke_is}
+
+-- a line feed, where the cursor is in the last row or not
+abbrev fed : Bool → Display → Display
+fed last d = record d {
+  screen = if last then scrolled d.screen else record d.screen { row = d.screen.row + 1 };
+  sizes = if last && true then drop 1 d.sizes ++ SingleWidthLine ∷ [] else d.sizes;
+}
+
+one : (l : LineContent) → l.number ≡ 0 → All (λ (x : LineContent). x.number ≡ 0) (l ∷ [])
+one l e zero d h = e
+one l e (suc k) d h = absurd (omega arith)
+
+module _ {W : Type 0} (width_of : List ℕ → ℕ) where
+  pub fed_below : (c : Canvas W) → IsDrawn c → c.row + 1 < length c.lines → Shows c (record c { row = c.row + 1 }) (stroke_done width_of (display_of c) LineFeed)
+  fed_below c h k =
+      let n = rows_shown c in
+      let test : (c.row + 1 == height (display_of c).screen) ≡ false = grind (arith, nat_tests) in
+      shows_by c (record c { row = c.row + 1 }) _ (stroke_is width_of (display_of c) LineFeed h.lawful) (sym (ap (λ b. fed b (display_of c)) test)) refl h.numbers
+
+  pub fed_last : (c : Canvas W) (lines : List LineContent) → IsDrawn c → length c.lines ≤ c.row + 1 → lines ≡ drop 1 c.lines ++ cleared (line_at c.lines 0) ∷ [] → Shows c (record c { lines = lines }) (stroke_done width_of (display_of c) LineFeed)
+  fed_last c lines h k e =
+      let n = rows_shown c in
+      let g = h.lawful.lawful.row_in in
+      let test : (c.row + 1 == height (display_of c).screen) ≡ true = grind (arith, nat_tests) in
+      let some : 0 < length c.lines = omega arith in
+      let rows : map (λ (l : LineContent). l.columns) lines ≡ drop 1 (map (λ (l : LineContent). l.columns) c.lines) ++ plain_row c.width ∷ [] =
+      ap (map (λ (l : LineContent). l.columns)) e ∙ map-append (λ (l : LineContent). l.columns) (drop 1 c.lines) (cleared (line_at c.lines 0) ∷ [])
+      ∙ (λ i. sym (drop-map (λ (l : LineContent). l.columns) 1 c.lines) i ++ plain_row (line_width c 0 h some i) ∷ []) in
+      let sizes : map (λ (l : LineContent). l.bits) lines ≡ drop 1 (map (λ (l : LineContent). l.bits) c.lines) ++ SingleWidthLine ∷ [] =
+      ap (map (λ (l : LineContent). l.bits)) e ∙ map-append (λ (l : LineContent). l.bits) (drop 1 c.lines) (cleared (line_at c.lines 0) ∷ [])
+      ∙ ap (λ (s : List LineAttribute). s ++ SingleWidthLine ∷ []) (sym (drop-map (λ (l : LineContent). l.bits) 1 c.lines)) in
+      let numbers : All (λ (l : LineContent). l.number ≡ 0) lines =
+      subst (All (λ (l : LineContent). l.number ≡ 0)) (sym e) (All-append (λ (l : LineContent). l.number ≡ 0) (drop 1 c.lines) (cleared (line_at c.lines 0) ∷ []) (All-drop (λ (l : LineContent). l.number ≡ 0) 1 c.lines h.numbers) (one _ (h.numbers 0 (line_of 0 []) some))) in
+      shows_by c (record c { lines = lines }) _ (stroke_is width_of (display_of c) LineFeed h.lawful)
+      (same_display (record c { lines = lines }) (fed true (display_of c)) refl rows refl refl refl refl refl sizes refl ∙ sym (ap (λ b. fed b (display_of c)) test)) refl numbers
+
+  -- to the start of the row
+  pub returned : (c : Canvas W) → IsDrawn c → Shows c (record c { column = 0 }) (stroke_done width_of (display_of c) CarriageReturn)
+  returned c h = shows_by c (record c { column = 0 }) _ (stroke_is width_of (display_of c) CarriageReturn h.lawful) (sym (by_test (c.row + 1 == height (display_of c).screen))) refl h.numbers
+    where
+      by_test : (b : Bool) → record (display_of c) { screen = record (display_of c).screen { column = 0 }; sizes = if b && false then drop 1 (display_of c).sizes ++ SingleWidthLine ∷ [] else (display_of c).sizes } ≡ display_of (record c { column = 0 })
+      by_test true = refl
+      by_test false = refl

@@ -1,0 +1,96 @@
+-- Lines of a canvas, and the display that they show.
+use Rattle.std.proofs.Common.{◌≡◌, ℕ, zero, suc, ◌+◌, ◌-◌, ◌<◌, true, List, [], ◌∷◌, ◌++◌, length, get_or, take, drop, set, map, replicate, refl, sym, ap, subst, ◌∙◌, arith, append-nil}
+use Rattle.std.specs.Prelude.{All, None}
+use Rattle.std.proofs.lemmas.List.{get_or-map, length-map, length-replicate, drop_all}
+use Rattle.std.proofs.lemmas.List.Elements.{All-replicate}
+use Rattle.cell_base.specs.Attributes.{Attributes, plain}
+use Rattle.cell_base.specs.Row.{Row, blank, closed_start, plain_row}
+use Rattle.cell_line.specs.LineCalls.{set_blanks as blanks_set}
+use Rattle.cell_line.specs.LineContent.{LineContent, line_of}
+use Rattle.screen_canvas.specs.Rows.{blanked, cleared}
+use Rattle.screen_canvas.specs.Canvas.{Canvas, IsDrawn, Shows, display_of, line_at}
+use Rattle.screen_effects.specs.Display.{Display, IsDisplay, new_display}
+use Rattle.screen_effects.proofs.StrokeLaws.{new_display_is}
+
+pub columns_in : List LineContent → List Row
+columns_in lines = map (λ l. l.columns) lines
+
+set_last : {X : Type 0} (xs : List X) (x y : X) → set (xs ++ x ∷ []) (length xs) y ≡ xs ++ y ∷ []
+set_last [] x y = refl
+set_last {X} (z ∷ xs) x y = ap (λ (l : List X). z ∷ l) (set_last xs x y)
+
+get_last : {X : Type 0} (xs : List X) (x d : X) → get_or (xs ++ x ∷ []) (length xs) d ≡ x
+get_last [] x d = refl
+get_last (z ∷ xs) x d = get_last xs x d
+
+-- the lines after the first was moved to the end and the last was cleared
+pub scrolled_lines : (lines new : List LineContent) (l d : LineContent) (last : ℕ) → 0 < length lines → last ≡ length lines - 1 → new ≡ drop 1 lines ++ take 1 lines → l ≡ cleared (get_or new last d)
+    → set new last l ≡ drop 1 lines ++ cleared (line_at lines 0) ∷ []
+scrolled_lines [] new l d last h n e k = absurd (omega arith)
+scrolled_lines (x ∷ xs) new l d last h n e k =
+    let place : last ≡ length xs = omega arith in
+    let was : get_or new last d ≡ x = (λ i. get_or (e i) (place i) d) ∙ get_last xs x d in
+    (λ i. set (e i) (place i) l) ∙ set_last xs x l ∙ ap (λ (y : LineContent). xs ++ y ∷ []) (k ∙ ap cleared was)
+
+-- blanks in all columns
+pub all_blank : (l : LineContent) (a : Attributes) → blanks_set l 0 (length l.columns) a ≡ blanked a l
+all_blank l a =
+    let count = length-replicate (length l.columns - 0) (blank a) in
+    let same : length l.columns - 0 ≡ length l.columns = omega arith in
+    let none : drop (0 + length (replicate (length l.columns - 0) (blank a))) l.columns ≡ [] = drop_all (0 + length (replicate (length l.columns - 0) (blank a))) l.columns (omega arith) in
+    λ i. record l { columns = (ap (λ r. replicate (length l.columns - 0) (blank a) ++ closed_start r) none ∙ append-nil (replicate (length l.columns - 0) (blank a)) ∙ ap (λ n. replicate n (blank a)) same) i }
+
+-- ---- what a canvas shows
+
+module _ {W : Type 0} where
+  -- displays of equal parts
+  pub same_display : (c : Canvas W) (d : Display) → c.width ≡ d.screen.width → map (λ l. l.columns) c.lines ≡ d.screen.rows → c.column ≡ d.screen.column → c.row ≡ d.screen.row
+      → c.visible ≡ d.screen.visible → c.pen ≡ d.screen.pen → c.title ≡ d.screen.title → map (λ l. l.bits) c.lines ≡ d.sizes → c.shape ≡ d.shape → display_of c ≡ d
+  same_display c d w r x y v p t s k = λ i. record {
+    screen = record { width = w i; rows = r i; column = x i; row = y i; visible = v i; pen = p i; title = t i };
+    sizes = s i;
+    shape = k i;
+  }
+
+  -- a row of the display is a line's
+  pub row_shown : (c : Canvas W) (row : ℕ) → row < length c.lines → get_or (map (λ l. l.columns) c.lines) row [] ≡ (line_at c.lines row).columns
+  row_shown c row h = get_or-map (λ (l : LineContent). l.columns) c.lines row (line_of 0 []) [] h
+
+  pub rows_shown : (c : Canvas W) → length (display_of c).screen.rows ≡ length c.lines
+  rows_shown c = length-map c.lines (λ l. l.columns)
+
+  pub row_in : (c : Canvas W) → IsDrawn c → c.row < length c.lines
+  row_in c h = let g = h.lawful.lawful.row_in in let n = rows_shown c in omega arith
+
+  pub line_width : (c : Canvas W) (row : ℕ) → IsDrawn c → row < length c.lines → length (line_at c.lines row).columns ≡ c.width
+  line_width c row h k = ap length (sym (row_shown c row k)) ∙ h.lawful.lawful.even row [] (let n = rows_shown c in omega arith)
+
+  -- what a step shows that leaves lawful displays
+  pub shows_by : (before after : Canvas W) (d : Display) → IsDisplay d → display_of after ≡ d → after.widths ≡ before.widths → All (λ (l : LineContent). l.number ≡ 0) after.lines → Shows before after d
+  shows_by before after d lawful same widths numbers = record {
+    same = same;
+    widths = widths;
+    drawn = record { lawful = subst IsDisplay (sym same) lawful; numbers = numbers };
+  }
+
+-- ---- new canvases
+
+map_replicate : {A B : Type 0} (f : A → B) (n : ℕ) (x : A) → map f (replicate n x) ≡ replicate n (f x)
+map_replicate f zero x = refl
+map_replicate {A} {B} f (suc n) x = ap (λ (l : List B). f x ∷ l) (map_replicate f n x)
+
+module _ {W : Type 0} (widths : W) (width rows : ℕ) (lines : List LineContent) (pen : Attributes) (title : List ℕ) where
+  abbrev pub new_canvas : Canvas W
+  new_canvas = record { widths = widths; width = width; lines = lines; column = 0; row = 0; visible = true; shape = None; pen = pen; title = title }
+
+  pub new_shown : lines ≡ replicate rows (line_of 0 (plain_row width)) → pen ≡ plain → title ≡ [] → display_of new_canvas ≡ new_display width rows
+  new_shown e p t =
+      same_display new_canvas (new_display width rows) refl
+      (ap (map (λ (l : LineContent). l.columns)) e ∙ map_replicate (λ (l : LineContent). l.columns) rows (line_of 0 (plain_row width))) refl refl refl p t
+      (ap (map (λ (l : LineContent). l.bits)) e ∙ map_replicate (λ (l : LineContent). l.bits) rows (line_of 0 (plain_row width))) refl
+
+  pub new_drawn : 0 < width → 0 < rows → lines ≡ replicate rows (line_of 0 (plain_row width)) → pen ≡ plain → title ≡ [] → IsDrawn new_canvas
+  new_drawn w h e p t = record {
+    lawful = subst IsDisplay (sym (new_shown e p t)) (new_display_is width rows w h);
+    numbers = subst (All (λ (l : LineContent). l.number ≡ 0)) (sym e) (All-replicate (λ (l : LineContent). l.number ≡ 0) rows (line_of 0 (plain_row width)) refl);
+  }

@@ -1,0 +1,16 @@
+use Rattle.std.proofs.Common.{◌≡◌, refl, [], ap, sym, ◌∙◌, map}
+use Rattle.text_clusters.proofs.PlainLemmas.{graphemes-nil}
+use Rattle.cell_base.specs.Cluster.{clusters, read_cluster}
+use Rattle.screen_canvas.specs.Canvas.{clusters_done, display_of}
+use Rattle.screen_canvas.proofs.canvas.Canvas.put_run.Goals as goal
+
+pub returns : goal.returns
+returns g c =
+    let width_of = g.W.Widths.width_of c.args.self.now.widths in
+    let leads = c.loop-cluster.invariant.leads in
+    let empty : c.loop-cluster.left.now ≡ [] = c.in_default.ensures.none.0 refl in
+    let none : clusters c.loop-cluster.left.now ≡ [] = ap clusters empty ∙ ap (map read_cluster) graphemes-nil in record {
+      same = sym (ap (clusters_done width_of (display_of c.loop-cluster.self)) none) ∙ leads.same;
+      widths = leads.widths;
+      drawn = leads.drawn;
+    }

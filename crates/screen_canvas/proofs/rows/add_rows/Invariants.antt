@@ -1,0 +1,8 @@
+use Rattle.std.proofs.Common.{◌≡◌, ◌++◌, ◌-◌, length, replicate}
+use Rattle.cell_base.specs.Row.{plain_row}
+use Rattle.cell_line.specs.LineContent.{line_of}
+use Rattle.screen_canvas.proofs.rows.add_rows.Given as goal
+
+-- the rows so far
+abbrev pub invariant-loop : goal.invariant-loop
+invariant-loop l = l.lines.items ≡ l.initial.lines.items ++ replicate (l.counter - length l.initial.lines.items) (line_of 0 (plain_row l.width))

@@ -1,0 +1,4 @@
+pub mod Canvas
+pub mod CanvasView
+pub mod Parts
+pub mod Rows

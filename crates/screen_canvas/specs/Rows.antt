@@ -1,0 +1,27 @@
+-- Lines that are blanked, cleared and moved.
+use Rattle.std.specs.Prelude.{ℕ, ◌-◌, List, ◌++◌, length, take, drop, map, replicate}
+use Rattle.cell_base.specs.declared.attributes.LineAttribute.TheVariants.{SingleWidthLine}
+use Rattle.cell_base.specs.Attributes.{Attributes}
+use Rattle.cell_base.specs.Row.{blank, plain_row}
+use Rattle.cell_line.specs.LineCalls.{resize}
+use Rattle.cell_line.specs.LineContent.{LineContent}
+
+-- blanks of these attributes in all columns
+abbrev pub blanked : Attributes → LineContent → LineContent
+blanked attributes l = record l { columns = replicate (length l.columns) (blank attributes) }
+
+-- plain blanks of single width
+abbrev pub cleared : LineContent → LineContent
+cleared l = record l { bits = SingleWidthLine; columns = plain_row (length l.columns) }
+
+-- lines move to the front, and those that leave there come again at the end, cleared
+abbrev pub rows_up : ℕ → List LineContent → List LineContent
+rows_up count lines = drop count lines ++ map cleared (take count lines)
+
+-- lines move to the end, and those that leave there come again at the front, cleared
+abbrev pub rows_down : ℕ → List LineContent → List LineContent
+rows_down count lines = map cleared (drop (length lines - count) lines) ++ take (length lines - count) lines
+
+-- so many columns, and no number
+abbrev pub widened : ℕ → LineContent → LineContent
+widened width l = resize l width 0

@@ -1,0 +1,9 @@
+//! A display that is kept as lines, and what each change does to it.
+#![tactic(auto)]
+
+mod canvas;
+mod positions;
+mod rows;
+mod text;
+
+pub use canvas::Canvas;
