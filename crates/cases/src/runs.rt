@@ -37,7 +37,7 @@ pub fn set(
         return Ok(());
     }
     let text = call.text(3)?;
-    let left = line.set_text(columns, text.as_str(), pen, &ProgramWidth)?;
+    let (_, left) = line.set_text(columns, text.as_str(), pen, &ProgramWidth)?;
     sheet.quoted(left);
     Ok(())
 }

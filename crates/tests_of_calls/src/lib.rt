@@ -5,6 +5,8 @@
 #[cfg(test)]
 mod attributes;
 #[cfg(test)]
+mod canvases;
+#[cfg(test)]
 mod changes;
 #[cfg(test)]
 mod clusters;
