@@ -1,6 +1,8 @@
 mod BoolLemmas
 mod SgrLemmas
 mod PieceLemmas
+mod SgrTokens
+mod PlaceLemmas
 mod ReadingLemmas
 mod JoinLemmas
 mod BackLemmas

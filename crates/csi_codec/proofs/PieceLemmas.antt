@@ -1,5 +1,5 @@
 -- Pieces: how many tokens one takes, and what the actions of a list are by its first piece.
-use Rattle.std.proofs.Common.{◌≡◌, ℕ, zero, suc, ◌+◌, ◌-◌, ◌<◌, ◌≤◌, ℤ, eqb, Bool, true, false, cond, List, [], ◌∷◌, length, drop, Option, Some, None, option_map, arith, refl, ap, ◌∙◌, subst}
+use Rattle.std.proofs.Common.{◌≡◌, ℕ, zero, suc, ◌+◌, ◌-◌, ◌<◌, ◌≤◌, ℤ, eqb, Bool, true, false, cond, List, [], ◌∷◌, length, length-drop, drop, Option, Some, None, option_map, arith, refl, ap, ◌∙◌, subst}
 use Rattle.std.specs.Option.{option_map_or}
 use Rattle.csi_codec.specs.declared.parameters.CsiParam.{CsiParam}
 use Rattle.csi_codec.specs.declared.parameters.CsiParam.TheVariants.{Integer, P}
@@ -88,3 +88,7 @@ pub pieces_none : (k : Kind) (truncated : Bool) (final : ℕ) (ts : List CsiPara
 unfolding pieces
 pieces_none k truncated final [] h = refl
 pieces_none k truncated final (t ∷ ts) h = absurd (omega arith)
+
+-- and so has what stands behind the end of a list
+pub pieces_ended : (k : Kind) (truncated : Bool) (final : ℕ) (ts : List CsiParam) (n : ℕ) → length ts ≤ n → pieces k truncated final (drop n ts) ≡ []
+pieces_ended k truncated final ts n h = pieces_none k truncated final (drop n ts) (omega (arith, length-drop n ts))

@@ -70,7 +70,7 @@ underline_shape_takes (P b ∷ Integer z ∷ ts) =
     takes_le (length ts + 3) (length (P b ∷ Integer z ∷ ts) + 1) (underline_shape (P b ∷ Integer z ∷ ts)) (omega arith)
     (chosen_underline (length ts) (cond (eqb b 58) (underline_numbered z) None))
 
-four_ways : (A : Type 0) (Q : A → Type 0) (p q r s : Bool) (a b c d e : A) → Q a → Q b → Q c → Q d → Q e → Q (cond p a (cond q b (cond r c (cond s d e))))
+pub four_ways : (A : Type 0) (Q : A → Type 0) (p q r s : Bool) (a b c d e : A) → Q a → Q b → Q c → Q d → Q e → Q (cond p a (cond q b (cond r c (cond s d e))))
 four_ways A Q true q r s a b c d e u v w x y = u
 four_ways A Q false true r s a b c d e u v w x y = v
 four_ways A Q false false true s a b c d e u v w x y = w

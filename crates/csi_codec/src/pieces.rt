@@ -1,4 +1,4 @@
-//! How a reader of a list goes on, and pieces of modes.
+//! Pieces of lists: what they can be, and those of modes.
 ghost use Rattle.std.specs.Prelude.{◌≡◌, if◌then◌else◌, option_map};
 ghost use Rattle.csi_codec.specs.Actions.{all_sgr_tokens, mode_piece};
 ghost use Rattle.csi_codec.specs.Known.{found_mode};
@@ -13,18 +13,6 @@ pub(crate) enum Kind {
     Rendition,
     PrivateModes,
     StandardModes,
-}
-
-/// How a reader goes on with the list that it has: it has handed out all, or it has read nothing yet (a whole list, or
-/// pieces of which it has not seen that they may stand), or it is within pieces.
-#[derive(Clone, Copy, Debug)]
-pub(crate) enum Pending {
-    Done,
-    Lone,
-    Renditions,
-    Private,
-    Standard,
-    Pieces(Kind),
 }
 
 /// Whether a list has only the tokens of SGR: numbers, `;`, `:` and `?`.

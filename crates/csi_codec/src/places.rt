@@ -1,0 +1,252 @@
+//! Reading the actions of a list from place to place.
+ghost use Rattle.std.specs.Prelude.{◌≡◌, ◌<◌, ◌≤◌, IfNone, IfSome, ◌∷◌, [], drop, length, option_map};
+ghost use Rattle.csi_codec.specs.Actions.{csi_reading, lone_or, modes_or, piece_of, pieces, sgr_pieces, sgr_reading, unspecified};
+ghost use Rattle.csi_codec.specs.Known.{found_action};
+ghost use Rattle.csi_codec.specs.Parsing.{HasNoPiece, HasNoRendition, IsEnd, IsFirstPiece, IsFirstRendition, IsStart, actions_behind, actions_from, kind_of, list_kind};
+ghost use Rattle.csi_codec.specs.Sequences.{action_of, HandsOut};
+
+use crate::cursors::cursor_reading;
+use crate::devices::device_reading;
+use crate::edits::edit_reading;
+use crate::parameters::CsiParam;
+use crate::pieces::{Kind, all_sgr_tokens, mode_piece};
+use crate::rendition::Sgr;
+use crate::sequences::{CSI, request, unspecified};
+use crate::sgr_reading::sgr_piece;
+use std::alloc::{AllocError, Global};
+
+/// A place in a list of parameters before a final byte: how far its actions were read. It lends nothing, so it can be kept
+/// beside the list that it is a place in.
+#[derive(Clone, Copy, Debug, PartialEq, Eq)]
+pub struct CSIPlace {
+    index: usize,
+}
+
+impl CSIPlace {
+    /// The start of any list.
+    #[tactic(auto, unfolding(crate::specs::Parsing::actions_behind))]
+    pub fn start() -> Self
+        ensures { IsStart result }
+    {
+        CSIPlace { index: 0 }
+    }
+
+    /// The action at this place of a list, with the flag and the final byte of the list, which have to be the same at each
+    /// call. It goes on to the next place. After a refusal of memory, and after the last action, it answers `None`.
+    pub fn next(
+        &mut self,
+        alloc: Global,
+        params: &[CsiParam],
+        parameters_truncated: bool,
+        control: char,
+    ) -> Option<Result<CSI, AllocError>>
+        ensures { HandsOut (actions_from self.old params.now parameters_truncated control) result (actions_from self.new params.now parameters_truncated control) }
+    {
+        let step = step_at(self.index, alloc, params, parameters_truncated, control);
+        self.index = step.read;
+        step.action
+    }
+}
+
+/// What is handed out, and how many tokens are read then.
+#[derive(Drop)]
+struct Step {
+    action: Option<Result<CSI, AllocError>>,
+    read: usize,
+}
+
+/// The step where so many tokens are read.
+fn step_at(read: usize, alloc: Global, params: &[CsiParam], truncated: bool, control: char) -> Step
+    ensures { HandsOut (actions_behind read params.now truncated control) result.action (actions_behind result.read params.now truncated control) }
+{
+    if read == 0 {
+        return first(alloc, params, truncated, control);
+    }
+    if read >= params.len() {
+        return Step { action: None, read };
+    }
+    further(read, alloc, params, truncated, control)
+}
+
+/// The first step in a list.
+#[tactic(auto, unfolding(crate::specs::Actions::csi_reading))]
+fn first(alloc: Global, params: &[CsiParam], truncated: bool, control: char) -> Step
+    ensures step { HandsOut (csi_reading params.now truncated control) result.action (pieces (list_kind control params.now) truncated control (drop result.read params.now)) }
+    ensures some { 0 < result.read }
+{
+    if control == 'm' {
+        return first_rendition(alloc, params, truncated, control);
+    }
+    match params {
+        [CsiParam::P(b'?'), ..] => {
+            first_mode(Kind::PrivateModes, 1, alloc, params, truncated, control)
+        }
+        _ if matches!(control, 'h' | 'l') => {
+            first_mode(Kind::StandardModes, 0, alloc, params, truncated, control)
+        }
+        _ => last(params, lone(alloc, params, truncated, control)),
+    }
+}
+
+/// The first step in a list before `m`: its first piece, where only tokens of SGR stand behind that too.
+fn first_rendition(alloc: Global, params: &[CsiParam], truncated: bool, control: char) -> Step
+    ensures step { HandsOut (sgr_reading truncated control params.now) result.action (pieces sgr_pieces truncated control (drop result.read params.now)) }
+    ensures some { 0 < result.read }
+{
+    if params.is_empty() {
+        return last(params, Some(Ok(CSI::Sgr(Sgr::Reset))));
+    }
+    match first_sgr(params) {
+        Some((value, len)) => Step {
+            action: Some(Ok(CSI::Sgr(value))),
+            read: len,
+        },
+        None => last(params, rest(alloc, params, truncated, control)),
+    }
+}
+
+/// The first piece of an SGR list, where only tokens of SGR stand behind that too, and how many tokens it takes.
+fn first_sgr(params: &[CsiParam]) -> Option<(Sgr, usize)>
+    requires { 0 < length params.now }
+    ensures found { IfSome result (λ found. IsFirstRendition params.now found.0 found.1) }
+    ensures none { IfNone result (HasNoRendition params.now) }
+{
+    let (value, len) = sgr_piece(params)?;
+    if all_sgr_tokens(behind(params, len)) {
+        Some((value, len))
+    } else {
+        None
+    }
+}
+
+/// The first step in a list of modes that begin so far into it: the first mode, where one stands, or else the list itself.
+fn first_mode(
+    kind: Kind,
+    start: usize,
+    alloc: Global,
+    params: &[CsiParam],
+    truncated: bool,
+    control: char,
+) -> Step
+    requires { start ≤ length params.now }
+    ensures step { HandsOut (modes_or (kind_of kind) truncated control (drop start params.now) params.now) result.action (pieces (kind_of kind) truncated control (drop result.read params.now)) }
+    ensures some { 0 < result.read }
+{
+    match first_piece(kind, behind(params, start), control) {
+        Some((value, len)) => Step {
+            action: Some(Ok(value)),
+            read: start + len,
+        },
+        None => last(params, rest(alloc, params, truncated, control)),
+    }
+}
+
+/// A step within a list: the next piece, or the list from there on where none stands.
+fn further(read: usize, alloc: Global, params: &[CsiParam], truncated: bool, control: char) -> Step
+    requires { read < length params.now }
+    ensures step { HandsOut (pieces (list_kind control params.now) truncated control (drop read params.now)) result.action (pieces (list_kind control params.now) truncated control (drop result.read params.now)) }
+    ensures some { 0 < result.read }
+{
+    let others = behind(params, read);
+    match first_piece(list_kind(params, control), others, control) {
+        Some((value, len)) => Step {
+            action: Some(Ok(value)),
+            read: read + len,
+        },
+        None => last(params, rest(alloc, others, truncated, control)),
+    }
+}
+
+/// The last step in a list.
+fn last(params: &[CsiParam], action: Option<Result<CSI, AllocError>>) -> Step
+    ensures same { result.action ≡ action }
+    ensures ends { IsEnd result.read params.now }
+{
+    Step {
+        action,
+        read: params.len().max(1),
+    }
+}
+
+/// What the pieces of a list are.
+fn list_kind(params: &[CsiParam], control: char) -> Kind
+    ensures { kind_of result ≡ list_kind control params.now }
+{
+    if control == 'm' {
+        return Kind::Rendition;
+    }
+    match params {
+        [CsiParam::P(b'?'), ..] => Kind::PrivateModes,
+        _ => Kind::StandardModes,
+    }
+}
+
+/// The one action of a whole list, or the list itself.
+fn lone(
+    alloc: Global,
+    params: &[CsiParam],
+    truncated: bool,
+    control: char,
+) -> Option<Result<CSI, AllocError>>
+    ensures { HandsOut (lone_or truncated control params.now) result [] }
+{
+    if let Some(value) = cursor_reading(params, control) {
+        return Some(Ok(CSI::Cursor(value)));
+    }
+    if let Some(value) = edit_reading(params, control) {
+        return Some(Ok(CSI::Edit(value)));
+    }
+    match device_reading(params, control) {
+        Some(value) => Some(request(alloc, value)),
+        None => rest(alloc, params, truncated, control),
+    }
+}
+
+/// A list without a reading.
+fn rest(
+    alloc: Global,
+    params: &[CsiParam],
+    truncated: bool,
+    control: char,
+) -> Option<Result<CSI, AllocError>>
+    ensures { HandsOut (unspecified params.now truncated control ∷ []) result [] }
+{
+    Some(unspecified(alloc, params, truncated, control))
+}
+
+/// The piece at the front of a list, and how many tokens it takes.
+fn piece(kind: Kind, params: &[CsiParam], control: char) -> Option<(CSI, usize)>
+    ensures { option_map found_action result ≡ piece_of (kind_of kind) control params.now }
+{
+    match kind {
+        Kind::Rendition => {
+            let (value, len) = sgr_piece(params)?;
+            Some((CSI::Sgr(value), len))
+        }
+        Kind::PrivateModes => {
+            let (value, len) = mode_piece(true, params, control)?;
+            Some((CSI::Mode(value), len))
+        }
+        Kind::StandardModes => {
+            let (value, len) = mode_piece(false, params, control)?;
+            Some((CSI::Mode(value), len))
+        }
+    }
+}
+
+/// The piece at the front of a list, and how many tokens it takes.
+fn first_piece(kind: Kind, params: &[CsiParam], control: char) -> Option<(CSI, usize)>
+    ensures found { IfSome result (λ found. IsFirstPiece (kind_of kind) control params.now (action_of found.0) found.1) }
+    ensures none { IfNone result (HasNoPiece (kind_of kind) control params.now) }
+    ensures stands { option_map found_action result ≡ piece_of (kind_of kind) control params.now }
+{
+    piece(kind, params, control)
+}
+
+/// What stands behind the first `len` tokens.
+fn behind(params: &[CsiParam], len: usize) -> &[CsiParam]
+    requires { len ≤ length params.now }
+    ensures { result.now ≡ drop len params.now }
+{
+    &params[len..]
+}
