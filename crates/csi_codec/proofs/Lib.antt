@@ -3,6 +3,7 @@ mod SgrLemmas
 mod PieceLemmas
 mod SgrTokens
 mod PlaceLemmas
+mod PlainLemmas
 mod ReadingLemmas
 mod JoinLemmas
 mod BackLemmas

@@ -32,7 +32,7 @@ first_piece-none k final ts None e = record {
 
 -- ---- The first piece of SGR
 
-as_piece : (ts : List CsiParam) (v : Sgr) (n : ℕ) → sgr_piece ts ≡ Some (v, n) → rendition_piece ts ≡ Some (sgr v, n)
+pub as_piece : (ts : List CsiParam) (v : Sgr) (n : ℕ) → sgr_piece ts ≡ Some (v, n) → rendition_piece ts ≡ Some (sgr v, n)
 as_piece ts v n e = ap (λ found. option_map (λ f. (sgr f.0, f.1)) found) e
 
 pub rendition_fits : (ts : List CsiParam) (v : Sgr) (n : ℕ) → sgr_piece ts ≡ Some (v, n) → (0 < n) × (n ≤ length ts)

@@ -1,12 +1,13 @@
 -- The forms of a colour by cases, as the code reads them: it looks at the sign and the kind, and then at the numbers
 -- behind them. It is only there for the contracts of private steps; what a colour is stands in `Rendition`.
-use Rattle.std.specs.Prelude.{ℕ, ℤ, List, ◌∷◌, Option, Some, None, ◌==◌, if◌then◌else◌, option_map, option_and_then}
+use Rattle.std.specs.Prelude.{ℕ, ℤ, List, [], ◌∷◌, Option, Some, None, ◌==◌, if◌then◌else◌, option_map, option_and_then}
 use Rattle.cell_base.specs.declared.color.ColorSpec.{ColorSpec}
 use Rattle.cell_base.specs.declared.color.ColorSpec.TheVariants as color
 use Rattle.csi_codec.specs.declared.parameters.CsiParam.{CsiParam}
 use Rattle.csi_codec.specs.declared.parameters.CsiParam.TheVariants.{Integer, P}
 use Rattle.csi_codec.specs.Parameters.{is_number, number_within}
-use Rattle.csi_codec.specs.Rendition.{colour, taking}
+use Rattle.csi_codec.specs.declared.rendition.Sgr.{Sgr}
+use Rattle.csi_codec.specs.Rendition.{colour, taking, plain_code}
 
 -- the number behind a sign, and what follows it
 abbrev pub number_behind : ℕ → List CsiParam → Option (ℤ × List CsiParam)
@@ -63,3 +64,9 @@ semicolon_form kind ts = if is_number 5 kind then palette_case 59 ts else (if is
 unfoldable pub form_case : List CsiParam → Option (ColorSpec × ℕ)
 form_case (P b ∷ Integer kind ∷ ts) = if b == 58 then colon_form kind ts else (if b == 59 then semicolon_form kind ts else None)
 form_case _ = None
+
+-- a piece that is one number, at the end of a list or in front of a `;`
+abbrev pub plain_case : List CsiParam → Option (Sgr × ℕ)
+plain_case (Integer z ∷ []) = taking 1 (plain_code z)
+plain_case (Integer z ∷ P b ∷ ts) = if b == 59 then taking 2 (plain_code z) else None
+plain_case _ = None

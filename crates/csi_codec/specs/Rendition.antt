@@ -161,6 +161,10 @@ ranged_code n =
 unfoldable pub single_code : ℕ → Option Sgr
 single_code n = listed_or single_codes n (ranged_code n)
 
+-- the value of a number as a parameter
+abbrev pub plain_code : ℤ → Option Sgr
+plain_code z = option_and_then single_code (number_within 255 z)
+
 -- ---- Underlines behind 4:
 
 abbrev pub underline_numbered : ℤ → Option Underline
@@ -195,7 +199,7 @@ numbered_shape z ts =
     else (if is_number 48 z then colour_shape sgr.Background ts
     else (if is_number 58 z then colour_shape sgr.UnderlineColor ts
     else (if is_number 4 z then underline_shape ts
-    else taking 1 (option_and_then single_code (number_within 255 z)))))
+    else taking 1 (plain_code z))))
 
 -- the longest shape at the front of a list, and how many tokens it takes; a lone `;` is a reset
 unfoldable pub sgr_shape : List CsiParam → Option (Sgr × ℕ)

@@ -16,7 +16,19 @@ pub(crate) enum Kind {
 }
 
 /// Whether a list has only the tokens of SGR: numbers, `;`, `:` and `?`.
+#[inline(always)]
 pub(crate) fn all_sgr_tokens(params: &[CsiParam]) -> bool
+    ensures { result ≡ all_sgr_tokens params.now }
+{
+    let mut others = params;
+    while let [CsiParam::Integer(_), CsiParam::P(b';'), behind @ ..] = others {
+        others = behind;
+    }
+    all_tokens(others)
+}
+
+/// The same, token by token.
+fn all_tokens(params: &[CsiParam]) -> bool
     ensures { result ≡ all_sgr_tokens params.now }
 {
     for param in params {

@@ -2,7 +2,7 @@
 ghost use Rattle.std.specs.Prelude.{◌≡◌, ◌<◌, ◌≤◌, IfNone, IfSome, ◌∷◌, [], drop, length, option_map};
 ghost use Rattle.csi_codec.specs.Actions.{csi_reading, lone_or, modes_or, piece_of, pieces, sgr_pieces, sgr_reading, unspecified};
 ghost use Rattle.csi_codec.specs.Known.{found_action};
-ghost use Rattle.csi_codec.specs.Parsing.{HasNoPiece, HasNoRendition, IsEnd, IsFirstPiece, IsFirstRendition, IsStart, actions_behind, actions_from, kind_of, list_kind};
+ghost use Rattle.csi_codec.specs.Parsing.{HasNoPiece, HasNoRendition, IsEnd, IsFirstPiece, IsFirstRendition, IsLone, IsNextRendition, IsStart, actions_behind, actions_from, kind_of, list_kind};
 ghost use Rattle.csi_codec.specs.Sequences.{action_of, HandsOut};
 
 use crate::cursors::cursor_reading;
@@ -12,7 +12,7 @@ use crate::parameters::CsiParam;
 use crate::pieces::{Kind, all_sgr_tokens, mode_piece};
 use crate::rendition::Sgr;
 use crate::sequences::{CSI, request, unspecified};
-use crate::sgr_reading::sgr_piece;
+use crate::sgr_reading::{plain_piece, sgr_piece};
 use std::alloc::{AllocError, Global};
 
 /// A place in a list of parameters before a final byte: how far its actions were read. It lends nothing, so it can be kept
@@ -33,6 +33,7 @@ impl CSIPlace {
 
     /// The action at this place of a list, with the flag and the final byte of the list, which have to be the same at each
     /// call. It goes on to the next place. After a refusal of memory, and after the last action, it answers `None`.
+    #[inline(always)]
     pub fn next(
         &mut self,
         alloc: Global,
@@ -42,10 +43,65 @@ impl CSIPlace {
     ) -> Option<Result<CSI, AllocError>>
         ensures { HandsOut (actions_from self.old params.now parameters_truncated control) result (actions_from self.new params.now parameters_truncated control) }
     {
-        let step = step_at(self.index, alloc, params, parameters_truncated, control);
+        let read = self.index;
+        if read > 0 {
+            if read >= params.len() {
+                return None;
+            }
+        }
+        if control == 'm' {
+            if let Some((value, behind)) = plain_at(read, params) {
+                self.index = behind;
+                return Some(Ok(CSI::Sgr(value)));
+            }
+        } else if read == 0 {
+            if let Some(value) = lone_action(params, control) {
+                self.index = params.len().max(1);
+                return Some(Ok(value));
+            }
+        }
+        let step = step_at(read, alloc, params, parameters_truncated, control);
         self.index = step.read;
         step.action
     }
+}
+
+/// The piece behind so many tokens of a list before `m`, where it is one number, and how many tokens are read then.
+#[inline(always)]
+fn plain_at(read: usize, params: &[CsiParam]) -> Option<(Sgr, usize)>
+    ensures { IfSome result (λ found. IsNextRendition read params.now found.0 found.1) }
+{
+    if read >= params.len() {
+        return None;
+    }
+    let others = behind(params, read);
+    let (value, len) = plain_piece(others)?;
+    if read > 0 {
+        return Some((value, read + len));
+    }
+    if all_sgr_tokens(behind(others, len)) {
+        Some((value, len))
+    } else {
+        None
+    }
+}
+
+/// The one action of a whole list, where it is a cursor sequence or an edit.
+#[tactic(auto, unfolding(crate::specs::Actions::csi_reading))]
+#[inline(never)]
+fn lone_action(params: &[CsiParam], control: char) -> Option<CSI>
+    ensures { IfSome result (λ value. IsLone params.now control (action_of value)) }
+{
+    if matches!(control, 'm' | 'h' | 'l') {
+        return None;
+    }
+    if let [CsiParam::P(b'?'), ..] = params {
+        return None;
+    }
+    if let Some(value) = cursor_reading(params, control) {
+        return Some(CSI::Cursor(value));
+    }
+    Some(CSI::Edit(edit_reading(params, control)?))
 }
 
 /// What is handed out, and how many tokens are read then.
@@ -56,6 +112,7 @@ struct Step {
 }
 
 /// The step where so many tokens are read.
+#[inline(never)]
 fn step_at(read: usize, alloc: Global, params: &[CsiParam], truncated: bool, control: char) -> Step
     ensures { HandsOut (actions_behind read params.now truncated control) result.action (actions_behind result.read params.now truncated control) }
 {
@@ -70,6 +127,7 @@ fn step_at(read: usize, alloc: Global, params: &[CsiParam], truncated: bool, con
 
 /// The first step in a list.
 #[tactic(auto, unfolding(crate::specs::Actions::csi_reading))]
+#[inline(always)]
 fn first(alloc: Global, params: &[CsiParam], truncated: bool, control: char) -> Step
     ensures step { HandsOut (csi_reading params.now truncated control) result.action (pieces (list_kind control params.now) truncated control (drop result.read params.now)) }
     ensures some { 0 < result.read }
@@ -89,6 +147,7 @@ fn first(alloc: Global, params: &[CsiParam], truncated: bool, control: char) -> 
 }
 
 /// The first step in a list before `m`: its first piece, where only tokens of SGR stand behind that too.
+#[inline(always)]
 fn first_rendition(alloc: Global, params: &[CsiParam], truncated: bool, control: char) -> Step
     ensures step { HandsOut (sgr_reading truncated control params.now) result.action (pieces sgr_pieces truncated control (drop result.read params.now)) }
     ensures some { 0 < result.read }
@@ -106,6 +165,7 @@ fn first_rendition(alloc: Global, params: &[CsiParam], truncated: bool, control:
 }
 
 /// The first piece of an SGR list, where only tokens of SGR stand behind that too, and how many tokens it takes.
+#[inline(always)]
 fn first_sgr(params: &[CsiParam]) -> Option<(Sgr, usize)>
     requires { 0 < length params.now }
     ensures found { IfSome result (λ found. IsFirstRendition params.now found.0 found.1) }
@@ -120,6 +180,7 @@ fn first_sgr(params: &[CsiParam]) -> Option<(Sgr, usize)>
 }
 
 /// The first step in a list of modes that begin so far into it: the first mode, where one stands, or else the list itself.
+#[inline(always)]
 fn first_mode(
     kind: Kind,
     start: usize,
@@ -142,6 +203,7 @@ fn first_mode(
 }
 
 /// A step within a list: the next piece, or the list from there on where none stands.
+#[inline(always)]
 fn further(read: usize, alloc: Global, params: &[CsiParam], truncated: bool, control: char) -> Step
     requires { read < length params.now }
     ensures step { HandsOut (pieces (list_kind control params.now) truncated control (drop read params.now)) result.action (pieces (list_kind control params.now) truncated control (drop result.read params.now)) }
@@ -158,6 +220,7 @@ fn further(read: usize, alloc: Global, params: &[CsiParam], truncated: bool, con
 }
 
 /// The last step in a list.
+#[inline(always)]
 fn last(params: &[CsiParam], action: Option<Result<CSI, AllocError>>) -> Step
     ensures same { result.action ≡ action }
     ensures ends { IsEnd result.read params.now }
@@ -169,6 +232,7 @@ fn last(params: &[CsiParam], action: Option<Result<CSI, AllocError>>) -> Step
 }
 
 /// What the pieces of a list are.
+#[inline(always)]
 fn list_kind(params: &[CsiParam], control: char) -> Kind
     ensures { kind_of result ≡ list_kind control params.now }
 {
@@ -182,6 +246,7 @@ fn list_kind(params: &[CsiParam], control: char) -> Kind
 }
 
 /// The one action of a whole list, or the list itself.
+#[inline(always)]
 fn lone(
     alloc: Global,
     params: &[CsiParam],
@@ -203,6 +268,7 @@ fn lone(
 }
 
 /// A list without a reading.
+#[inline(always)]
 fn rest(
     alloc: Global,
     params: &[CsiParam],
@@ -215,6 +281,7 @@ fn rest(
 }
 
 /// The piece at the front of a list, and how many tokens it takes.
+#[inline(always)]
 fn piece(kind: Kind, params: &[CsiParam], control: char) -> Option<(CSI, usize)>
     ensures { option_map found_action result ≡ piece_of (kind_of kind) control params.now }
 {
@@ -235,6 +302,7 @@ fn piece(kind: Kind, params: &[CsiParam], control: char) -> Option<(CSI, usize)>
 }
 
 /// The piece at the front of a list, and how many tokens it takes.
+#[inline(always)]
 fn first_piece(kind: Kind, params: &[CsiParam], control: char) -> Option<(CSI, usize)>
     ensures found { IfSome result (λ found. IsFirstPiece (kind_of kind) control params.now (action_of found.0) found.1) }
     ensures none { IfNone result (HasNoPiece (kind_of kind) control params.now) }
@@ -244,6 +312,7 @@ fn first_piece(kind: Kind, params: &[CsiParam], control: char) -> Option<(CSI, u
 }
 
 /// What stands behind the first `len` tokens.
+#[inline(always)]
 fn behind(params: &[CsiParam], len: usize) -> &[CsiParam]
     requires { len ≤ length params.now }
     ensures { result.now ≡ drop len params.now }

@@ -128,6 +128,7 @@ impl<'a> Iterator for CSIParser<'a> {
 }
 
 /// A request as a value, which is boxed.
+#[inline(never)]
 pub(crate) fn request(alloc: Global, value: Device) -> Result<CSI, AllocError>
     ensures { IfOk result (λ sequence. action_of sequence ≡ device value) }
 {
@@ -135,6 +136,7 @@ pub(crate) fn request(alloc: Global, value: Device) -> Result<CSI, AllocError>
 }
 
 /// A list without a reading, as a value.
+#[inline(never)]
 pub(crate) fn unspecified(
     alloc: Global,
     params: &[CsiParam],

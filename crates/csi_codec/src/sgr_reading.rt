@@ -14,10 +14,12 @@ ghost use Rattle.csi_codec.specs.ColourCases.{
   colon_form,
   semicolon_form,
   form_case,
+  plain_case,
 };
 ghost use Rattle.csi_codec.specs.Rendition.{
   colour_form,
   single_code,
+  plain_code,
   ranged_code,
   underline_numbered,
   underline_shape,
@@ -254,6 +256,26 @@ fn underline_shape(params: &[CsiParam]) -> Option<(Sgr, usize)>
     Some((Sgr::Underline(Underline::Single), 1))
 }
 
+/// What a number means, where it stands alone.
+#[inline(always)]
+fn plain_code(value: i64) -> Option<Sgr>
+    ensures { result ≡ plain_code value }
+{
+    single_code(number_within(255, value)? as u8)
+}
+
+/// The piece at the front of a list where it is one number, and how many tokens it takes with the `;` right behind it.
+#[inline(always)]
+pub(crate) fn plain_piece(params: &[CsiParam]) -> Option<(Sgr, usize)>
+    ensures { result ≡ plain_case params.now }
+{
+    match params {
+        [CsiParam::Integer(value)] => Some((plain_code(*value)?, 1)),
+        [CsiParam::Integer(value), CsiParam::P(b';'), ..] => Some((plain_code(*value)?, 2)),
+        _ => None,
+    }
+}
+
 /// What the longest shape at the front of a list that begins with a number stands for, and how many tokens it takes.
 #[tactic(auto, unfolding(crate::specs::Rendition::numbered_shape))]
 #[inline(always)]
@@ -275,7 +297,7 @@ fn numbered_shape(value: i64, params: &[CsiParam]) -> Option<(Sgr, usize)>
             Some((Sgr::UnderlineColor(color), len + 1))
         }
         4 => underline_shape(params),
-        _ => Some((single_code(number_within(255, value)? as u8)?, 1)),
+        _ => Some((plain_code(value)?, 1)),
     }
 }
 

@@ -1,7 +1,10 @@
 -- What is left decides for the whole.
-use Rattle.std.proofs.Common.{◌≡◌, drop}
+use Rattle.std.proofs.Common.{◌≡◌, length}
 use Rattle.csi_codec.specs.Actions.{all_sgr_tokens}
 use Rattle.csi_codec.proofs.pieces.all_sgr_tokens.Given as goal
 
-abbrev pub invariant-loop-param : goal.invariant-loop-param
-invariant-loop-param l = all_sgr_tokens (drop l.param-index l.params) ≡ all_sgr_tokens l.params
+abbrev pub decreases-loop-others : goal.decreases-loop-others
+decreases-loop-others l = length l.others
+
+abbrev pub invariant-loop-others : goal.invariant-loop-others
+invariant-loop-others l = all_sgr_tokens l.others ≡ all_sgr_tokens l.params
