@@ -2,8 +2,8 @@ mod BoolLemmas
 mod SgrLemmas
 mod PieceLemmas
 mod SgrTokens
-mod PlaceLemmas
 mod PlainLemmas
+mod PlaceLemmas
 mod ReadingLemmas
 mod JoinLemmas
 mod BackLemmas

@@ -1,15 +1,17 @@
 -- Steps from place to place of a list.
-use Rattle.std.proofs.Common.{◌≡◌, ℕ, zero, suc, ◌<◌, ◌≤◌, eqb, Bool, true, false, cond, List, [], ◌∷◌, length, drop, Option, Some, None, Result, IfSome, IfNone, option_map, arith, refl, sym, ap, ◌∙◌, subst}
+use Rattle.std.proofs.Common.{◌≡◌, ℕ, zero, suc, ◌+◌, ◌<◌, ◌≤◌, eqb, Bool, true, false, cond, List, [], ◌∷◌, length, drop, drop-drop, Option, Some, None, Result, IfSome, IfNone, option_map, arith, refl, sym, ap, ◌∙◌, subst}
+use Rattle.std.specs.Prelude.{is_some}
 use Rattle.std.proofs.lemmas.Bool.Decides.{nat_tests}
 use Rattle.std.specs.declared.alloc.AllocError.{AllocError}
 use Rattle.csi_codec.specs.declared.parameters.CsiParam.{CsiParam}
 use Rattle.csi_codec.specs.declared.rendition.Sgr.{Sgr}
+use Rattle.csi_codec.specs.declared.rendition.Sgr.TheVariants.{Reset}
 use Rattle.csi_codec.specs.declared.sequences.CSI.{CSI}
 use Rattle.csi_codec.specs.Known.{found_action}
-use Rattle.csi_codec.specs.Parsing.{HasNoPiece, HasNoRendition, IsEnd, IsFirstPiece, IsFirstRendition, actions_behind, list_kind}
+use Rattle.csi_codec.specs.Parsing.{HasNoPiece, HasNoRendition, IsEnd, IsFirstPiece, IsFirstRendition, IsNext, actions_behind, list_kind}
 use Rattle.csi_codec.specs.Rendition.{sgr_piece}
 use Rattle.csi_codec.specs.Sequences.{HandsOut, action_of}
-use Rattle.csi_codec.specs.Actions.{Kind, Action, sgr, sgr_pieces, unspecified, rendition_piece, piece_of, pieces, all_sgr_tokens, sgr_reading}
+use Rattle.csi_codec.specs.Actions.{Kind, Action, sgr, sgr_pieces, unspecified, rendition_piece, piece_of, pieces, all_sgr_tokens, sgr_reading, modes_or, lone_or, csi_reading}
 use Rattle.csi_codec.proofs.PieceLemmas.{piece_of_takes, pieces_found, pieces_rest, pieces_none, pieces_ended}
 use Rattle.csi_codec.proofs.SgrTokens.{sgr_tokens_behind}
 
@@ -87,3 +89,61 @@ step_behind n m ts truncated final before action e some h =
     let P : List Action → Type 0 = λ first. HandsOut first action (actions_behind m ts truncated final) in
     let Q : List Action → Type 0 = λ after. HandsOut before action after in
     subst P (sym e) (subst Q (sym (behind_some m ts truncated final some)) h)
+
+-- ---- The next action
+
+-- the first of an SGR list
+pub next_rendition : (ts : List CsiParam) (v : Sgr) (n : ℕ) → IsFirstRendition ts v n → IsNext 0 ts 109 (sgr v) n
+unfolding actions_behind csi_reading
+next_rendition ts v n first = record {
+  actions = λ truncated. first.actions truncated 109 ∙ ap (λ rest. sgr v ∷ rest) (sym (behind_some n ts truncated 109 first.some));
+}
+
+pub next_reset : (ts : List CsiParam) → length ts ≡ 0 → IsNext 0 ts 109 (sgr Reset) 1
+unfolding actions_behind csi_reading pieces
+next_reset [] h = record { actions = λ truncated. refl }
+next_reset (t ∷ ts) h = absurd (omega arith)
+
+-- a mode that a list begins with
+modes_found : (k : Kind) (start n : ℕ) (ts : List CsiParam) (truncated : Bool) (final : ℕ) (a : Action) → piece_of k final (drop start ts) ≡ Some (a, n)
+    → modes_or k truncated final (drop start ts) ts ≡ a ∷ pieces k truncated final (drop (start + n) ts)
+modes_found k start n ts truncated final a e =
+    ap (λ found. cond (is_some found) (pieces k truncated final (drop start ts)) (unspecified ts truncated final ∷ [])) e
+    ∙ pieces_found k truncated final (drop start ts) a n e
+    ∙ ap (λ rest. a ∷ pieces k truncated final rest) (drop-drop n start ts)
+
+pub mode_found : (k : Kind) (start n : ℕ) (ts us : List CsiParam) (truncated : Bool) (final : ℕ) (found : CSI) → us ≡ drop start ts → Some (found_action (found, n)) ≡ piece_of k final us
+    → modes_or k truncated final (drop start ts) ts ≡ action_of found ∷ pieces k truncated final (drop (start + n) ts)
+mode_found k start n ts us truncated final found at e =
+    modes_found k start n ts truncated final (action_of found) (subst (λ x. piece_of k final x ≡ Some (action_of found, n)) at (sym e))
+
+-- the only one of a list
+pub only_found : (k : Kind) («end» : ℕ) (ts : List CsiParam) (truncated : Bool) (final : ℕ) (a : Action) → length ts ≤ «end» → lone_or truncated final ts ≡ a ∷ []
+    → lone_or truncated final ts ≡ a ∷ pieces k truncated final (drop «end» ts)
+only_found k «end» ts truncated final a h e = e ∙ ap (λ rest. a ∷ rest) (sym (pieces_ended k truncated final ts «end» h))
+
+-- the first of any list
+next_first : (n : ℕ) (ts : List CsiParam) (final : ℕ) (a : Action) → 0 < n
+    → ((truncated : Bool) → csi_reading ts truncated final ≡ a ∷ pieces (list_kind final ts) truncated final (drop n ts)) → IsNext 0 ts final a n
+unfolding actions_behind
+next_first n ts final a h first = record { actions = λ truncated. first truncated ∙ ap (λ rest. a ∷ rest) (sym (behind_some n ts truncated final h)) }
+
+pub next_found : (ts : List CsiParam) (final : ℕ) (found : Option (CSI × ℕ))
+    → IfSome found (λ f. (truncated : Bool) → csi_reading ts truncated final ≡ action_of f.0 ∷ pieces (list_kind final ts) truncated final (drop f.1 ts))
+    → IfSome found (λ f. 0 < f.1) → IfSome found (λ f. IsNext 0 ts final (action_of f.0) f.1)
+next_found ts final None first some = tt
+next_found ts final (Some f) first some = next_first f.1 ts final (action_of f.0) some first
+
+-- one behind some tokens
+next_further : (read n : ℕ) (ts : List CsiParam) (final : ℕ) (a : Action) → 0 < read → IsFirstPiece (list_kind final ts) final (drop read ts) a n → IsNext read ts final a (read + n)
+next_further read n ts final a h first = record {
+  actions = λ truncated.
+      behind_some read ts truncated final h ∙ first.actions truncated
+      ∙ ap (λ rest. a ∷ pieces (list_kind final ts) truncated final rest) (drop-drop n read ts)
+      ∙ ap (λ rest. a ∷ rest) (sym (behind_some (read + n) ts truncated final (omega arith)));
+}
+
+pub next_piece : (k : Kind) (read n : ℕ) (ts us : List CsiParam) (final : ℕ) (a : Action) → 0 < read → k ≡ list_kind final ts → us ≡ drop read ts → IsFirstPiece k final us a n
+    → IsNext read ts final a (read + n)
+next_piece k read n ts us final a h kind at first =
+    next_further read n ts final a h (subst (λ x. IsFirstPiece (list_kind final ts) final x a n) at (subst (λ k. IsFirstPiece k final us a n) kind first))

@@ -1,5 +1,5 @@
 -- A piece of SGR that is one number, at the end of a list or in front of a `;`.
-use Rattle.std.proofs.Common.{◌≡◌, ℕ, zero, suc, ◌+◌, ◌<◌, ◌≤◌, ℤ, pos, negsuc, eqb, Bool, true, false, cond, List, [], ◌∷◌, length, drop, drop-drop, Option, Some, None, IfSome, option_map, inl, inr, option_and_then, arith, refl, sym, ap, ◌∙◌, subst}
+use Rattle.std.proofs.Common.{◌≡◌, ℕ, ℤ, pos, negsuc, eqb, Bool, true, false, cond, List, [], ◌∷◌, Option, Some, None, IfSome, option_map, inl, inr, option_and_then, refl, sym, ap, ◌∙◌, subst}
 use Rattle.std.proofs.lemmas.Bool.{cases_Bool, eqb-true}
 use Rattle.csi_codec.specs.declared.parameters.CsiParam.{CsiParam}
 use Rattle.csi_codec.specs.declared.parameters.CsiParam.TheVariants.{Integer, P}
@@ -7,10 +7,6 @@ use Rattle.csi_codec.specs.declared.rendition.Sgr.{Sgr}
 use Rattle.csi_codec.specs.Parameters.{is_number, number_within, with_semicolon}
 use Rattle.csi_codec.specs.Rendition.{single_code, plain_code, taking, colour_shape, underline_shape, underline_or_single, numbered_shape, sgr_shape, sgr_piece}
 use Rattle.csi_codec.specs.ColourCases.{plain_case}
-use Rattle.csi_codec.specs.Parsing.{IsLone, IsNextRendition, actions_behind, list_kind}
-use Rattle.csi_codec.specs.Actions.{Action, sgr, sgr_pieces, all_sgr_tokens, sgr_reading, csi_reading, pieces}
-use Rattle.csi_codec.proofs.PieceLemmas.{pieces_ended, pieces_found}
-use Rattle.csi_codec.proofs.PlaceLemmas.{as_piece, rendition_found, behind_some}
 
 -- no number of a colour has a value of its own
 no_target : (n : ℕ) (z : ℤ) (v : Sgr) → plain_code (pos n) ≡ None → plain_code z ≡ Some v → is_number n z ≡ true → ⊥
@@ -70,33 +66,3 @@ plain_is_piece (Integer z ∷ P b ∷ ts) = elim (cases_Bool (eqb b 59)) [
 
 pub plain_found : (ts : List CsiParam) (v : Sgr) (n : ℕ) → plain_case ts ≡ Some (v, n) → sgr_piece ts ≡ Some (v, n)
 plain_found ts v n e = subst (IsPiece ts) e (plain_is_piece ts)
-
--- such a piece is the next action
-pub next_at_start : (ts : List CsiParam) (v : Sgr) (n : ℕ) → 0 < length ts → sgr_piece ts ≡ Some (v, n) → all_sgr_tokens (drop n ts) ≡ true → IsNextRendition 0 ts v n
-unfolding actions_behind csi_reading
-next_at_start ts v n h e tokens =
-    let first = rendition_found ts v n h e tokens in
-    record { actions = λ truncated. first.actions truncated 109 ∙ ap (λ rest. sgr v ∷ rest) (sym (behind_some n ts truncated 109 first.some)) }
-
-pub next_behind : (read : ℕ) (ts : List CsiParam) (v : Sgr) (n : ℕ) → 0 < read → sgr_piece (drop read ts) ≡ Some (v, n) → IsNextRendition read ts v (read + n)
-next_behind read ts v n h e = record {
-  actions = λ truncated.
-      behind_some read ts truncated 109 h
-      ∙ pieces_found sgr_pieces truncated 109 (drop read ts) (sgr v) n (as_piece (drop read ts) v n e)
-      ∙ ap (λ rest. sgr v ∷ pieces sgr_pieces truncated 109 rest) (drop-drop n read ts)
-      ∙ ap (λ rest. sgr v ∷ rest) (sym (behind_some (read + n) ts truncated 109 (omega arith)));
-}
-
-pub next_first : (read : ℕ) (ts us : List CsiParam) (v : Sgr) (n : ℕ) → read ≤ 0 → read < length ts → us ≡ drop read ts → plain_case us ≡ Some (v, n) → all_sgr_tokens (drop n us) ≡ true
-    → IsNextRendition read ts v n
-next_first zero ts us v n z h e p tokens =
-    next_at_start ts v n h (plain_found ts v n (subst (λ x. plain_case x ≡ Some (v, n)) e p)) (subst (λ x. all_sgr_tokens (drop n x) ≡ true) e tokens)
-next_first (suc m) ts us v n z h e p tokens = absurd (omega arith)
-
--- a list of one action is at its end behind that
-pub only_action : (read «end» : ℕ) (ts : List CsiParam) (truncated : Bool) (final : ℕ) (a : Action) → read ≡ 0 → 0 < «end» → length ts ≤ «end» → IsLone ts final a
-    → actions_behind read ts truncated final ≡ a ∷ actions_behind «end» ts truncated final
-unfolding actions_behind
-only_action read «end» ts truncated final a none some h lone =
-    rw none (lone.actions truncated)
-    ∙ ap (λ rest. a ∷ rest) (sym (behind_some «end» ts truncated final some ∙ pieces_ended (list_kind final ts) truncated final ts «end» h))

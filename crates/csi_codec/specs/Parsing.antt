@@ -56,10 +56,6 @@ pub record IsFirstRendition (ts : List CsiParam) (first : Sgr) (len : ℕ) : Typ
 pub record HasNoRendition (ts : List CsiParam) : Type 0 where
   pub rest : (truncated : Bool) (final : ℕ) → sgr_reading truncated final ts ≡ unspecified ts truncated final ∷ []
 
--- a piece of SGR is the next action of a list before m where so many tokens were read, and then so many are
-pub record IsNextRendition (read : ℕ) (ts : List CsiParam) (next : Sgr) (behind : ℕ) : Type 0 where
-  pub actions : (truncated : Bool) → actions_behind read ts truncated 109 ≡ sgr next ∷ actions_behind behind ts truncated 109
-
--- a list has one action
-pub record IsLone (ts : List CsiParam) (final : ℕ) (only : Action) : Type 0 where
-  pub actions : (truncated : Bool) → csi_reading ts truncated final ≡ only ∷ []
+-- the next action of a list where so many tokens were read, and how many are read then
+pub record IsNext (read : ℕ) (ts : List CsiParam) (final : ℕ) (next : Action) (behind : ℕ) : Type 0 where
+  pub actions : (truncated : Bool) → actions_behind read ts truncated final ≡ next ∷ actions_behind behind ts truncated final

@@ -220,6 +220,7 @@ fn style_spelling(style: CursorStyle) -> Spelling
 
 /// What a whole list before a final byte spells, if it is a cursor sequence.
 #[tactic(auto, unfolding(crate::specs::Cursors::cursor_reading))]
+#[inline(always)]
 pub(crate) fn cursor_reading(params: &[CsiParam], control: char) -> Option<Cursor>
     ensures { result ≡ cursor_reading control params.now }
 {

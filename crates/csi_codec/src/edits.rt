@@ -120,6 +120,7 @@ impl Edit {
 
 /// What a whole list before a final byte spells, if it is an edit.
 #[tactic(auto, unfolding(crate::specs::Edits::edit_reading))]
+#[inline(always)]
 pub(crate) fn edit_reading(params: &[CsiParam], control: char) -> Option<Edit>
     ensures { result ≡ edit_reading control params.now }
 {

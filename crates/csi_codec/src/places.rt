@@ -1,8 +1,8 @@
 //! Reading the actions of a list from place to place.
-ghost use Rattle.std.specs.Prelude.{◌≡◌, ◌<◌, ◌≤◌, IfNone, IfSome, ◌∷◌, [], drop, length, option_map};
-ghost use Rattle.csi_codec.specs.Actions.{csi_reading, lone_or, modes_or, piece_of, pieces, sgr_pieces, sgr_reading, unspecified};
+ghost use Rattle.std.specs.Prelude.{◌≡◌, ◌<◌, ◌≤◌, Bool, IfNone, IfSome, ◌∷◌, [], drop, length, option_map};
+ghost use Rattle.csi_codec.specs.Actions.{Kind as PieceKind, csi_reading, lone_or, modes_or, piece_of, pieces, sgr_pieces, sgr_reading, unspecified};
 ghost use Rattle.csi_codec.specs.Known.{found_action};
-ghost use Rattle.csi_codec.specs.Parsing.{HasNoPiece, HasNoRendition, IsEnd, IsFirstPiece, IsFirstRendition, IsLone, IsNextRendition, IsStart, actions_behind, actions_from, kind_of, list_kind};
+ghost use Rattle.csi_codec.specs.Parsing.{HasNoPiece, HasNoRendition, IsEnd, IsFirstPiece, IsFirstRendition, IsNext, IsStart, actions_behind, actions_from, kind_of, list_kind};
 ghost use Rattle.csi_codec.specs.Sequences.{action_of, HandsOut};
 
 use crate::cursors::cursor_reading;
@@ -12,7 +12,7 @@ use crate::parameters::CsiParam;
 use crate::pieces::{Kind, all_sgr_tokens, mode_piece};
 use crate::rendition::Sgr;
 use crate::sequences::{CSI, request, unspecified};
-use crate::sgr_reading::{plain_piece, sgr_piece};
+use crate::sgr_reading::sgr_piece;
 use std::alloc::{AllocError, Global};
 
 /// A place in a list of parameters before a final byte: how far its actions were read. It lends nothing, so it can be kept
@@ -44,64 +44,112 @@ impl CSIPlace {
         ensures { HandsOut (actions_from self.old params.now parameters_truncated control) result (actions_from self.new params.now parameters_truncated control) }
     {
         let read = self.index;
-        if read > 0 {
+        if read == 0 {
+            if let Some((value, behind)) = first_known(params, control) {
+                self.index = behind;
+                return Some(Ok(value));
+            }
+        } else {
             if read >= params.len() {
                 return None;
             }
-        }
-        if control == 'm' {
-            if let Some((value, behind)) = plain_at(read, params) {
+            if let Some((value, behind)) = further_known(read, params, control) {
                 self.index = behind;
-                return Some(Ok(CSI::Sgr(value)));
-            }
-        } else if read == 0 {
-            if let Some(value) = lone_action(params, control) {
-                self.index = params.len().max(1);
                 return Some(Ok(value));
             }
         }
-        let step = step_at(read, alloc, params, parameters_truncated, control);
+        self.by_step(alloc, params, parameters_truncated, control)
+    }
+
+    /// The same, whatever stands at this place.
+    #[inline(always)]
+    fn by_step(
+        &mut self,
+        alloc: Global,
+        params: &[CsiParam],
+        truncated: bool,
+        control: char,
+    ) -> Option<Result<CSI, AllocError>>
+        ensures { HandsOut (actions_from self.old params.now truncated control) result (actions_from self.new params.now truncated control) }
+    {
+        let step = step_at(self.index, alloc, params, truncated, control);
         self.index = step.read;
         step.action
     }
 }
 
-/// The piece behind so many tokens of a list before `m`, where it is one number, and how many tokens are read then.
+/// The first action of a list, where it takes no memory, and how many tokens are read then.
 #[inline(always)]
-fn plain_at(read: usize, params: &[CsiParam]) -> Option<(Sgr, usize)>
-    ensures { IfSome result (λ found. IsNextRendition read params.now found.0 found.1) }
+fn first_known(params: &[CsiParam], control: char) -> Option<(CSI, usize)>
+    ensures { IfSome result (λ found. IsNext 0 params.now control (action_of found.0) found.1) }
 {
-    if read >= params.len() {
-        return None;
+    if control == 'm' {
+        if params.is_empty() {
+            return Some((CSI::Sgr(Sgr::Reset), 1));
+        }
+        let (value, len) = first_sgr(params)?;
+        return Some((CSI::Sgr(value), len));
     }
-    let others = behind(params, read);
-    let (value, len) = plain_piece(others)?;
-    if read > 0 {
-        return Some((value, read + len));
-    }
-    if all_sgr_tokens(behind(others, len)) {
-        Some((value, len))
-    } else {
-        None
+    first_other(params, control)
+}
+
+/// The same before any other final byte.
+#[tactic(auto, unfolding(crate::specs::Actions::csi_reading))]
+#[inline(never)]
+fn first_other(params: &[CsiParam], control: char) -> Option<(CSI, usize)>
+    requires { ¬ (control ≡ 109) }
+    ensures found { IfSome result (λ found. (truncated : Bool) → csi_reading params.now truncated control ≡ action_of found.0 ∷ pieces (list_kind control params.now) truncated control (drop found.1 params.now)) }
+    ensures some { IfSome result (λ found. 0 < found.1) }
+{
+    match params {
+        [CsiParam::P(b'?'), ..] => known_mode(Kind::PrivateModes, 1, params, control),
+        _ if matches!(control, 'h' | 'l') => known_mode(Kind::StandardModes, 0, params, control),
+        _ => known_lone(params, control),
     }
 }
 
-/// The one action of a whole list, where it is a cursor sequence or an edit.
-#[tactic(auto, unfolding(crate::specs::Actions::csi_reading))]
-#[inline(never)]
-fn lone_action(params: &[CsiParam], control: char) -> Option<CSI>
-    ensures { IfSome result (λ value. IsLone params.now control (action_of value)) }
+/// The first of some modes that begin so far into a list, where one stands, and how many tokens are read then.
+#[inline(always)]
+fn known_mode(kind: Kind, start: usize, params: &[CsiParam], control: char) -> Option<(CSI, usize)>
+    requires { start ≤ length params.now }
+    ensures found { IfSome result (λ found. (truncated : Bool) → modes_or (kind_of kind) truncated control (drop start params.now) params.now ≡ action_of found.0 ∷ pieces (kind_of kind) truncated control (drop found.1 params.now)) }
+    ensures some { IfSome result (λ found. 0 < found.1) }
 {
-    if matches!(control, 'm' | 'h' | 'l') {
-        return None;
-    }
-    if let [CsiParam::P(b'?'), ..] = params {
-        return None;
-    }
+    let (value, len) = first_piece(kind, behind(params, start), control)?;
+    Some((value, start + len))
+}
+
+/// The one action of a whole list, where it is a cursor sequence or an edit, and how many tokens are read then.
+#[inline(always)]
+fn known_lone(params: &[CsiParam], control: char) -> Option<(CSI, usize)>
+    ensures found { IfSome result (λ found. (k : PieceKind) (truncated : Bool) → lone_or truncated control params.now ≡ action_of found.0 ∷ pieces k truncated control (drop found.1 params.now)) }
+    ensures some { IfSome result (λ found. 0 < found.1) }
+{
+    let value = lone_action(params, control)?;
+    Some((value, params.len().max(1)))
+}
+
+/// The one action of a whole list, where it is a cursor sequence or an edit.
+#[inline(always)]
+fn lone_action(params: &[CsiParam], control: char) -> Option<CSI>
+    ensures { IfSome result (λ value. (truncated : Bool) → lone_or truncated control params.now ≡ action_of value ∷ []) }
+{
     if let Some(value) = cursor_reading(params, control) {
         return Some(CSI::Cursor(value));
     }
     Some(CSI::Edit(edit_reading(params, control)?))
+}
+
+/// A further action of a list, where it takes no memory, and how many tokens are read then.
+#[inline(always)]
+fn further_known(read: usize, params: &[CsiParam], control: char) -> Option<(CSI, usize)>
+    requires some { 0 < read }
+    requires within { read < length params.now }
+    ensures { IfSome result (λ found. IsNext read params.now control (action_of found.0) found.1) }
+{
+    let others = behind(params, read);
+    let (value, len) = first_piece(list_kind(params, control), others, control)?;
+    Some((value, read + len))
 }
 
 /// What is handed out, and how many tokens are read then.

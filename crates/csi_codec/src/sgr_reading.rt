@@ -33,6 +33,7 @@ use crate::rendition::{Font, Sgr};
 use cell_base::{Blink, ColorSpec, Intensity, SrgbaTuple, Underline, VerticalAlign};
 
 /// The number behind a sign at the front of a list, and what follows it.
+#[inline(always)]
 fn number_behind(sign: u8, params: &[CsiParam]) -> Option<(i64, &[CsiParam])>
     ensures { option_map (λ found. (found.0, found.1.now)) result ≡ number_behind sign params.now }
 {
@@ -45,6 +46,7 @@ fn number_behind(sign: u8, params: &[CsiParam]) -> Option<(i64, &[CsiParam])>
 }
 
 /// Three numbers, each behind the sign, and what follows them.
+#[inline(always)]
 fn three_behind(sign: u8, params: &[CsiParam]) -> Option<(i64, i64, i64, &[CsiParam])>
     ensures { option_map (λ found. (found.0, found.1, found.2, found.3.now)) result ≡ three_behind sign params.now }
 {
@@ -55,6 +57,7 @@ fn three_behind(sign: u8, params: &[CsiParam]) -> Option<(i64, i64, i64, &[CsiPa
 }
 
 /// The opaque colour of three numbers, if they are bytes.
+#[inline(always)]
 fn opaque_of(red: i64, green: i64, blue: i64) -> Option<ColorSpec>
     ensures { result ≡ opaque_of red green blue }
 {
@@ -76,6 +79,7 @@ fn alpha_of(red: i64, green: i64, blue: i64, alpha: i64) -> Option<ColorSpec>
 }
 
 /// The number as a byte.
+#[inline(always)]
 fn channel(value: i64) -> Option<u8>
     ensures { result ≡ number_within 255 value }
 {
@@ -83,6 +87,7 @@ fn channel(value: i64) -> Option<u8>
 }
 
 #[tactic(auto, unfolding(crate::specs::ColourCases::palette_case))]
+#[inline(always)]
 fn palette_case(sign: u8, params: &[CsiParam]) -> Option<(ColorSpec, usize)>
     ensures { result ≡ palette_case sign params.now }
 {
@@ -91,6 +96,7 @@ fn palette_case(sign: u8, params: &[CsiParam]) -> Option<(ColorSpec, usize)>
 }
 
 #[tactic(auto, unfolding(crate::specs::ColourCases::opaque_case))]
+#[inline(always)]
 fn opaque_case(sign: u8, len: usize, params: &[CsiParam]) -> Option<(ColorSpec, usize)>
     ensures { result ≡ opaque_case sign len params.now }
 {
@@ -135,6 +141,7 @@ fn alpha_case(params: &[CsiParam]) -> Option<(ColorSpec, usize)>
 }
 
 #[tactic(auto, unfolding(crate::specs::ColourCases::colon_form))]
+#[inline(never)]
 fn colon_form(kind: i64, params: &[CsiParam]) -> Option<(ColorSpec, usize)>
     ensures { result ≡ colon_form kind params.now }
 {
@@ -147,6 +154,7 @@ fn colon_form(kind: i64, params: &[CsiParam]) -> Option<(ColorSpec, usize)>
 }
 
 #[tactic(auto, unfolding(crate::specs::ColourCases::semicolon_form))]
+#[inline(always)]
 fn semicolon_form(kind: i64, params: &[CsiParam]) -> Option<(ColorSpec, usize)>
     ensures { result ≡ semicolon_form kind params.now }
 {
@@ -158,6 +166,7 @@ fn semicolon_form(kind: i64, params: &[CsiParam]) -> Option<(ColorSpec, usize)>
 }
 
 #[tactic(auto, unfolding(crate::specs::ColourCases::form_case))]
+#[inline(always)]
 fn form_case(params: &[CsiParam]) -> Option<(ColorSpec, usize)>
     ensures { result ≡ form_case params.now }
 {
@@ -170,6 +179,7 @@ fn form_case(params: &[CsiParam]) -> Option<(ColorSpec, usize)>
 
 /// The colour that the longest form at the front of a list names, and how many tokens the form takes.
 #[tactic(auto, using(crate::proofs::ColourLemmas::colour_form_is_case))]
+#[inline(always)]
 fn color_form(params: &[CsiParam]) -> Option<(ColorSpec, usize)>
     ensures form { result ≡ colour_form params.now }
     ensures short { IfSome result (λ found. found.1 ≤ 11) }
@@ -216,6 +226,7 @@ fn single_code(code: u8) -> Option<Sgr>
 }
 
 /// Fonts 11 to 19, and the first sixteen colours of the palette.
+#[inline(always)]
 fn ranged_code(code: u8) -> Option<Sgr>
     ensures { result ≡ ranged_code code }
 {
@@ -266,7 +277,7 @@ fn plain_code(value: i64) -> Option<Sgr>
 
 /// The piece at the front of a list where it is one number, and how many tokens it takes with the `;` right behind it.
 #[inline(always)]
-pub(crate) fn plain_piece(params: &[CsiParam]) -> Option<(Sgr, usize)>
+fn plain_piece(params: &[CsiParam]) -> Option<(Sgr, usize)>
     ensures { result ≡ plain_case params.now }
 {
     match params {
@@ -317,9 +328,20 @@ fn sgr_shape(params: &[CsiParam]) -> Option<(Sgr, usize)>
 }
 
 /// What the piece at the front of a list stands for, and how many tokens it takes with the `;` right behind it.
-#[tactic(auto, unfolding(crate::specs::Rendition::sgr_piece))]
 #[inline(always)]
 pub(crate) fn sgr_piece(params: &[CsiParam]) -> Option<(Sgr, usize)>
+    ensures { result ≡ sgr_piece params.now }
+{
+    match plain_piece(params) {
+        Some(found) => Some(found),
+        None => shaped_piece(params),
+    }
+}
+
+/// The same, by the shapes.
+#[tactic(auto, unfolding(crate::specs::Rendition::sgr_piece))]
+#[inline(never)]
+fn shaped_piece(params: &[CsiParam]) -> Option<(Sgr, usize)>
     ensures { result ≡ sgr_piece params.now }
 {
     let (value, len) = sgr_shape(params)?;

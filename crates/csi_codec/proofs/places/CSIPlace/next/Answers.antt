@@ -1,9 +1,7 @@
 use Rattle.std.proofs.Common.{arith, ◌∙◌}
 use Rattle.csi_codec.specs.Parsing.{list_kind}
-use Rattle.csi_codec.specs.Sequences.{action_of}
 use Rattle.csi_codec.proofs.PieceLemmas.{pieces_ended}
 use Rattle.csi_codec.proofs.PlaceLemmas.{behind_some}
-use Rattle.csi_codec.proofs.PlainLemmas.{only_action}
 use Rattle.csi_codec.proofs.places.CSIPlace.next.Goals as goal
 
 pub returns-then-read-params : goal.returns-then-read-params
@@ -11,8 +9,3 @@ returns-then-read-params c =
     let ended = behind_some c.args.self.now.index c.args.params.now c.args.parameters_truncated c.args.control (omega arith)
     ∙ pieces_ended (list_kind c.args.control c.args.params.now) c.args.parameters_truncated c.args.control c.args.params.now c.args.self.now.index (omega arith) in
     (ended, ended)
-
-pub returns-in-Some-lone_action : goal.returns-in-Some-lone_action
-returns-in-Some-lone_action c =
-    only_action c.args.self.now.index c.max-self.result c.args.params.now c.args.parameters_truncated c.args.control (action_of c.in-Some-lone_action.value)
-    c.if-read-eq0.true (omega arith) (omega arith) c.in-Some-lone_action.ensures
