@@ -15,3 +15,13 @@ pub mod FeedLemmas
 pub mod LengthenedLemmas
 pub mod UndecidedLemmas
 pub mod IdleLemmas
+pub mod BoundLemmas
+pub mod FramedLemmas
+pub mod TextLemmas
+pub mod PrintLemmas
+pub mod SoundLemmas
+pub mod LoneLemmas
+pub mod BreakLemmas
+pub mod LenLemmas
+pub mod StepLemmas
+pub mod SpellLemmas

@@ -15,3 +15,5 @@ pub mod Decides
 pub mod Framing
 pub mod FramerView
 pub mod Dispatched
+pub mod Framed
+pub mod Stepped

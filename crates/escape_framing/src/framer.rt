@@ -1,5 +1,5 @@
 //! The framer: from bytes to dispatches.
-ghost use Rattle.std.specs.Prelude.{◌≡◌, ◌↔◌, ℕ, Bool, true, false, IsTrue, IsErrOf, IfOk, OnErr, List, [], ◌∷◌, ◌++◌, take, is_err};
+ghost use Rattle.std.specs.Prelude.{◌≡◌, ◌≢◌, ◌↔◌, ◌<◌, ℕ, length, Bool, true, false, IsTrue, IsErrOf, IfOk, OnErr, List, [], ◌∷◌, ◌++◌, take, is_err};
 ghost use Rattle.escape_framing.specs.Bytes.{is_control as in_controls, is_stop as in_stops, is_embedded as in_embedded, is_intermediate as in_intermediates, is_parameter as in_parameters, is_opener as in_openers, is_cut as in_cuts};
 ghost use Rattle.escape_framing.specs.Dispatch.{controls_in, Escape};
 ghost use Rattle.escape_framing.specs.Parameters.{Parameters as Tokens, no_parameters};
@@ -8,11 +8,15 @@ ghost use Rattle.escape_framing.specs.Characters.{own_dispatches};
 ghost use Rattle.escape_framing.specs.FramerView.{bytes_in};
 ghost use Rattle.escape_framing.specs.Decides.{Decides};
 ghost use Rattle.escape_framing.specs.Dispatched.{optional, dispatches_in, handed_in, Shows, TakesMemory};
+ghost use Rattle.escape_framing.specs.Framed.{takes_text, begun_bytes, IsTextLen, BeginsNoText};
+ghost use Rattle.escape_framing.specs.Stepped.{Reads};
 
 use crate::characters::{Characters, Own};
 use crate::dispatch::Dispatch;
 use crate::error::FramerError;
 use crate::parameters::Parameters;
+use crate::step::Step;
+use crate::texts::text_len;
 use csi_codec::CsiParam;
 use std::alloc::{AllocError, Global};
 use std::marker::Model;
@@ -595,6 +599,96 @@ impl Framer {
         }
         match self.advance(byte) {
             Ok(dispatches) => Ok(dispatches),
+            Err(_) => {
+                self.failed = true;
+                Err(FramerError::Memory)
+            }
+        }
+    }
+
+    // Whether a character at the front can be one of a text: no body is open, and its first byte is none of a sequence.
+    fn takes_text(&self, byte: u8) -> bool
+        ensures { result ≡ takes_text self.now.held byte }
+    {
+        match self.state {
+            State::Characters => true,
+            State::Escape(_) | State::ControlSequence | State::Header => self.waiting
+                || 0x80 <= byte,
+            State::Command | State::Device | State::String => false,
+        }
+    }
+
+    // Whether the first bytes of a character are held.
+    fn has_begun(&self) -> bool
+        ensures { IsTrue result ↔ (begun_bytes self.now.held ≢ []) }
+    {
+        match self.state {
+            State::Characters => self.waiting || !self.characters.is_empty(),
+            State::Escape(_) | State::ControlSequence | State::Header => self.waiting,
+            State::Command | State::Device | State::String => false,
+        }
+    }
+
+    // Nothing is held.
+    fn clear(&mut self)
+        ensures held { self.new.held ≡ nothing_held }
+        ensures failed { self.new.failed ≡ self.old.failed }
+    {
+        self.waiting = false;
+        self.rest();
+    }
+
+    // How many bytes the text at the front has, if one can stand there.
+    fn text_at(&self, byte: u8, bytes: &[u8]) -> usize
+        ensures text { 0 < result → IsTextLen bytes.now result }
+        ensures takes { 0 < result → takes_text self.now.held byte ≡ true }
+        ensures none { result ≡ 0 → takes_text self.now.held byte ≡ true → BeginsNoText bytes.now }
+    {
+        if self.takes_text(byte) {
+            text_len(bytes)
+        } else {
+            0
+        }
+    }
+
+    // Reads the text at the front, or one byte; a text that breaks a character hands out U+FFFD first, and isn't read yet.
+    fn read(&mut self, bytes: &[u8]) -> Result<Step, AllocError>
+        ensures reads { IfOk result (λ s. Reads self.new.parameters self.old.held bytes.now s self.new.held) }
+        ensures failed { IfOk result (λ s. self.new.failed ≡ self.old.failed) }
+    {
+        let Some((byte, _)) = bytes.split_first() else {
+            return Ok(Step::of_dispatches([None, None, None, None], 0));
+        };
+        let text = self.text_at(*byte, bytes);
+        if text == 0 {
+            let dispatches = self.advance(*byte)?;
+            return Ok(Step::of_dispatches(dispatches, 1));
+        }
+        let broken = self.has_begun();
+        self.clear();
+        if broken {
+            let replacement = Some(Dispatch::Print('\u{fffd}'));
+            Ok(Step::of_dispatches([replacement, None, None, None], 0))
+        } else {
+            Ok(Step::of_text(text))
+        }
+    }
+
+    /// Reads a text at the front of some bytes of one call, or one byte of them, and answers what that hands out and how
+    /// many bytes were read; none where a text is to follow, behind a character that it breaks. A text is made of
+    /// printable characters, U+0020 to U+007E and from U+00A0, but U+FFFD. Refusals are those of `feed`.
+    pub fn next(&mut self, bytes: &[u8]) -> Result<Step, FramerError>
+        ensures reads { IfOk result (λ s. Reads self.new.parameters self.old.held bytes.now s self.new.held) }
+        // A call fails where an earlier one was refused memory, and only then is that its error.
+        ensures failed { IsErrOf result FramerError.Failed ↔ (self.old.failed ≡ true) }
+        // A framer has failed once it was refused memory.
+        ensures after { self.new.failed ≡ is_err result }
+    {
+        if self.failed {
+            return Err(FramerError::Failed);
+        }
+        match self.read(bytes) {
+            Ok(step) => Ok(step),
             Err(_) => {
                 self.failed = true;
                 Err(FramerError::Memory)

@@ -1,5 +1,5 @@
 //! Laws of the definitions: a stream has one cut, each dispatch has its place, and pieces join.
-ghost use Rattle.std.specs.Prelude.{◌≡◌, ◌≢◌, ℕ, List, [], ◌++◌, map};
+ghost use Rattle.std.specs.Prelude.{◌≡◌, ◌≢◌, ℕ, List, [], ◌++◌, length, map};
 ghost use Rattle.std.specs.List.{slice_get};
 ghost use Rattle.escape_framing.specs.Segment.{Segment, Tail, Begun, IsCut};
 ghost use Rattle.escape_framing.specs.Lengthened.{IsOpen, IsLengthened};
@@ -7,7 +7,8 @@ ghost use Rattle.escape_framing.specs.Dispatch.{Dispatch};
 ghost use Rattle.escape_framing.specs.Cut.{the_cut, tail_of, dispatches, newly_decided};
 ghost use Rattle.escape_framing.specs.Held.{nothing_held, hand_out, held_of};
 ghost use Rattle.escape_framing.specs.Undecided.{IsUndecided};
-ghost use Rattle.escape_framing.specs.Placed.{IsPlaced, placed_dispatches};
+ghost use Rattle.escape_framing.specs.Placed.{IsPlaced, placed_from, placed_dispatches};
+ghost use Rattle.escape_framing.specs.Framed.{framed, placed_behind, Spells, AreApart};
 
 /// A law, which needs no call: each stream has a cut, and no other than the one that is read.
 pub fn one_cut()
@@ -50,4 +51,12 @@ pub fn as_soon_as_decided()
 pub fn idle_streams()
     ensures idle { (stream : List ℕ) → held_of stream ≡ nothing_held → tail_of stream ≡ Begun [] }
     ensures whole { (stream : List ℕ) → tail_of stream ≡ Begun [] → held_of stream ≡ nothing_held }
+{}
+
+/// A law, which needs no call: the texts of a call, character by character, and the dispatches between them are its
+/// placed dispatches; no text is empty, and other bytes lie between two that stand side by side.
+pub fn texts_and_dispatches()
+    ensures spelled { (start : ℕ) (placed : List (ℕ × Dispatch)) → Spells (framed start placed) (map (λ (p : ℕ × Dispatch). p.1) placed) }
+    ensures apart { (start : ℕ) (placed : List (ℕ × Dispatch)) → AreApart (framed start placed) }
+    ensures held { (stream bytes : List ℕ) → placed_behind (length stream) (held_of stream) bytes ≡ placed_from stream bytes }
 {}

@@ -7,7 +7,10 @@ pub mod error;
 pub mod framer;
 pub mod laws;
 mod parameters;
+pub mod step;
+mod texts;
 
 pub use dispatch::Dispatch;
 pub use error::FramerError;
 pub use framer::Framer;
+pub use step::Step;

@@ -1,0 +1,96 @@
+-- Texts are their characters, and stand apart.
+use Rattle.std.proofs.Common.{◌≡◌, ◌≢◌, ℕ, ◌+◌, Bool, true, false, List, [], ◌∷◌, ◌++◌, length, map, refl, sym, ap, ◌∙◌, arith, append-nil, length-append}
+use Rattle.std.specs.Prelude.{◌==◌, encode_utf8}
+use Rattle.std.proofs.lemmas.Bool.Decides.{nat_tests}
+use Rattle.escape_framing.specs.Dispatch.{Dispatch, Print, Control, Escape, ControlSequence, OperatingSystemCommand, Enter, Data, Exit}
+use Rattle.escape_framing.specs.Cut.{newly_decided}
+use Rattle.escape_framing.specs.Held.{held_of}
+use Rattle.escape_framing.specs.Placed.{placed_from}
+use Rattle.escape_framing.specs.Framed.{Framed, Text, Lone, is_lent, put_text, put_character, framed, at_place, placed_behind, Spells, nothing, alone, in_text, AreApart}
+use Rattle.escape_framing.proofs.HeldLemmas.{step_decides}
+
+-- ---- characters
+
+one_spells : (from c : ℕ) (items : List Framed) (ds : List Dispatch) → Spells items ds → Spells (Text from (encode_utf8 c) ∷ items) (Print c ∷ ds)
+one_spells from c items ds h = in_text from c [] (encode_utf8 c) items ds (Print c ∷ ds) (sym (append-nil (encode_utf8 c))) refl h
+
+more_spells : (from next c : ℕ) (more : List ℕ) (items : List Framed) (ds : List Dispatch) → Spells (Text next more ∷ items) ds → Spells (Text from (encode_utf8 c ++ more) ∷ items) (Print c ∷ ds)
+more_spells from next c more items ds (in_text n d cs text i es all e f k) =
+    in_text from c (d ∷ cs) (encode_utf8 c ++ more) items es (Print c ∷ ds) (ap (λ (t : List ℕ). encode_utf8 c ++ t) e) (ap (λ (t : List Dispatch). Print c ∷ t) f) k
+
+put_spells : (from c : ℕ) (items : List Framed) (ds : List Dispatch) → Spells items ds → Spells (put_text from (encode_utf8 c) items) (Print c ∷ ds)
+put_spells from c [] ds h = one_spells from c [] ds h
+put_spells from c (Lone d ∷ items) ds h = one_spells from c (Lone d ∷ items) ds h
+put_spells from c (Text next more ∷ items) ds h = by_test (next == from + length (encode_utf8 c)) refl
+  where
+    by_test : (t : Bool) → (next == from + length (encode_utf8 c)) ≡ t → Spells (put_text from (encode_utf8 c) (Text next more ∷ items)) (Print c ∷ ds)
+    by_test true e = rw e (more_spells from next c more items ds h)
+    by_test false e = rw e (one_spells from c (Text next more ∷ items) ds h)
+
+character_spells : (start place c : ℕ) (items : List Framed) (ds : List Dispatch) → Spells items ds → Spells (put_character start place c items) (Print c ∷ ds)
+character_spells start place c items ds h = by_test (is_lent start place c) refl
+  where
+    by_test : (t : Bool) → is_lent start place c ≡ t → Spells (put_character start place c items) (Print c ∷ ds)
+    by_test true e = rw e (put_spells _ c items ds h)
+    by_test false e = rw e (alone (Print c) items ds h)
+
+pub framed_spells : (start : ℕ) (placed : List (ℕ × Dispatch)) → Spells (framed start placed) (map (λ (p : ℕ × Dispatch). p.1) placed)
+framed_spells start [] = nothing
+framed_spells start ((n, Print c) ∷ placed) = character_spells start n c (framed start placed) (map (λ (p : ℕ × Dispatch). p.1) placed) (framed_spells start placed)
+framed_spells start ((n, Control b) ∷ placed) = alone (Control b) (framed start placed) (map (λ (p : ℕ × Dispatch). p.1) placed) (framed_spells start placed)
+framed_spells start ((n, Escape i f) ∷ placed) = alone (Escape i f) (framed start placed) (map (λ (p : ℕ × Dispatch). p.1) placed) (framed_spells start placed)
+framed_spells start ((n, ControlSequence t x f) ∷ placed) = alone (ControlSequence t x f) (framed start placed) (map (λ (p : ℕ × Dispatch). p.1) placed) (framed_spells start placed)
+framed_spells start ((n, OperatingSystemCommand body) ∷ placed) = alone (OperatingSystemCommand body) (framed start placed) (map (λ (p : ℕ × Dispatch). p.1) placed) (framed_spells start placed)
+framed_spells start ((n, Enter h f) ∷ placed) = alone (Enter h f) (framed start placed) (map (λ (p : ℕ × Dispatch). p.1) placed) (framed_spells start placed)
+framed_spells start ((n, Data b) ∷ placed) = alone (Data b) (framed start placed) (map (λ (p : ℕ × Dispatch). p.1) placed) (framed_spells start placed)
+framed_spells start ((n, Exit) ∷ placed) = alone Exit (framed start placed) (map (λ (p : ℕ × Dispatch). p.1) placed) (framed_spells start placed)
+
+-- ---- side by side
+
+behind_text : (from : ℕ) (text more : List ℕ) (next : ℕ) (items : List Framed) → AreApart (Text next more ∷ items) → next ≡ from + length text → AreApart (Text from (text ++ more) ∷ items)
+behind_text from text more next [] h e = tt
+behind_text from text more next (Lone d ∷ items) h e = h
+behind_text from text more next (Text other rest ∷ items) h e = (λ k. h.0 (let m = length-append text more in omega arith), h.1)
+
+put_stands_apart : (from : ℕ) (text : List ℕ) (items : List Framed) → AreApart items → AreApart (put_text from text items)
+put_stands_apart from text [] h = tt
+put_stands_apart from text (Lone d ∷ items) h = h
+put_stands_apart from text (Text next more ∷ items) h = by_test (next == from + length text) refl
+  where
+    is : (a b : ℕ) → (a == b) ≡ true → a ≡ b
+    is a b k = grind (arith, nat_tests)
+
+    differs : (a b : ℕ) → (a == b) ≡ false → a ≢ b
+    differs a b k n = grind (arith, nat_tests)
+
+    by_test : (t : Bool) → (next == from + length text) ≡ t → AreApart (put_text from text (Text next more ∷ items))
+    by_test true e = rw e (behind_text from text more next items h (is next (from + length text) e))
+    by_test false e = rw e (differs next (from + length text) e, h)
+
+character_apart : (start place c : ℕ) (items : List Framed) → AreApart items → AreApart (put_character start place c items)
+character_apart start place c items h = by_test (is_lent start place c) refl
+  where
+    by_test : (t : Bool) → is_lent start place c ≡ t → AreApart (put_character start place c items)
+    by_test true e = rw e (put_stands_apart _ (encode_utf8 c) items h)
+    by_test false e = rw e h
+
+pub framed_apart : (start : ℕ) (placed : List (ℕ × Dispatch)) → AreApart (framed start placed)
+framed_apart start [] = tt
+framed_apart start ((n, Print c) ∷ placed) = character_apart start n c (framed start placed) (framed_apart start placed)
+framed_apart start ((n, Control b) ∷ placed) = framed_apart start placed
+framed_apart start ((n, Escape i f) ∷ placed) = framed_apart start placed
+framed_apart start ((n, ControlSequence t x f) ∷ placed) = framed_apart start placed
+framed_apart start ((n, OperatingSystemCommand body) ∷ placed) = framed_apart start placed
+framed_apart start ((n, Enter h f) ∷ placed) = framed_apart start placed
+framed_apart start ((n, Data b) ∷ placed) = framed_apart start placed
+framed_apart start ((n, Exit) ∷ placed) = framed_apart start placed
+
+-- ---- what is held is enough for the places too
+
+pub placed_same : (bytes stream : List ℕ) → placed_behind (length stream) (held_of stream) bytes ≡ placed_from stream bytes
+unfolding placed_behind
+placed_same [] stream = refl
+placed_same (b ∷ bytes) stream =
+    let d = step_decides stream b in
+    let n : length stream + 1 ≡ length (stream ++ b ∷ []) = sym (length-append stream (b ∷ [])) in
+    (λ i. at_place (length stream + 1) (sym d.0 i) ++ placed_behind (n i) (sym d.1 i) bytes) ∙ ap (λ l. at_place (length stream + 1) (newly_decided stream (b ∷ [])) ++ l) (placed_same bytes (stream ++ b ∷ []))

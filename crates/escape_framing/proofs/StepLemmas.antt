@@ -1,0 +1,264 @@
+-- What a framer does at once, over plain variables.
+use Rattle.std.proofs.Common.{◌≡◌, ◌≢◌, ℕ, zero, suc, ◌+◌, ◌<◌, ◌≤◌, Bool, true, false, List, [], ◌∷◌, ◌++◌, length, map, take, drop, refl, sym, ap, subst, ◌∙◌, arith, append_assoc}
+use Rattle.std.specs.Prelude.{◌==◌, ◌||◌, ◌↔◌, IsTrue, nat_le}
+use Rattle.std.proofs.lemmas.Bool.Decides.{nat_tests}
+use Rattle.std.proofs.lemmas.List.{take-append-drop, length-take-le}
+use lib.Utf8.{encode}
+use Rattle.escape_framing.specs.Bytes.{is_stop, is_cut}
+use Rattle.escape_framing.specs.Dispatch.{Print}
+use Rattle.escape_framing.specs.Held.{Kept, InCharacter, InEscape, InControlSequence, InCommand, InHeader, InDevice, InString, Step, kept_step, Held, fresh_step, held_step, nothing_held, hand_out, held_of}
+use Rattle.escape_framing.specs.Framed.{Framed, Text, Lone, placed_behind, framed_behind, begun_bytes, bytes_begun, is_body, kept_takes, takes_text, IsLendable, IsText, no_text, text_of, BeginsNoText, IsCarried, IsReached, Frames, IsTextLen}
+use Rattle.escape_framing.specs.Parameters.{Parameters}
+use Rattle.escape_framing.specs.Dispatched.{dispatches_in}
+use Rattle.escape_framing.specs.declared.step.Step as stepped
+use Rattle.escape_framing.specs.Stepped.{items_in, Reads}
+use Rattle.escape_framing.proofs.HeldLemmas.{step_decides}
+use Rattle.escape_framing.proofs.FramedLemmas.{BeginsFrom}
+use Rattle.escape_framing.proofs.TextLemmas.{reads_text, text_kept}
+use Rattle.escape_framing.proofs.PrintLemmas.{PrintNone, IsQuiet, Before, is_quiet, cuts, escape_before, control_sequence_before, header_before, stop_quiet}
+use Rattle.escape_framing.proofs.SoundLemmas.{begun_none}
+use Rattle.escape_framing.proofs.LoneLemmas.{StandAlone, carried_none, byte_alone, body_alone, quiet_alone, begun_apart}
+use Rattle.escape_framing.proofs.BreakLemmas.{GoesOn, text_breaks, text_cuts, is_character}
+
+start_held : held_of [] ≡ nothing_held
+unfolding hand_out
+start_held = refl
+
+nothing_reached : IsReached nothing_held
+nothing_reached = ([], sym start_held)
+
+pub in_call : (start count : ℕ) (h : Held) (rest : List ℕ) → IsCarried 0 count h rest → IsCarried start (start + count) h rest
+in_call start count h rest k = record { carried = λ c more l e n. let m = k.carried c more l e n in omega arith }
+
+-- the first character of a text
+record First (bytes : List ℕ) : Type 0 where
+  c : ℕ
+  more : List ℕ
+  lendable : IsLendable c
+  is : bytes ≡ encode c ++ more
+
+first_of : (text rest : List ℕ) → IsText text → text ≢ [] → First (text ++ rest)
+first_of text rest no_text n = absurd (n refl)
+first_of text rest (text_of c more l t) n = record { c = c; more = more ++ rest; lendable = l; is = append_assoc (encode c) more rest }
+
+some_taken : (bytes : List ℕ) (n : ℕ) → n ≤ length bytes → 0 < n → take n bytes ≢ []
+some_taken [] n l p e = absurd (omega arith)
+some_taken (x ∷ bytes) zero l p e = absurd (omega arith)
+some_taken (x ∷ bytes) (suc n) l p e = cc
+
+first_in : (bytes : List ℕ) (n : ℕ) → IsTextLen bytes n → 0 < n → First bytes
+first_in bytes n t p = subst First (take-append-drop n bytes) (first_of (take n bytes) (drop n bytes) t.text (some_taken bytes n t.within p))
+
+takes_outside : (k : Kept) (w : Bool) (b : ℕ) → kept_takes k w b ≡ true → is_body k ≡ false
+takes_outside (InCharacter p) w b h = refl
+takes_outside (InEscape xs) w b h = refl
+takes_outside (InControlSequence p) w b h = refl
+takes_outside (InCommand body) w b h = cc
+takes_outside (InHeader header) w b h = refl
+takes_outside InDevice w b h = cc
+takes_outside InString w b h = cc
+
+-- ---- a text breaks a character
+
+pub frames_broken : (count n : ℕ) (h : Held) (b : ℕ) (rest : List ℕ) → IsReached h → takes_text h b ≡ true → begun_bytes h ≢ [] → IsTextLen (b ∷ rest) n → 0 < n
+    → Frames count h (b ∷ rest) (λ from. Lone (Print 0xFFFD) ∷ []) 0 nothing_held
+frames_broken count n h b rest (stream, e) t z k p =
+    let f = first_in (b ∷ rest) n k p in
+    let out : is_body (held_of stream).kept ≡ false = subst (λ (x : Held). is_body x.kept ≡ false) e (takes_outside h.kept h.waiting b t) in
+    let g = text_breaks stream (b ∷ rest) f.c f.more out (λ y. z (ap begun_bytes e ∙ y)) f.lendable f.is in
+    let g' : GoesOn h (b ∷ rest) (Lone (Print 0xFFFD) ∷ []) nothing_held = subst (λ (x : Held). GoesOn x (b ∷ rest) (Lone (Print 0xFFFD) ∷ []) nothing_held) (sym e) g in
+    record {
+      within = omega arith;
+      lends = λ start. g'.lends start (start + count) ∙ (let q : start + count ≡ start + count + 0 = omega arith in ap (λ (m : ℕ). Lone (Print 0xFFFD) ∷ framed_behind start m nothing_held (b ∷ rest)) q);
+      keeps = g'.keeps;
+      reached = nothing_reached;
+      carried = carried_none 0 (count + 0) nothing_held (b ∷ rest) refl;
+    }
+
+-- ---- a text
+
+above : (b : ℕ) → nat_le 0x80 b ≡ true → 128 ≤ b
+above b h = grind (arith, nat_tests)
+
+-- where no C2 waits the first byte is high, or nothing is open
+high : (k : Kept) (w : Bool) (b : ℕ) → kept_takes k w b ≡ true → bytes_begun k w ≡ [] → is_character k ≡ false → 128 ≤ b
+high (InCharacter p) w b h z i = cc
+high (InEscape xs) true b h z i = cc
+high (InEscape xs) false b h z i = above b h
+high (InControlSequence p) true b h z i = cc
+high (InControlSequence p) false b h z i = above b h
+high (InCommand body) w b h z i = cc
+high (InHeader header) true b h z i = cc
+high (InHeader header) false b h z i = above b h
+high InDevice w b h z i = cc
+high InString w b h z i = cc
+
+text_behind : (count n : ℕ) (h : Held) (bytes : List ℕ) → IsTextLen bytes n → 0 < n → GoesOn h bytes [] nothing_held → Frames count h bytes (λ from. Text from (take n bytes) ∷ []) n nothing_held
+text_behind count n h bytes k p g =
+    let len : length (take n bytes) ≡ n = length-take-le n bytes k.within in
+    record {
+      within = k.within;
+      lends = λ start.
+          g.lends start (start + count)
+          ∙ ap (framed_behind start (start + count) nothing_held) (sym (take-append-drop n bytes))
+          ∙ reads_text start (start + count) (take n bytes) (drop n bytes) k.text (some_taken bytes n k.within p) (omega arith)
+          (subst (λ (m : ℕ). BeginsFrom (start + count + m + 1) (framed_behind start (start + count + m) nothing_held (drop n bytes))) (sym len) (apart start))
+          ∙ ap (λ (m : ℕ). Text (start + count) (take n bytes) ∷ framed_behind start (start + count + m) nothing_held (drop n bytes)) len;
+      keeps = g.keeps ∙ ap (λ (l : List ℕ). (hand_out nothing_held l).held) (sym (take-append-drop n bytes)) ∙ text_kept (take n bytes) (drop n bytes) k.text;
+      reached = nothing_reached;
+      carried = carried_none 0 (count + n) nothing_held (drop n bytes) refl;
+    }
+  where
+    apart : (start : ℕ) → BeginsFrom (start + count + n + 1) (framed_behind start (start + count + n) nothing_held (drop n bytes))
+    apart start = subst (λ (h' : Held). BeginsFrom (start + count + n + 1) (framed_behind start (start + count + n) h' (drop n bytes))) start_held
+        (begun_apart (drop n bytes) [] start (start + count + n) (start + count + n + 1) (subst (λ (h' : Held). is_body h'.kept ≡ false) (sym start_held) refl) (omega arith)
+        (subst (λ (h' : Held). BeginsNoText (begun_bytes h' ++ drop n bytes)) (sym start_held) k.rest))
+
+pub frames_text : (count n : ℕ) (h : Held) (b : ℕ) (rest : List ℕ) → IsReached h → takes_text h b ≡ true → begun_bytes h ≡ [] → IsTextLen (b ∷ rest) n → 0 < n
+    → Frames count h (b ∷ rest) (λ from. Text from (take n (b ∷ rest)) ∷ []) n nothing_held
+frames_text count n h b rest (stream, e) t z k p =
+    let f = first_in (b ∷ rest) n k p in
+    let out : is_body (held_of stream).kept ≡ false = subst (λ (x : Held). is_body x.kept ≡ false) e (takes_outside h.kept h.waiting b t) in
+    let up : is_character (held_of stream).kept ≡ false → 128 ≤ b = subst (λ (x : Held). is_character x.kept ≡ false → 128 ≤ b) e (high h.kept h.waiting b t z) in
+    let g = text_cuts stream b rest f.c f.more out (ap begun_bytes (sym e) ∙ z) up f.lendable f.is in
+    text_behind count n h (b ∷ rest) k p (subst (λ (x : Held). GoesOn x (b ∷ rest) [] nothing_held) (sym e) g)
+
+-- ---- one byte
+
+stands : (count : ℕ) (h : Held) (b : ℕ) (rest : List ℕ) → IsReached h → ((start : ℕ) → StandAlone start (start + count + 1) (held_step h b).held rest (held_step h b).dispatches)
+    → Frames count h (b ∷ rest) (λ from. map Lone (held_step h b).dispatches) 1 (held_step h b).held
+unfolding placed_behind hand_out
+stands count h b rest (stream, e) a = record {
+  within = omega (arith, short b rest);
+  lends = λ start. (a start).alone (placed_behind (start + count + 1) (held_step h b).held rest);
+  keeps = refl;
+  reached = (stream ++ b ∷ [], ap (λ (x : Held). (held_step x b).held) e ∙ sym (step_decides stream b).1);
+  carried = subst (λ (m : ℕ). IsCarried 0 m (held_step h b).held rest) (let k : 0 + count + 1 ≡ count + 1 = omega arith in k) (a 0).carried;
+}
+  where
+    short : (b : ℕ) (rest : List ℕ) → 1 ≤ length (b ∷ rest)
+    short b rest = omega arith
+
+-- a low byte within a sequence prints nothing
+low_stop : (b : ℕ) → is_cut b ≡ true → nat_le 0x80 b ≡ false → is_stop b ≡ true
+unfolding is_cut
+low_stop b h l = by_test (is_stop b) refl
+  where
+    by_test : (t : Bool) → is_stop b ≡ t → is_stop b ≡ true
+    by_test true e = e
+    by_test false e = let k : (is_stop b || nat_le 0x80 b) ≡ true = h in let m : nat_le 0x80 b ≡ true = rw e at k in cc
+
+before_low : (b : ℕ) (s : Step) → nat_le 0x80 b ≡ false → Before b s → IsQuiet s
+before_low b s l (is_quiet q) = q
+before_low b s l (cuts c e) = subst IsQuiet (sym e) (stop_quiet b (low_stop b c l))
+
+low_lead : (b : ℕ) → nat_le 0x80 b ≡ false → (b == 0xC2) ≡ false
+low_lead b h = grind (arith, nat_tests)
+
+low_step : (k : Kept) (b : ℕ) → nat_le 0x80 b ≡ false → Before b (kept_step k b) → PrintNone (held_step (record { kept = k; waiting = false }) b).dispatches × (begun_bytes (held_step (record { kept = k; waiting = false }) b).held ≡ [])
+unfolding held_step fresh_step
+low_step k b l q = let r = before_low b (kept_step k b) l q in rw (low_lead b l) (r.0, begun_none (kept_step k b).kept r.1)
+
+-- a byte at which no text can begin, or none does
+alone_at : (k : Kept) (w : Bool) (b : ℕ) (rest : List ℕ) (stream : List ℕ) (start count : ℕ) → record { kept = k; waiting = w } ≡ held_of stream → (kept_takes k w b ≡ true → BeginsNoText (b ∷ rest)) → IsCarried start count (held_of stream) (b ∷ rest)
+    → StandAlone start (count + 1) (held_step (record { kept = k; waiting = w }) b).held rest (held_step (record { kept = k; waiting = w }) b).dispatches
+alone_at k w b rest stream start count e n c = by_test (kept_takes k w b) refl
+  where
+    Goal : Held → Type 0
+    Goal h = StandAlone start (count + 1) (held_step h b).held rest (held_step h b).dispatches
+
+    body : is_body (held_of stream).kept ≡ true → Goal (record { kept = k; waiting = w })
+    body h = subst Goal (sym e) (body_alone stream b rest start count h)
+
+    low : (k : Kept) → Before b (kept_step k b) → nat_le 0x80 b ≡ false → Goal (record { kept = k; waiting = false })
+    low k q l = let r = low_step k b l q in quiet_alone start count (held_step (record { kept = k; waiting = false }) b) rest r.0 r.1
+
+    shut : (k : Kept) (w : Bool) → kept_takes k w b ≡ false → (is_body k ≡ true → Goal (record { kept = k; waiting = w })) → Goal (record { kept = k; waiting = w })
+    shut (InCharacter p) w h f = cc
+    shut (InEscape xs) true h f = cc
+    shut (InEscape xs) false h f = low (InEscape xs) (escape_before xs b) h
+    shut (InControlSequence p) true h f = cc
+    shut (InControlSequence p) false h f = low (InControlSequence p) (control_sequence_before p b) h
+    shut (InCommand x) w h f = f refl
+    shut (InHeader header) true h f = cc
+    shut (InHeader header) false h f = low (InHeader header) (header_before header b) h
+    shut InDevice w h f = f refl
+    shut InString w h f = f refl
+
+    by_test : (t : Bool) → kept_takes k w b ≡ t → Goal (record { kept = k; waiting = w })
+    by_test true h = subst Goal (sym e) (byte_alone stream b rest start count (subst (λ (x : Held). is_body x.kept ≡ false) e (takes_outside k w b h)) (n h) c)
+    by_test false h = shut k w h (λ i. body (subst (λ (x : Held). is_body x.kept ≡ true) e i))
+
+pub frames_alone : (count : ℕ) (h : Held) (b : ℕ) (rest : List ℕ) → IsReached h → (takes_text h b ≡ true → BeginsNoText (b ∷ rest)) → IsCarried 0 count h (b ∷ rest)
+    → Frames count h (b ∷ rest) (λ from. map Lone (held_step h b).dispatches) 1 (held_step h b).held
+frames_alone count h b rest r n c = stands count h b rest r (λ start.
+    alone_at h.kept h.waiting b rest r.0 start (start + count) r.1 n (subst (λ (x : Held). IsCarried start (start + count) x (b ∷ rest)) r.1 (in_call start count h (b ∷ rest) c)))
+
+-- ---- what a step reads
+
+other_items : (count n : ℕ) (h after : Held) (bytes : List ℕ) (items items' : ℕ → List Framed) → ((from : ℕ) → items from ≡ items' from) → Frames count h bytes items n after → Frames count h bytes items' n after
+other_items count n h after bytes items items' e f = record {
+  within = f.within;
+  lends = λ start. f.lends start ∙ ap (λ (l : List Framed). l ++ framed_behind start (start + count + n) after (drop n bytes)) (e (start + count));
+  keeps = f.keeps;
+  reached = f.reached;
+  carried = f.carried;
+}
+
+frames_nothing : (count : ℕ) (h : Held) → IsReached h → IsCarried 0 count h [] → Frames count h [] (λ from. []) 0 h
+unfolding placed_behind hand_out
+frames_nothing count h r c = record { within = omega arith; lends = λ start. refl; keeps = refl; reached = r; carried = subst (λ (m : ℕ). IsCarried 0 m h []) (let k : count ≡ count + 0 = omega arith in k) c }
+
+pub reads_nothing : (p : Parameters) (h : Held) (bytes : List ℕ) (s : stepped.Step) → length bytes ≡ 0 → s.text ≡ 0 → s.count ≡ 0 → dispatches_in p s.dispatches ≡ [] → Reads p h bytes s h
+reads_nothing p h [] s e t n d = record {
+  frames = λ count r c. subst (λ (m : ℕ). Frames count h [] (items_in p s []) m h) (sym n) (other_items count 0 h h [] (λ from. []) (items_in p s []) (λ from. rw t (rw d refl)) (frames_nothing count h r c));
+  fits = omega arith;
+  text = rw t no_text;
+  moves = λ a b l. absurd (omega arith);
+}
+reads_nothing p h (x ∷ bytes) s e t n d = absurd (omega arith)
+
+pub reads_alone : (p : Parameters) (h : Held) (b : ℕ) (rest bytes : List ℕ) (s : stepped.Step) (after : Held) → bytes ≡ b ∷ rest → s.text ≡ 0 → s.count ≡ 1 → dispatches_in p s.dispatches ≡ (held_step h b).dispatches → after ≡ (held_step h b).held
+    → (takes_text h b ≡ true → BeginsNoText bytes) → Reads p h bytes s after
+reads_alone p h b rest bytes s after e t n d a none = subst (λ (l : List ℕ). Reads p h l s after) (sym e) (record {
+  frames = λ count r c. subst (λ (m : ℕ). Frames count h (b ∷ rest) (items_in p s (b ∷ rest)) m after) (sym n)
+      (subst (λ (x : Held). Frames count h (b ∷ rest) (items_in p s (b ∷ rest)) 1 x) (sym a)
+      (other_items count 1 h (held_step h b).held (b ∷ rest) (λ from. map Lone (held_step h b).dispatches) (items_in p s (b ∷ rest)) (λ from. rw t (ap (map Lone) (sym d)))
+      (frames_alone count h b rest r (λ y. subst BeginsNoText e (none y)) c)));
+  fits = omega (arith, t);
+  text = rw t no_text;
+  moves = λ x y l. absurd (omega arith);
+})
+
+pub reads_broken : (p : Parameters) (h : Held) (b n : ℕ) (rest bytes : List ℕ) (s : stepped.Step) (after : Held) → bytes ≡ b ∷ rest → s.text ≡ 0 → s.count ≡ 0 → dispatches_in p s.dispatches ≡ Print 0xFFFD ∷ [] → after ≡ nothing_held
+    → takes_text h b ≡ true → begun_bytes h ≢ [] → IsTextLen bytes n → 0 < n → Reads p h bytes s after
+reads_broken p h b n rest bytes s after e t z d a takes begun k l = subst (λ (m : List ℕ). Reads p h m s after) (sym e) (record {
+  frames = λ count r c. subst (λ (m : ℕ). Frames count h (b ∷ rest) (items_in p s (b ∷ rest)) m after) (sym z)
+      (subst (λ (x : Held). Frames count h (b ∷ rest) (items_in p s (b ∷ rest)) 0 x) (sym a)
+      (other_items count 0 h nothing_held (b ∷ rest) (λ from. Lone (Print 0xFFFD) ∷ []) (items_in p s (b ∷ rest)) (λ from. rw t (ap (map Lone) (sym d)))
+      (frames_broken count n h b rest r takes begun (subst (λ (m : List ℕ). IsTextLen m n) e k) l)));
+  fits = omega (arith, t);
+  text = rw t no_text;
+  moves = λ x y m. rw d (omega arith);
+})
+
+pub reads_a_text : (p : Parameters) (h : Held) (b n : ℕ) (rest bytes : List ℕ) (s : stepped.Step) (after : Held) → bytes ≡ b ∷ rest → s.text ≡ n → s.count ≡ n → after ≡ nothing_held
+    → takes_text h b ≡ true → begun_bytes h ≡ [] → IsTextLen bytes n → 0 < n → Reads p h bytes s after
+reads_a_text p h b n rest bytes s after e t z a takes begun k l = record {
+  frames = λ count r c. subst (λ (m : ℕ). Frames count h bytes (items_in p s bytes) m after) (sym z)
+      (subst (λ (x : Held). Frames count h bytes (items_in p s bytes) n x) (sym a)
+      (other_items count n h nothing_held bytes (λ from. Text from (take n bytes) ∷ []) (items_in p s bytes) (λ from. rw (t, some n l) refl)
+      (subst (λ (m : List ℕ). Frames count h m (λ from. Text from (take n m) ∷ []) n nothing_held) (sym e) (frames_text count n h b rest r takes begun (subst (λ (m : List ℕ). IsTextLen m n) e k) l))));
+  fits = subst (λ (m : ℕ). m ≤ length bytes) (sym t) k.within;
+  text = subst (λ (m : ℕ). IsText (take m bytes)) (sym t) k.text;
+  moves = λ x y m. absurd (omega arith);
+}
+  where
+    some : (n : ℕ) → 0 < n → (n == 0) ≡ false
+    some n l = grind (arith, nat_tests)
+
+-- what isn't some is none
+pub no_some : (xs : List ℕ) (b : Bool) → (IsTrue b ↔ (xs ≢ [])) → b ≡ false → xs ≡ []
+no_some [] b h e = refl
+no_some (x ∷ xs) true h e = cc
+no_some (x ∷ xs) false h e = absurd (let k : false ≡ true = h.1 (λ z. cc) in let m : ⊥ = cc in m)

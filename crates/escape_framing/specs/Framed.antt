@@ -1,0 +1,178 @@
+-- What the bytes of one call hand out: texts, which are lent from them, and dispatches by themselves.
+use Rattle.std.specs.Prelude.{◌≡◌, ◌≢◌, ◌≤◌, ◌<◌, ℕ, ◌+◌, ◌-◌, Bool, true, false, not, ◌&&◌, ◌||◌, nat_lt, nat_le, ◌==◌, List, [], ◌∷◌, ◌++◌, length, map, take, drop, encode_utf8, encode_utf8_all, if◌then◌else◌}
+use Rattle.std.specs.Char.{IsScalar}
+use Rattle.escape_framing.specs.Segment.{IsPrintable}
+use Rattle.escape_framing.specs.Dispatch.{Dispatch, Print, Control, Escape, ControlSequence, OperatingSystemCommand, Enter, Data, Exit}
+use Rattle.escape_framing.specs.Held.{Kept, InCharacter, InEscape, InControlSequence, InCommand, InHeader, InDevice, InString, Held, held_step, hand_out, held_of}
+
+-- a text, with the count of the stream's bytes before it; or a dispatch
+pub data Framed : Type 0 where
+  Text : ℕ → List ℕ → Framed
+  Lone : Dispatch → Framed
+
+-- A character is lent where all its bytes stand behind the start of the call. U+FFFD never is, since it also stands for
+-- bytes that are ill-formed.
+abbrev pub is_lent : ℕ → ℕ → ℕ → Bool
+is_lent start place c = not (c == 0xFFFD) && nat_le (start + length (encode_utf8 c)) place
+
+-- a text before others: one with the text that begins where it ends
+abbrev pub put_text : ℕ → List ℕ → List Framed → List Framed
+put_text from text [] = Text from text ∷ []
+put_text from text (Lone d ∷ rest) = Text from text ∷ Lone d ∷ rest
+put_text from text (Text next more ∷ rest) =
+    if next == from + length text then Text from (text ++ more) ∷ rest else Text from text ∷ Text next more ∷ rest
+
+-- a character that has its place before others
+abbrev pub put_character : ℕ → ℕ → ℕ → List Framed → List Framed
+put_character start place c rest =
+    if is_lent start place c then put_text (place - length (encode_utf8 c)) (encode_utf8 c) rest else Lone (Print c) ∷ rest
+
+abbrev pub put_dispatch : ℕ → ℕ → Dispatch → List Framed → List Framed
+put_dispatch start place (Print c) rest = put_character start place c rest
+put_dispatch start place (Control b) rest = Lone (Control b) ∷ rest
+put_dispatch start place (Escape intermediate final) rest = Lone (Escape intermediate final) ∷ rest
+put_dispatch start place (ControlSequence tokens truncated final) rest = Lone (ControlSequence tokens truncated final) ∷ rest
+put_dispatch start place (OperatingSystemCommand body) rest = Lone (OperatingSystemCommand body) ∷ rest
+put_dispatch start place (Enter header final) rest = Lone (Enter header final) ∷ rest
+put_dispatch start place (Data b) rest = Lone (Data b) ∷ rest
+put_dispatch start place Exit rest = Lone Exit ∷ rest
+
+-- placed dispatches of a call whose bytes begin behind the start: characters that stand side by side are one text
+abbrev pub framed : ℕ → List (ℕ × Dispatch) → List Framed
+framed start [] = []
+framed start (p ∷ placed) = put_dispatch start p.0 p.1 (framed start placed)
+
+-- dispatches at one place
+abbrev pub at_place : ℕ → List Dispatch → List (ℕ × Dispatch)
+at_place place dispatches = map (λ d. (place, d)) dispatches
+
+-- the placed dispatches of bytes, behind so many others of which this is held
+unfoldable pub placed_behind : ℕ → Held → List ℕ → List (ℕ × Dispatch)
+placed_behind count held [] = []
+placed_behind count held (b ∷ bytes) =
+    let first = held_step held b in at_place (count + 1) first.dispatches ++ placed_behind (count + 1) first.held bytes
+
+-- a C2, where it waits
+abbrev pub lead_in : Bool → List ℕ
+lead_in waiting = if waiting then 0xC2 ∷ [] else []
+
+abbrev pub bytes_begun : Kept → Bool → List ℕ
+bytes_begun (InCharacter bytes) waiting = bytes ++ lead_in waiting
+bytes_begun (InEscape xs) waiting = lead_in waiting
+bytes_begun (InControlSequence p) waiting = lead_in waiting
+bytes_begun (InCommand body) waiting = []
+bytes_begun (InHeader header) waiting = lead_in waiting
+bytes_begun InDevice waiting = []
+bytes_begun InString waiting = []
+
+-- the body of a command, data, or a string that does nothing
+abbrev pub is_body : Kept → Bool
+is_body (InCharacter bytes) = false
+is_body (InEscape xs) = false
+is_body (InControlSequence p) = false
+is_body (InCommand body) = true
+is_body (InHeader header) = false
+is_body InDevice = true
+is_body InString = true
+
+abbrev pub kept_takes : Kept → Bool → ℕ → Bool
+kept_takes (InCharacter bytes) waiting b = true
+kept_takes (InEscape xs) waiting b = waiting || nat_le 0x80 b
+kept_takes (InControlSequence p) waiting b = waiting || nat_le 0x80 b
+kept_takes (InCommand body) waiting b = false
+kept_takes (InHeader header) waiting b = waiting || nat_le 0x80 b
+kept_takes InDevice waiting b = false
+kept_takes InString waiting b = false
+
+-- how many bytes of a character are held, a C2 that waits among them
+abbrev pub begun_in : Kept → ℕ
+begun_in (InCharacter bytes) = length bytes
+begun_in (InEscape xs) = 0
+begun_in (InControlSequence p) = 0
+begun_in (InCommand body) = 0
+begun_in (InHeader header) = 0
+begun_in InDevice = 0
+begun_in InString = 0
+
+abbrev pub begun : Held → ℕ
+begun held = begun_in held.kept + (if held.waiting then 1 else 0)
+
+-- what bytes hand out behind so many others, of which this is held, in a call whose bytes begin behind the start
+abbrev pub framed_behind : ℕ → ℕ → Held → List ℕ → List Framed
+framed_behind start count held bytes = framed start (placed_behind count held bytes)
+
+-- a character of which a text is made
+abbrev pub IsLendable : ℕ → Type 0
+IsLendable c = IsScalar c × IsPrintable c × (c ≢ 0xFFFD)
+
+-- such characters, one after the other
+pub data IsText : List ℕ → Type 0 where
+  no_text : IsText []
+  text_of : (c : ℕ) (more : List ℕ) → IsLendable c → IsText more → IsText (encode_utf8 c ++ more)
+
+-- no such character stands at the front
+pub record BeginsNoText (bytes : List ℕ) : Type 0 where
+  pub none : (c : ℕ) (more : List ℕ) → IsLendable c → bytes ≢ encode_utf8 c ++ more
+
+-- the first bytes of a character that are held: also a C2 that waits, unless it belongs to a body
+abbrev pub begun_bytes : Held → List ℕ
+begun_bytes held = bytes_begun held.kept held.waiting
+
+-- A character that has begun and that can become one to lend has begun before the start of the call.
+pub record IsCarried (start count : ℕ) (held : Held) (rest : List ℕ) : Type 0 where
+  pub carried : (c : ℕ) (more : List ℕ) → IsLendable c → begun_bytes held ++ rest ≡ encode_utf8 c ++ more → begun_bytes held ≢ [] → count < start + length (begun_bytes held)
+
+-- this is held of some stream
+abbrev pub IsReached : Held → Type 0
+IsReached held = (stream : List ℕ) × (held ≡ held_of stream)
+
+-- Behind what is held, the bytes hand out these first, and then what the bytes behind so many of them do behind what is
+-- held now: in each call that began where those before have been read.
+pub record Frames (count : ℕ) (held : Held) (bytes : List ℕ) (items : ℕ → List Framed) (n : ℕ) (after : Held) : Type 0 where
+  pub within : n ≤ length bytes
+  pub lends : (start : ℕ) → framed_behind start (start + count) held bytes ≡ items (start + count) ++ framed_behind start (start + count + n) after (drop n bytes)
+  pub keeps : (hand_out held bytes).held ≡ (hand_out after (drop n bytes)).held
+  pub reached : IsReached after
+  pub carried : IsCarried 0 (count + n) after (drop n bytes)
+
+-- ---- how texts are found
+
+-- a character to lend stands at the front
+abbrev pub BeginsText : List ℕ → Type 0
+BeginsText bytes = (c : ℕ) × (more : List ℕ) × IsLendable c × (bytes ≡ encode_utf8 c ++ more)
+
+-- how many bytes a character has that begins with this byte
+abbrev pub width : ℕ → ℕ
+width b = if nat_lt b 0x80 then 1 else if nat_lt b 0xE0 then 2 else if nat_lt b 0xF0 then 3 else 4
+
+-- so many bytes are the character at the front, which can be lent; 0 where none is
+pub record IsCharacterLen (bytes : List ℕ) (n : ℕ) : Type 0 where
+  pub none : n ≡ 0 → BeginsNoText bytes
+  pub some : 0 < n → (c : ℕ) × (more : List ℕ) × IsLendable c × (bytes ≡ encode_utf8 c ++ more) × (length (encode_utf8 c) ≡ n)
+
+-- so many bytes are a text, and no text stands behind them
+pub record IsTextLen (bytes : List ℕ) (n : ℕ) : Type 0 where
+  pub within : n ≤ length bytes
+  pub text : IsText (take n bytes)
+  pub rest : BeginsNoText (drop n bytes)
+
+-- whether a character at the front can be one of a text: no body is open, and its first byte is none of a sequence
+abbrev pub takes_text : Held → ℕ → Bool
+takes_text held b = kept_takes held.kept held.waiting b
+
+-- ---- what texts are
+
+-- the dispatches, where each text is printed character by character; no text is empty
+pub data Spells : List Framed → List Dispatch → Type 0 where
+  nothing : Spells [] []
+  alone : (d : Dispatch) (items : List Framed) (ds : List Dispatch) → Spells items ds → Spells (Lone d ∷ items) (d ∷ ds)
+  in_text : (from c : ℕ) (cs text : List ℕ) (items : List Framed) (ds all : List Dispatch) → text ≡ encode_utf8_all (c ∷ cs) → all ≡ map Print (c ∷ cs) ++ ds → Spells items ds
+      → Spells (Text from text ∷ items) all
+
+-- where two texts stand side by side, other bytes lie between them
+abbrev pub AreApart : List Framed → Type 0
+AreApart [] = Unit {0}
+AreApart (Lone d ∷ items) = AreApart items
+AreApart (Text from text ∷ []) = Unit {0}
+AreApart (Text from text ∷ Lone d ∷ items) = AreApart items
+AreApart (Text from text ∷ Text next more ∷ items) = (next ≢ from + length text) × AreApart (Text next more ∷ items)
