@@ -209,9 +209,13 @@ frames_nothing : (count : ℕ) (h : Held) → IsReached h → IsCarried 0 count 
 unfolding placed_behind hand_out
 frames_nothing count h r c = record { within = omega arith; lends = λ start. refl; keeps = refl; reached = r; carried = subst (λ (m : ℕ). IsCarried 0 m h []) (let k : count ≡ count + 0 = omega arith in k) c }
 
+some_byte : (b : ℕ) (rest : List ℕ) → 1 ≤ length (b ∷ rest)
+some_byte b rest = omega arith
+
 pub reads_nothing : (p : Parameters) (h : Held) (bytes : List ℕ) (s : stepped.Step) → length bytes ≡ 0 → s.text ≡ 0 → s.count ≡ 0 → dispatches_in p s.dispatches ≡ [] → Reads p h bytes s h
 reads_nothing p h [] s e t n d = record {
   frames = λ count r c. subst (λ (m : ℕ). Frames count h [] (items_in p s []) m h) (sym n) (other_items count 0 h h [] (λ from. []) (items_in p s []) (λ from. rw t (rw d refl)) (frames_nothing count h r c));
+  within = omega (arith, n);
   fits = omega arith;
   text = rw t no_text;
   moves = λ a b l. absurd (omega arith);
@@ -225,6 +229,7 @@ reads_alone p h b rest bytes s after e t n d a none = subst (λ (l : List ℕ). 
       (subst (λ (x : Held). Frames count h (b ∷ rest) (items_in p s (b ∷ rest)) 1 x) (sym a)
       (other_items count 1 h (held_step h b).held (b ∷ rest) (λ from. map Lone (held_step h b).dispatches) (items_in p s (b ∷ rest)) (λ from. rw t (ap (map Lone) (sym d)))
       (frames_alone count h b rest r (λ y. subst BeginsNoText e (none y)) c)));
+  within = omega (arith, n, some_byte b rest);
   fits = omega (arith, t);
   text = rw t no_text;
   moves = λ x y l. absurd (omega arith);
@@ -237,9 +242,10 @@ reads_broken p h b n rest bytes s after e t z d a takes begun k l = subst (λ (m
       (subst (λ (x : Held). Frames count h (b ∷ rest) (items_in p s (b ∷ rest)) 0 x) (sym a)
       (other_items count 0 h nothing_held (b ∷ rest) (λ from. Lone (Print 0xFFFD) ∷ []) (items_in p s (b ∷ rest)) (λ from. rw t (ap (map Lone) (sym d)))
       (frames_broken count n h b rest r takes begun (subst (λ (m : List ℕ). IsTextLen m n) e k) l)));
+  within = omega (arith, z);
   fits = omega (arith, t);
   text = rw t no_text;
-  moves = λ x y m. rw d (omega arith);
+  moves = λ x y m. d;
 })
 
 pub reads_a_text : (p : Parameters) (h : Held) (b n : ℕ) (rest bytes : List ℕ) (s : stepped.Step) (after : Held) → bytes ≡ b ∷ rest → s.text ≡ n → s.count ≡ n → after ≡ nothing_held
@@ -249,6 +255,7 @@ reads_a_text p h b n rest bytes s after e t z a takes begun k l = record {
       (subst (λ (x : Held). Frames count h bytes (items_in p s bytes) n x) (sym a)
       (other_items count n h nothing_held bytes (λ from. Text from (take n bytes) ∷ []) (items_in p s bytes) (λ from. rw (t, some n l) refl)
       (subst (λ (m : List ℕ). Frames count h m (λ from. Text from (take n m) ∷ []) n nothing_held) (sym e) (frames_text count n h b rest r takes begun (subst (λ (m : List ℕ). IsTextLen m n) e k) l))));
+  within = subst (λ (m : ℕ). m ≤ length bytes) (sym z) k.within;
   fits = subst (λ (m : ℕ). m ≤ length bytes) (sym t) k.within;
   text = subst (λ (m : ℕ). IsText (take m bytes)) (sym t) k.text;
   moves = λ x y m. absurd (omega arith);

@@ -235,6 +235,13 @@ impl Framer {
         self.failed
     }
 
+    /// Says that a call was refused memory, or that it goes on all the same.
+    pub fn set_failed(&mut self, failed: bool)
+        ensures { self.new ≡ record self.old { failed = failed } }
+    {
+        self.failed = failed;
+    }
+
     /// Whether nothing is unfinished: every byte that was read belongs to a whole segment.
     pub fn is_idle(&self) -> bool
         ensures { IsTrue result ↔ (self.now.held ≡ nothing_held) }

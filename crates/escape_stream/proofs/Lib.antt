@@ -13,3 +13,6 @@ mod PrintedText
 mod CommandText
 mod WritableLemmas
 pub mod PrintableLemmas
+pub mod QueueLemmas
+pub mod PieceLemmas
+pub mod AdvanceLemmas

@@ -15,3 +15,6 @@ pub mod StreamActions
 pub mod Parsing
 pub mod Pending
 pub mod Printables
+pub mod Pieces
+pub mod Queue
+pub mod PiecesView

@@ -11,7 +11,9 @@ mod error;
 pub mod laws;
 mod parser;
 mod pending;
+mod pieces;
 mod printables;
+mod queue;
 
 pub use action::Action;
 pub use control::ControlCode;
@@ -20,3 +22,4 @@ pub use encoding::encode;
 pub use error::ParseError;
 pub use escape_osc::{OperatingSystemCommand, Selection};
 pub use parser::Parser;
+pub use pieces::{Piece, Pieces};

@@ -8,15 +8,21 @@ ghost use Rattle.escape_stream.specs.StreamAction.{appended};
 ghost use Rattle.escape_stream.specs.StreamActionView.{value_of};
 ghost use Rattle.escape_stream.specs.StreamActions.{actions_of, newly_decided_actions};
 ghost use Rattle.escape_stream.specs.Parsing.{IsCalledAt, IsFirst, IsFirstSettled, bytes_read};
-ghost use Rattle.escape_stream.specs.Pending.{Begins};
+ghost use Rattle.escape_stream.specs.Pending.{Begins, Gives};
 ghost use Rattle.escape_stream.specs.Printables.{PrintsFirst};
+ghost use Rattle.escape_framing.specs.Stepped.{Reads};
+ghost use Rattle.escape_stream.specs.PiecesView.{lender_of, parser_of, open_pieces, held_at_end, IsUnderWay, IsWithin, IsOpen, HadFailed};
+ghost use Rattle.escape_stream.specs.Pieces.{pieces};
+ghost use Rattle.escape_stream.specs.Queue.{queue_actions};
 ghost use Rattle.std.specs.Option.{option_map};
 
 use crate::action::Action;
 use crate::error::ParseError;
 use crate::pending::{Pending, append_each, call_at_each, push_each};
+use crate::pieces::{Pieces, Stage};
 use crate::printables::{append_printables, call_at_printables, split_printables};
-use escape_framing::{Dispatch, Framer};
+use crate::queue::Queue;
+use escape_framing::{Dispatch, Framer, Step};
 use std::alloc::{AllocError, Global};
 use std::marker::Model;
 
@@ -28,17 +34,15 @@ use std::marker::Model;
 pub struct Parser {
     alloc: Global,
     framer: Framer,
-    failed: bool,
 }
 
 // Clauses see what is held of the stream, the parameters of the last control sequence, and whether memory was refused.
 impl Model for Parser {
-    ghost use Rattle.std.specs.Prelude.{◌||◌};
     ghost use Rattle.escape_framing.specs.Framing.{Framing};
 
     ghost Value = { Framing };
 
-    ghost view = { λ p. record { held = p.framer.held; parameters = p.framer.parameters; failed = p.failed || p.framer.failed } };
+    ghost view = { λ p. p.framer };
 }
 
 // Whether there is no dispatch.
@@ -57,7 +61,6 @@ impl Parser {
         Parser {
             alloc,
             framer: Framer::new(alloc),
-            failed: false,
         }
     }
 
@@ -65,7 +68,7 @@ impl Parser {
     pub fn is_failed(&self) -> bool
         ensures { result ≡ self.now.failed }
     {
-        self.failed || self.framer.is_failed()
+        self.framer.is_failed()
     }
 
     // The refusal of a call that was refused memory.
@@ -73,8 +76,67 @@ impl Parser {
         ensures error { result ≡ ParseError.Memory }
         ensures failed { self.new.failed ≡ true }
     {
-        self.failed = true;
+        self.framer.set_failed(true);
         ParseError::Memory
+    }
+
+    // Reads what stands at the front of the bytes at once, for pieces, whose parser has failed until they end.
+    pub(crate) fn read(&mut self, bytes: &[u8]) -> Result<Step, AllocError>
+        ensures reads { IfOk result (λ s. Reads self.new.parameters self.old.held bytes.now s self.new.held) }
+        ensures failed { self.new.failed ≡ true }
+    {
+        self.framer.set_failed(false);
+        match self.framer.next(bytes) {
+            Ok(step) => {
+                self.framer.set_failed(true);
+                Ok(step)
+            }
+            Err(_) => Err(AllocError),
+        }
+    }
+
+    // The next action of a queue.
+    pub(crate) fn next_action(&self, queue: &mut Queue) -> Result<Option<Action>, AllocError>
+        ensures { IfOk result (λ next. Gives (queue_actions self.now.parameters queue.old) next (queue_actions self.now.parameters queue.new)) }
+    {
+        let parameters = self.framer.parameters();
+        let truncated = self.framer.parameters_truncated();
+        queue.next(self.alloc, parameters, truncated)
+    }
+
+    // Says whether the pieces of a call are still to come, or were left, or memory was refused.
+    pub(crate) fn set_failed(&mut self, failed: bool)
+        ensures { self.new ≡ record self.old { failed = failed } }
+    {
+        self.framer.set_failed(failed);
+    }
+
+    /// Reads bytes, and lends the texts and actions that they decide behind those that were read before, in order. The
+    /// parser has failed until these were taken to their first `None`. Where it had failed before, the one item is
+    /// `Failed`.
+    pub fn pieces<'a>(&'a mut self, bytes: &'a [u8]) -> Pieces<'a>
+        ensures same { lender_of result ≡ self.entry.ghost_name }
+        // Where a stream has been read, in any pieces, what is to come is what these bytes hand out behind it.
+        ensures pieces { (stream : List ℕ) → self.old.held ≡ held_of stream → IsUnderWay result × (open_pieces (length stream) result ≡ pieces stream bytes.now) × (held_at_end result ≡ held_of (stream ++ bytes.now)) }
+        // A parser that had failed tells so; another one is open, and has failed until the end.
+        ensures failed { HadFailed result ↔ (self.old.failed ≡ true) }
+        ensures open { IsOpen result ↔ (self.old.failed ≡ false) }
+        ensures within { IsWithin result }
+        ensures parser { (parser_of result).failed ≡ true }
+    {
+        let stage = if self.is_failed() {
+            Stage::Failed
+        } else {
+            Stage::Open
+        };
+        self.set_failed(true);
+        Pieces {
+            parser: self,
+            bytes,
+            count: 0,
+            queue: Queue::new(),
+            stage,
+        }
     }
 
     // The dispatches of one byte more.

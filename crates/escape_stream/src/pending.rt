@@ -128,7 +128,7 @@ impl<'a> Pending<'a> {
 }
 
 // A control by its name.
-fn control_action(byte: u8) -> Option<Action>
+pub(crate) fn control_action(byte: u8) -> Option<Action>
     ensures { pending_values result None ≡ named_control (control_named byte) }
 {
     ControlCode::from_u8(byte).map(Action::Control)
@@ -142,7 +142,7 @@ fn parts(alloc: Global, body: &[u8]) -> Result<Vec<&[u8]>, AllocError>
 }
 
 // The command of a body.
-fn command_action(alloc: Global, body: &[u8]) -> Result<Action, AllocError>
+pub(crate) fn command_action(alloc: Global, body: &[u8]) -> Result<Action, AllocError>
     ensures { IfOk result (λ action. value_of action ≡ command (osc_reading (parts_of body.now))) }
 {
     let parts = parts(alloc, body)?;
@@ -151,7 +151,7 @@ fn command_action(alloc: Global, body: &[u8]) -> Result<Action, AllocError>
 }
 
 // The begin of a device control string.
-fn enter_action(alloc: Global, header: Vec<u8>, byte: u8) -> Result<Action, AllocError>
+pub(crate) fn enter_action(alloc: Global, header: Vec<u8>, byte: u8) -> Result<Action, AllocError>
     ensures { IfOk result (λ action. value_of action ≡ enter header.items byte) }
 {
     let opening = Box::new(alloc, EnterDeviceControlMode { header, byte })?;

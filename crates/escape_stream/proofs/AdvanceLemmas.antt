@@ -1,0 +1,183 @@
+-- How an iterator of pieces goes on.
+use Rattle.std.proofs.Common.{◌≡◌, ◌≢◌, ◌<◌, ◌≤◌, ℕ, ◌+◌, ◌-◌, ◌*◌, Bool, true, false, List, [], ◌∷◌, ◌++◌, length, map, take, drop, Option, Some, None, refl, ap, subst, sym, ◌∙◌, arith, length-drop, Bor}
+use Rattle.std.proofs.Math.ListN.{drop_of_length-le}
+use Rattle.escape_framing.specs.Held.{Held, hand_out, held_of}
+use Rattle.escape_framing.specs.Parameters.{Parameters}
+use Rattle.escape_framing.specs.Framing.{Framing}
+use Rattle.escape_framing.specs.Dispatched.{dispatches_in}
+use Rattle.escape_framing.specs.Framed.{framed, framed_behind, placed_behind, begun_bytes, IsText}
+use Rattle.escape_framing.proofs.HeldLemmas.{held_append}
+use Rattle.escape_framing.proofs.SpellLemmas.{placed_same}
+use Rattle.escape_stream.specs.declared.action.Action.{Action}
+use Rattle.escape_stream.specs.declared.pieces.Piece.{Piece as PieceCode}
+use Rattle.escape_stream.specs.declared.pieces.Piece.TheVariants as code
+use Rattle.escape_stream.specs.declared.pieces.Pieces.{Pieces}
+use Rattle.escape_stream.specs.StreamAction.{StreamAction}
+use Rattle.escape_stream.specs.StreamActionView.{value_of}
+use Rattle.escape_stream.specs.StreamActions.{actions_of}
+use Rattle.escape_stream.specs.Pending.{Gives}
+use Rattle.escape_stream.specs.Queue.{queue_actions}
+use Rattle.escape_stream.specs.Pieces.{Piece, Text, Lone, pieces_of, pieces}
+use Rattle.escape_stream.specs.PiecesView.{lender_of, open_pieces, held_at_end, IsUnderWay, HasRead, HasGiven, GoesOn}
+use Rattle.escape_stream.proofs.PieceLemmas.{read_none, read_text, read_behind, if_none, comes_closer}
+
+-- only what waits has changed
+pub record SameBut (old new : Pieces) : Type 0 where
+  pub parser : new.parser.now ≡ old.parser.now
+  pub bytes : new.bytes ≡ old.bytes
+  pub count : new.count ≡ old.count
+
+ready_too : (old new : Pieces) → SameBut old new → IsUnderWay old → IsUnderWay new
+ready_too old new s u = record {
+  within = rw (s.count, s.bytes) u.within;
+  reached = rw s.parser u.reached;
+  carried = rw (s.parser, s.count, s.bytes) u.carried;
+}
+
+ends_too : (old new : Pieces) → SameBut old new → held_at_end new ≡ held_at_end old
+ends_too old new s = rw (s.parser, s.count, s.bytes) refl
+
+-- ---- an action
+
+pub gives_action : (first old new : Pieces) (a : Action) → GoesOn first old → SameBut old new → Gives (queue_actions old.parser.now.parameters old.queue) (Some a) (queue_actions old.parser.now.parameters new.queue) → HasGiven first (Some (code.Action a)) new
+gives_action first old new a g s e = record {
+  gives = λ start. (
+    Lone (value_of a),
+    refl,
+    sym (g.same start)
+        ∙ ap (λ (q : List StreamAction). map Lone q ++ pieces_of (framed_behind start (start + old.count) old.parser.now.held (drop old.count old.bytes.now))) e
+        ∙ rw (s.parser, s.count, s.bytes) refl,
+  );
+  ready = ready_too old new s g.ready;
+  ends = ends_too old new s ∙ g.ends;
+  done = λ z. cc;
+}
+
+-- ---- the end
+
+nothing_behind : (bytes : List ℕ) (k : ℕ) → k ≡ length bytes → drop k bytes ≡ []
+nothing_behind bytes k e = drop_of_length-le bytes (omega arith)
+
+none_framed : (start count : ℕ) (held : Held) → framed_behind start count held [] ≡ []
+unfolding placed_behind
+none_framed start count held = refl
+
+none_handed : (held : Held) → (hand_out held []).held ≡ held
+unfolding hand_out
+none_handed held = refl
+
+pub gives_none : (first old new : Pieces) (after : List StreamAction) → GoesOn first old → SameBut old new → Gives (queue_actions old.parser.now.parameters old.queue) None after → new.count ≡ length new.bytes.now → HasGiven first None new
+gives_none first old new after g s e n =
+    let m : old.count ≡ length old.bytes.now = sym s.count ∙ n ∙ ap (λ (b : Bor (List ℕ)). length b.now) s.bytes in
+    let d : drop old.count old.bytes.now ≡ [] = nothing_behind old.bytes.now old.count m in
+    record {
+      gives = λ start.
+          sym (g.same start)
+          ∙ ap (λ (q : List StreamAction). map Lone q ++ pieces_of (framed_behind start (start + old.count) old.parser.now.held (drop old.count old.bytes.now))) e
+          ∙ ap (λ (b : List ℕ). pieces_of (framed_behind start (start + old.count) old.parser.now.held b)) d
+          ∙ ap pieces_of (none_framed start (start + old.count) old.parser.now.held);
+      ready = ready_too old new s g.ready;
+      ends = ends_too old new s ∙ g.ends;
+      done = λ z. ap (λ (f : Framing). f.held) s.parser ∙ sym (none_handed old.parser.now.held) ∙ ap (λ (b : List ℕ). (hand_out old.parser.now.held b).held) (sym d) ∙ g.ends;
+    }
+
+-- ---- a step
+
+-- what waits is all handed out
+exhausted : (first old new : Pieces) (after : List StreamAction) → GoesOn first old → SameBut old new → Gives (queue_actions old.parser.now.parameters old.queue) None after
+    → (start : ℕ) → pieces_of (framed_behind start (start + new.count) new.parser.now.held (drop new.count new.bytes.now)) ≡ open_pieces start first
+exhausted first old new after g s e start =
+    rw (s.parser, s.count, s.bytes) (sym (ap (λ (q : List StreamAction). map Lone q ++ pieces_of (framed_behind start (start + old.count) old.parser.now.held (drop old.count old.bytes.now))) e)) ∙ g.same start
+
+read_ready : (old new : Pieces) (text : ℕ) → IsUnderWay old → HasRead old text new → new.bytes ≡ old.bytes → IsUnderWay new × (held_at_end new ≡ held_at_end old)
+read_ready old new text u r e =
+    let b = read_behind old.count new.parser.now.parameters old.parser.now.held new.parser.now.held old.bytes.now r.step u.within r.reads u.reached u.carried in (
+      record {
+        within = rw (r.count, e) b.within;
+        reached = b.reached;
+        carried = rw (r.count, e) b.carried;
+      },
+      rw (r.count, e) b.ends,
+    )
+
+pub gives_text : (first old mid new : Pieces) (after : List StreamAction) (text : ℕ) (t : Bor (List ℕ)) → GoesOn first old → SameBut old mid → Gives (queue_actions old.parser.now.parameters old.queue) None after → HasRead mid text new → new.bytes ≡ mid.bytes → text ≢ 0
+    → t.now ≡ take text (drop mid.count mid.bytes.now) → HasGiven first (Some (code.Text t)) new
+gives_text first old mid new after text t g s e r b n k =
+    let u = ready_too old mid s g.ready in
+    let w = read_ready mid new text u r b in
+    let some : r.step.text ≢ 0 = λ z. n (sym r.is_text ∙ z) in
+    record {
+      gives = λ start. (
+        Text (start + mid.count) (take text (drop mid.count mid.bytes.now)),
+        k,
+        sym (exhausted first old mid after g s e start)
+            ∙ read_text start mid.count new.parser.now.parameters mid.parser.now.held new.parser.now.held mid.bytes.now r.step r.reads u.reached u.carried some
+            ∙ ap (λ (m : ℕ). Text (start + mid.count) (take m (drop mid.count mid.bytes.now)) ∷ pieces_of (framed_behind start (start + (mid.count + r.step.count)) new.parser.now.held (drop (mid.count + r.step.count) mid.bytes.now))) r.is_text
+            ∙ rw (r.emptied n, r.count, b) refl,
+      );
+      ready = w.0;
+      ends = w.1 ∙ ends_too old mid s ∙ g.ends;
+      done = λ z. cc;
+    }
+
+pub goes_on : (first old mid new : Pieces) (after : List StreamAction) (text : ℕ) → GoesOn first old → SameBut old mid → Gives (queue_actions old.parser.now.parameters old.queue) None after → HasRead mid text new → new.bytes ≡ mid.bytes → text ≡ 0 → GoesOn first new
+goes_on first old mid new after text g s e r b n =
+    let u = ready_too old mid s g.ready in
+    let w = read_ready mid new text u r b in
+    record {
+      same = λ start.
+          rw (r.queued n, r.count, b) (sym (read_none start mid.count new.parser.now.parameters mid.parser.now.held new.parser.now.held mid.bytes.now r.step r.reads u.reached u.carried (r.is_text ∙ n)))
+          ∙ exhausted first old mid after g s e start;
+      ready = w.0;
+      ends = w.1 ∙ ends_too old mid s ∙ g.ends;
+    }
+
+pub closer : (first old mid new : Pieces) (after : List StreamAction) (text : ℕ) → old.count ≤ length old.bytes.now → SameBut old mid → Gives (queue_actions old.parser.now.parameters old.queue) None after → HasRead mid text new → new.bytes ≡ mid.bytes → text ≡ 0 → mid.count ≢ length mid.bytes.now
+    → 2 * (length new.bytes.now - new.count) + if_none (queue_actions new.parser.now.parameters new.queue) < 2 * (length old.bytes.now - old.count) + if_none (queue_actions old.parser.now.parameters old.queue)
+closer first old mid new after text w s e r b n m =
+    let u : mid.count ≤ length mid.bytes.now = rw (s.count, s.bytes) w in
+    rw (r.count, b, ← s.count, ← s.bytes)
+    (comes_closer mid.count new.parser.now.parameters mid.parser.now.held new.parser.now.held mid.bytes.now r.step (queue_actions old.parser.now.parameters old.queue) (queue_actions new.parser.now.parameters new.queue) u m r.reads (r.is_text ∙ n) e (r.queued n))
+
+-- the text is one of the bytes
+pub text_fits : (old : Pieces) (text : ℕ) (new : Pieces) → old.count ≤ length old.bytes.now → HasRead old text new → (old.count + text ≤ length old.bytes.now) × IsText (take text (drop old.count old.bytes.now))
+text_fits old text new l r = (
+  omega (arith, r.reads.fits, r.is_text, length-drop old.count old.bytes.now),
+  subst (λ (m : ℕ). IsText (take m (drop old.count old.bytes.now))) r.is_text r.reads.text,
+)
+
+-- ---- what the parser says of itself
+
+pub given_too : (old mid new : Pieces) (piece : Option PieceCode) (failed : Bool) → HasGiven old piece mid → new.parser.now ≡ record mid.parser.now { failed = failed } → new.bytes ≡ mid.bytes → new.count ≡ mid.count → new.queue ≡ mid.queue → HasGiven old piece new
+given_too old mid new piece failed g e b n q = record {
+  gives = λ start. rw (e, b, n, q) (g.gives start);
+  ready = record { within = rw (n, b) g.ready.within; reached = rw e g.ready.reached; carried = rw (e, n, b) g.ready.carried };
+  ends = rw (e, n, b) g.ends;
+  done = λ z. rw e (g.done z);
+}
+
+pub has_within : (old : Pieces) (text : ℕ) (new : Pieces) → old.count ≤ length old.bytes.now → HasRead old text new → new.bytes ≡ old.bytes → new.count ≤ length new.bytes.now
+has_within old text new l r e = rw (r.count, e) (omega (arith, r.reads.within, length-drop old.count old.bytes.now))
+
+-- ---- the beginning
+
+some_bytes : (xs : List ℕ) → xs ≢ [] → 0 < 0 + length xs
+some_bytes [] n = absurd (n refl)
+some_bytes (x ∷ xs) n = omega arith
+
+-- what is to come of bytes behind a stream
+pub record Begins (it : Pieces) (stream bytes : List ℕ) : Type 0 where
+  pub ready : IsUnderWay it
+  pub pieces : open_pieces (length stream) it ≡ pieces stream bytes
+  pub ends : held_at_end it ≡ held_of (stream ++ bytes)
+
+pub begins : (it : Pieces) (stream bytes : List ℕ) → it.parser.now.held ≡ held_of stream → it.count ≡ 0 → it.bytes.now ≡ bytes → queue_actions it.parser.now.parameters it.queue ≡ [] → Begins it stream bytes
+begins it stream bytes h n b q = record {
+  ready = record {
+    within = rw n (omega arith);
+    reached = (stream, h);
+    carried = record { carried = λ c more l e z. rw n (some_bytes (begun_bytes it.parser.now.held) z) };
+  };
+  pieces = rw (q, n, b, h) (let k : length stream + 0 ≡ length stream = omega arith in ap (λ (m : ℕ). pieces_of (framed_behind (length stream) m (held_of stream) bytes)) k ∙ ap (λ l. pieces_of (framed (length stream) l)) (placed_same bytes stream));
+  ends = rw (n, b, h) (sym (held_append stream bytes));
+}

@@ -1,0 +1,59 @@
+-- Steps of a queue of dispatches.
+use Rattle.std.proofs.Common.{◌≡◌, ◌<◌, ℕ, List, [], ◌∷◌, ◌++◌, length, Option, Some, None, refl, ap, subst, sym, ◌∙◌, arith, append_assoc, append-nil, length-append}
+use Rattle.std.specs.Prelude.{IsTrue, is_some, false}
+use Rattle.std.proofs.lemmas.Grind.{flat_map-append}
+use Rattle.escape_framing.specs.Dispatch as stream
+use Rattle.escape_framing.specs.Dispatched.{optional, dispatch_of}
+use Rattle.escape_framing.specs.Parameters.{Parameters, no_parameters}
+use Rattle.escape_framing.specs.declared.dispatch.Dispatch.{Dispatch}
+use Rattle.escape_framing.specs.declared.dispatch.Dispatch.TheVariants as code
+use Rattle.escape_stream.specs.declared.action.Action.{Action}
+use Rattle.escape_stream.specs.declared.queue.Waiting.{Waiting}
+use Rattle.escape_stream.specs.declared.queue.Queue.{Queue}
+use Rattle.escape_stream.specs.StreamAction.{StreamAction}
+use Rattle.escape_stream.specs.StreamActionView.{value_of}
+use Rattle.escape_stream.specs.StreamActions.{actions_of, actions_of_dispatch}
+use Rattle.escape_stream.specs.Pending.{Gives, pending_values}
+use Rattle.escape_stream.specs.Queue.{waiting_dispatches, sequence_actions, queue_actions, lone_actions, later_actions}
+
+-- the actions of a dispatch are its own, and those that are yet to come
+pub both_actions : (p : Parameters) (d : Dispatch) → lone_actions p d ++ later_actions p d ≡ actions_of_dispatch (dispatch_of p d)
+both_actions p (code.Print c) = append-nil _
+both_actions p (code.Control b) = append-nil _
+both_actions p (code.Escape i f) = append-nil _
+both_actions p (code.ControlSequence f) = refl
+both_actions p (code.OperatingSystemCommand body) = append-nil _
+both_actions p (code.Enter h f) = append-nil _
+both_actions p (code.Data b) = append-nil _
+both_actions p code.Exit = append-nil _
+
+-- an action of the sequence
+pub gives_of_sequence : (p : Parameters) (old new : Queue) (next : Option Action) → Gives (sequence_actions p old.sequence) next (sequence_actions p new.sequence) → new.waiting ≡ old.waiting → IsTrue (is_some next) → Gives (queue_actions p old) next (queue_actions p new)
+gives_of_sequence p old new None g w s = cc
+gives_of_sequence p old new (Some a) g w s = ap (λ (l : List StreamAction). l ++ actions_of (waiting_dispatches p old.waiting)) g ∙ ap (λ (x : Waiting). value_of a ∷ sequence_actions p new.sequence ++ actions_of (waiting_dispatches p x)) (sym w)
+
+-- none, so those of the dispatches are all
+pub sequence_is_done : (p : Parameters) (old : Queue) (after : List StreamAction) (next : Option Action) → Gives (sequence_actions p old.sequence) next after → is_some next ≡ false → queue_actions p old ≡ actions_of (waiting_dispatches p old.waiting)
+sequence_is_done p old after None g s = ap (λ (l : List StreamAction). l ++ actions_of (waiting_dispatches p old.waiting)) g
+sequence_is_done p old after (Some a) g s = cc
+
+-- a dispatch is begun
+pub begun_actions : (p : Parameters) (d : Dispatch) (old new : Waiting) (after : Queue) (action : Option Action) → waiting_dispatches p old ≡ optional p (Some d) ++ waiting_dispatches p new → pending_values action None ≡ lone_actions p d → sequence_actions p after.sequence ≡ later_actions p d → after.waiting ≡ new
+    → actions_of (waiting_dispatches p old) ≡ pending_values action None ++ queue_actions p after
+begun_actions p d old new after action e l k w =
+    ap actions_of e
+    ∙ flat_map-append actions_of_dispatch (optional p (Some d)) (waiting_dispatches p new)
+    ∙ ap (λ (x : List StreamAction). x ++ actions_of (waiting_dispatches p new)) (append-nil (actions_of_dispatch (dispatch_of p d)) ∙ sym (both_actions p d) ∙ (λ i. sym l i ++ sym k i))
+    ∙ append_assoc (pending_values action None) (sequence_actions p after.sequence) (actions_of (waiting_dispatches p new))
+    ∙ ap (λ (x : Waiting). pending_values action None ++ (sequence_actions p after.sequence ++ actions_of (waiting_dispatches p x))) (sym w)
+
+pub gives_begun : (before after : List StreamAction) (action : Option Action) → before ≡ pending_values action None ++ after → IsTrue (is_some action) → Gives before action after
+gives_begun before after None e s = cc
+gives_begun before after (Some a) e s = e
+
+pub none_begun : (before after : List StreamAction) (action : Option Action) → before ≡ pending_values action None ++ after → is_some action ≡ false → before ≡ after
+none_begun before after None e s = e
+none_begun before after (Some a) e s = cc
+
+pub fewer_waiting : (d : Dispatch) (old new : Waiting) → waiting_dispatches no_parameters old ≡ optional no_parameters (Some d) ++ waiting_dispatches no_parameters new → length (waiting_dispatches no_parameters new) < length (waiting_dispatches no_parameters old)
+fewer_waiting d old new e = omega (arith, ap length e)

@@ -1,0 +1,47 @@
+-- What a queue of dispatches has yet to hand out.
+use Rattle.std.specs.Prelude.{List, [], ◌++◌, map, Option, Some, None}
+use Rattle.csi_codec.specs.Parsing.{actions_from}
+use Rattle.escape_framing.specs.Dispatch as stream
+use Rattle.escape_framing.specs.Dispatched.{optional, dispatch_of}
+use Rattle.escape_framing.specs.declared.dispatch.Dispatch.{Dispatch}
+use Rattle.escape_framing.specs.declared.dispatch.Dispatch.TheVariants as code
+use Rattle.escape_framing.specs.Parameters.{Parameters}
+use Rattle.escape_stream.specs.StreamAction.{StreamAction, csi}
+use Rattle.escape_stream.specs.StreamActions.{actions_of, actions_of_dispatch}
+use Rattle.escape_stream.specs.declared.queue.Sequence.{Sequence}
+use Rattle.escape_stream.specs.declared.queue.Waiting.{Waiting}
+use Rattle.escape_stream.specs.declared.queue.Queue.{Queue}
+
+-- the dispatches, in order
+abbrev pub waiting_dispatches : Parameters → Waiting → List stream.Dispatch
+waiting_dispatches p w = optional p w.first ++ (optional p w.second ++ (optional p w.third ++ optional p w.fourth))
+
+-- the actions of a control sequence from a place on
+abbrev pub sequence_actions : Parameters → Option Sequence → List StreamAction
+sequence_actions p None = []
+sequence_actions p (Some s) = map csi (actions_from s.place p.tokens p.truncated s.control)
+
+abbrev pub queue_actions : Parameters → Queue → List StreamAction
+queue_actions p q = sequence_actions p q.sequence ++ actions_of (waiting_dispatches p q.waiting)
+
+-- the action of a dispatch, unless it is a control sequence
+abbrev pub lone_actions : Parameters → Dispatch → List StreamAction
+lone_actions p (code.Print c) = actions_of_dispatch (dispatch_of p (code.Print c))
+lone_actions p (code.Control b) = actions_of_dispatch (dispatch_of p (code.Control b))
+lone_actions p (code.Escape intermediate control) = actions_of_dispatch (dispatch_of p (code.Escape intermediate control))
+lone_actions p (code.ControlSequence control) = []
+lone_actions p (code.OperatingSystemCommand body) = actions_of_dispatch (dispatch_of p (code.OperatingSystemCommand body))
+lone_actions p (code.Enter header byte) = actions_of_dispatch (dispatch_of p (code.Enter header byte))
+lone_actions p (code.Data b) = actions_of_dispatch (dispatch_of p (code.Data b))
+lone_actions p code.Exit = actions_of_dispatch (dispatch_of p code.Exit)
+
+-- the actions of a control sequence
+abbrev pub later_actions : Parameters → Dispatch → List StreamAction
+later_actions p (code.Print c) = []
+later_actions p (code.Control b) = []
+later_actions p (code.Escape intermediate control) = []
+later_actions p (code.ControlSequence control) = actions_of_dispatch (dispatch_of p (code.ControlSequence control))
+later_actions p (code.OperatingSystemCommand body) = []
+later_actions p (code.Enter header byte) = []
+later_actions p (code.Data b) = []
+later_actions p code.Exit = []

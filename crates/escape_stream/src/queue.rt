@@ -1,0 +1,210 @@
+//! The actions of a step's dispatches, one by one.
+ghost use Rattle.std.specs.Prelude.{◌≡◌, ◌++◌, [], IfOk, None, Some};
+ghost use Rattle.escape_framing.specs.Dispatched.{optional, dispatch_of, dispatches_in};
+ghost use Rattle.escape_stream.specs.StreamActions.{actions_of, actions_of_dispatch};
+ghost use Rattle.escape_framing.specs.Parameters.{Parameters};
+ghost use Rattle.escape_stream.specs.Pending.{Gives, pending_values};
+ghost use Rattle.escape_stream.specs.Queue.{waiting_dispatches, sequence_actions, queue_actions, lone_actions, later_actions};
+ghost use Rattle.escape_framing.specs.Dispatch.{ControlSequence};
+
+use crate::action::Action;
+use crate::device::DeviceControlMode;
+use crate::pending::{command_action, control_action, enter_action};
+use csi_codec::{CSIPlace, CsiParam, Esc};
+use escape_framing::Dispatch;
+use std::alloc::{AllocError, Global};
+
+/// A control sequence, and how far its actions were read.
+#[derive(Clone, Copy)]
+pub(crate) struct Sequence {
+    place: CSIPlace,
+    control: u8,
+}
+
+/// Dispatches that were not read yet, in order, with gaps.
+#[derive(Drop)]
+pub(crate) struct Waiting {
+    first: Option<Dispatch>,
+    second: Option<Dispatch>,
+    third: Option<Dispatch>,
+    fourth: Option<Dispatch>,
+}
+
+/// Actions that were not handed out yet: those of a control sequence, and those of dispatches.
+#[derive(Drop)]
+pub(crate) struct Queue {
+    sequence: Option<Sequence>,
+    waiting: Waiting,
+}
+
+impl Waiting {
+    // The first dispatch.
+    fn pop(&mut self) -> Option<Dispatch>
+        ensures some { (p : Parameters) → waiting_dispatches p self.old ≡ optional p result ++ waiting_dispatches p self.new }
+        ensures none { (p : Parameters) → result ≡ None → waiting_dispatches p self.old ≡ [] }
+    {
+        let first = self.first.take();
+        if first.is_some() {
+            return first;
+        }
+        let second = self.second.take();
+        if second.is_some() {
+            return second;
+        }
+        let third = self.third.take();
+        if third.is_some() {
+            return third;
+        }
+        self.fourth.take()
+    }
+}
+
+impl Sequence {
+    // A control sequence with this final byte, of which nothing was read.
+    fn start(control: u8) -> Sequence
+        ensures { (p : Parameters) → sequence_actions p (Some result) ≡ actions_of_dispatch (ControlSequence p.tokens p.truncated control) }
+    {
+        Sequence {
+            place: CSIPlace::start(),
+            control,
+        }
+    }
+
+    // The next action, if there is one.
+    fn next(
+        &mut self,
+        alloc: Global,
+        parameters: &[CsiParam],
+        truncated: bool,
+    ) -> Result<Option<Action>, AllocError>
+        ensures { (p : Parameters) → p.tokens ≡ parameters.now → p.truncated ≡ truncated → IfOk result (λ next. Gives (sequence_actions p (Some self.old)) next (sequence_actions p (Some self.new))) }
+    {
+        let control = char::from(self.control);
+        match self.place.next(alloc, parameters, truncated, control) {
+            Some(Ok(csi)) => Ok(Some(Action::CSI(csi))),
+            Some(Err(error)) => Err(error),
+            None => Ok(None),
+        }
+    }
+}
+
+// The action of a dispatch, unless it is a control sequence.
+fn lone_action(alloc: Global, dispatch: Dispatch) -> Result<Option<Action>, AllocError>
+    ensures { (p : Parameters) → IfOk result (λ action. pending_values action None ≡ lone_actions p dispatch) }
+{
+    match dispatch {
+        Dispatch::Print(character) => Ok(Some(Action::Print(character))),
+        Dispatch::Control(byte) => Ok(control_action(byte)),
+        Dispatch::Escape {
+            intermediate,
+            control,
+        } => Ok(Some(Action::Esc(Esc::parse(intermediate, control)))),
+        Dispatch::ControlSequence { control: _ } => Ok(None),
+        Dispatch::OperatingSystemCommand(body) => {
+            let action = command_action(alloc, &body)?;
+            Ok(Some(action))
+        }
+        Dispatch::Enter { header, byte } => {
+            let action = enter_action(alloc, header, byte)?;
+            Ok(Some(action))
+        }
+        Dispatch::Data(byte) => Ok(Some(Action::DeviceControl(DeviceControlMode::Data(byte)))),
+        Dispatch::Exit => Ok(Some(Action::DeviceControl(DeviceControlMode::Exit))),
+    }
+}
+
+// The control sequence of a dispatch.
+fn sequence_of(dispatch: &Dispatch) -> Option<Sequence>
+    ensures { (p : Parameters) → sequence_actions p result ≡ later_actions p dispatch.now }
+{
+    match dispatch {
+        Dispatch::ControlSequence { control } => Some(Sequence::start(*control)),
+        _ => None,
+    }
+}
+
+impl Queue {
+    /// Nothing.
+    pub fn new() -> Queue
+        ensures { (p : Parameters) → queue_actions p result ≡ [] }
+    {
+        Queue {
+            sequence: None,
+            waiting: Waiting {
+                first: None,
+                second: None,
+                third: None,
+                fourth: None,
+            },
+        }
+    }
+
+    /// The actions of the dispatches.
+    pub fn of_dispatches(dispatches: [Option<Dispatch>; 4]) -> Queue
+        ensures { (p : Parameters) → queue_actions p result ≡ actions_of (dispatches_in p dispatches) }
+    {
+        let [first, second, third, fourth] = dispatches;
+        Queue {
+            sequence: None,
+            waiting: Waiting {
+                first,
+                second,
+                third,
+                fourth,
+            },
+        }
+    }
+
+    // The next action of the control sequence that is read, if there is one.
+    fn next_of_sequence(
+        &mut self,
+        alloc: Global,
+        parameters: &[CsiParam],
+        truncated: bool,
+    ) -> Result<Option<Action>, AllocError>
+        ensures gives { (p : Parameters) → p.tokens ≡ parameters.now → p.truncated ≡ truncated → IfOk result (λ next. Gives (sequence_actions p self.old.sequence) next (sequence_actions p self.new.sequence)) }
+        ensures waiting { IfOk result (λ next. self.new.waiting ≡ self.old.waiting) }
+    {
+        let Some(mut sequence) = self.sequence else {
+            return Ok(None);
+        };
+        let next = sequence.next(alloc, parameters, truncated)?;
+        self.sequence = Some(sequence);
+        Ok(next)
+    }
+
+    // The action of a dispatch; those of a control sequence are yet to come.
+    fn begin(&mut self, alloc: Global, dispatch: Dispatch) -> Result<Option<Action>, AllocError>
+        ensures lone { (p : Parameters) → IfOk result (λ action. pending_values action None ≡ lone_actions p dispatch) }
+        ensures later { (p : Parameters) → IfOk result (λ action. sequence_actions p self.new.sequence ≡ later_actions p dispatch) }
+        ensures waiting { IfOk result (λ action. self.new.waiting ≡ self.old.waiting) }
+    {
+        self.sequence = sequence_of(&dispatch);
+        let action = lone_action(alloc, dispatch)?;
+        Ok(action)
+    }
+
+    /// The next action, if there is one, with the parameters of the last control sequence.
+    pub fn next(
+        &mut self,
+        alloc: Global,
+        parameters: &[CsiParam],
+        truncated: bool,
+    ) -> Result<Option<Action>, AllocError>
+        ensures { (p : Parameters) → p.tokens ≡ parameters.now → p.truncated ≡ truncated → IfOk result (λ next. Gives (queue_actions p self.old) next (queue_actions p self.new)) }
+    {
+        loop {
+            let next = self.next_of_sequence(alloc, parameters, truncated)?;
+            if next.is_some() {
+                return Ok(next);
+            }
+            let Some(dispatch) = self.waiting.pop() else {
+                return Ok(None);
+            };
+            let action = self.begin(alloc, dispatch)?;
+            if action.is_some() {
+                return Ok(action);
+            }
+        }
+    }
+}
