@@ -16,3 +16,4 @@ pub mod PrintableLemmas
 pub mod QueueLemmas
 pub mod PieceLemmas
 pub mod AdvanceLemmas
+pub mod SpellLemmas

@@ -1,10 +1,10 @@
 -- What `pieces` hands out: texts, lent from the bytes of one call, and actions by themselves.
-use Rattle.std.specs.Prelude.{ℕ, List, [], ◌∷◌, length, map}
+use Rattle.std.specs.Prelude.{◌≡◌, ℕ, List, [], ◌∷◌, ◌++◌, length, map, encode_utf8_all}
 use Rattle.std.specs.List.{flat_map}
 use Rattle.escape_framing.specs.Framed as framing
 use Rattle.escape_framing.specs.Framed.{Framed, framed}
 use Rattle.escape_framing.specs.Placed.{placed_from}
-use Rattle.escape_stream.specs.StreamAction.{StreamAction}
+use Rattle.escape_stream.specs.StreamAction.{StreamAction, print}
 use Rattle.escape_stream.specs.StreamActions.{actions_of_dispatch}
 
 -- a text, with the count of the stream's bytes before it; or an action
@@ -24,3 +24,10 @@ pieces_of items = flat_map pieces_of_framed items
 -- side by side, each wholly of these bytes, are a text.
 abbrev pub pieces : List ℕ → List ℕ → List Piece
 pieces stream bytes = pieces_of (framed (length stream) (placed_from stream bytes))
+
+-- the actions, where each text is printed character by character; no text is empty
+pub data Spells : List Piece → List StreamAction → Type 0 where
+  nothing : Spells [] []
+  alone : (a : StreamAction) (items : List Piece) (actions : List StreamAction) → Spells items actions → Spells (Lone a ∷ items) (a ∷ actions)
+  in_text : (from c : ℕ) (cs text : List ℕ) (items : List Piece) (actions all : List StreamAction) → text ≡ encode_utf8_all (c ∷ cs) → all ≡ map print (c ∷ cs) ++ actions → Spells items actions
+      → Spells (Text from text ∷ items) all

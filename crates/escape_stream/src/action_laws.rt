@@ -2,7 +2,10 @@
 ghost use Rattle.std.specs.Prelude.{◌≡◌, ℕ, ◌<◌, List, ◌++◌, Some, length, map, filter, nat_lt};
 ghost use Rattle.std.specs.List.{slice_get};
 ghost use Rattle.escape_stream.specs.StreamAction.{StreamAction};
-ghost use Rattle.escape_stream.specs.StreamActions.{stream_actions, newly_decided_actions, placed_actions, IsPlacedAction, IsUndecidedAction};
+ghost use Rattle.escape_framing.specs.Dispatch.{Dispatch};
+ghost use Rattle.escape_framing.specs.Placed.{placed_from};
+ghost use Rattle.escape_stream.specs.Pieces.{pieces, Spells};
+ghost use Rattle.escape_stream.specs.StreamActions.{actions_of, stream_actions, newly_decided_actions, placed_actions, IsPlacedAction, IsUndecidedAction};
 
 /// The placed actions are the stream's actions, in order, each with the least count of bytes that decides it however
 /// the stream goes on. Bytes behind a stream newly decide the actions whose places lie in them.
@@ -21,4 +24,10 @@ pub fn actions_as_soon_as_decided()
 /// Pieces decide what their concatenation decides, in the same order.
 pub fn actions_of_pieces_join()
     ensures { (stream x y : List ℕ) → newly_decided_actions stream (x ++ y) ≡ newly_decided_actions stream x ++ newly_decided_actions (stream ++ x) y }
+{}
+
+/// A law, which needs no call: the pieces of a call, their texts character by character, are the actions of the
+/// dispatches that have their places in it, in order; no text is empty.
+pub fn pieces_are_actions()
+    ensures { (stream bytes : List ℕ) → Spells (pieces stream bytes) (actions_of (map (λ (p : ℕ × Dispatch). p.1) (placed_from stream bytes))) }
 {}
