@@ -17,6 +17,8 @@ mod commands;
 #[cfg(test)]
 mod lines;
 #[cfg(test)]
+mod places;
+#[cfg(test)]
 mod sequences;
 #[cfg(test)]
 mod service;
