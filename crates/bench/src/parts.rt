@@ -6,7 +6,7 @@ use std::alloc::Global;
 use terminal::{ProgramWidth, Terminal};
 
 pub const NAMES: &str =
-    "bench frame | parse | collect | encode | show | read_list | write_list, and how often";
+    "bench frame | parse | pieces | collect | encode | show | read_list | write_list, and how often";
 
 /// A part of the stack.
 #[derive(Clone, Copy)]
@@ -15,6 +15,8 @@ pub enum Part {
     Frame,
     /// `Parser::parse`, with a callback that counts.
     Parse,
+    /// `Parser::pieces`, to their end.
+    Pieces,
     /// `Parser::parse_as_vec`.
     Collect,
     /// `Parser::parse_as_vec`, and `encode` of its actions.
@@ -33,6 +35,7 @@ impl Part {
         match name {
             "frame" => Some(Part::Frame),
             "parse" => Some(Part::Parse),
+            "pieces" => Some(Part::Pieces),
             "collect" => Some(Part::Collect),
             "encode" => Some(Part::Encode),
             "show" => Some(Part::Show),
@@ -63,6 +66,7 @@ impl Part {
         match self {
             Part::Frame => frame(alloc, input),
             Part::Parse => parse(alloc, input),
+            Part::Pieces => pieces(alloc, input),
             Part::Collect => collect(alloc, input),
             Part::Encode => write(alloc, input),
             _ => show(alloc, input),
@@ -87,6 +91,20 @@ fn parse(alloc: Global, input: &[u8]) -> Option<u64> {
     let mut parser = Parser::new(alloc);
     parser.parse(input, |_| sum = sum.wrapping_add(1)).ok()?;
     Some(sum)
+}
+
+fn pieces(alloc: Global, input: &[u8]) -> Option<u64> {
+    let mut sum = 0u64;
+    let mut parser = Parser::new(alloc);
+    let mut pieces = parser.pieces(input);
+    for _ in 0..u64::MAX {
+        match pieces.next() {
+            None => return Some(sum),
+            Some(Err(_)) => return None,
+            Some(Ok(_)) => sum = sum.wrapping_add(1),
+        }
+    }
+    None
 }
 
 fn collect(alloc: Global, input: &[u8]) -> Option<u64> {

@@ -17,6 +17,8 @@ mod commands;
 #[cfg(test)]
 mod lines;
 #[cfg(test)]
+mod pieces;
+#[cfg(test)]
 mod places;
 #[cfg(test)]
 mod sequences;
