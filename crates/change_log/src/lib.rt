@@ -1,5 +1,8 @@
-//! Logs of numbered changes: the definitions, and the law that a log of bounded length answers as one
-//! that keeps all.
+//! Logs of numbered changes: the definitions, a log of bounded length, and the law that it answers as
+//! one that keeps all.
 #![tactic(auto)]
 
+mod change_log;
 pub mod laws;
+
+pub use change_log::ChangeLog;

@@ -1,0 +1,57 @@
+-- Changes that are stored, of which the first ones are gone.
+use Rattle.std.proofs.Common.{◌≡◌, ℕ, ◌+◌, ◌-◌, ◌≤◌, false, List, [], ◌∷◌, ◌++◌, length, drop, map, refl, sym, ap, ◌∙◌, arith, length-append, length-drop}
+use Rattle.std.specs.Prelude.{◌||◌, ◌==◌, nat_lt, max, Some, None, if◌then◌else◌}
+use Rattle.std.proofs.lemmas.Bool.Decides.{nat_tests}
+use Rattle.std.proofs.lemmas.List.{drop-drop, drop-append-le, drop-map, map-append, length-map}
+use Rattle.cell_change.specs.ChangeValue.{ChangeValue}
+use Rattle.cell_change.specs.ValueOf.{value_of}
+use Rattle.cell_change.specs.declared.change.Change.{Change}
+use Rattle.change_log.specs.Log.{Log, due, first_number, forgotten}
+
+module _ (items : List Change) (start most : ℕ) (s : start ≤ length items) where
+  abbrev pub values : List ChangeValue
+  values = map value_of (drop start items)
+
+  pub count : length values ≡ length items - start
+  count = length-map (drop start items) value_of ∙ length-drop start items
+
+  -- a change more, of which the last ones are kept
+  pub pushed : (change : Change) (shown : List Change) → shown ≡ drop (max start (length (items ++ change ∷ []) - most)) (items ++ change ∷ []) → map value_of shown ≡ drop (length (values ++ value_of change ∷ []) - most) (values ++ value_of change ∷ [])
+  pushed change shown e =
+      let all = items ++ change ∷ [] in
+      let long = length-append items (change ∷ []) in
+      let both = length-append values (value_of change ∷ []) in
+      let n = count in
+      let k = length (values ++ value_of change ∷ []) - most in
+      let same : values ++ value_of change ∷ [] ≡ map value_of (drop start all) = sym (map-append value_of (drop start items) (change ∷ [])) ∙ ap (map value_of) (sym (drop-append-le start items (change ∷ []) s)) in
+      let place : start + k ≡ max start (length all - most) = omega arith in
+      ap (map value_of) e ∙ ap (λ m. map value_of (drop m all)) (sym place) ∙ ap (map value_of) (sym (drop-drop k start all)) ∙ sym (drop-map value_of k (drop start all)) ∙ ap (drop k) (sym same)
+
+  -- the changes from a number on
+  pub from_number : (number at : ℕ) → length items ≤ start + number → map value_of (drop (start + (at - (number - (length items - start)))) items) ≡ drop (at - (number - length values)) values
+  from_number number at h =
+      let n = count in
+      let same : at - (number - length values) ≡ at - (number - (length items - start)) = omega arith in
+      ap (map value_of) (sym (drop-drop (at - (number - (length items - start))) start items)) ∙ sym (drop-map value_of (at - (number - (length items - start))) (drop start items)) ∙ ap (λ m. drop m values) (sym same)
+
+  pub none_left : start ≡ length items → values ≡ []
+  none_left e = empty values (let n = count in omega arith)
+    where
+      empty : (xs : List ChangeValue) → length xs ≡ 0 → xs ≡ []
+      empty [] k = refl
+      empty (x ∷ xs) k = absurd (omega arith)
+
+  pub all_gone : values ≡ [] → start ≡ length items
+  all_gone e = let n = count in let z = ap length e in omega arith
+
+pub forgotten_here : (log : Log) (number : ℕ) → number ≤ log.number → forgotten number log ≡ record log { entries = drop (number - first_number log) log.entries }
+forgotten_here log number h =
+    let test : nat_lt log.number number ≡ false = grind (arith, nat_tests) in
+    ap (λ b. if b then log else record log { entries = drop (number - first_number log) log.entries }) test
+
+pub due_here : (most : ℕ) (log : Log) (number : ℕ) → (number == 0) ≡ false → first_number log ≤ number → number ≤ log.number → log.number - number ≤ most → due most log number ≡ Some (drop (number - first_number log) log.entries)
+due_here most log number z f n m =
+    let first : nat_lt number (first_number log) ≡ false = grind (arith, nat_tests) in
+    let last : nat_lt log.number number ≡ false = grind (arith, nat_tests) in
+    let many : nat_lt most (log.number - number) ≡ false = grind (arith, nat_tests) in
+    λ i. if z i || first i || last i || many i then None else Some (drop (number - first_number log) log.entries)

@@ -1,0 +1,135 @@
+//! The log.
+ghost use Rattle.std.specs.Prelude.{◌≡◌, ◌+◌, ◌<◌, ◌≤◌, ◌^◌, ◌↔◌, IsTrue, [], drop, length, map, OnOk, OnErr};
+ghost use Rattle.std.specs.Option.{option_map};
+ghost use Rattle.cell_change.specs.ValueOf.{value_of};
+ghost use Rattle.change_log.specs.Log.{due, new_log};
+ghost use Rattle.change_log.specs.LogSteps.{Forgotten, Logged, Resized, step_of_kept};
+
+use cell_base::SequenceNo;
+use cell_change::Change;
+use std::alloc::{AllocError, Global};
+use std::marker::Model;
+
+/// Numbered changes, of which the last ones that may be due are kept. At most twice as many are
+/// stored.
+#[derive(Drop)]
+pub struct ChangeLog {
+    changes: Vec<Change>,
+    start: usize,
+    most: usize,
+    number: SequenceNo,
+}
+
+impl Model for ChangeLog {
+    ghost use Rattle.change_log.specs.LogSteps.{Sized};
+
+    ghost Value = { Sized };
+
+    ghost use Rattle.change_log.specs.LogView.{log_of, IsBounded};
+
+    ghost view = { log_of };
+
+    ghost invariant = { IsBounded };
+}
+
+// Drops the changes that are gone where more are stored than may be due; answers how many still are.
+fn without_gone(changes: &mut Vec<Change>, start: usize, most: usize) -> usize
+    requires { start ≤ length changes.old.items }
+    ensures rest { drop result changes.new.items ≡ drop start changes.old.items }
+    ensures gone { result ≤ most }
+    ensures stored { result + length (drop start changes.old.items) ≡ length changes.new.items }
+{
+    if start <= most {
+        return start;
+    }
+    let left = changes.len() - start;
+    changes.rotate_left(start);
+    changes.truncate(left);
+    0
+}
+
+impl ChangeLog {
+    /// A log of no change, of which at most so many may be due.
+    pub fn new(alloc: Global, most: usize) -> ChangeLog
+        ensures most { result.most ≡ most }
+        ensures log { result.log ≡ new_log }
+    {
+        ChangeLog {
+            changes: Vec::new(alloc),
+            start: 0,
+            most,
+            number: 0,
+        }
+    }
+
+    /// How many changes there were.
+    pub fn number(&self) -> SequenceNo
+        ensures { result ≡ self.now.log.number }
+    {
+        self.number
+    }
+
+    /// Whether no change is kept.
+    pub fn is_empty(&self) -> bool
+        ensures { IsTrue result ↔ (self.now.log.entries ≡ []) }
+    {
+        self.start == self.changes.len()
+    }
+
+    /// Logs a change, which raises the number by one. Where memory is refused nothing is changed, and
+    /// the change is dropped.
+    pub fn push(&mut self, change: Change) -> Result<(), AllocError>
+        requires { self.old.log.number + 1 < 2 ^ 64 }
+        ensures done { OnOk result (self.new ≡ step_of_kept self.old (Logged (value_of change))) }
+        ensures refused { OnErr result (self.new ≡ self.old) }
+    {
+        self.changes.push(change)?;
+        self.number += 1;
+        let first = self.changes.len().saturating_sub(self.most);
+        let start = self.start.max(first);
+        self.start = without_gone(&mut self.changes, start, self.most);
+        Ok(())
+    }
+
+    /// Forgets the changes before a number; none where it lies above the current one.
+    pub fn forget_before(&mut self, number: SequenceNo)
+        ensures { self.new ≡ step_of_kept self.old (Forgotten number) }
+    {
+        if number <= self.number {
+            let kept = self.changes.len() - self.start;
+            let first = self.number - kept;
+            let start = self.start + number.saturating_sub(first);
+            self.start = without_gone(&mut self.changes, start, self.most);
+        }
+    }
+
+    /// Another size, and with it how many changes may be due: where a change is kept the number rises
+    /// by one, and none is kept.
+    pub fn resize(&mut self, most: usize)
+        requires { self.old.log.number + 1 < 2 ^ 64 }
+        ensures { self.new ≡ step_of_kept self.old (Resized most) }
+    {
+        if self.start < self.changes.len() {
+            self.number += 1;
+        }
+        self.changes.clear();
+        self.start = 0;
+        self.most = most;
+    }
+
+    /// The changes from a number on. `None` at 0, before the first that is kept, above the current
+    /// number, and where there are more than may be due.
+    pub fn due(&self, number: SequenceNo) -> Option<&[Change]>
+        ensures { option_map (λ changes. map value_of changes.now) result ≡ due self.now.most self.now.log number }
+    {
+        let first = self.number - (self.changes.len() - self.start);
+        if number == 0
+            || number < first
+            || self.number < number
+            || self.most < self.number - number
+        {
+            return None;
+        }
+        Some(&self.changes[self.start + (number - first)..])
+    }
+}
