@@ -1,5 +1,5 @@
 -- A log of numbered changes, and what of it is due to somebody who has seen the first ones.
-use Rattle.std.specs.Prelude.{ℕ, ◌+◌, ◌-◌, ◌*◌, ◌/◌, ◌||◌, ◌==◌, nat_lt, List, [], ◌∷◌, ◌++◌, length, drop, Option, Some, None, if◌then◌else◌}
+use Rattle.std.specs.Prelude.{min, ◌^◌, ℕ, ◌+◌, ◌-◌, ◌*◌, ◌/◌, ◌||◌, ◌==◌, nat_lt, List, [], ◌∷◌, ◌++◌, length, drop, Option, Some, None, if◌then◌else◌}
 use Rattle.cell_change.specs.ChangeValue.{ChangeValue}
 
 -- the number of changes so far, and the last of them, in order
@@ -15,9 +15,9 @@ new_log = record { number = 0; entries = [] }
 abbrev pub first_number : Log → ℕ
 first_number log = log.number - length log.entries
 
--- how many changes of a screen's size are due at most; where more are, a repaint is shorter
+-- how many changes of a screen's size are due at most, as far as a number of 64 bits goes; where more are, a repaint is shorter
 abbrev pub most_due : ℕ → ℕ → ℕ
-most_due width height = 3 + 6 * width * height / 5
+most_due width height = min (3 + (6 * width * height) / 5) (2 ^ 64 - 1)
 
 -- one change more
 abbrev pub logged : ChangeValue → Log → Log

@@ -1,7 +1,7 @@
 -- What happens to a log, where all entries are kept and where the last ones alone are.
-use Rattle.std.specs.Prelude.{ℕ, ◌<◌, ⊤, List, [], ◌∷◌, fold}
+use Rattle.std.specs.Prelude.{ℕ, ◌<◌, ⊤, List, [], ◌∷◌, codes, fold}
 use Rattle.change_log.specs.Log.{Log, new_log, logged, kept, forgotten, resized_log}
-use Rattle.cell_change.specs.ChangeValue.{ChangeValue}
+use Rattle.cell_change.specs.ChangeValue.{ChangeValue, Text}
 
 -- a change is logged, what lies before a number is forgotten, or the size changes, and with it how many are due at most
 pub data LogStep : Type 0 where
@@ -38,3 +38,7 @@ log_of_all most steps = fold step_of_all (record { most = most; log = new_log })
 
 abbrev pub log_of_kept : ℕ → List LogStep → Sized
 log_of_kept most steps = fold step_of_kept (record { most = most; log = new_log }) steps
+
+-- a text of one letter is logged, for worked examples
+abbrev pub a_text : LogStep
+a_text = Logged (Text (codes "a"))
