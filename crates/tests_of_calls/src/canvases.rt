@@ -34,7 +34,7 @@ fn shows<R: Abort + AllocGlobal>(rt: &R, canvas: &Canvas<ProgramWidth>, rows: &s
             .expect(rt, "memory");
         shown.push('|').expect(rt, "memory");
     }
-    shown == rows
+    shown.as_str() == rows
 }
 
 #[test]
@@ -44,21 +44,56 @@ fn texts_scroll_and_clears_leave_blanks(rt: HostRuntime) {
     assert!(rt; shows(&rt, &canvas, "foob|aarb|az  |"));
     apply(&rt, &mut canvas, text_of(&rt, "\r\n\u{304b}\tb"));
     assert!(rt; shows(&rt, &canvas, "aarb|az  |\u{304b} b|"));
-    apply(&rt, &mut canvas, Change::ScrollRegionDown { first_row: 0, region_size: 2, scroll_count: 1 });
+    apply(
+        &rt,
+        &mut canvas,
+        Change::ScrollRegionDown {
+            first_row: 0,
+            region_size: 2,
+            scroll_count: 1,
+        },
+    );
     assert!(rt; shows(&rt, &canvas, "    |aarb|\u{304b} b|"));
-    apply(&rt, &mut canvas, Change::CursorPosition { x: Position::Absolute(1), y: Position::Relative(-1) });
+    apply(
+        &rt,
+        &mut canvas,
+        Change::CursorPosition {
+            x: Position::Absolute(1),
+            y: Position::Relative(-1),
+        },
+    );
     assert_eq!(rt; canvas.cursor_position(), (1, 1));
-    apply(&rt, &mut canvas, Change::ClearToEndOfScreen(ColorAttribute::Default));
+    apply(
+        &rt,
+        &mut canvas,
+        Change::ClearToEndOfScreen(ColorAttribute::Default),
+    );
     assert!(rt; shows(&rt, &canvas, "    |a   |    |"));
 }
 
 #[test]
 fn other_fields_are_set(rt: HostRuntime) {
     let mut canvas = canvas_of(&rt);
-    apply(&rt, &mut canvas, Change::CursorShape(CursorShape::SteadyBar));
-    apply(&rt, &mut canvas, Change::CursorVisibility(CursorVisibility::Hidden));
-    apply(&rt, &mut canvas, Change::LineAttribute(LineAttribute::DoubleWidthLine));
-    apply(&rt, &mut canvas, Change::Title(String::from_str(rt.alloc(), "t").expect(&rt, "memory")));
+    apply(
+        &rt,
+        &mut canvas,
+        Change::CursorShape(CursorShape::SteadyBar),
+    );
+    apply(
+        &rt,
+        &mut canvas,
+        Change::CursorVisibility(CursorVisibility::Hidden),
+    );
+    apply(
+        &rt,
+        &mut canvas,
+        Change::LineAttribute(LineAttribute::DoubleWidthLine),
+    );
+    apply(
+        &rt,
+        &mut canvas,
+        Change::Title(String::from_str(rt.alloc(), "t").expect(&rt, "memory")),
+    );
     assert_eq!(rt; canvas.cursor_shape(), Some(CursorShape::SteadyBar));
     assert_eq!(rt; canvas.cursor_visibility(), CursorVisibility::Hidden);
     assert_eq!(rt; canvas.title(), "t");
