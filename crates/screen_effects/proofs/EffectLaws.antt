@@ -95,7 +95,7 @@ between P before behind x p q r = All-append P before (x ∷ behind) p first
     first zero d h = q
     first (suc k) d h = r k d (omega arith)
 
-below_height : (color : ColorAttribute) (s : Screen) → IsScreen s → length (cleared_below color s).rows ≡ length s.rows
+pub below_height : (color : ColorAttribute) (s : Screen) → IsScreen s → length (cleared_below color s).rows ≡ length s.rows
 below_height color s h =
     let g = h.row_in in
     let front = length-take s.row s.rows in
@@ -122,14 +122,14 @@ below_cleared_is color d h =
 
 -- ---- regions
 
-up_length : {A : Type 0} (new : A) (count : ℕ) (xs : List A) → length (moved_up new count xs) ≡ length xs
+pub up_length : {A : Type 0} (new : A) (count : ℕ) (xs : List A) → length (moved_up new count xs) ≡ length xs
 up_length new count xs =
     let rest = length-drop count xs in
     let come = length-replicate (min count (length xs)) new in
     let both = length-append (drop count xs) (replicate (min count (length xs)) new) in
     omega arith
 
-down_length : {A : Type 0} (new : A) (count : ℕ) (xs : List A) → length (moved_down new count xs) ≡ length xs
+pub down_length : {A : Type 0} (new : A) (count : ℕ) (xs : List A) → length (moved_down new count xs) ≡ length xs
 down_length new count xs =
     let rest = length-take (length xs - count) xs in
     let come = length-replicate (min count (length xs)) new in
