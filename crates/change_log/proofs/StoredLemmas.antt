@@ -1,5 +1,5 @@
 -- Changes that are stored, of which the first ones are gone.
-use Rattle.std.proofs.Common.{◌≡◌, ℕ, ◌+◌, ◌-◌, ◌≤◌, false, List, [], ◌∷◌, ◌++◌, length, drop, map, refl, sym, ap, ◌∙◌, arith, length-append, length-drop}
+use Rattle.std.proofs.Common.{◌≡◌, ℕ, ◌+◌, ◌-◌, ◌<◌, ◌≤◌, false, List, [], ◌∷◌, ◌++◌, length, drop, map, refl, sym, ap, ◌∙◌, arith, length-append, length-drop}
 use Rattle.std.specs.Prelude.{◌||◌, ◌==◌, nat_lt, max, Some, None, if◌then◌else◌}
 use Rattle.std.proofs.lemmas.Bool.Decides.{nat_tests}
 use Rattle.std.proofs.lemmas.List.{drop-drop, drop-append-le, drop-map, map-append, length-map}
@@ -55,3 +55,11 @@ due_here most log number z f n m =
     let last : nat_lt log.number number ≡ false = grind (arith, nat_tests) in
     let many : nat_lt most (log.number - number) ≡ false = grind (arith, nat_tests) in
     λ i. if z i || first i || last i || many i then None else Some (drop (number - first_number log) log.entries)
+
+-- where not all stored changes are gone, some are kept
+pub some_kept : (changes : List Change) (start : ℕ) → start < length changes → map value_of (drop start changes) ≡ [] → ⊥
+some_kept changes start h e =
+    let none = ap length e in
+    let mapped = length-map (drop start changes) value_of in
+    let left = length-drop start changes in
+    omega arith

@@ -1,5 +1,5 @@
 //! The log.
-ghost use Rattle.std.specs.Prelude.{◌≡◌, ◌+◌, ◌<◌, ◌≤◌, ◌^◌, ◌↔◌, IsTrue, [], drop, length, map, OnOk, OnErr};
+ghost use Rattle.std.specs.Prelude.{IfOk, ◌≡◌, ◌⊎◌, ◌+◌, ◌<◌, ◌≤◌, ◌^◌, ◌↔◌, IsTrue, [], drop, length, map, OnOk, OnErr};
 ghost use Rattle.std.specs.Option.{option_map};
 ghost use Rattle.cell_change.specs.ValueOf.{value_of};
 ghost use Rattle.change_log.specs.Log.{due, new_log};
@@ -46,6 +46,17 @@ fn without_gone(changes: &mut Vec<Change>, start: usize, most: usize) -> usize
     changes.rotate_left(start);
     changes.truncate(left);
     0
+}
+
+// Copies of changes.
+fn cloned_changes(alloc: Global, changes: &[Change]) -> Result<Vec<Change>, AllocError>
+    ensures { IfOk result (λ copies. map value_of copies.items ≡ map value_of changes.now) }
+{
+    let mut copies = Vec::new(alloc);
+    for change in changes {
+        copies.push(change.try_clone()?)?;
+    }
+    Ok(copies)
 }
 
 impl ChangeLog {
@@ -106,7 +117,7 @@ impl ChangeLog {
     /// Another size, and with it how many changes may be due: where a change is kept the number rises
     /// by one, and none is kept.
     pub fn resize(&mut self, most: usize)
-        requires { self.old.log.number + 1 < 2 ^ 64 }
+        requires { (self.old.log.entries ≡ []) ⊎ (self.old.log.number + 1 < 2 ^ 64) }
         ensures { self.new ≡ step_of_kept self.old (Resized most) }
     {
         if self.start < self.changes.len() {
@@ -115,6 +126,19 @@ impl ChangeLog {
         self.changes.clear();
         self.start = 0;
         self.most = most;
+    }
+
+    /// A copy.
+    pub fn try_clone(&self, alloc: Global) -> Result<ChangeLog, AllocError>
+        ensures { IfOk result (λ log. log ≡ self.now) }
+    {
+        let changes = cloned_changes(alloc, &self.changes[self.start..])?;
+        Ok(ChangeLog {
+            changes,
+            start: 0,
+            most: self.most,
+            number: self.number,
+        })
     }
 
     /// The changes from a number on. `None` at 0, before the first that is kept, above the current
