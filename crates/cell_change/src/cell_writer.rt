@@ -44,8 +44,8 @@ impl<'a> CellWriter<'a> {
         }
     }
 
-    // The texts of the cells so far become changes.
-    fn end_texts(&mut self) -> Result<(), AllocError>
+    /// Ends the texts of the cells so far: what is written next isn't joined to them.
+    pub fn end_texts(&mut self) -> Result<(), AllocError>
         ensures { OnOk result (self.new ≡ record self.old { changes = finished self.old; cells = [] }) }
     {
         push_texts(self.alloc, &mut self.changes, self.cells.as_slice())?;
@@ -82,6 +82,16 @@ impl<'a> CellWriter<'a> {
     {
         self.end_texts()?;
         self.changes.push(change)?;
+        Ok(())
+    }
+
+    /// A change that gives the pen these attributes, as a clear does, behind the cells that were
+    /// written.
+    pub fn push_clear(&mut self, change: Change, pen: &'a CellAttributes) -> Result<(), AllocError>
+        ensures { OnOk result (self.new ≡ record (with_change (value_of change) self.old) { pen = pen.now }) }
+    {
+        self.push_change(change)?;
+        self.pen = pen;
         Ok(())
     }
 
