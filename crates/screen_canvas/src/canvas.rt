@@ -420,8 +420,39 @@ impl<W: Widths + Drop> Canvas<W> {
     }
 }
 
-// Plain attributes with a background.
-fn blank_of(color: ColorAttribute) -> CellAttributes
+// Copies of lines.
+fn cloned_lines(alloc: Global, lines: &[Line]) -> Result<Vec<Line>, AllocError>
+    ensures { IfOk result (λ copies. copies.items ≡ lines.now) }
+{
+    let mut copies = Vec::new(alloc);
+    for line in lines {
+        copies.push(line.try_clone()?)?;
+    }
+    Ok(copies)
+}
+
+impl<W: Widths + Copy + Drop> Canvas<W> {
+    /// A copy.
+    pub fn try_clone(&self) -> Result<Canvas<W>, AllocError>
+        ensures { IfOk result (λ canvas. canvas ≡ self.now) }
+    {
+        Ok(Canvas {
+            alloc: self.alloc,
+            widths: self.widths,
+            width: self.width,
+            lines: cloned_lines(self.alloc, self.lines.as_slice())?,
+            column: self.column,
+            row: self.row,
+            visibility: self.visibility,
+            shape: self.shape,
+            pen: self.pen.try_clone()?,
+            title: self.title.clone()?,
+        })
+    }
+}
+
+/// Plain attributes with a background.
+pub fn blank_of(color: ColorAttribute) -> CellAttributes
     ensures { result ≡ blank_of color }
 {
     let mut attributes = CellAttributes::blank();

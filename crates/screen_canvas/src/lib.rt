@@ -6,4 +6,4 @@ mod positions;
 mod rows;
 mod text;
 
-pub use canvas::Canvas;
+pub use canvas::{Canvas, blank_of};
