@@ -1,0 +1,12 @@
+use Rattle.std.proofs.Common.{◌≡◌, ◌+◌, ◌≤◌, fold, length}
+use Rattle.cell_line.specs.CellRefView.{cells_left}
+use Rattle.cell_line.specs.VisibleCells.{contents}
+use Rattle.screen_repaint.specs.Ends.{end_of, with_cell}
+use Rattle.screen_repaint.specs.Repaint.{row_cells}
+use Rattle.screen_repaint.proofs.ends.row_end.Given as goal
+
+-- the end so far, and then what is left, are the whole; and there are no more cells than columns
+abbrev pub invariant-loop-cell : goal.invariant-loop-cell
+invariant-loop-cell l =
+    (fold with_cell l.end (contents (cells_left l.cell-iterator)) ≡ end_of (row_cells l.line.columns)) ×
+    (l.end.cells + length (cells_left l.cell-iterator) ≤ l.len)

@@ -1,0 +1,4 @@
+pub mod EndView
+pub mod Ends
+pub mod PaintedRows
+pub mod Repaint

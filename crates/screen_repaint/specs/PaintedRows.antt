@@ -1,0 +1,53 @@
+-- Rows that are being painted.
+use Rattle.std.specs.Prelude.{◌≡◌, ⊤, ℕ, Bool, ◌&&◌, ◌||◌, ◌<◌, nat_le, pos, List, [], ◌∷◌, ◌++◌, length, map, replicate, Option, if◌then◌else◌}
+use Rattle.std.specs.List.{list_all}
+use Rattle.cell_base.specs.declared.attributes.Position.TheVariants.{Absolute, Relative}
+use Rattle.cell_base.specs.declared.color.ColorAttribute.{ColorAttribute}
+use Rattle.cell_base.specs.Attributes.{Attributes, blank_of}
+use Rattle.cell_base.specs.Row.{Row}
+use Rattle.cell_change.specs.ChangeValue.{ChangeValue, CursorPosition}
+use Rattle.cell_change.specs.Written.{Written, finished}
+use Rattle.cell_line.specs.LineContent.{LineContent}
+use Rattle.screen_repaint.specs.Ends.{ends_in}
+use Rattle.screen_repaint.specs.Repaint.{are_some, is_blank_row, row_cells, pen_left, rows_painted}
+
+abbrev pub rows_of : List LineContent → List Row
+rows_of lines = map (λ l. l.columns) lines
+
+-- no text goes on
+abbrev pub ended : Written → Written
+ended written = record written { changes = finished written; cells = [] }
+
+-- other changes behind, and no text goes on
+abbrev pub with_changes : List ChangeValue → Written → Written
+with_changes changes written = record { changes = written.changes ++ changes; pen = pen_left written.pen changes; cells = [] }
+
+-- to the start of a row further down
+abbrev pub moves : ℕ → List ChangeValue
+moves count = replicate count (CursorPosition (Absolute 0) (Relative (pos 1)))
+
+-- moves before changes, if there are any
+abbrev pub behind_moves : ℕ → List ChangeValue → List ChangeValue
+behind_moves count [] = []
+behind_moves count (change ∷ changes) = moves count ++ change ∷ changes
+
+-- whether rows are blanks of one colour is told by how many rows at the end have blanks with some attributes alone
+abbrev pub IsTail : ℕ → Option Attributes → List Row → Type 0
+IsTail count blanks [] = ⊤
+IsTail count blanks (row ∷ rows) =
+    ((color : ColorAttribute) → list_all (is_blank_row color) (row ∷ rows) ≡ (ends_in blanks (blank_of color) && nat_le (length (row ∷ rows)) count)) × IsTail count blanks rows
+
+-- each row has a cell
+abbrev pub AreFilled : List Row → Type 0
+AreFilled [] = ⊤
+AreFilled (row ∷ rows) = (0 < length (row_cells row)) × AreFilled rows
+
+-- the rows below, unless they go with the blanks of the row above
+abbrev pub rest_of : Bool → List LineContent → List LineContent
+rest_of below_too below = if below_too then [] else below
+
+-- what is left to be painted makes of what was written the whole, and whether that is anything
+pub record LeadsOn (whole : Written) (some : Bool) (written : Written) (painted : Bool) (count : ℕ) (left : List Row) : Type 0 where
+  pub is_ended : written.cells ≡ []
+  pub same : with_changes (behind_moves count (rows_painted written.pen left)) written ≡ whole
+  pub any : (painted || are_some (rows_painted written.pen left)) ≡ some

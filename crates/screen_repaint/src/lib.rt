@@ -1,0 +1,8 @@
+//! The changes that paint a screen anew, on any screen of its size.
+#![tactic(auto)]
+
+mod ends;
+mod rows;
+mod screen;
+
+pub use screen::repaint;

@@ -1,0 +1,153 @@
+//! The repaint.
+ghost use Rattle.std.specs.Prelude.{◌≡◌, ◌&&◌, ◌==◌, [], ◌∷◌, IfOk, OnOk, map};
+ghost use Rattle.cell_base.specs.declared.attributes.CursorVisibility.TheVariants.{Hidden};
+ghost use Rattle.cell_base.specs.declared.color.ColorAttribute.TheVariants.{Default};
+ghost use Rattle.cell_base.specs.Attributes.{plain};
+ghost use Rattle.cell_change.specs.CellChanges.{attributes_due};
+ghost use Rattle.cell_change.specs.ChangeValue.{ClearScreen, CursorVisibility as Visibility};
+ghost use Rattle.cell_change.specs.ValueOf.{value_of};
+ghost use Rattle.screen_canvas.specs.Canvas.{IsDrawn, display_of};
+ghost use Rattle.screen_effects.specs.Effect.{is_visible};
+ghost use Rattle.screen_repaint.specs.PaintedRows.{with_changes};
+ghost use Rattle.screen_repaint.specs.Repaint.{cursor_placed, cursor_shown, pen_after, repaint, shape_due, title_due};
+
+use crate::rows::paint_rows;
+use cell_base::{CellAttributes, ColorAttribute, CursorShape, CursorVisibility, Position, Widths};
+use cell_change::{CellWriter, Change};
+use screen_canvas::Canvas;
+use std::alloc::{AllocError, Global};
+
+// Another change, which leaves the pen as it is.
+fn write(writer: &mut CellWriter<'_>, change: Change) -> Result<(), AllocError>
+    requires ended { writer.old.cells ≡ [] }
+    requires pen { pen_after writer.old.pen (value_of change) ≡ writer.old.pen }
+    ensures { OnOk result (writer.new ≡ with_changes (value_of change ∷ []) writer.old) }
+{
+    writer.push_change(change)?;
+    Ok(())
+}
+
+// A blank screen, with the cursor hidden.
+fn write_clear(writer: &mut CellWriter<'_>) -> Result<(), AllocError>
+    requires ended { writer.old.cells ≡ [] }
+    requires plain { writer.old.pen ≡ plain }
+    ensures { OnOk result (writer.new ≡ with_changes (Visibility Hidden ∷ ClearScreen Default ∷ []) writer.old) }
+{
+    write(writer, Change::CursorVisibility(CursorVisibility::Hidden))?;
+    write(writer, Change::ClearScreen(ColorAttribute::Default))?;
+    Ok(())
+}
+
+// The title, unless it is empty.
+fn write_title(
+    alloc: Global,
+    writer: &mut CellWriter<'_>,
+    title: &str,
+) -> Result<(), AllocError>
+    requires { writer.old.cells ≡ [] }
+    ensures { OnOk result (writer.new ≡ with_changes (title_due title.now) writer.old) }
+{
+    if title.is_empty() {
+        return Ok(());
+    }
+    let mut text = String::new(alloc);
+    text.push_str(title)?;
+    write(writer, Change::Title(text))?;
+    Ok(())
+}
+
+// Whether the place is the first column of the first row.
+fn is_home(place: (usize, usize)) -> bool
+    ensures { result ≡ (place.0 == 0 && place.1 == 0) }
+{
+    place.0 == 0 && place.1 == 0
+}
+
+// The cursor's place, unless nothing was painted and it is home.
+fn write_place(
+    writer: &mut CellWriter<'_>,
+    place: (usize, usize),
+    painted: bool,
+) -> Result<(), AllocError>
+    requires { writer.old.cells ≡ [] }
+    ensures { OnOk result (writer.new ≡ with_changes (cursor_placed painted place.0 place.1) writer.old) }
+{
+    if !painted && is_home(place) {
+        return Ok(());
+    }
+    let (column, row) = place;
+    write(
+        writer,
+        Change::CursorPosition {
+            x: Position::Absolute(column),
+            y: Position::Absolute(row),
+        },
+    )?;
+    Ok(())
+}
+
+// The pen's attributes, unless it has them.
+fn write_pen<'a>(writer: &mut CellWriter<'a>, pen: &'a CellAttributes) -> Result<(), AllocError>
+    requires { writer.old.cells ≡ [] }
+    ensures { OnOk result (writer.new ≡ with_changes (attributes_due writer.old.pen pen.now) writer.old) }
+{
+    writer.set_attributes(pen)?;
+    Ok(())
+}
+
+// The cursor's shape, if one was set.
+fn write_shape(writer: &mut CellWriter<'_>, shape: Option<CursorShape>) -> Result<(), AllocError>
+    requires { writer.old.cells ≡ [] }
+    ensures { OnOk result (writer.new ≡ with_changes (shape_due shape) writer.old) }
+{
+    if let Some(shape) = shape {
+        write(writer, Change::CursorShape(shape))?;
+    }
+    Ok(())
+}
+
+// The cursor with its shape, unless it is hidden.
+fn write_cursor(
+    writer: &mut CellWriter<'_>,
+    visibility: CursorVisibility,
+    shape: Option<CursorShape>,
+) -> Result<(), AllocError>
+    requires { writer.old.cells ≡ [] }
+    ensures { OnOk result (writer.new ≡ with_changes (cursor_shown (is_visible visibility) shape) writer.old) }
+{
+    if visibility == CursorVisibility::Hidden {
+        return Ok(());
+    }
+    write(writer, Change::CursorVisibility(CursorVisibility::Visible))?;
+    write_shape(writer, shape)?;
+    Ok(())
+}
+
+/// The changes that paint a canvas on any screen of its size, from a clear on: the title, unless it is
+/// empty; row by row the cells, each run of neighbours of equal attributes behind these, unless the
+/// pen has them, and a clear for the blanks of one background at a row's end, unless it is the
+/// default one; where all rows below are blanks of that background too, one clear to the end of the
+/// screen stands for them. Then the cursor's place, the pen, and the cursor with its shape, if it is
+/// shown.
+pub fn repaint<W: Widths + Drop>(
+    alloc: Global,
+    canvas: &Canvas<W>,
+) -> Result<Vec<Change>, AllocError>
+    requires { IsDrawn canvas.now }
+    ensures { IfOk result (λ changes. map value_of changes.items ≡ repaint (display_of canvas.now)) }
+{
+    let plain = CellAttributes::blank();
+    let mut writer = CellWriter::new(alloc, &plain);
+    write_clear(&mut writer)?;
+    write_title(alloc, &mut writer, canvas.title())?;
+    let painted = paint_rows(&mut writer, canvas.lines())?;
+    write_place(&mut writer, canvas.cursor_position(), painted)?;
+    write_pen(&mut writer, canvas.pen())?;
+    write_cursor(
+        &mut writer,
+        canvas.cursor_visibility(),
+        canvas.cursor_shape(),
+    )?;
+    let changes = writer.finish()?;
+    Ok(changes)
+}
