@@ -1,0 +1,153 @@
+-- Fresh cells of rows that are walked from the left.
+use Rattle.std.proofs.Common.{◌≡◌, ℕ, zero, suc, ◌+◌, ◌-◌, ◌<◌, ◌≤◌, ◌^◌, ◌∙◌, ◌⊎◌, Bool, true, false, List, [], ◌∷◌, length, take, drop, map, refl, sym, ap, inl, inr, arith}
+use Rattle.std.specs.Prelude.{◌&&◌, ◌||◌, ◌==◌, not, nat_lt, min, if◌then◌else◌}
+use Rattle.std.specs.Cmp.{unsigned_Decides}
+use Rattle.std.proofs.lemmas.Bool.{ltb-true, ltb-false}
+use Rattle.std.proofs.lemmas.List.{length-take-le, length-drop, take_min}
+use Rattle.cell_base.specs.Row.{Narrow, LeftHalf, RightHalf, Row, closed_end, closed_start}
+use Rattle.cell_base.specs.SameCell.{same_cell}
+use Rattle.cell_change.proofs.TextLemmas.{by_test}
+use Rattle.cell_line.specs.LineContent.{LineContent}
+use Rattle.cell_line.specs.Region.{region}
+use Rattle.cell_line.specs.RowEdits.{cut, cut_front}
+use Rattle.cell_line.specs.VisibleCells.{VisibleCell, visible_at, visible_from}
+use Rattle.cell_line.proofs.KeptLemmas.{AreInOrder, in_order}
+use Rattle.cell_rows.proofs.RowLemmas.{length-closed_start}
+use Rattle.screen_difference.specs.FreshCells.{columns_from, fresh, is_shown, row_fresh, rows_fresh, rows_of, shared_width}
+use Rattle.screen_difference.specs.ShownCells.{begins_with, from_column, moved, passed_fresh, Fit}
+
+-- ---- old cells that are passed
+
+pub differs : (a b : ℕ) → (a < b) ⊎ (b < a) → (a == b) ≡ false
+differs a b h = by_test (a == b) (λ t. let e = (unsigned_Decides a b).0 t in elim h [ inl p ↦ absurd (omega arith) | inr p ↦ absurd (omega arith) ]) (λ f. f)
+
+pub or_false : (b : Bool) → (b || false) ≡ b
+or_false true = refl
+or_false false = refl
+
+pub not_here : (o : VisibleCell) (olds : List VisibleCell) (v : VisibleCell) → (o.column < v.column) ⊎ (v.column < o.column) → is_shown (o ∷ olds) v ≡ is_shown olds v
+not_here o olds v h = ap (λ t. (t && same_cell o.cell v.cell) || is_shown olds v) (differs o.column v.column h)
+
+-- passing cells before a column takes none that stands at one behind
+shown_from : (column : ℕ) (olds : List VisibleCell) (v : VisibleCell) → column ≤ v.column → is_shown (from_column column olds) v ≡ is_shown olds v
+shown_from column [] v h = refl
+shown_from column (o ∷ olds) v h =
+    by_test (nat_lt o.column column)
+    (λ e.
+    let less = ltb-true o.column column e in
+    ap (λ t. is_shown (if t then from_column column olds else o ∷ olds) v) e ∙ shown_from column olds v h ∙ sym (not_here o olds v (inl (omega arith))))
+    (λ e. ap (λ t. is_shown (if t then from_column column olds else o ∷ olds) v) e)
+
+pub none_later : (at : ℕ) (olds : List VisibleCell) (v : VisibleCell) → v.column < at → AreInOrder at olds → is_shown olds v ≡ false
+none_later at [] v h p = refl
+none_later at (o ∷ olds) v h p = let q = p.0 in not_here o olds v (inr (omega arith)) ∙ none_later (o.column + 1) olds v (omega arith) p.1
+
+-- of the cells from a column on only the first can stand there
+first_shown : (at : ℕ) (olds : List VisibleCell) (v : VisibleCell) → AreInOrder at olds → is_shown (from_column v.column olds) v ≡ begins_with (from_column v.column olds) v.column v.cell
+first_shown at [] v p = refl
+first_shown at (o ∷ olds) v p =
+    by_test (nat_lt o.column v.column)
+    (λ e.
+    ap (λ t. is_shown (if t then from_column v.column olds else o ∷ olds) v) e
+    ∙ first_shown (o.column + 1) olds v p.1
+    ∙ sym (ap (λ t. begins_with (if t then from_column v.column olds else o ∷ olds) v.column v.cell) e))
+    (λ e.
+    let more = ltb-false o.column v.column e in
+    ap (λ t. is_shown (if t then from_column v.column olds else o ∷ olds) v) e
+    ∙ ap (λ t. (o.column == v.column && same_cell o.cell v.cell) || t) (none_later (o.column + 1) olds v (omega arith) p.1)
+    ∙ or_false (o.column == v.column && same_cell o.cell v.cell)
+    ∙ sym (ap (λ t. begins_with (if t then from_column v.column olds else o ∷ olds) v.column v.cell) e))
+
+from_lower : (at bt : ℕ) (cells : List VisibleCell) → at ≤ bt → AreInOrder bt cells → AreInOrder at cells
+from_lower at bt [] h p = tt
+from_lower at bt (v ∷ cells) h p = let q = p.0 in (omega arith, p.1)
+
+rest_in_order : (at column : ℕ) (olds : List VisibleCell) → AreInOrder at olds → AreInOrder at (from_column column olds)
+rest_in_order at column [] p = tt
+rest_in_order at column (o ∷ olds) p =
+    let q = p.0 in
+    by_test (nat_lt o.column column)
+    (λ e. let rest : AreInOrder at (from_column column olds) = from_lower at (o.column + 1) (from_column column olds) (omega arith) (rest_in_order (o.column + 1) column olds p.1) in rw e rest)
+    (λ e. let rest : AreInOrder at (o ∷ olds) = p in rw e rest)
+
+same_fresh : (column : ℕ) (olds news : List VisibleCell) → AreInOrder column news → fresh (from_column column olds) news ≡ fresh olds news
+same_fresh column olds [] p = refl
+same_fresh column olds (v ∷ news) p =
+    let q = p.0 in
+    let later : fresh (from_column column olds) news ≡ fresh olds news = same_fresh column olds news (from_lower column (v.column + 1) news (omega arith) p.1) in
+    (λ i. if not (shown_from column olds v q i) then v ∷ later i else later i)
+
+pub passed_is_fresh : (at bt : ℕ) (olds news : List VisibleCell) → AreInOrder at olds → AreInOrder bt news → passed_fresh olds news ≡ fresh olds news
+passed_is_fresh at bt olds [] p q = refl
+passed_is_fresh at bt olds (v ∷ news) p q =
+    let rest : List VisibleCell = from_column v.column olds in
+    let same : begins_with rest v.column v.cell ≡ is_shown olds v = sym (first_shown at olds v p) ∙ shown_from v.column olds v (omega arith) in
+    let others : passed_fresh rest news ≡ fresh olds news =
+    passed_is_fresh at (v.column + 1) rest news (rest_in_order at v.column olds p) q.1
+    ∙ same_fresh v.column olds news (from_lower v.column (v.column + 1) news (omega arith) q.1) in
+    by_test (is_shown olds v)
+    (λ e. ap (λ t. if t then passed_fresh rest news else v ∷ passed_fresh rest news) (same ∙ e) ∙ others ∙ sym (ap (λ t. if not t then v ∷ fresh olds news else fresh olds news) e))
+    (λ e.
+    ap (λ t. if t then passed_fresh rest news else v ∷ passed_fresh rest news) (same ∙ e)
+    ∙ ap (λ (vs : List VisibleCell). v ∷ vs) others
+    ∙ sym (ap (λ t. if not t then v ∷ fresh olds news else fresh olds news) e))
+
+-- ---- columns of the new side, where they stand on the old one
+
+moved_visible : (x other_x at bt : ℕ) (row : Row) → other_x ≤ at → at - other_x + x ≡ bt → map (moved x other_x) (visible_from at row) ≡ visible_from bt row
+moved_visible x other_x at bt [] h e = refl
+moved_visible x other_x at bt (Narrow t a ∷ row) h e = (λ i. visible_at (e i) t 1 a ∷ moved_visible x other_x (at + 1) (bt + 1) row (omega arith) (omega arith) i)
+moved_visible x other_x at bt (LeftHalf t a ∷ row) h e = (λ i. visible_at (e i) t 2 a ∷ moved_visible x other_x (at + 1) (bt + 1) row (omega arith) (omega arith) i)
+moved_visible x other_x at bt (RightHalf a ∷ row) h e = moved_visible x other_x (at + 1) (bt + 1) row (omega arith) (omega arith)
+
+fit_closed : (x other_x at : ℕ) (row : Row) → other_x ≤ at → at - other_x + x + length row < 2 ^ 64 → Fit x other_x (visible_from at (closed_end row))
+fit_closed x other_x at [] h l = tt
+fit_closed x other_x at (Narrow t a ∷ []) h l = (h, omega arith, tt)
+fit_closed x other_x at (LeftHalf t a ∷ []) h l = (h, omega arith, tt)
+fit_closed x other_x at (RightHalf a ∷ []) h l = tt
+fit_closed x other_x at (Narrow t a ∷ y ∷ row) h l = (h, omega arith, fit_closed x other_x (at + 1) (y ∷ row) (omega arith) (omega arith))
+fit_closed x other_x at (LeftHalf t a ∷ y ∷ row) h l = (h, omega arith, fit_closed x other_x (at + 1) (y ∷ row) (omega arith) (omega arith))
+fit_closed x other_x at (RightHalf a ∷ y ∷ row) h l = fit_closed x other_x (at + 1) (y ∷ row) (omega arith) (omega arith)
+
+region_is : (start count : ℕ) (row : Row) → region start (start + count) row ≡ visible_from start (columns_from start count row)
+region_is start count row = let e : start + count - start ≡ count = omega arith in ap (λ n. visible_from start (cut n (cut_front start row))) e
+
+-- the cells of a region have their places
+pub region_fits : (x other_x count : ℕ) (row : Row) → other_x + count ≤ length row → x + count < 2 ^ 64 → Fit x other_x (region other_x (other_x + count) row)
+region_fits x other_x count row h l =
+    let behind = length-drop other_x row in
+    let front = length-closed_start (drop other_x row) in
+    let taken = length-take-le count (closed_start (drop other_x row)) (omega arith) in
+    rw (region_is other_x count row) (fit_closed x other_x other_x (take count (closed_start (drop other_x row))) (omega arith) (omega arith))
+
+-- what a walk over both regions finds
+pub row_is_fresh : (x other_x count : ℕ) (old new : Row) → passed_fresh (region x (x + count) old) (map (moved x other_x) (region other_x (other_x + count) new)) ≡ fresh (visible_from x (columns_from x count old)) (visible_from x (columns_from other_x count new))
+row_is_fresh x other_x count old new =
+    (λ i. passed_fresh (region_is x count old i) (map (moved x other_x) (region_is other_x count new i)))
+    ∙ ap (passed_fresh (visible_from x (columns_from x count old))) (moved_visible x other_x other_x x (columns_from other_x count new) (omega arith) (omega arith))
+    ∙ passed_is_fresh x x (visible_from x (columns_from x count old)) (visible_from x (columns_from other_x count new)) (in_order x (columns_from x count old)) (in_order x (columns_from other_x count new))
+
+pub none_fresh : (x other_x width : ℕ) (old new : Row) → shared_width width x old other_x new ≡ 0 → row_fresh x other_x width old new ≡ []
+none_fresh x other_x width old new e = ap (λ count. fresh (visible_from x (columns_from x count old)) (visible_from x (columns_from other_x count new))) e
+
+-- ---- rows in turn
+
+pub rows_end : (compare : Row → Row → List VisibleCell) (number : ℕ) (olds news : List Row) → min (length olds) (length news) ≡ 0 → rows_fresh compare number olds news ≡ []
+rows_end compare number [] news e = refl
+rows_end compare number (old ∷ olds) [] e = refl
+rows_end compare number (old ∷ olds) (new ∷ news) e = absurd (omega arith)
+
+-- columns of the lines from one on, and of the first ones
+pub columns_behind : (n : ℕ) (lines : List LineContent) → rows_of (drop n lines) ≡ drop n (rows_of lines)
+columns_behind zero lines = refl
+columns_behind (suc n) [] = refl
+columns_behind (suc n) (line ∷ lines) = columns_behind n lines
+
+columns_before : (n : ℕ) (lines : List LineContent) → rows_of (take n lines) ≡ take n (rows_of lines)
+columns_before zero lines = refl
+columns_before (suc n) [] = refl
+columns_before (suc n) (line ∷ lines) = ap (λ (rows : List Row). line.columns ∷ rows) (columns_before n lines)
+
+-- the columns of the first so many lines from one on
+pub columns_within : (y n m : ℕ) (lines olds : List LineContent) → olds ≡ drop y lines → m ≡ min n (length olds) → rows_of (take m olds) ≡ take n (drop y (rows_of lines))
+columns_within y n m lines olds e f = ap rows_of (ap (λ k. take k olds) f ∙ take_min n olds) ∙ columns_before n olds ∙ ap (take n) (ap rows_of e ∙ columns_behind y lines)

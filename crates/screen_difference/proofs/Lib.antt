@@ -1,0 +1,9 @@
+pub mod ClusterLemmas
+pub mod DrawnLemmas
+pub mod FreshLemmas
+pub mod PartLemmas
+pub mod PlaceLemmas
+pub mod RegionLemmas
+pub mod RowLemmas
+pub mod SpaceLemmas
+pub mod StretchLemmas

@@ -1,0 +1,10 @@
+use Rattle.std.proofs.Common.{◌≡◌, ◌+◌, drop}
+use Rattle.screen_difference.specs.Drawing.{with_all}
+use Rattle.screen_difference.specs.FreshCells.{row_fresh, rows_fresh, rows_of}
+use Rattle.screen_difference.proofs.regions.write_region.Given as goal
+
+-- what is written, and then the lines that are left, are the whole
+abbrev pub invariant-loop-at : goal.invariant-loop-at
+invariant-loop-at l =
+    with_all l.writer (rows_fresh (row_fresh l.x l.other_x l.width) (l.number + l.at) (rows_of (drop l.at l.olds)) (rows_of (drop l.at l.news)))
+    ≡ with_all l.initial.writer (rows_fresh (row_fresh l.x l.other_x l.width) l.number (rows_of l.olds) (rows_of l.news))

@@ -1,0 +1,37 @@
+-- Cells that are drawn on a screen where they have their places.
+use Rattle.std.specs.Prelude.{ℕ, ◌+◌, ◌<◌, ◌≤◌, ⊤, true, nat_le, List, [], ◌∷◌, fold}
+use Rattle.std.specs.List.{flat_map}
+use Rattle.unicode_segmentation.specs.Grapheme.{graphemes}
+use Rattle.cell_base.specs.Screen.{Screen, write_columns}
+use Rattle.cell_change.specs.ChangeValue.{ChangeValue, Text}
+use Rattle.cell_line.specs.LineContent.{cell_columns}
+use Rattle.screen_difference.specs.FreshCells.{PlacedCell}
+use Rattle.screen_effects.specs.Effect.{with_pen}
+use Rattle.screen_replay.specs.WrittenCells.{IsSoundText}
+
+-- the cell stands at its place, the cursor behind it, and the pen has its attributes
+abbrev pub drawn : Screen → PlacedCell → Screen
+drawn screen c = with_pen c.cell.attributes (write_columns (cell_columns c.cell) (record screen { column = c.column; row = c.row }))
+
+abbrev pub all_drawn : List PlacedCell → Screen → Screen
+all_drawn cells screen = fold drawn screen cells
+
+-- the cell has its place on a screen of a size, and is as a screen has cells
+pub record HasPlace (width_of : List ℕ → ℕ) (width height : ℕ) (c : PlacedCell) : Type 0 where
+  pub some : 1 ≤ c.cell.width
+  pub most : c.cell.width ≤ 2
+  pub sound : IsSoundText width_of c.cell.text (nat_le 2 c.cell.width)
+  pub in_columns : c.column + c.cell.width ≤ width
+  pub in_rows : c.row < height
+
+abbrev pub HavePlaces : (List ℕ → ℕ) → ℕ → ℕ → List PlacedCell → Type 0
+HavePlaces width_of width height [] = ⊤
+HavePlaces width_of width height (c ∷ cells) = HasPlace width_of width height c × HavePlaces width_of width height cells
+
+-- the clusters (UAX 29) of the texts of changes
+abbrev pub clusters_of : ChangeValue → List (List ℕ)
+clusters_of (Text text) = graphemes true text
+clusters_of _ = []
+
+abbrev pub printed : List ChangeValue → List (List ℕ)
+printed changes = flat_map clusters_of changes

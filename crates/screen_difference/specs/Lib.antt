@@ -1,0 +1,7 @@
+pub mod Difference
+pub mod Drawing
+pub mod DrawingView
+pub mod DrawnCells
+pub mod FreshCells
+pub mod Redrawn
+pub mod ShownCells

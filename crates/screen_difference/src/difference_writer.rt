@@ -1,0 +1,121 @@
+//! Changes that write cells where they have their places.
+ghost use Rattle.std.specs.Prelude.{◌≡◌, ◌+◌, ◌<◌, ◌^◌, List, map, OnOk, IfOk};
+ghost use Rattle.cell_base.specs.Attributes.{Attributes};
+ghost use Rattle.cell_change.specs.ValueOf.{value_of};
+ghost use Rattle.cell_line.specs.CellRefView.{shown_by};
+ghost use Rattle.screen_difference.specs.Difference.{difference, position};
+ghost use Rattle.screen_difference.specs.Drawing.{first_moved, moved_to, new_drawing, with_all, with_placed};
+ghost use Rattle.screen_difference.specs.FreshCells.{PlacedCell};
+
+use cell_base::{CellAttributes, Position};
+use cell_change::{CellWriter, Change};
+use cell_line::CellRef;
+use std::alloc::{AllocError, Global};
+use std::marker::Model;
+
+/// Makes the changes that write cells, each at its place, row by row.
+#[derive(Drop)]
+pub(crate) struct DifferenceWriter<'a> {
+    alloc: Global,
+    writer: CellWriter<'a>,
+    has_begun: bool,
+    row: usize,
+    column: usize,
+}
+
+impl<'a> Model for DifferenceWriter<'a> {
+    ghost use Rattle.screen_difference.specs.Drawing.{Drawing};
+
+    ghost Value = { Drawing };
+
+    ghost use Rattle.screen_difference.specs.DrawingView.{drawing_of};
+
+    ghost view = { drawing_of };
+}
+
+// The change that moves the cursor to a place.
+fn position(column: usize, row: usize) -> Change
+    ensures { value_of result ≡ position column row }
+{
+    Change::CursorPosition {
+        x: Position::Absolute(column),
+        y: Position::Absolute(row),
+    }
+}
+
+impl<'a> DifferenceWriter<'a> {
+    /// No changes yet. The attributes are of no concern.
+    pub(crate) fn new(alloc: Global, attrs: &'a CellAttributes) -> DifferenceWriter<'a>
+        ensures { result ≡ new_drawing attrs.now }
+    {
+        DifferenceWriter {
+            alloc,
+            writer: CellWriter::new(alloc, attrs),
+            has_begun: false,
+            row: 0,
+            column: 0,
+        }
+    }
+
+    // The place and the attributes of the first cell.
+    fn begin(
+        &mut self,
+        row: usize,
+        column: usize,
+        attrs: &'a CellAttributes,
+    ) -> Result<(), AllocError>
+        ensures { OnOk result (self.new ≡ record self.old { written = first_moved row column attrs.now }) }
+    {
+        self.writer = CellWriter::new(self.alloc, attrs);
+        self.writer.push_change(position(column, row))?;
+        self.writer
+            .push_change(Change::AllAttributes(attrs.try_clone()?))?;
+        Ok(())
+    }
+
+    // What stands before a cell: its place, unless the last cell ends there.
+    fn move_to(
+        &mut self,
+        row: usize,
+        column: usize,
+        attrs: &'a CellAttributes,
+    ) -> Result<(), AllocError>
+        ensures { OnOk result (self.new ≡ record self.old { written = moved_to row column attrs.now self.old }) }
+    {
+        if !self.has_begun {
+            self.begin(row, column, attrs)?;
+            return Ok(());
+        }
+        if self.row == row && self.column == column {
+            return Ok(());
+        }
+        self.writer.push_change(position(column, row))?;
+        Ok(())
+    }
+
+    /// Writes a cell at a place.
+    pub(crate) fn push(
+        &mut self,
+        row: usize,
+        column: usize,
+        cell: &CellRef<'a>,
+    ) -> Result<(), AllocError>
+        requires { column + (shown_by cell.now).cell.width < 2 ^ 64 }
+        ensures { OnOk result (self.new ≡ with_placed self.old (record { row = row; column = column; cell = (shown_by cell.now).cell })) }
+    {
+        self.move_to(row, column, cell.attrs())?;
+        self.writer.push_cell(cell.str(), cell.attrs())?;
+        self.has_begun = true;
+        self.row = row;
+        self.column = column + cell.width();
+        Ok(())
+    }
+
+    /// The changes.
+    pub(crate) fn finish(self) -> Result<Vec<Change>, AllocError>
+        ensures { (pen : Attributes) (cells : List PlacedCell) → self.entry ≡ with_all (new_drawing pen) cells → IfOk result (λ changes. map value_of changes.items ≡ difference cells) }
+    {
+        let changes = self.writer.finish()?;
+        Ok(changes)
+    }
+}
