@@ -1,8 +1,20 @@
-//! The surface: a screen with numbered changes.
+//! The surface: a screen with numbered changes; and what stands below it: cells, lines and changes.
 #![tactic(auto)]
 
+mod differences;
 mod error;
+pub mod laws;
+mod reading;
 mod surface;
 
+pub use cell_base::{
+    AnsiColor, AttributeChange, Blink, Cell, CellAttributes, ColorAttribute, ColorSpec,
+    CursorShape, CursorVisibility, DoubleClickRange, Hyperlink, Intensity, LineAttribute,
+    LinkError, PaletteIndex, Position, ProgramWidth, RgbColor, SEQ_ZERO, SemanticType, SequenceNo,
+    SrgbaTuple, Underline, VerticalAlign, Widths, ZoneRange, grapheme_column_width,
+    is_white_space_char, is_white_space_grapheme, unicode_column_width,
+};
+pub use cell_change::Change;
+pub use cell_line::{CellCluster, CellRef, Line, VisibleCellIter};
 pub use error::SurfaceError;
 pub use surface::Surface;

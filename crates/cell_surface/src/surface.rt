@@ -1,12 +1,13 @@
 //! The surface.
-ghost use Rattle.std.specs.Prelude.{◌≡◌, ◌+◌, ◌-◌, ◌<◌, ◌^◌, ◌↔◌, ◌==◌, All, false, true, length, map, not, IsErrOf, IfOk};
+ghost use Rattle.std.specs.Prelude.{◌≡◌, ◌≢◌, ◌≤◌, [], OnOk, OnErr, ◌+◌, ◌-◌, ◌<◌, ◌^◌, ◌↔◌, ◌==◌, All, false, true, length, map, not, IsErrOf, IfOk};
 ghost use Rattle.cell_change.specs.ValueOf.{value_of};
-ghost use Rattle.cell_surface.specs.Surface.{Adds, IsSound, number_of, shown_by};
-ghost use Rattle.change_log.specs.Log.{most_due, new_log};
+ghost use Rattle.cell_surface.specs.Surface.{Adds, AddsAll, Answers, IsSound, Resizes, number_of, shown_by};
+ghost use Rattle.change_log.specs.Log.{due, most_due, new_log};
 ghost use Rattle.change_log.specs.LogSteps.{Forgotten, step_of_kept};
 ghost use Rattle.screen_effects.specs.Effect.{is_visible};
 ghost use Rattle.screen_canvas.specs.Canvas.{IsDrawn};
 ghost use Rattle.screen_effects.specs.Display.{new_display};
+ghost use Rattle.screen_repaint.specs.Repaint.{repaint};
 
 use crate::error::SurfaceError;
 use cell_base::{CellAttributes, CursorShape, CursorVisibility, SequenceNo, Widths};
@@ -14,7 +15,9 @@ use cell_change::Change;
 use cell_line::Line;
 use change_log::ChangeLog;
 use screen_canvas::Canvas;
+use screen_repaint::repaint;
 use std::alloc::{AllocError, Global};
+use std::borrow::CowSlice;
 use std::marker::Model;
 
 /// A screen of cells with a cursor, a pen and a title, whose changes are numbered. The last of them
@@ -23,13 +26,14 @@ use std::marker::Model;
 /// A call that changes a surface and is refused memory leaves one that has failed: every such call then
 /// answers `Failed`, and of the cells nothing is said.
 #[derive(Drop)]
-pub struct Surface<W> {
-    canvas: Canvas<W>,
-    log: ChangeLog,
-    is_failed: bool,
+pub struct Surface<W: Widths> {
+    pub(crate) alloc: Global,
+    pub(crate) canvas: Canvas<W>,
+    pub(crate) log: ChangeLog,
+    pub(crate) is_failed: bool,
 }
 
-impl<W> Model for Surface<W> {
+impl<W: Widths> Model for Surface<W> {
     ghost use Rattle.cell_surface.specs.Surface.{Surface as Value_of};
 
     ghost Value = { Value_of W };
@@ -40,7 +44,7 @@ impl<W> Model for Surface<W> {
 
     ghost use Rattle.cell_surface.specs.Surface.{IsSound};
 
-    ghost invariant = { λ s. IsSound (surface_of s) };
+    ghost invariant = { λ s. IsSound (W.width_of s.canvas.widths) (surface_of s) };
 }
 
 // How many changes may be due on a screen of this size.
@@ -70,6 +74,7 @@ impl<W: Widths + Drop> Surface<W> {
     {
         let canvas = Canvas::new(alloc, width, height, widths)?;
         Ok(Surface {
+            alloc,
             canvas,
             log: ChangeLog::new(alloc, most_due(width, height)),
             is_failed: false,
@@ -178,11 +183,119 @@ impl<W: Widths + Drop> Surface<W> {
         if number == usize::MAX {
             return Err(SurfaceError::Number);
         }
-        let change = change.into();
+        self.push(change.into())?;
+        Ok(number)
+    }
+
+    // A change has its effect, and joins the log.
+    pub(crate) fn push(&mut self, change: Change) -> Result<(), AllocError>
+        requires stays { self.old.is_failed ≡ false }
+        requires number { number_of self.old + 1 < 2 ^ 64 }
+        ensures done { OnOk result (Adds (W.width_of self.old.canvas.widths) self.old self.new (value_of change)) }
+        ensures refused { OnErr result (self.new.is_failed ≡ true) }
+    {
         self.is_failed = true;
         self.canvas.apply(&change)?;
         self.log.push(change)?;
         self.is_failed = false;
-        Ok(number)
+        Ok(())
+    }
+
+    // Changes in turn. Where the number would pass `usize::MAX` nothing is changed.
+    pub(crate) fn push_all(&mut self, changes: Vec<Change>) -> Result<SequenceNo, SurfaceError>
+        requires { self.old.is_failed ≡ false }
+        ensures number { IfOk result (λ n. n ≡ number_of self.old - 1 + length changes.items) }
+        ensures added { OnOk result (AddsAll (W.width_of self.old.canvas.widths) self.old self.new (map value_of changes.items)) }
+        ensures never { IsErrOf result SurfaceError.Failed → ⊥ }
+        ensures numbers { IsErrOf result SurfaceError.Number → (2 ^ 64 ≤ number_of self.old + length changes.items) × (self.new ≡ self.old) }
+        ensures memory { IsErrOf result SurfaceError.Memory → self.new.is_failed ≡ true }
+    {
+        let number = self.log.number();
+        let count = changes.len();
+        if count > usize::MAX - number {
+            return Err(SurfaceError::Number);
+        }
+        for change in changes {
+            self.push(change)?;
+        }
+        Ok(number.saturating_sub(1) + count)
+    }
+
+    /// Adds changes in turn; answers the number before them less one, but at least 0, and how many
+    /// they are.
+    pub fn add_changes(&mut self, changes: Vec<Change>) -> Result<SequenceNo, SurfaceError>
+        ensures number { IfOk result (λ n. n ≡ number_of self.old - 1 + length changes.items) }
+        ensures added { OnOk result (AddsAll (W.width_of self.old.canvas.widths) self.old self.new (map value_of changes.items)) }
+        ensures failed { IsErrOf result SurfaceError.Failed ↔ (self.old.is_failed ≡ true) }
+        ensures numbers { IsErrOf result SurfaceError.Number → (2 ^ 64 ≤ number_of self.old + length changes.items) × (self.new ≡ self.old) }
+        ensures memory { IsErrOf result SurfaceError.Memory → self.new.is_failed ≡ true }
+    {
+        if self.is_failed {
+            return Err(SurfaceError::Failed);
+        }
+        self.push_all(changes)
+    }
+
+    /// Becomes so many columns wide and rows high, each from 1 to 2^32 - 1. The top left stays, and
+    /// plain blanks come at the right and below; a wide cell that the edge cuts becomes a blank with its
+    /// attributes. The cursor stays within the last column and row, so that no wrap is pending. Where
+    /// the log isn't empty the number rises by one and the log is emptied.
+    pub fn resize(&mut self, width: usize, height: usize) -> Result<(), SurfaceError>
+        requires width { (0 < width) × (width < 2 ^ 32) }
+        requires height { (0 < height) × (height < 2 ^ 32) }
+        ensures resized { OnOk result (Resizes width height self.old self.new) }
+        ensures failed { IsErrOf result SurfaceError.Failed ↔ (self.old.is_failed ≡ true) }
+        ensures numbers { IsErrOf result SurfaceError.Number → (number_of self.old ≡ 2 ^ 64 - 1) × (self.old.log.log.entries ≢ []) × (self.new ≡ self.old) }
+        ensures memory { IsErrOf result SurfaceError.Memory → self.new.is_failed ≡ true }
+    {
+        if self.is_failed {
+            return Err(SurfaceError::Failed);
+        }
+        if !self.log.is_empty() && self.log.number() == usize::MAX {
+            return Err(SurfaceError::Number);
+        }
+        self.is_failed = true;
+        self.canvas.resize(width, height)?;
+        self.log.resize(most_due(width, height));
+        self.is_failed = false;
+        Ok(())
+    }
+
+    /// The current number, and the changes from a number on, lent from the log; or, at 0, before the
+    /// first change of the log, above the current number, while that is 0, and where more changes are
+    /// due than a repaint is worth, the repaint: changes which paint this screen on any screen of its
+    /// size.
+    pub fn get_changes(
+        &self,
+        seq: SequenceNo,
+    ) -> Result<(SequenceNo, CowSlice<'_, Change>), SurfaceError>
+        ensures number { IfOk result (λ r. r.0 ≡ number_of self.now) }
+        ensures changes { IfOk result (λ r. Answers (due self.now.log.most self.now.log.log seq) (repaint (shown_by self.now)) r.1) }
+        ensures failed { IsErrOf result SurfaceError.Failed ↔ (self.now.is_failed ≡ true) }
+        ensures numbers { IsErrOf result SurfaceError.Number → ⊥ }
+    {
+        if self.is_failed {
+            return Err(SurfaceError::Failed);
+        }
+        let number = self.log.number();
+        if let Some(changes) = self.log.due(seq) {
+            return Ok((number, CowSlice::Borrowed(changes)));
+        }
+        let changes = repaint(self.alloc, &self.canvas)?;
+        Ok((number, CowSlice::Owned(changes)))
+    }
+}
+
+impl<W: Widths + Copy + Drop> Surface<W> {
+    /// A copy, with the same log and number.
+    pub fn try_clone(&self) -> Result<Surface<W>, AllocError>
+        ensures { IfOk result (λ surface. surface ≡ self.now) }
+    {
+        Ok(Surface {
+            alloc: self.alloc,
+            canvas: self.canvas.try_clone()?,
+            log: self.log.try_clone(self.alloc)?,
+            is_failed: self.is_failed,
+        })
     }
 }
