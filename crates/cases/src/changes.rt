@@ -1,27 +1,76 @@
-//! Changes, as rows write them: a text in quotes, all attributes by their words, a clear to the end of a line by its colour.
+//! Changes, as rows write them: a text in quotes, all attributes by their words, a place as `to X Y`, where `3` is counted from the
+//! start, `<1` from the end, and `+1` and `-1` from the cursor; a colour as `Default` or its number in the palette.
 use crate::attributes;
 use crate::fault::Fault;
 use crate::sheet::Sheet;
-use cell_base::CellAttributes;
+use cell_base::{CellAttributes, ColorAttribute, CursorVisibility, Position};
 use cell_change::Change;
 use cell_line::Line;
+
+fn say_color(name: &str, color: &ColorAttribute, sheet: &mut Sheet) {
+    sheet.word(name);
+    sheet.debug(color);
+}
+
+fn say_position(position: &Position, sheet: &mut Sheet) {
+    sheet.word("");
+    match position {
+        Position::Absolute(at) => sheet.add_shown(at),
+        Position::EndRelative(back) => {
+            sheet.add(b"<");
+            sheet.add_shown(back);
+        }
+        Position::Relative(way) => {
+            if *way >= 0 {
+                sheet.add(b"+");
+            }
+            sheet.add_shown(way);
+        }
+    }
+}
+
+fn say_place(x: &Position, y: &Position, sheet: &mut Sheet) {
+    sheet.word("to");
+    say_position(x, sheet);
+    say_position(y, sheet);
+}
+
+fn say_visibility(visibility: CursorVisibility, sheet: &mut Sheet) {
+    sheet.word(match visibility {
+        CursorVisibility::Hidden => "hide",
+        CursorVisibility::Visible => "show",
+    });
+}
 
 fn say_change(change: &Change, sheet: &mut Sheet) {
     match change {
         Change::Text(text) => sheet.quoted(text.as_str()),
-        Change::AllAttributes(attrs) => attributes::say(attrs, sheet),
-        Change::ClearToEndOfLine(color) => {
-            sheet.word("clear");
-            sheet.debug(color);
+        Change::Title(text) => {
+            sheet.word("title");
+            sheet.quoted(text.as_str());
         }
+        Change::Attribute(attribute) => sheet.debug(attribute),
+        Change::AllAttributes(attrs) => attributes::say(attrs, sheet),
+        Change::ClearScreen(color) => say_color("clear_screen", color, sheet),
+        Change::ClearToEndOfLine(color) => say_color("clear", color, sheet),
+        Change::ClearToEndOfScreen(color) => say_color("clear_below", color, sheet),
+        Change::CursorPosition { x, y } => say_place(x, y, sheet),
+        Change::CursorVisibility(visibility) => say_visibility(*visibility, sheet),
+        Change::CursorShape(shape) => sheet.debug(shape),
         _ => sheet.word("another"),
+    }
+}
+
+/// Changes in turn.
+pub fn say_all(changes: &[Change], sheet: &mut Sheet) {
+    for change in changes {
+        say_change(change, sheet);
     }
 }
 
 /// The changes that write the line where a pen has these attributes.
 pub fn say(line: &Line, pen: &CellAttributes, sheet: &mut Sheet) -> Result<(), Fault> {
-    for change in &line.changes(pen)? {
-        say_change(change, sheet);
-    }
+    let changes = line.changes(pen)?;
+    say_all(changes.as_slice(), sheet);
     Ok(())
 }

@@ -2,6 +2,7 @@
 ghost use Rattle.std.specs.Prelude.{◌≡◌};
 ghost use Rattle.cases.specs.declared.fault.Fault.TheVariants.{Memory, Write};
 
+use cell_surface::SurfaceError;
 use escape_framing::FramerError;
 use escape_stream::ParseError;
 use std::alloc::{AllocError, AllocFailed};
@@ -77,6 +78,14 @@ impl From<TerminalError> for Fault {
     ghost from_gives = { λ _ e. e ≡ Memory };
 
     fn from(_error: TerminalError) -> Fault {
+        Fault::Memory
+    }
+}
+
+impl From<SurfaceError> for Fault {
+    ghost from_gives = { λ _ e. e ≡ Memory };
+
+    fn from(_error: SurfaceError) -> Fault {
         Fault::Memory
     }
 }

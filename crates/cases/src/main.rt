@@ -21,7 +21,9 @@ mod runs;
 mod screens;
 mod sequences;
 mod sheet;
+mod steps;
 mod streams;
+mod surfaces;
 mod tally;
 mod values;
 
