@@ -1,12 +1,13 @@
 //! A change of a screen.
-ghost use Rattle.std.specs.Prelude.{◌≡◌, ◌↔◌, true, IfOk, IsTrue, string_bytes};
+ghost use Rattle.std.specs.Prelude.{◌≡◌, ◌↔◌, true, map, IfOk, IsTrue, string_bytes};
+ghost use Rattle.cell_change.specs.ValueOf.{value_of};
 ghost use Rattle.cell_change.specs.ChangeValue.{Attribute, LineAttribute, Text, is_text};
 
 use cell_base::{
     AttributeChange, CellAttributes, ColorAttribute, CursorShape, CursorVisibility, LineAttribute,
     Position,
 };
-use std::alloc::AllocError;
+use std::alloc::{AllocError, Global};
 
 /// What is asked of a screen. Columns and rows count from 0; a colour is that behind the blanks that
 /// a clear leaves.
@@ -148,4 +149,15 @@ impl From<LineAttribute> for Change {
     fn from(kind: LineAttribute) -> Change {
         Change::LineAttribute(kind)
     }
+}
+
+/// Copies of changes.
+pub fn cloned_changes(alloc: Global, changes: &[Change]) -> Result<Vec<Change>, AllocError>
+    ensures { IfOk result (λ copies. map value_of copies.items ≡ map value_of changes.now) }
+{
+    let mut copies = Vec::new(alloc);
+    for change in changes {
+        copies.push(change.try_clone()?)?;
+    }
+    Ok(copies)
 }

@@ -7,4 +7,4 @@ pub mod laws;
 mod texts;
 
 pub use cell_writer::CellWriter;
-pub use change::Change;
+pub use change::{Change, cloned_changes};

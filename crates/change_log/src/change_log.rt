@@ -6,7 +6,7 @@ ghost use Rattle.change_log.specs.Log.{due, new_log};
 ghost use Rattle.change_log.specs.LogSteps.{Forgotten, Logged, Resized, step_of_kept};
 
 use cell_base::SequenceNo;
-use cell_change::Change;
+use cell_change::{Change, cloned_changes};
 use std::alloc::{AllocError, Global};
 use std::marker::Model;
 
@@ -46,17 +46,6 @@ fn without_gone(changes: &mut Vec<Change>, start: usize, most: usize) -> usize
     changes.rotate_left(start);
     changes.truncate(left);
     0
-}
-
-// Copies of changes.
-fn cloned_changes(alloc: Global, changes: &[Change]) -> Result<Vec<Change>, AllocError>
-    ensures { IfOk result (λ copies. map value_of copies.items ≡ map value_of changes.now) }
-{
-    let mut copies = Vec::new(alloc);
-    for change in changes {
-        copies.push(change.try_clone()?)?;
-    }
-    Ok(copies)
 }
 
 impl ChangeLog {

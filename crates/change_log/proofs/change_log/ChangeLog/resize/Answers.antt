@@ -10,6 +10,6 @@ overflow_add-self c =
     let len = c.len.ensures in
     let counts = c.self.inside.changes.ok.0 in
     elim c.requires [
-      inl e ↦ absurd (some_kept c.self.inside.changes.items c.self.inside.start (omega (arith, some, len, counts)) (ap (λ (s : Sized). s.log.entries) c.self.view_is ∙ e))
-    | inr h ↦ omega (arith, h, number)
+      | inl e ↦ absurd (some_kept c.self.inside.changes.items c.self.inside.start (omega (arith, some, len, counts)) (ap (λ (s : Sized). s.log.entries) c.self.view_is ∙ e))
+      | inr h ↦ omega (arith, h, number)
     ]

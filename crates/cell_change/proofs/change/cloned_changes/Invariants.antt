@@ -1,6 +1,6 @@
 use Rattle.std.proofs.Common.{◌≡◌, map, take}
 use Rattle.cell_change.specs.ValueOf.{value_of}
-use Rattle.change_log.proofs.change_log.cloned_changes.Given as goal
+use Rattle.cell_change.proofs.change.cloned_changes.Given as goal
 
 -- copies of the changes so far
 abbrev pub invariant-loop-change : goal.invariant-loop-change
