@@ -7,3 +7,4 @@ mod rows;
 mod text;
 
 pub use canvas::{Canvas, blank_of};
+pub use text::{split_at_control, split_control};

@@ -24,8 +24,8 @@ fn plain_len(text: &str) -> usize
         .count()
 }
 
-// Cuts a text before its first control.
-pub(crate) fn split_at_control(text: &str) -> (&str, &str)
+/// Cuts a text before its first C0 control or DEL.
+pub fn split_at_control(text: &str) -> (&str, &str)
     ensures parts { text_parts text.now ≡ plain_part result.0.now ++ text_parts result.1.now }
     ensures stands { stand (clusters result.0.now) ≡ true }
     ensures control { IsAtControl result.1.now }
@@ -35,8 +35,8 @@ pub(crate) fn split_at_control(text: &str) -> (&str, &str)
     text.split_at(plain_len(text))
 }
 
-// Cuts off the control at the front.
-pub(crate) fn split_control(text: &str) -> Option<(u8, &str)>
+/// Cuts off the control at the front; `None` of the empty text.
+pub fn split_control(text: &str) -> Option<(u8, &str)>
     requires { IsAtControl text.now }
     ensures none { IfNone result (text.now ≡ []) }
     ensures parts { IfSome result (λ parts. text_parts text.now ≡ Control parts.0 ∷ text_parts parts.1.now) }
