@@ -68,7 +68,7 @@ up_to_dropped passes (x ∷ cells) cell e =
 
 -- ---- blanks of a colour
 
-blank_parts : (color : ColorAttribute) (cell : CellContent) → is_blank_of color cell ≡ true → (bytes_eq cell.text space ≡ true) × (cell.attributes ≡ blank_of color)
+pub blank_parts : (color : ColorAttribute) (cell : CellContent) → is_blank_of color cell ≡ true → (bytes_eq cell.text space ≡ true) × (cell.attributes ≡ blank_of color)
 unfolding is_blank_of
 blank_parts color cell e =
     let p = and_parts (bytes_eq cell.text space) (same_attributes cell.attributes (blank_of color)) e in
@@ -153,10 +153,10 @@ goes_on cells end cell h e b =
       plain = h.plain;
       others = λ color f. up_to_kept (λ x. not (is_blank_of color x)) cells cell (passes_not color cell (λ t. f (is ∙ ap Some (blank_parts color cell t).1)));
       front = λ color p.
-      let same : cell.attributes ≡ blank_of color = some_is cell.attributes (blank_of color) (sym is ∙ p) in
-      let blank : is_blank_of color cell ≡ true = blank_from color cell (blank_parts cell.attributes.background cell e).0 same in
-      taken_before end.kept cells cell (let w = h.within in let n = h.count in omega arith) ∙ h.front color p
-      ∙ sym (up_to_dropped (λ x. not (is_blank_of color x)) cells cell (ap not blank));
+          let same : cell.attributes ≡ blank_of color = some_is cell.attributes (blank_of color) (sym is ∙ p) in
+          let blank : is_blank_of color cell ≡ true = blank_from color cell (blank_parts cell.attributes.background cell e).0 same in
+          taken_before end.kept cells cell (let w = h.within in let n = h.count in omega arith) ∙ h.front color p
+          ∙ sym (up_to_dropped (λ x. not (is_blank_of color x)) cells cell (ap not blank));
       whole = λ p. absurd (none_some cell.attributes (sym p ∙ is));
     }
 
@@ -169,11 +169,11 @@ begins cells end cell h e b = record {
   plain = λ attributes p. sym (some_is cell.attributes attributes p) ∙ own_blank cell e ∙ ap (λ (a : Attributes). blank_of a.background) (some_is cell.attributes attributes p);
   others = λ color f. up_to_kept (λ x. not (is_blank_of color x)) cells cell (passes_not color cell (λ t. f (ap Some (blank_parts color cell t).1)));
   front = λ color p.
-  let same : cell.attributes ≡ blank_of color = some_is cell.attributes (blank_of color) p in
-  let blank : is_blank_of color cell ≡ true = blank_from color cell (blank_parts cell.attributes.background cell e).0 same in
-  let other : end.blanks ≡ Some (blank_of color) → ⊥ = λ q. false≢true (sym b ∙ ends_in_from end.blanks cell.attributes (q ∙ ap Some (sym same))) in
-  taken_before end.cells cells cell (let n = h.count in omega arith) ∙ ap (λ n. take n cells) h.count ∙ take_all cells
-  ∙ sym (up_to_dropped (λ x. not (is_blank_of color x)) cells cell (ap not blank) ∙ h.others color other);
+      let same : cell.attributes ≡ blank_of color = some_is cell.attributes (blank_of color) p in
+      let blank : is_blank_of color cell ≡ true = blank_from color cell (blank_parts cell.attributes.background cell e).0 same in
+      let other : end.blanks ≡ Some (blank_of color) → ⊥ = λ q. false≢true (sym b ∙ ends_in_from end.blanks cell.attributes (q ∙ ap Some (sym same))) in
+      taken_before end.cells cells cell (let n = h.count in omega arith) ∙ ap (λ n. take n cells) h.count ∙ take_all cells
+      ∙ sym (up_to_dropped (λ x. not (is_blank_of color x)) cells cell (ap not blank) ∙ h.others color other);
   whole = λ p. absurd (none_some cell.attributes (sym p));
 }
 
@@ -284,15 +284,15 @@ passing test n (x ∷ xs) =
     let rest = passing test n xs in record {
       all = λ all. ap (λ b. passing_at_end test (if b then n else length xs) xs) e ∙ rest.all (sym (ap (λ b. b && list_all test xs) e) ∙ all);
       some = λ some.
-      let less = rest.some (sym (ap (λ b. b && list_all test xs) e) ∙ some) in
-      subst (λ k. k < suc (length xs)) (sym (ap (λ b. passing_at_end test (if b then n else length xs) xs) e)) (omega (arith, less));
+          let less = rest.some (sym (ap (λ b. b && list_all test xs) e) ∙ some) in
+          subst (λ k. k < suc (length xs)) (sym (ap (λ b. passing_at_end test (if b then n else length xs) xs) e)) (omega (arith, less));
     })
     (λ e.
     let rest = passing test (length xs) xs in record {
       all = λ all. absurd (false≢true (sym (ap (λ b. b && list_all test xs) e) ∙ all));
       some = λ some.
-      subst (λ k. k < suc (length xs)) (sym (ap (λ b. passing_at_end test (if b then n else length xs) xs) e))
-      (by_test (list_all test xs) (λ a. let same = rest.all a in omega (arith, same)) (λ a. let less = rest.some a in omega (arith, less)));
+          subst (λ k. k < suc (length xs)) (sym (ap (λ b. passing_at_end test (if b then n else length xs) xs) e))
+          (by_test (list_all test xs) (λ a. let same = rest.all a in omega (arith, same)) (λ a. let less = rest.some a in omega (arith, less)));
     })
 
 same_all : {A : Type 0} (f g : A → Bool) (xs : List A) → ((x : A) → f x ≡ g x) → list_all f xs ≡ list_all g xs
@@ -327,19 +327,21 @@ by_count attributes color n row rows long last f =
 pub tail_rows : (attributes : Attributes) (n : ℕ) (rows : List Row) → length rows ≤ n → (0 < length rows → last_blanks None rows ≡ Some attributes) → AreFilled rows
     → IsTail (passing_at_end (λ r. are_blanks_with attributes (row_cells r)) n rows) (Some attributes) rows
 tail_rows attributes n [] long last f = tt
-tail_rows attributes n (row ∷ rows) long last f =
-    (λ color. by_count attributes color n row rows long (last (omega arith)) f,
-    by_test (are_blanks_with attributes (row_cells row))
-    (λ e. subst (λ b. IsTail (passing_at_end (λ r. are_blanks_with attributes (row_cells r)) (if b then n else length rows) rows) (Some attributes) rows) (sym e)
-    (tail_rows attributes n rows (omega (arith, long)) (λ m. last_behind row rows attributes m (last (omega arith))) f.1))
-    (λ e. subst (λ b. IsTail (passing_at_end (λ r. are_blanks_with attributes (row_cells r)) (if b then n else length rows) rows) (Some attributes) rows) (sym e)
-    (tail_rows attributes (length rows) rows (omega arith) (λ m. last_behind row rows attributes m (last (omega arith))) f.1)))
+tail_rows attributes n (row ∷ rows) long last f = (
+  λ color. by_count attributes color n row rows long (last (omega arith)) f,
+  by_test (are_blanks_with attributes (row_cells row))
+      (λ e. subst (λ b. IsTail (passing_at_end (λ r. are_blanks_with attributes (row_cells r)) (if b then n else length rows) rows) (Some attributes) rows) (sym e)
+      (tail_rows attributes n rows (omega (arith, long)) (λ m. last_behind row rows attributes m (last (omega arith))) f.1))
+      (λ e. subst (λ b. IsTail (passing_at_end (λ r. are_blanks_with attributes (row_cells r)) (if b then n else length rows) rows) (Some attributes) rows) (sym e)
+      (tail_rows attributes (length rows) rows (omega arith) (λ m. last_behind row rows attributes m (last (omega arith))) f.1)),
+)
 
 pub no_tail : (count : ℕ) (rows : List Row) → (0 < length rows → last_blanks None rows ≡ None) → AreFilled rows → IsTail count None rows
 no_tail count [] last f = tt
-no_tail count (row ∷ rows) last f =
-    (λ color. isn't (list_all (is_blank_row color) (row ∷ rows)) (λ all. none_some (blank_of color) (sym (last (omega arith)) ∙ some_blank_last color row rows None f all)),
-    no_tail count rows (λ m. last_still row rows None m (last (omega arith))) f.1)
+no_tail count (row ∷ rows) last f = (
+  λ color. isn't (list_all (is_blank_row color) (row ∷ rows)) (λ all. none_some (blank_of color) (sym (last (omega arith)) ∙ some_blank_last color row rows None f all)),
+  no_tail count rows (λ m. last_still row rows None m (last (omega arith))) f.1,
+)
 
 last_line : (line : LineContent) (lines : List LineContent) (l : LineContent) (start : Option Attributes) → Some l ≡ slice_get (line ∷ lines) (length lines) → last_blanks start (rows_of (line ∷ lines)) ≡ (end_of (row_cells l.columns)).blanks
 last_line line [] l start e = ap (λ (x : LineContent). (end_of (row_cells x.columns)).blanks) (line_is line l (sym e))

@@ -1,3 +1,6 @@
+pub mod CellLemmas
 pub mod EndLemmas
 pub mod PaintLemmas
 pub mod ScreenLemmas
+pub mod ShownLemmas
+pub mod WholeLemmas

@@ -227,7 +227,7 @@ go_with_is attributes count blanks below t e =
 
 -- ---- rows one after another
 
-no_changes : (cs : List ChangeValue) → are_some cs ≡ false → cs ≡ []
+pub no_changes : (cs : List ChangeValue) → are_some cs ≡ false → cs ≡ []
 no_changes [] e = refl
 no_changes (c ∷ cs) e = absurd (false≢true (sym e))
 
@@ -282,10 +282,10 @@ module _ (whole w : Written) (some painted : Bool) (count : ℕ) (row : Row) (be
       let count_is : next ≡ suc count = omega (arith, n) in record {
         is_ended = leads.is_ended;
         same =
-        ap (λ n. with_changes (behind_moves n (others w.pen)) w) count_is
-        ∙ ap (λ (cs : List ChangeValue). with_changes cs w) (sym (one_more count (others w.pen)))
-        ∙ ap (λ (cs : List ChangeValue). with_changes (behind_moves count cs) w) (sym all)
-        ∙ leads.same;
+            ap (λ n. with_changes (behind_moves n (others w.pen)) w) count_is
+            ∙ ap (λ (cs : List ChangeValue). with_changes cs w) (sym (one_more count (others w.pen)))
+            ∙ ap (λ (cs : List ChangeValue). with_changes (behind_moves count cs) w) (sym all)
+            ∙ leads.same;
         any = ap (λ b. painted || b) (sym (next_some (others w.pen)) ∙ ap are_some (sym all)) ∙ leads.any;
       }
 

@@ -33,9 +33,10 @@ pen_written a w e =
 pub filled : (rows : List Row) (width : ℕ) → 0 < width → All (λ row. length row ≡ width) rows → All IsWhole rows → AreFilled rows
 filled [] width n even whole = tt
 filled (row ∷ rows) width n even whole =
-    let wide = even 0 [] (omega arith) in
-    (some_visible 0 row (whole 0 [] (omega arith)) (omega (arith, wide, n)),
-    filled rows width n (λ k d h. even (suc k) d (omega arith)) (λ k d h. whole (suc k) d (omega arith)))
+    let wide = even 0 [] (omega arith) in (
+      some_visible 0 row (whole 0 [] (omega arith)) (omega (arith, wide, n)),
+      filled rows width n (λ k d h. even (suc k) d (omega arith)) (λ k d h. whole (suc k) d (omega arith)),
+    )
 
 title_pen : (title : List ℕ) (pen : Attributes) → pen_left pen (title_due title) ≡ pen
 title_pen [] pen = refl

@@ -26,8 +26,8 @@ ends_in (Some blanks) attributes = same_attributes blanks attributes
 abbrev pub with_cell : End → CellContent → End
 with_cell end cell =
     if is_blank_of cell.attributes.background cell then
-        (if ends_in end.blanks cell.attributes then record end { cells = end.cells + 1 }
-        else record { cells = end.cells + 1; kept = end.cells; blanks = Some cell.attributes })
+    (if ends_in end.blanks cell.attributes then record end { cells = end.cells + 1 }
+    else record { cells = end.cells + 1; kept = end.cells; blanks = Some cell.attributes })
     else record { cells = end.cells + 1; kept = end.cells + 1; blanks = None }
 
 abbrev pub end_of : List CellContent → End

@@ -2,3 +2,4 @@ pub mod EndView
 pub mod Ends
 pub mod PaintedRows
 pub mod Repaint
+pub mod Shown

@@ -75,12 +75,24 @@ impl<'a> RowEnd<'a> {
     {
         let cells = self.cells + 1;
         if !is_blank(cell) {
-            return RowEnd { cells, kept: cells, blanks: None };
+            return RowEnd {
+                cells,
+                kept: cells,
+                blanks: None,
+            };
         }
         if ends_in(self.blanks, cell.attrs()) {
-            return RowEnd { cells, kept: self.kept, blanks: self.blanks };
+            return RowEnd {
+                cells,
+                kept: self.kept,
+                blanks: self.blanks,
+            };
         }
-        RowEnd { cells, kept: self.cells, blanks: Some(cell.attrs()) }
+        RowEnd {
+            cells,
+            kept: self.cells,
+            blanks: Some(cell.attrs()),
+        }
     }
 }
 
@@ -89,7 +101,11 @@ pub(crate) fn row_end(line: &Line) -> RowEnd<'_>
     ensures { result ≡ end_of (row_cells line.now.columns) }
 {
     let len = line.len();
-    let mut end = RowEnd { cells: 0, kept: 0, blanks: None };
+    let mut end = RowEnd {
+        cells: 0,
+        kept: 0,
+        blanks: None,
+    };
     for cell in line.visible_cells() {
         end = end.with_cell(&cell);
     }

@@ -116,7 +116,12 @@ fn is_painted(end: &RowEnd<'_>) -> bool
 
 // Whether so many lines at the end, which have blanks with some attributes alone, are all of these,
 // and there are any.
-fn are_all(count: usize, blanks: Option<&CellAttributes>, lines: &[Line], attrs: &CellAttributes) -> bool
+fn are_all(
+    count: usize,
+    blanks: Option<&CellAttributes>,
+    lines: &[Line],
+    attrs: &CellAttributes,
+) -> bool
     ensures { result ≡ (not (length lines.now == 0) && (ends_in (option_map (λ a. a.now) blanks.entry) attrs.now && nat_le (length lines.now) count)) }
 {
     if lines.is_empty() {

@@ -39,11 +39,7 @@ fn write_clear(writer: &mut CellWriter<'_>) -> Result<(), AllocError>
 }
 
 // The title, unless it is empty.
-fn write_title(
-    alloc: Global,
-    writer: &mut CellWriter<'_>,
-    title: &str,
-) -> Result<(), AllocError>
+fn write_title(alloc: Global, writer: &mut CellWriter<'_>, title: &str) -> Result<(), AllocError>
     requires { writer.old.cells ≡ [] }
     ensures { OnOk result (writer.new ≡ with_changes (title_due title.now) writer.old) }
 {

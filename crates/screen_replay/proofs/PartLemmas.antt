@@ -145,9 +145,10 @@ tails x y xs ys e = cc
 each_stands : (gs : List (List ℕ)) → map (graphemes true) gs ≡ map (λ g. g ∷ []) gs → list_any is_control (concat gs) ≡ false → AreTexts gs
 each_stands [] e n = tt
 each_stands (g ∷ gs) e n =
-    let p = or_parts (list_any is_control g) (list_any is_control (concat gs)) (sym (list_any-append is_control g (concat gs)) ∙ n) in
-    (record { alone = heads (graphemes true g) (g ∷ []) (map (graphemes true) gs) (map (λ x. x ∷ []) gs) e; printed = p.0 },
-    each_stands gs (tails (graphemes true g) (g ∷ []) (map (graphemes true) gs) (map (λ x. x ∷ []) gs) e) p.1)
+    let p = or_parts (list_any is_control g) (list_any is_control (concat gs)) (sym (list_any-append is_control g (concat gs)) ∙ n) in (
+      record { alone = heads (graphemes true g) (g ∷ []) (map (graphemes true) gs) (map (λ x. x ∷ []) gs) e; printed = p.0 },
+      each_stands gs (tails (graphemes true g) (g ∷ []) (map (graphemes true) gs) (map (λ x. x ∷ []) gs) e) p.1,
+    )
 
 pub clusters_stand : (text : List ℕ) → IsUtf8 text → list_any is_control text ≡ false → AreTexts (clusters text)
 clusters_stand text u n =

@@ -182,7 +182,7 @@ module _ (width_of : List ℕ → ℕ) where
       ap (λ (all : List (List ℕ)). replay width_of d (map Text all)) (each_text t ts e)
       ∙ each_is (t ∷ ts) d p)
 
--- ---- runs of equal attributes
+  -- ---- runs of equal attributes
 
   pen_lawful : (s : Screen) (a : Attributes) → IsScreen s → IsScreen (with_pen a s)
   pen_lawful s a h = record { wide_enough = h.wide_enough; even = h.even; column_in = h.column_in; row_in = h.row_in }
@@ -244,7 +244,7 @@ module _ (width_of : List ℕ → ℕ) where
       ∙ runs_are runs other next lawful p.1 (omega (arith, fits, count))
       ∙ ap (λ (s : Screen). record d { screen = with_pen (runs_pen run.attributes (other ∷ runs)) s }) (write_again (with_pen run.attributes d.screen) first rest (pen_lawful d.screen run.attributes h.lawful) (texts_whole run.attributes run.cells) (omega (arith, fits, count)))
 
--- ---- cells in runs
+  -- ---- cells in runs
 
   cell_row : (cell : CellContent) → IsSoundText width_of cell.text (nat_le 2 cell.width) → text_columns width_of cell.attributes cell.text ≡ columns_of cell.text (nat_le 2 cell.width) cell.attributes
   cell_row cell p = ap (λ b. columns_of cell.text b cell.attributes) p.width

@@ -34,24 +34,24 @@ loop-line-preserved c =
     c.is_painted.ensures c.loop-line.writer.pen cells (rows_of below) c.row_end-end.ensures in
     let left_tail = tail_left whole c.loop-line.writer some c.loop-line.painted line below c.rest_of-left.result.now c.loop-line.at c.go_with-below_too.result leads too rest c.blank_tail-tail.result.0 (option_map (λ a. a.now) c.blank_tail-tail.result.1) tail.1 in
     elim c.if-is_painted.branch [
-      then-is_painted+in_ok-write_moves+in_ok-write_row w ↦
-      let left_len : c.loop-line.left.now ≡ line ∷ below = was in
-      let moved : w.write_moves.new.writer ≡ with_changes (moves (c.loop-line.at - length (line ∷ below))) c.loop-line.writer =
-      w.in_ok-write_moves.ensures ∙ ap (λ (rows : List LineContent). with_changes (moves (c.loop-line.at - length rows)) c.loop-line.writer) was in
-      let step : LeadsOn whole some w.write_row.new.writer true (length (line ∷ below) - length c.rest_of-left.result.now) (rows_of c.rest_of-left.result.now) =
-      painted_step whole c.loop-line.writer some c.loop-line.painted line below c.rest_of-left.result.now c.loop-line.at c.go_with-below_too.result leads too rest w.write_moves.new.writer w.write_row.new.writer moved w.in_ok-write_row.ensures (sym painted ∙ w.if-is_painted.true) in
-      let at : c.if-is_painted.at ≡ length (line ∷ below) = w.at-is ∙ ap length was in
-      let whole_step : LeadsOn whole some c.if-is_painted.writer c.if-is_painted.painted (c.if-is_painted.at - length c.rest_of-left.result.now) (rows_of c.rest_of-left.result.now) =
-      subst (λ n. LeadsOn whole some c.if-is_painted.writer c.if-is_painted.painted (n - length c.rest_of-left.result.now) (rows_of c.rest_of-left.result.now)) (sym at)
-      (subst (λ b. LeadsOn whole some c.if-is_painted.writer b (length (line ∷ below) - length c.rest_of-left.result.now) (rows_of c.rest_of-left.result.now)) (sym w.painted-is)
-      (subst (λ v. LeadsOn whole some v true (length (line ∷ below) - length c.rest_of-left.result.now) (rows_of c.rest_of-left.result.now)) (sym w.writer-is) step)) in
-      (whole_step, omega (arith, fewer, at), left_tail)
-    | else-is_painted w ↦
-      let step : LeadsOn whole some c.loop-line.writer c.loop-line.painted (c.loop-line.at - length c.rest_of-left.result.now) (rows_of c.rest_of-left.result.now) =
-      skipped_step whole c.loop-line.writer some c.loop-line.painted line below c.rest_of-left.result.now c.loop-line.at c.go_with-below_too.result leads too rest long (sym painted ∙ w.if-is_painted.false) in
-      let whole_step : LeadsOn whole some c.if-is_painted.writer c.if-is_painted.painted (c.if-is_painted.at - length c.rest_of-left.result.now) (rows_of c.rest_of-left.result.now) =
-      subst (λ n. LeadsOn whole some c.if-is_painted.writer c.if-is_painted.painted (n - length c.rest_of-left.result.now) (rows_of c.rest_of-left.result.now)) (sym w.at-is)
-      (subst (λ b. LeadsOn whole some c.if-is_painted.writer b (c.loop-line.at - length c.rest_of-left.result.now) (rows_of c.rest_of-left.result.now)) (sym w.painted-is)
-      (subst (λ v. LeadsOn whole some v c.loop-line.painted (c.loop-line.at - length c.rest_of-left.result.now) (rows_of c.rest_of-left.result.now)) (sym w.writer-is) step)) in
-      (whole_step, omega (arith, fewer, long, w.at-is), left_tail)
+      | then-is_painted+in_ok-write_moves+in_ok-write_row w ↦
+          let left_len : c.loop-line.left.now ≡ line ∷ below = was in
+          let moved : w.write_moves.new.writer ≡ with_changes (moves (c.loop-line.at - length (line ∷ below))) c.loop-line.writer =
+          w.in_ok-write_moves.ensures ∙ ap (λ (rows : List LineContent). with_changes (moves (c.loop-line.at - length rows)) c.loop-line.writer) was in
+          let step : LeadsOn whole some w.write_row.new.writer true (length (line ∷ below) - length c.rest_of-left.result.now) (rows_of c.rest_of-left.result.now) =
+          painted_step whole c.loop-line.writer some c.loop-line.painted line below c.rest_of-left.result.now c.loop-line.at c.go_with-below_too.result leads too rest w.write_moves.new.writer w.write_row.new.writer moved w.in_ok-write_row.ensures (sym painted ∙ w.if-is_painted.true) in
+          let at : c.if-is_painted.at ≡ length (line ∷ below) = w.at-is ∙ ap length was in
+          let whole_step : LeadsOn whole some c.if-is_painted.writer c.if-is_painted.painted (c.if-is_painted.at - length c.rest_of-left.result.now) (rows_of c.rest_of-left.result.now) =
+          subst (λ n. LeadsOn whole some c.if-is_painted.writer c.if-is_painted.painted (n - length c.rest_of-left.result.now) (rows_of c.rest_of-left.result.now)) (sym at)
+          (subst (λ b. LeadsOn whole some c.if-is_painted.writer b (length (line ∷ below) - length c.rest_of-left.result.now) (rows_of c.rest_of-left.result.now)) (sym w.painted-is)
+          (subst (λ v. LeadsOn whole some v true (length (line ∷ below) - length c.rest_of-left.result.now) (rows_of c.rest_of-left.result.now)) (sym w.writer-is) step)) in
+          (whole_step, omega (arith, fewer, at), left_tail)
+      | else-is_painted w ↦
+          let step : LeadsOn whole some c.loop-line.writer c.loop-line.painted (c.loop-line.at - length c.rest_of-left.result.now) (rows_of c.rest_of-left.result.now) =
+          skipped_step whole c.loop-line.writer some c.loop-line.painted line below c.rest_of-left.result.now c.loop-line.at c.go_with-below_too.result leads too rest long (sym painted ∙ w.if-is_painted.false) in
+          let whole_step : LeadsOn whole some c.if-is_painted.writer c.if-is_painted.painted (c.if-is_painted.at - length c.rest_of-left.result.now) (rows_of c.rest_of-left.result.now) =
+          subst (λ n. LeadsOn whole some c.if-is_painted.writer c.if-is_painted.painted (n - length c.rest_of-left.result.now) (rows_of c.rest_of-left.result.now)) (sym w.at-is)
+          (subst (λ b. LeadsOn whole some c.if-is_painted.writer b (c.loop-line.at - length c.rest_of-left.result.now) (rows_of c.rest_of-left.result.now)) (sym w.painted-is)
+          (subst (λ v. LeadsOn whole some v c.loop-line.painted (c.loop-line.at - length c.rest_of-left.result.now) (rows_of c.rest_of-left.result.now)) (sym w.writer-is) step)) in
+          (whole_step, omega (arith, fewer, long, w.at-is), left_tail)
     ]
