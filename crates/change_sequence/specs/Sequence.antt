@@ -1,0 +1,116 @@
+-- Where changes leave a cursor that doesn't scroll. Columns count from 0; rows count from where the first change stood, and may be negative.
+use Rattle.std.specs.Prelude.{ℕ, ◌+◌, ◌-◌, ◌%◌, min, ℤ, pos, negsuc, ◌+ℤ◌, ◌-ℤ◌, neg_ℤ, int_lt, Bool, true, false, ◌&&◌, nat_lt, nat_le, ◌^◌, List, [], ◌∷◌, ◌++◌, fold, if◌then◌else◌}
+use Rattle.std.specs.List.{flat_map}
+use Rattle.std.specs.Int.{saturate_signed, w64}
+use Rattle.cell_base.specs.declared.attributes.Position.{Position}
+use Rattle.cell_base.specs.declared.attributes.Position.TheVariants.{Relative, Absolute, EndRelative}
+use Rattle.cell_change.specs.ChangeValue.{ChangeValue, Text, ClearScreen, CursorPosition, ScrollRegionUp, ScrollRegionDown}
+use Rattle.screen_effects.specs.Strokes.{Stroke, CarriageReturn, LineFeed, Cluster, TextPart, part_strokes, strokes}
+
+-- a column and a row; sums of rows stay in 64 bits
+pub record Place : Type 0 where
+  pub column : ℕ
+  pub row : ℤ
+
+abbrev pub home : Place
+home = record { column = 0; row = pos 0 }
+
+abbrev pub next_row : ℤ → ℤ
+next_row row = saturate_signed w64 (row +ℤ pos 1)
+
+-- the columns of a cluster: on one column a wide one is a space
+abbrev pub columns_taken : (List ℕ → ℕ) → ℕ → List ℕ → ℕ
+columns_taken width_of columns cluster = if nat_lt 1 columns && nat_le 2 (width_of cluster) then 2 else 1
+
+-- as on a screen of so many columns: what doesn't fit goes to the start of the next row
+abbrev pub stroke_moved : (List ℕ → ℕ) → ℕ → Place → Stroke → Place
+stroke_moved width_of columns place CarriageReturn = record place { column = 0 }
+stroke_moved width_of columns place LineFeed = record place { row = next_row place.row }
+stroke_moved width_of columns place (Cluster cluster) =
+    let taken = columns_taken width_of columns cluster in
+    if nat_lt (columns - place.column) taken then record { column = taken; row = next_row place.row }
+    else record place { column = place.column + taken }
+
+-- the parts of a text in turn
+abbrev pub parts_moved : (List ℕ → ℕ) → ℕ → Place → List TextPart → Place
+parts_moved width_of columns place parts = fold (stroke_moved width_of columns) place (flat_map part_strokes parts)
+
+abbrev pub text_moved : (List ℕ → ℕ) → ℕ → Place → List ℕ → Place
+text_moved width_of columns place text = fold (stroke_moved width_of columns) place (strokes text)
+
+-- ---- positions: a column is cut below at 0 and taken modulo the columns, a row modulo the rows, with its sign kept
+
+abbrev pub most_unsigned : ℕ
+most_unsigned = 2 ^ 64 - 1
+
+abbrev pub most_signed : ℕ
+most_signed = 2 ^ 63 - 1
+
+-- the place from the start, or from the end
+abbrev pub column_moved : ℕ → ℕ → Position → ℕ
+column_moved columns from (Absolute at) = at % columns
+column_moved columns from (EndRelative back) = (columns - back) % columns
+column_moved columns from (Relative (pos forward)) = min (from + forward) most_unsigned % columns
+column_moved columns from (Relative (negsuc less)) = (from - (less + 1)) % columns
+
+-- the rest of a division, with the sign of what is divided
+abbrev pub signed_rest : ℤ → ℕ → ℤ
+signed_rest (pos n) count = pos (n % count)
+signed_rest (negsuc less) count = neg_ℤ (pos ((less + 1) % count))
+
+abbrev pub row_moved : ℕ → ℤ → Position → ℤ
+row_moved rows from (Absolute at) = pos (min (at % rows) most_signed)
+row_moved rows from (EndRelative back) = pos (min ((rows - back) % rows) most_signed)
+row_moved rows from (Relative way) = signed_rest (saturate_signed w64 (from +ℤ way)) rows
+
+-- ---- all changes
+
+abbrev pub change_moved : (List ℕ → ℕ) → ℕ → ℕ → Place → ChangeValue → Place
+change_moved width_of columns rows place (Text text) = text_moved width_of columns place text
+change_moved width_of columns rows place (CursorPosition x y) = record { column = column_moved columns place.column x; row = row_moved rows place.row y }
+change_moved width_of columns rows place (ClearScreen color) = home
+change_moved width_of columns rows place (ScrollRegionUp first size count) = home
+change_moved width_of columns rows place (ScrollRegionDown first size count) = home
+change_moved width_of columns rows place _ = place
+
+-- ---- a list of changes
+
+abbrev pub lower : ℤ → ℤ → ℤ
+lower a b = if int_lt b a then b else a
+
+abbrev pub higher : ℤ → ℤ → ℤ
+higher a b = if int_lt a b then b else a
+
+-- whether the row behind a change counts for the height
+abbrev pub is_drawn : ChangeValue → Bool
+is_drawn (Text text) = true
+is_drawn (CursorPosition x y) = true
+is_drawn _ = false
+
+-- the width values, the columns and rows of the screen, where the changes leave the cursor, the least and the greatest row, and the changes
+pub record Sequence (W : Type 0) : Type 0 where
+  pub widths : W
+  pub columns : ℕ
+  pub rows : ℕ
+  pub place : Place
+  pub lowest : ℤ
+  pub highest : ℤ
+  pub changes : List ChangeValue
+
+-- one change more
+abbrev pub with_change : {W : Type 0} → (List ℕ → ℕ) → Sequence W → ChangeValue → Sequence W
+with_change width_of s change =
+    let place = change_moved width_of s.columns s.rows s.place change in
+    record s {
+      place = place;
+      lowest = if is_drawn change then lower s.lowest place.row else s.lowest;
+      highest = if is_drawn change then higher s.highest place.row else s.highest;
+      changes = s.changes ++ change ∷ [];
+    }
+
+abbrev pub with_changes : {W : Type 0} → (List ℕ → ℕ) → Sequence W → List ChangeValue → Sequence W
+with_changes width_of s changes = fold (with_change width_of) s changes
+
+-- from one place to another, as far as numbers of 64 bits go
+abbrev pub move_to : Place → ℕ → ℤ → ChangeValue
+move_to place column row = CursorPosition (Relative (saturate_signed w64 (pos column -ℤ pos place.column))) (Relative (saturate_signed w64 (row -ℤ place.row)))

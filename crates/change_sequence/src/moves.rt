@@ -1,0 +1,126 @@
+//! Where texts and positions leave a cursor that doesn't scroll.
+ghost use Rattle.std.specs.Prelude.{◌≡◌, ◌≤◌, ◌<◌, min, pos, [], ◌∷◌, fold, map};
+ghost use Rattle.cell_base.specs.Cluster.{clusters};
+ghost use Rattle.screen_effects.specs.Strokes.{Cluster, Control, part_strokes};
+ghost use Rattle.change_sequence.specs.Sequence.{column_moved, most_signed, parts_moved, row_moved, signed_rest, stroke_moved, text_moved};
+ghost use Rattle.change_sequence.specs.Places.{place_of};
+
+use cell_base::{Position, Widths, read_cluster};
+use screen_canvas::{split_at_control, split_control};
+use unicode_segmentation::UnicodeSegmentation;
+
+/// A column and a row.
+pub(crate) type Place = (usize, isize);
+
+// Behind a cluster.
+fn behind_cluster<W: Widths>(widths: &W, columns: usize, place: Place, cluster: &str) -> Place
+    requires within { place.0 ≤ columns }
+    requires some { 0 < columns }
+    ensures moved { place_of result ≡ stroke_moved (W.width_of widths.now) columns (place_of place) (Cluster cluster.now) }
+    ensures within { result.0 ≤ columns }
+{
+    let (column, row) = place;
+    let taken = if 1 < columns && 2 <= widths.width(cluster) {
+        2
+    } else {
+        1
+    };
+    if columns - column < taken {
+        (taken, row.saturating_add(1))
+    } else {
+        (column + taken, row)
+    }
+}
+
+// Behind the clusters of a text.
+fn behind_run<W: Widths>(widths: &W, columns: usize, place: Place, text: &str) -> Place
+    requires within { place.0 ≤ columns }
+    requires some { 0 < columns }
+    ensures moved { place_of result ≡ fold (stroke_moved (W.width_of widths.now) columns) (place_of place) (map Cluster (clusters text.now)) }
+    ensures within { result.0 ≤ columns }
+{
+    let mut place = place;
+    for cluster in text.graphemes(true) {
+        place = behind_cluster(widths, columns, place, read_cluster(cluster));
+    }
+    place
+}
+
+// Behind a control in a text.
+fn behind_control<W: Widths>(widths: &W, columns: usize, place: Place, control: u8) -> Place
+    requires within { place.0 ≤ columns }
+    requires some { 0 < columns }
+    ensures moved { place_of result ≡ parts_moved (W.width_of widths.now) columns (place_of place) (Control control ∷ []) }
+    ensures within { result.0 ≤ columns }
+{
+    let (column, row) = place;
+    match control {
+        b'\r' => (0, row),
+        b'\n' => (column, row.saturating_add(1)),
+        _ => behind_cluster(widths, columns, place, " "),
+    }
+}
+
+/// Behind a text, as on a screen of so many columns that doesn't scroll.
+pub(crate) fn behind_text<W: Widths>(widths: &W, columns: usize, place: Place, text: &str) -> Place
+    requires within { place.0 ≤ columns }
+    requires some { 0 < columns }
+    ensures moved { place_of result ≡ text_moved (W.width_of widths.now) columns (place_of place) text.now }
+    ensures within { result.0 ≤ columns }
+{
+    let (front, mut rest) = split_at_control(text);
+    let mut place = behind_run(widths, columns, place, front);
+    while let Some((control, behind)) = split_control(rest) {
+        place = behind_control(widths, columns, place, control);
+        let (front, others) = split_at_control(behind);
+        place = behind_run(widths, columns, place, front);
+        rest = others;
+    }
+    place
+}
+
+/// The column that a position names.
+pub(crate) fn column_of(columns: usize, from: usize, position: Position) -> usize
+    requires { 0 < columns }
+    ensures moved { result ≡ column_moved columns from position }
+    ensures within { result ≤ columns }
+{
+    match position {
+        Position::Absolute(at) => at % columns,
+        Position::EndRelative(back) => columns.saturating_sub(back) % columns,
+        Position::Relative(way) if way < 0 => from.saturating_sub(way.unsigned_abs()) % columns,
+        Position::Relative(way) => from.saturating_add(way as usize) % columns,
+    }
+}
+
+/// A count; past `isize::MAX` that.
+pub(crate) fn as_row(row: usize) -> isize
+    ensures { result ≡ pos (min row most_signed) }
+{
+    isize::try_from(row).unwrap_or(isize::MAX)
+}
+
+// The rest of a row's division by how many rows there are, with its sign.
+fn signed_rest(row: isize, rows: usize) -> isize
+    requires { 0 < rows }
+    ensures { result ≡ signed_rest row rows }
+{
+    let rest = row.unsigned_abs() % rows;
+    if row < 0 {
+        0isize.saturating_sub_unsigned(rest)
+    } else {
+        as_row(rest)
+    }
+}
+
+/// The row that a position names.
+pub(crate) fn row_of(rows: usize, from: isize, position: Position) -> isize
+    requires { 0 < rows }
+    ensures { result ≡ row_moved rows from position }
+{
+    match position {
+        Position::Absolute(at) => as_row(at % rows),
+        Position::EndRelative(back) => as_row(rows.saturating_sub(back) % rows),
+        Position::Relative(way) => signed_rest(from.saturating_add(way), rows),
+    }
+}

@@ -1,0 +1,209 @@
+//! The sequence.
+ghost use Rattle.std.specs.Prelude.{◌≡◌, ◌≤◌, ◌<◌, ◌-ℤ◌, [], pos, map, unsigned_abs, IfOk, OnOk, OnErr};
+ghost use Rattle.std.specs.Int.{saturate_signed, w64};
+ghost use Rattle.cell_change.specs.ValueOf.{value_of};
+ghost use Rattle.change_sequence.specs.Places.{place_of};
+ghost use Rattle.change_sequence.specs.Sequence.{change_moved, higher, home, is_drawn, lower, move_to, with_change, with_changes};
+
+use crate::moves::{Place, as_row, behind_text, column_of, row_of};
+use cell_base::{Position, Widths};
+use cell_change::{Change, cloned_changes};
+use std::alloc::{AllocError, Global};
+use std::marker::Model;
+
+/// Changes in turn, and where they leave the cursor of a screen of so many rows and columns that
+/// doesn't scroll. Columns count from 0, and rows from where the first change stood, so that a row may
+/// be negative.
+#[derive(Drop)]
+pub struct ChangeSequence<W> {
+    widths: W,
+    rows: usize,
+    columns: usize,
+    column: usize,
+    row: isize,
+    lowest: isize,
+    highest: isize,
+    changes: Vec<Change>,
+    alloc: Global,
+}
+
+impl<W> Model for ChangeSequence<W> {
+    ghost use Rattle.change_sequence.specs.Sequence.{Sequence};
+
+    ghost Value = { Sequence W };
+
+    ghost use Rattle.change_sequence.specs.SequenceView.{sequence_of, IsWithin};
+
+    ghost view = { sequence_of };
+
+    ghost invariant = { IsWithin };
+}
+
+fn lower(a: isize, b: isize) -> isize
+    ensures { result ≡ lower a b }
+{
+    if b < a { b } else { a }
+}
+
+fn higher(a: isize, b: isize) -> isize
+    ensures { result ≡ higher a b }
+{
+    if a < b { b } else { a }
+}
+
+// Whether the row behind the change counts for the height.
+fn is_drawn(change: &Change) -> bool
+    ensures { result ≡ is_drawn (value_of change.now) }
+{
+    matches!(change, Change::Text(_) | Change::CursorPosition { .. })
+}
+
+// Where a change leaves the cursor.
+fn behind<W: Widths>(
+    widths: &W,
+    columns: usize,
+    rows: usize,
+    place: Place,
+    change: &Change,
+) -> Place
+    requires within { place.0 ≤ columns }
+    requires some_columns { 0 < columns }
+    requires some_rows { 0 < rows }
+    ensures moved { place_of result ≡ change_moved (W.width_of widths.now) columns rows (place_of place) (value_of change.now) }
+    ensures within { result.0 ≤ columns }
+{
+    match change {
+        Change::Text(text) => behind_text(widths, columns, place, text.as_str()),
+        Change::CursorPosition { x, y } => {
+            (column_of(columns, place.0, *x), row_of(rows, place.1, *y))
+        }
+        Change::ClearScreen(_) => (0, 0),
+        Change::ScrollRegionUp { .. } => (0, 0),
+        Change::ScrollRegionDown { .. } => (0, 0),
+        _ => place,
+    }
+}
+
+impl<W: Widths + Drop> ChangeSequence<W> {
+    /// No changes, for a screen of so many rows and columns, each at least 1.
+    pub fn new(alloc: Global, rows: usize, cols: usize, widths: W) -> ChangeSequence<W>
+        requires rows { 0 < rows }
+        requires cols { 0 < cols }
+        ensures { result ≡ record { widths = widths; columns = cols; rows = rows; place = home; lowest = pos 0; highest = pos 0; changes = [] } }
+    {
+        ChangeSequence {
+            widths,
+            rows,
+            columns: cols,
+            column: 0,
+            row: 0,
+            lowest: 0,
+            highest: 0,
+            changes: Vec::new(alloc),
+            alloc,
+        }
+    }
+
+    /// The changes.
+    pub fn consume(self) -> Vec<Change>
+        ensures { map value_of result.items ≡ self.changes }
+    {
+        let ChangeSequence { changes, .. } = self;
+        changes
+    }
+
+    /// The column and the row where the changes leave the cursor.
+    pub fn current_cursor_position(&self) -> (usize, isize)
+        ensures { place_of result ≡ self.now.place }
+    {
+        (self.column, self.row)
+    }
+
+    /// How far apart the least and the greatest are of row 0 and the rows behind texts and positions.
+    pub fn render_height(&self) -> usize
+        ensures { result ≡ unsigned_abs (self.now.highest -ℤ self.now.lowest) }
+    {
+        self.highest.abs_diff(self.lowest)
+    }
+
+    /// Adds a change; a text moves the cursor as on a screen, but that nothing scrolls. A refused call
+    /// changes nothing, and drops the change.
+    pub fn add<C: Into<Change> + Drop>(&mut self, change: C) -> Result<(), AllocError>
+        ensures added { OnOk result ((c : Change) × C.converts change c × (self.new ≡ with_change (W.width_of self.old.widths) self.old (value_of c))) }
+        ensures refused { OnErr result (self.new ≡ self.old) }
+    {
+        self.push(change.into())
+    }
+
+    // Adds a change.
+    fn push(&mut self, change: Change) -> Result<(), AllocError>
+        ensures added { OnOk result (self.new ≡ with_change (W.width_of self.old.widths) self.old (value_of change)) }
+        ensures refused { OnErr result (self.new ≡ self.old) }
+    {
+        let place = (self.column, self.row);
+        let (column, row) = behind(&self.widths, self.columns, self.rows, place, &change);
+        let is_drawn = is_drawn(&change);
+        self.changes.push(change)?;
+        self.column = column;
+        self.row = row;
+        if is_drawn {
+            self.lowest = lower(self.lowest, row);
+            self.highest = higher(self.highest, row);
+        }
+        Ok(())
+    }
+
+    /// Adds changes in turn. Where memory is refused the ones before are added.
+    pub fn add_changes(&mut self, changes: Vec<Change>) -> Result<(), AllocError>
+        ensures { OnOk result (self.new ≡ with_changes (W.width_of self.old.widths) self.old (map value_of changes.items)) }
+    {
+        for change in changes {
+            self.push(change)?;
+        }
+        Ok(())
+    }
+
+    /// Adds the position that leads from the current place to another one, by how far it is away.
+    pub fn move_to(&mut self, place: (usize, isize)) -> Result<(), AllocError>
+        ensures added { OnOk result (self.new ≡ with_change (W.width_of self.old.widths) self.old (move_to self.old.place place.0 place.1)) }
+        ensures refused { OnErr result (self.new ≡ self.old) }
+    {
+        let x = way(self.column, place.0);
+        let y = place.1.saturating_sub(self.row);
+        self.push(Change::CursorPosition {
+            x: Position::Relative(x),
+            y: Position::Relative(y),
+        })
+    }
+}
+
+impl<W: Widths + Copy + Drop> ChangeSequence<W> {
+    /// A copy.
+    pub fn try_clone(&self) -> Result<ChangeSequence<W>, AllocError>
+        ensures { IfOk result (λ copy. copy ≡ self.now) }
+    {
+        let changes = cloned_changes(self.alloc, self.changes.as_slice())?;
+        Ok(ChangeSequence {
+            widths: self.widths,
+            rows: self.rows,
+            columns: self.columns,
+            column: self.column,
+            row: self.row,
+            lowest: self.lowest,
+            highest: self.highest,
+            changes,
+            alloc: self.alloc,
+        })
+    }
+}
+
+// How far it is from a column to another one, as far as an `isize` goes.
+fn way(from: usize, to: usize) -> isize
+    ensures { result ≡ saturate_signed w64 (pos to -ℤ pos from) }
+{
+    if to < from {
+        0isize.saturating_sub_unsigned(from - to)
+    } else {
+        as_row(to - from)
+    }
+}
