@@ -115,12 +115,7 @@ impl<W: Widths + Drop> Surface<W> {
     }
 
     // The difference where another surface is drawn, and the cursor's place and the pen as they are.
-    fn drawing(
-        &self,
-        other: &Surface<W>,
-        x: usize,
-        y: usize,
-    ) -> Result<Vec<Change>, AllocError>
+    fn drawing(&self, other: &Surface<W>, x: usize, y: usize) -> Result<Vec<Change>, AllocError>
         ensures { IfOk result (λ changes. map value_of changes.items ≡ drawn (shown_by self.now) (shown_by other.now) x y) }
     {
         let (width, height) = other.canvas.dimensions();

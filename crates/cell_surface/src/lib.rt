@@ -16,5 +16,6 @@ pub use cell_base::{
 };
 pub use cell_change::Change;
 pub use cell_line::{CellCluster, CellRef, Line, VisibleCellIter};
+pub use change_sequence::ChangeSequence;
 pub use error::SurfaceError;
 pub use surface::Surface;
