@@ -2,14 +2,25 @@
 use crate::fault::Fault;
 use crate::row::Row;
 use crate::sheet::Sheet;
-use crate::{codes, commands, framing, lines, screens, sequences, streams, surfaces, values};
+use crate::{
+    codes, commands, framing, lines, screens, sequences, sequences_of_changes, streams, surfaces,
+    values,
+};
 
 // How many arguments a kind takes.
 fn count_of(kind: &str) -> usize {
     match kind {
         "csi tokens" | "cell" => 3,
-        "csi" | "code" | "esc" | "text" | "line" | "question" | "screen" | "settled screen"
-        | "surface" => 2,
+        "csi"
+        | "code"
+        | "esc"
+        | "text"
+        | "line"
+        | "question"
+        | "screen"
+        | "settled screen"
+        | "surface"
+        | "sequence" => 2,
         _ => 1,
     }
 }
@@ -27,6 +38,7 @@ fn answer_value(kind: &str, row: &Row<'_>, sheet: &mut Sheet) -> Result<(), Faul
         "screen" => screens::screen(row, sheet),
         "settled screen" => screens::settled(row, sheet),
         "surface" => surfaces::surface(row, sheet),
+        "sequence" => sequences_of_changes::sequence(row, sheet),
         _ => Err(Fault::Kind),
     }
 }

@@ -20,6 +20,7 @@ mod run;
 mod runs;
 mod screens;
 mod sequences;
+mod sequences_of_changes;
 mod sheet;
 mod steps;
 mod streams;

@@ -1,11 +1,9 @@
 //! Surfaces that are changed and asked by steps.
-use crate::attributes;
 use crate::call::Call;
-use crate::changes;
 use crate::fault::Fault;
 use crate::row::{Row, number_up_to};
 use crate::sheet::Sheet;
-use crate::steps;
+use crate::{attributes, changes, steps};
 use cell_base::{CellAttributes, CursorVisibility, ProgramWidth};
 use cell_change::Change;
 use cell_line::Line;
@@ -49,7 +47,9 @@ fn change(stage: &mut Stage, call: &Call<'_>, sheet: &mut Sheet) -> Result<(), F
             let height = number_up_to(4096, call.word(2))?;
             stage.surface.resize(width, height)?;
         }
-        "flush" => stage.surface.flush_changes_older_than(call.number(1, sheet)),
+        "flush" => stage
+            .surface
+            .flush_changes_older_than(call.number(1, sheet)),
         "texts" => stage.answer = stage.surface.add_changes(texts_of(call)?)?,
         "draw" => {
             let (x, y) = (call.number(1, sheet), call.number(2, sheet));
@@ -82,21 +82,25 @@ fn say_changes(surface: &Plain, seq: usize, sheet: &mut Sheet) -> Result<(), Fau
 fn difference(stage: &Stage, call: &Call<'_>, sheet: &mut Sheet) -> Result<Vec<Change>, Fault> {
     match call.word(0) {
         "diff_screens" => Ok(stage.surface.diff_screens(&stage.other)?),
-        "diff_region" => Ok(stage.surface.diff_region(
-            call.number(1, sheet),
-            call.number(2, sheet),
-            call.number(3, sheet),
-            call.number(4, sheet),
-            &stage.other,
-            call.number(5, sheet),
-            call.number(6, sheet),
-        )?),
+        "diff_region" => Ok(
+            stage.surface.diff_region(
+                call.number(1, sheet),
+                call.number(2, sheet),
+                call.number(3, sheet),
+                call.number(4, sheet),
+                &stage.other,
+                call.number(5, sheet),
+                call.number(6, sheet),
+            )?,
+        ),
         "diff_line" => {
             let text = call.text(2)?;
             let line = Line::try_from_text(call.alloc(), text.as_str(), &ProgramWidth)?;
-            Ok(stage
-                .surface
-                .diff_against_numbered_line(call.number(1, sheet), &line)?)
+            Ok(
+                stage
+                    .surface
+                    .diff_against_numbered_line(call.number(1, sheet), &line)?,
+            )
         }
         _ => {
             let text = call.text(1)?;
@@ -131,7 +135,10 @@ fn ask(stage: &Stage, call: &Call<'_>, sheet: &mut Sheet) -> Result<bool, Fault>
             let (column, row) = surface.cursor_position();
             sheet.show(&column);
             sheet.show(&row);
-            sheet.word_if(surface.cursor_visibility() == CursorVisibility::Hidden, "hidden");
+            sheet.word_if(
+                surface.cursor_visibility() == CursorVisibility::Hidden,
+                "hidden",
+            );
         }
         "pen?" => attributes::say(surface.pen(), sheet),
         "title?" => sheet.quoted(surface.title()),
