@@ -1,0 +1,3 @@
+pub mod StateLemmas
+pub mod TakeLemmas
+pub mod SpellLemmas

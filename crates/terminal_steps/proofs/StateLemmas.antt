@@ -1,0 +1,98 @@
+-- What ends a run, and what an action does behind it.
+use Rattle.std.proofs.Common.{◌≡◌, ℕ, Bool, false, List, [], ◌∷◌, ◌++◌, length, map, fold, refl, sym, ap, subst, ◌∙◌}
+use Rattle.std.specs.Prelude.{◌==◌, Option, if◌then◌else◌}
+use Rattle.std.specs.String.{string_bytes}
+use Rattle.std.proofs.lemmas.List.Sums.{fold-append}
+use Rattle.cell_change.specs.ChangeValue.{ChangeValue}
+use Rattle.cell_surface.specs.Surface.{Surface, shown_by}
+use Rattle.change_log.specs.LogSteps.{LogStep, Logged, step_of_kept}
+use Rattle.escape_stream.specs.StreamAction.{StreamAction, is_print, printed}
+use Rattle.screen_effects.specs.Display.{IsDisplay}
+use Rattle.screen_effects.proofs.EffectLaws.{effect_is, replay_is}
+use Rattle.terminal_table.specs.Functions.{ControlFunction, function_of}
+use Rattle.terminal_table.specs.Steps.{step_of, run_step}
+use Rattle.terminal_table.specs.Changes.{changes_of, run_change}
+use Rattle.terminal_table.specs.History.{Act, Looked}
+use Rattle.terminal_table.specs.Meaning.{View, settled}
+use Rattle.terminal_table.specs.Logged.{run_logged}
+use Rattle.terminal_table.specs.Turns.{IsPrinted}
+use Rattle.terminal_table.proofs.TurnLemmas.{action_turns}
+use Rattle.terminal_table.proofs.RunLemmas.{run_step_turns}
+use Rattle.terminal_table.proofs.ListLemmas.{append_nil}
+use Rattle.terminal_steps.specs.Adding.{AddsAll}
+use Rattle.terminal_steps.specs.Applying.{state_of}
+use Rattle.terminal_steps.specs.Events.{view_of, IsReady, Had}
+use Rattle.terminal_steps.specs.declared.state.TerminalState.{TerminalState}
+
+module _ {W : Type 0} (width_of : W → List ℕ → ℕ) where
+  abbrev of : TerminalState W → List ℕ → ℕ
+  of t = width_of t.surface.canvas.widths
+
+  -- the run was added as a change, and nothing is held behind it
+  pub settled_had : (t r : TerminalState W) (s : Surface W) → (length (string_bytes t.held) == 0) ≡ false
+      → r.surface ≡ s → string_bytes r.held ≡ [] → r.saved ≡ t.saved → r.replies.items ≡ t.replies.items
+      → AddsAll width_of t.surface s (run_change (string_bytes t.held) ∷ []) → IsReady t → Had width_of t r (Looked ∷ [])
+  settled_had t r s e k n v q a h = record {
+    view = (λ i. record { state = states i; stream = []; held = n i }) ∙ sym (ap ended e);
+    log = ap (λ x. x.log) k ∙ a.log ∙ sym (ap (λ b. fold step_of_kept t.surface.log (logged b)) e);
+    widths = ap (λ x. x.canvas.widths) k ∙ a.widths;
+    ready = record {
+      stays = ap (λ x. x.is_failed) k ∙ a.stays;
+      shown = subst (λ x. IsDisplay (shown_by x)) (sym k) (subst IsDisplay (sym a.shown) (effect_is (of t) (shown_by t.surface) (run_change text) h.shown));
+      plain = subst IsPrinted (sym n) refl;
+    };
+  }
+    where
+      text : List ℕ
+      text = string_bytes t.held
+
+      screens : (shown_by r.surface).screen ≡ (run_step (of t) text (state_of t.surface t.saved t.replies.items)).screen
+      screens = ap (λ x. (shown_by x).screen) k ∙ ap (λ d. d.screen) a.shown ∙ (run_step_turns (of t) text (state_of t.surface t.saved t.replies.items) (shown_by t.surface) h.plain refl).screen
+
+      states : state_of r.surface r.saved r.replies.items ≡ run_step (of t) text (state_of t.surface t.saved t.replies.items)
+      states = λ i. record { screen = screens i; saved = v i; replies = q i }
+
+      ended : Bool → View
+      ended b = record { state = if b then state_of t.surface t.saved t.replies.items else run_step (of t) text (state_of t.surface t.saved t.replies.items); stream = []; held = [] }
+
+      logged : Bool → List LogStep
+      logged b = (if b then [] else Logged (run_change text) ∷ []) ++ []
+
+  -- behind a run that has ended an action was applied
+  pub act_had : (t u : TerminalState W) (s : Surface W) (action : StreamAction) (r : TerminalState W) → is_print action ≡ false
+      → r.surface ≡ s → string_bytes r.held ≡ string_bytes u.held
+      → Had width_of t u (Looked ∷ [])
+      → AddsAll width_of u.surface s (changes_of (function_of action) (view_of u).state)
+      → r.saved ≡ (step_of (function_of action) (view_of u).state).saved
+      → r.replies.items ≡ (step_of (function_of action) (view_of u).state).replies
+      → Had width_of t r (Act action ∷ [])
+  act_had t u s action r p e k h a v q = record {
+    view = (λ i. record { state = states i; stream = []; held = k i }) ∙ ap {B = View} (λ (x : View). record x { state = step_of function x.state }) h.view ∙ sym (ap done p);
+    log = ap (λ x. x.log) e ∙ a.log ∙ ap (λ l. fold step_of_kept l (map Logged changes)) h.log
+        ∙ sym (fold-append step_of_kept t.surface.log (run_logged (view_of t) ++ []) (map Logged changes))
+        ∙ ap (λ xs. fold step_of_kept t.surface.log xs) (ap (λ xs. xs ++ map Logged changes) (append_nil (run_logged (view_of t))) ∙ ap (λ x. run_logged (view_of t) ++ map Logged (changes_of function x.state)) h.view ∙ sym (append_nil (run_logged (view_of t) ++ map Logged (changes_of function (settled (of t) (view_of t)).state))) ∙ sym (ap logged p));
+    widths = ap (λ x. x.canvas.widths) e ∙ a.widths ∙ h.widths;
+    ready = record {
+      stays = ap (λ x. x.is_failed) e ∙ a.stays;
+      shown = subst (λ x. IsDisplay (shown_by x)) (sym e) (subst IsDisplay (sym a.shown) (replay_is (of u) changes (shown_by u.surface) h.ready.shown));
+      plain = subst IsPrinted (sym k) h.ready.plain;
+    };
+  }
+    where
+      function : Option ControlFunction
+      function = function_of action
+
+      changes : List ChangeValue
+      changes = changes_of function (view_of u).state
+
+      screens : (shown_by r.surface).screen ≡ (step_of function (view_of u).state).screen
+      screens = ap (λ x. (shown_by x).screen) e ∙ ap (λ d. d.screen) a.shown ∙ (action_turns (of u) function (view_of u).state (shown_by u.surface) h.ready.shown refl).screen
+
+      states : state_of r.surface r.saved r.replies.items ≡ step_of function (view_of u).state
+      states = λ i. record { screen = screens i; saved = v i; replies = q i }
+
+      done : Bool → View
+      done b = if b then record (view_of t) { held = (view_of t).held ++ printed action } else record (settled (of t) (view_of t)) { state = step_of function (settled (of t) (view_of t)).state }
+
+      logged : Bool → List LogStep
+      logged b = (if b then [] else run_logged (view_of t) ++ map Logged (changes_of function (settled (of t) (view_of t)).state)) ++ []

@@ -1,0 +1,41 @@
+-- What events make of what a terminal keeps.
+use Rattle.std.specs.Prelude.{◌≡◌, ℕ, false, List, [], fold}
+use Rattle.std.specs.String.{string_bytes}
+use Rattle.cell_surface.specs.Surface.{Surface, shown_by}
+use Rattle.change_log.specs.LogSteps.{step_of_kept}
+use Rattle.screen_effects.specs.Display.{IsDisplay}
+use Rattle.terminal_table.specs.History.{Event}
+use Rattle.terminal_table.specs.Meaning.{View, event_done}
+use Rattle.terminal_table.specs.Logged.{events_logged}
+use Rattle.terminal_table.specs.Turns.{IsPrinted, AreEvents}
+use Rattle.terminal_steps.specs.Applying.{state_of}
+use Rattle.terminal_steps.specs.declared.state.TerminalState.{TerminalState}
+
+-- the state, and the run that is held, behind a stream of which nothing is unfinished
+abbrev pub view_of : {W : Type 0} → TerminalState W → View
+view_of t = record { state = state_of t.surface t.saved t.replies.items; stream = []; held = string_bytes t.held }
+
+-- its surface
+abbrev pub surface_in : {W : Type 0} → TerminalState W → Surface W
+surface_in t = t.surface
+
+-- the replies were taken
+abbrev pub without_replies : View → View
+without_replies view = record view { state = record view.state { replies = [] } }
+
+-- the surface hasn't failed, and shows a lawful display; no control is held
+pub record IsReady {W : Type 0} (t : TerminalState W) : Type 0 where
+  pub stays : t.surface.is_failed ≡ false
+  pub shown : IsDisplay (shown_by t.surface)
+  pub plain : IsPrinted (string_bytes t.held)
+
+-- the events had their meaning, and were logged
+pub record Had {W : Type 0} (width_of : W → List ℕ → ℕ) (before after : TerminalState W) (events : List Event) : Type 0 where
+  pub view : view_of after ≡ fold (event_done (width_of before.surface.canvas.widths)) (view_of before) events
+  pub log : after.surface.log ≡ fold step_of_kept before.surface.log (events_logged (width_of before.surface.canvas.widths) (view_of before) events)
+  pub widths : after.surface.canvas.widths ≡ before.surface.canvas.widths
+  pub ready : IsReady after
+
+-- so it is where it was ready for them
+abbrev pub Does : {W : Type 0} → (W → List ℕ → ℕ) → TerminalState W → TerminalState W → List Event → Type 0
+Does width_of before after events = IsReady before → AreEvents events → Had width_of before after events

@@ -1,0 +1,153 @@
+//! What a terminal does with an action, and with a run of printed characters.
+ghost use Rattle.std.specs.Prelude.{◌≡◌, ◌+◌, ◌^◌, ◌≤◌, ◌↔◌, true, IfOk, IsErrOf, [], ◌∷◌, length};
+ghost use Rattle.std.specs.String.{string_bytes};
+ghost use Rattle.cell_surface.specs.Surface.{number_of, shown_by};
+ghost use Rattle.escape_stream.specs.StreamActionView.{value_of};
+ghost use Rattle.terminal_table.specs.Changes.{changes, changes_of, run_change, visibility};
+ghost use Rattle.terminal_table.specs.Functions.{function_of};
+ghost use Rattle.terminal_table.specs.Steps.{reply_step, saved_step, step_of};
+ghost use Rattle.terminal_steps.specs.Adding.{AddsAll};
+ghost use Rattle.terminal_steps.specs.Applying.{state_of};
+ghost use Rattle.terminal_steps.specs.FunctionView.{table_function};
+
+use crate::adding::{add, add_nothing, add_text};
+use crate::erasing::{
+    erase_display, erase_line, erase_to_end_of_display, erase_to_end_of_line, reverse_index,
+    scroll_down, scroll_up,
+};
+use crate::function::ControlFunction;
+use crate::moving::move_cursor;
+use crate::pen::render;
+use crate::reading::control_function_of;
+use crate::replying::{report_position, report_status};
+use crate::saved::{SavedCursor, cursor_of, full_reset, restore_cursor};
+use cell_base::{AttributeChange, CursorVisibility, Widths};
+use cell_change::Change;
+use cell_surface::{Surface, SurfaceError};
+use escape_stream::Action;
+use std::alloc::Global;
+
+// Whether the cursor is shown, as a change.
+fn visibility(shown: bool) -> CursorVisibility
+    ensures { result ≡ visibility shown }
+{
+    if shown {
+        CursorVisibility::Visible
+    } else {
+        CursorVisibility::Hidden
+    }
+}
+
+// What a control function does, but for those of saved cursors and replies, which add no change here.
+fn change_screen<W: Widths + Drop>(
+    alloc: Global,
+    surface: &mut Surface<W>,
+    saved: &Option<SavedCursor>,
+    function: ControlFunction,
+) -> Result<(), SurfaceError>
+    ensures added { IfOk result (λ _. AddsAll (λ w. W.width_of w) surface.old surface.new (changes (table_function function) saved.now (shown_by surface.old).screen)) }
+    ensures failed { IsErrOf result SurfaceError.Failed → surface.old.is_failed ≡ true }
+    ensures numbers { IsErrOf result SurfaceError.Number → 2 ^ 64 ≤ number_of surface.old + length (changes (table_function function) saved.now (shown_by surface.old).screen) }
+{
+    match function {
+        ControlFunction::Moves(movement) => move_cursor(surface, movement),
+        ControlFunction::LineFeed => add_text(alloc, surface, "\n"),
+        ControlFunction::CarriageReturn => add_text(alloc, surface, "\r"),
+        ControlFunction::NextRow => add_text(alloc, surface, "\r\n"),
+        ControlFunction::ReverseIndex => reverse_index(surface),
+        ControlFunction::EraseToEndOfDisplay => erase_to_end_of_display(surface),
+        ControlFunction::EraseDisplay => erase_display(surface),
+        ControlFunction::EraseToEndOfLine => erase_to_end_of_line(surface),
+        ControlFunction::EraseLine => erase_line(surface),
+        ControlFunction::ScrollUp(count) => scroll_up(surface, count),
+        ControlFunction::ScrollDown(count) => scroll_down(surface, count),
+        ControlFunction::Rendition(value) => render(surface, value),
+        ControlFunction::Hyperlink(link) => {
+            add(surface, Change::Attribute(AttributeChange::Hyperlink(link)))
+        }
+        ControlFunction::Title(text) => add(surface, Change::Title(text)),
+        ControlFunction::ShowCursor(shown) => {
+            add(surface, Change::CursorVisibility(visibility(shown)))
+        }
+        ControlFunction::RestoreCursor => restore_cursor(surface, saved),
+        ControlFunction::FullReset => full_reset(surface),
+        ControlFunction::SaveCursor
+        | ControlFunction::ReportStatus
+        | ControlFunction::ReportPosition => add_nothing(surface),
+    }
+}
+
+// What a control function does.
+fn perform<W: Widths + Drop>(
+    surface: &mut Surface<W>,
+    saved: &mut Option<SavedCursor>,
+    replies: &mut Vec<u8>,
+    function: ControlFunction,
+) -> Result<(), SurfaceError>
+    ensures added { IfOk result (λ _. AddsAll (λ w. W.width_of w) surface.old surface.new (changes (table_function function) saved.old (shown_by surface.old).screen)) }
+    ensures saved { IfOk result (λ _. saved.new ≡ saved_step (table_function function) saved.old (shown_by surface.old).screen) }
+    ensures replies { IfOk result (λ _. replies.new.items ≡ reply_step (table_function function) replies.old.items (shown_by surface.old).screen) }
+    ensures failed { IsErrOf result SurfaceError.Failed → surface.old.is_failed ≡ true }
+    ensures numbers { IsErrOf result SurfaceError.Number → 2 ^ 64 ≤ number_of surface.old + length (changes (table_function function) saved.old (shown_by surface.old).screen) }
+{
+    match function {
+        ControlFunction::SaveCursor => {
+            let cursor = cursor_of(surface)?;
+            add_nothing(surface)?;
+            *saved = Some(cursor);
+            Ok(())
+        }
+        ControlFunction::FullReset => {
+            full_reset(surface)?;
+            *saved = None;
+            Ok(())
+        }
+        ControlFunction::ReportStatus => {
+            report_status(replies)?;
+            add_nothing(surface)
+        }
+        ControlFunction::ReportPosition => {
+            report_position(surface, replies)?;
+            add_nothing(surface)
+        }
+        other => change_screen(*replies.allocator(), surface, saved, other),
+    }
+}
+
+/// What the terminal's table has for an action: its changes are added to the surface, the cursor is saved
+/// or a saved one forgotten, and a reply comes behind those that there are. An action for which the
+/// terminal has no control function, as a print, does nothing.
+///
+/// A refusal leaves what was done so far.
+pub fn apply<W: Widths + Drop>(
+    surface: &mut Surface<W>,
+    saved: &mut Option<SavedCursor>,
+    replies: &mut Vec<u8>,
+    action: Action,
+) -> Result<(), SurfaceError>
+    ensures added { IfOk result (λ _. AddsAll (λ w. W.width_of w) surface.old surface.new (changes_of (function_of (value_of action)) (state_of surface.old saved.old replies.old.items))) }
+    ensures saved { IfOk result (λ _. saved.new ≡ (step_of (function_of (value_of action)) (state_of surface.old saved.old replies.old.items)).saved) }
+    ensures replies { IfOk result (λ _. replies.new.items ≡ (step_of (function_of (value_of action)) (state_of surface.old saved.old replies.old.items)).replies) }
+    ensures failed { IsErrOf result SurfaceError.Failed ↔ (surface.old.is_failed ≡ true) }
+    ensures numbers { IsErrOf result SurfaceError.Number → 2 ^ 64 ≤ number_of surface.old + length (changes_of (function_of (value_of action)) (state_of surface.old saved.old replies.old.items)) }
+{
+    if surface.is_failed() {
+        return Err(SurfaceError::Failed);
+    }
+    match control_function_of(action) {
+        Some(function) => perform(surface, saved, replies, function),
+        None => Ok(()),
+    }
+}
+
+/// A run of printed characters: one change, which puts each of their clusters at the cursor.
+pub fn print<W: Widths + Drop>(surface: &mut Surface<W>, text: String) -> Result<(), SurfaceError>
+    ensures added { IfOk result (λ _. AddsAll (λ w. W.width_of w) surface.old surface.new (run_change (string_bytes text) ∷ [])) }
+    ensures failed { IsErrOf result SurfaceError.Failed ↔ (surface.old.is_failed ≡ true) }
+    ensures numbers { IsErrOf result SurfaceError.Number → 2 ^ 64 ≤ number_of surface.old + 1 }
+{
+    if surface.is_failed() {
+        return Err(SurfaceError::Failed);
+    }
+    add(surface, Change::Text(text))
+}

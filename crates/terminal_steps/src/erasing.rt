@@ -1,0 +1,145 @@
+//! Erasures, scrolls and the line before.
+ghost use Rattle.std.specs.Prelude.{◌≡◌, ◌+◌, ◌^◌, ◌≤◌, None, true, IfOk, IsErrOf, [], ◌∷◌};
+ghost use Rattle.cell_change.specs.ValueOf.{value_of};
+ghost use Rattle.cell_surface.specs.Surface.{number_of, shown_by};
+ghost use Rattle.terminal_table.specs.Changes.{changes, same_place};
+ghost use Rattle.terminal_table.specs.Functions as table;
+ghost use Rattle.terminal_steps.specs.Adding.{AddsAll};
+
+use crate::adding::{add, add_three, add_two};
+use crate::function::Move;
+use crate::moving::{current_column, move_change, position_at};
+use cell_base::Widths;
+use cell_change::Change;
+use cell_surface::{Surface, SurfaceError};
+
+/// The columns from the cursor to the end of its row become blanks.
+pub(crate) fn erase_to_end_of_line<W: Widths + Drop>(
+    surface: &mut Surface<W>,
+) -> Result<(), SurfaceError>
+    ensures added { IfOk result (λ _. AddsAll (λ w. W.width_of w) surface.old surface.new (changes table.EraseToEndOfLine None (shown_by surface.old).screen)) }
+    ensures failed { IsErrOf result SurfaceError.Failed → surface.old.is_failed ≡ true }
+    ensures numbers { IsErrOf result SurfaceError.Number → 2 ^ 64 ≤ number_of surface.old + 2 }
+{
+    let pen = surface.pen().try_clone()?;
+    let clear = Change::ClearToEndOfLine(pen.background());
+    add_two(surface, clear, Change::AllAttributes(pen))
+}
+
+/// The same, and all rows below.
+pub(crate) fn erase_to_end_of_display<W: Widths + Drop>(
+    surface: &mut Surface<W>,
+) -> Result<(), SurfaceError>
+    ensures added { IfOk result (λ _. AddsAll (λ w. W.width_of w) surface.old surface.new (changes table.EraseToEndOfDisplay None (shown_by surface.old).screen)) }
+    ensures failed { IsErrOf result SurfaceError.Failed → surface.old.is_failed ≡ true }
+    ensures numbers { IsErrOf result SurfaceError.Number → 2 ^ 64 ≤ number_of surface.old + 2 }
+{
+    let pen = surface.pen().try_clone()?;
+    let clear = Change::ClearToEndOfScreen(pen.background());
+    add_two(surface, clear, Change::AllAttributes(pen))
+}
+
+// Where the cursor is; no wrap is pending there.
+fn same_place<W: Widths + Drop>(surface: &Surface<W>) -> Change
+    ensures { value_of result ≡ same_place (shown_by surface.now).screen }
+{
+    let (_, row) = surface.cursor_position();
+    position_at(surface, current_column(surface), row)
+}
+
+/// The whole screen becomes blanks.
+pub(crate) fn erase_display<W: Widths + Drop>(surface: &mut Surface<W>) -> Result<(), SurfaceError>
+    ensures added { IfOk result (λ _. AddsAll (λ w. W.width_of w) surface.old surface.new (changes table.EraseDisplay None (shown_by surface.old).screen)) }
+    ensures failed { IsErrOf result SurfaceError.Failed → surface.old.is_failed ≡ true }
+    ensures numbers { IsErrOf result SurfaceError.Number → 2 ^ 64 ≤ number_of surface.old + 3 }
+{
+    let pen = surface.pen().try_clone()?;
+    let clear = Change::ClearScreen(pen.background());
+    let here = same_place(surface);
+    add_three(surface, clear, here, Change::AllAttributes(pen))
+}
+
+/// The cursor's row becomes blanks.
+pub(crate) fn erase_line<W: Widths + Drop>(surface: &mut Surface<W>) -> Result<(), SurfaceError>
+    ensures added { IfOk result (λ _. AddsAll (λ w. W.width_of w) surface.old surface.new (changes table.EraseLine None (shown_by surface.old).screen)) }
+    ensures failed { IsErrOf result SurfaceError.Failed → surface.old.is_failed ≡ true }
+    ensures numbers { IsErrOf result SurfaceError.Number → 2 ^ 64 ≤ number_of surface.old + 4 }
+{
+    let pen = surface.pen().try_clone()?;
+    let clear = Change::ClearToEndOfLine(pen.background());
+    let (_, row) = surface.cursor_position();
+    let start = position_at(surface, 0, row);
+    let place = same_place(surface);
+    add(surface, start)?;
+    add_three(surface, clear, place, Change::AllAttributes(pen))?;
+    Ok(())
+}
+
+/// All rows move up, as far as there are rows.
+pub(crate) fn scroll_up<W: Widths + Drop>(
+    surface: &mut Surface<W>,
+    count: u32,
+) -> Result<(), SurfaceError>
+    ensures added { IfOk result (λ _. AddsAll (λ w. W.width_of w) surface.old surface.new (changes (table.ScrollUp count) None (shown_by surface.old).screen)) }
+    ensures failed { IsErrOf result SurfaceError.Failed → surface.old.is_failed ≡ true }
+    ensures numbers { IsErrOf result SurfaceError.Number → 2 ^ 64 ≤ number_of surface.old + 1 }
+{
+    let (_, height) = surface.dimensions();
+    let scroll_count = height.min(count as usize);
+    add(
+        surface,
+        Change::ScrollRegionUp {
+            first_row: 0,
+            region_size: height,
+            scroll_count,
+        },
+    )
+}
+
+/// All rows move down, as far as there are rows.
+pub(crate) fn scroll_down<W: Widths + Drop>(
+    surface: &mut Surface<W>,
+    count: u32,
+) -> Result<(), SurfaceError>
+    ensures added { IfOk result (λ _. AddsAll (λ w. W.width_of w) surface.old surface.new (changes (table.ScrollDown count) None (shown_by surface.old).screen)) }
+    ensures failed { IsErrOf result SurfaceError.Failed → surface.old.is_failed ≡ true }
+    ensures numbers { IsErrOf result SurfaceError.Number → 2 ^ 64 ≤ number_of surface.old + 1 }
+{
+    let (_, height) = surface.dimensions();
+    let scroll_count = height.min(count as usize);
+    add(
+        surface,
+        Change::ScrollRegionDown {
+            first_row: 0,
+            region_size: height,
+            scroll_count,
+        },
+    )
+}
+
+// The row before; on the first one all rows move down.
+fn reverse_change<W: Widths + Drop>(surface: &Surface<W>) -> Change
+    ensures { value_of result ∷ [] ≡ changes table.ReverseIndex None (shown_by surface.now).screen }
+{
+    let (_, height) = surface.dimensions();
+    let (_, row) = surface.cursor_position();
+    if row == 0 {
+        Change::ScrollRegionDown {
+            first_row: 0,
+            region_size: height,
+            scroll_count: 1,
+        }
+    } else {
+        move_change(surface, Move::Up(1))
+    }
+}
+
+/// The row before; on the first one all rows move down.
+pub(crate) fn reverse_index<W: Widths + Drop>(surface: &mut Surface<W>) -> Result<(), SurfaceError>
+    ensures added { IfOk result (λ _. AddsAll (λ w. W.width_of w) surface.old surface.new (changes table.ReverseIndex None (shown_by surface.old).screen)) }
+    ensures failed { IsErrOf result SurfaceError.Failed → surface.old.is_failed ≡ true }
+    ensures numbers { IsErrOf result SurfaceError.Number → 2 ^ 64 ≤ number_of surface.old + 1 }
+{
+    let change = reverse_change(surface);
+    add(surface, change)
+}

@@ -1,0 +1,47 @@
+//! The control functions of a terminal.
+
+use cell_base::Hyperlink;
+use csi_codec::Sgr;
+use std::rc::Rc;
+
+/// Where a move of the cursor leads. Lines and columns that are named count from 1.
+#[derive(Clone, Copy)]
+pub(crate) enum Move {
+    Up(u32),
+    Down(u32),
+    Left(u32),
+    Right(u32),
+    /// To the next column that 8 divides.
+    NextTab,
+    /// To the first column of a row so many below.
+    NextLine(u32),
+    PrecedingLine(u32),
+    ToColumn(u32),
+    ToLine(u32),
+    /// To a line and a column.
+    ToPlace(u32, u32),
+}
+
+#[derive(Drop)]
+pub(crate) enum ControlFunction {
+    Moves(Move),
+    LineFeed,
+    CarriageReturn,
+    NextRow,
+    ReverseIndex,
+    EraseToEndOfDisplay,
+    EraseDisplay,
+    EraseToEndOfLine,
+    EraseLine,
+    ScrollUp(u32),
+    ScrollDown(u32),
+    Rendition(Sgr),
+    Hyperlink(Option<Rc<Hyperlink>>),
+    Title(String),
+    ShowCursor(bool),
+    SaveCursor,
+    RestoreCursor,
+    FullReset,
+    ReportStatus,
+    ReportPosition,
+}

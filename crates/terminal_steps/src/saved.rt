@@ -1,0 +1,89 @@
+//! Cursors that were saved.
+ghost use Rattle.std.specs.Prelude.{◌≡◌, ◌+◌, ◌^◌, ◌≤◌, None, true, IfOk, IsErrOf};
+ghost use Rattle.cell_surface.specs.Surface.{number_of, shown_by};
+ghost use Rattle.terminal_table.specs.Changes.{changes};
+ghost use Rattle.terminal_table.specs.Functions as table;
+ghost use Rattle.terminal_table.specs.State.{cursor_of};
+ghost use Rattle.terminal_table.specs.Steps.{cursor_to_restore};
+ghost use Rattle.terminal_steps.specs.Adding.{AddsAll};
+
+use crate::adding::add_two;
+use crate::moving::position_at;
+use cell_base::{CellAttributes, ColorAttribute, CursorVisibility, Widths};
+use cell_change::Change;
+use cell_surface::{Surface, SurfaceError};
+use std::alloc::AllocError;
+use std::marker::Model;
+
+/// A cursor that was saved: its column (the width, where a wrap was pending), its row, both counted from
+/// 0, and the pen.
+#[derive(Debug, Drop)]
+pub struct SavedCursor {
+    pub(crate) column: usize,
+    pub(crate) row: usize,
+    pub(crate) pen: CellAttributes,
+}
+
+impl Model for SavedCursor {
+    ghost use Rattle.terminal_table.specs.State.{SavedCursor as Value_of};
+
+    ghost Value = { Value_of };
+
+    ghost use Rattle.terminal_steps.specs.SavedView.{saved_of};
+
+    ghost view = { saved_of };
+}
+
+/// The cursor of a surface, to be saved.
+pub(crate) fn cursor_of<W: Widths + Drop>(surface: &Surface<W>) -> Result<SavedCursor, AllocError>
+    ensures { IfOk result (λ cursor. cursor ≡ cursor_of (shown_by surface.now).screen) }
+{
+    let (column, row) = surface.cursor_position();
+    let pen = surface.pen().try_clone()?;
+    Ok(SavedCursor { column, row, pen })
+}
+
+// A cursor that is restored; one at home with a plain pen, where none was saved.
+fn cursor_to_restore(saved: &Option<SavedCursor>) -> Result<SavedCursor, AllocError>
+    ensures { IfOk result (λ cursor. cursor ≡ cursor_to_restore saved.now) }
+{
+    match saved {
+        Some(cursor) => Ok(SavedCursor {
+            column: cursor.column,
+            row: cursor.row,
+            pen: cursor.pen.try_clone()?,
+        }),
+        None => Ok(SavedCursor {
+            column: 0,
+            row: 0,
+            pen: CellAttributes::blank(),
+        }),
+    }
+}
+
+/// The cursor goes back to where it was saved, with its pen.
+pub(crate) fn restore_cursor<W: Widths + Drop>(
+    surface: &mut Surface<W>,
+    saved: &Option<SavedCursor>,
+) -> Result<(), SurfaceError>
+    ensures added { IfOk result (λ _. AddsAll (λ w. W.width_of w) surface.old surface.new (changes table.RestoreCursor saved.now (shown_by surface.old).screen)) }
+    ensures failed { IsErrOf result SurfaceError.Failed → surface.old.is_failed ≡ true }
+    ensures numbers { IsErrOf result SurfaceError.Number → 2 ^ 64 ≤ number_of surface.old + 2 }
+{
+    let SavedCursor { column, row, pen } = cursor_to_restore(saved)?;
+    let position = position_at(surface, column, row);
+    add_two(surface, position, Change::AllAttributes(pen))
+}
+
+/// A full reset, which leaves the title alone.
+pub(crate) fn full_reset<W: Widths + Drop>(surface: &mut Surface<W>) -> Result<(), SurfaceError>
+    ensures added { IfOk result (λ _. AddsAll (λ w. W.width_of w) surface.old surface.new (changes table.FullReset None (shown_by surface.old).screen)) }
+    ensures failed { IsErrOf result SurfaceError.Failed → surface.old.is_failed ≡ true }
+    ensures numbers { IsErrOf result SurfaceError.Number → 2 ^ 64 ≤ number_of surface.old + 2 }
+{
+    add_two(
+        surface,
+        Change::ClearScreen(ColorAttribute::Default),
+        Change::CursorVisibility(CursorVisibility::Visible),
+    )
+}

@@ -1,0 +1,130 @@
+//! What a terminal keeps beside its parser, and what events make of it.
+ghost use Rattle.std.specs.Prelude.{◌≡◌, ◌<◌, ◌^◌, false, IfOk, OnOk, [], ◌∷◌};
+ghost use Rattle.escape_stream.specs.StreamAction.{is_print, print_string};
+ghost use Rattle.escape_stream.specs.StreamActionView.{value_of};
+ghost use Rattle.change_log.specs.Log.{new_log};
+ghost use Rattle.terminal_table.specs.Meaning.{new_view};
+ghost use Rattle.terminal_table.specs.History.{Act, Forgot, Looked};
+ghost use Rattle.terminal_steps.specs.Events.{Does, IsReady, surface_in, view_of, without_replies};
+
+use crate::applying::{apply, print};
+use crate::saved::SavedCursor;
+use cell_base::{SequenceNo, Widths};
+use cell_surface::{Surface, SurfaceError};
+use escape_stream::Action;
+use std::alloc::{AllocError, Global};
+use std::mem;
+
+/// What a terminal keeps beside its parser: a surface, the cursor that was saved, the replies that were not
+/// yet taken, and the run of printed characters that nothing has ended.
+///
+/// A call that is refused may have done a part of its work.
+#[derive(Drop)]
+pub struct TerminalState<W> {
+    pub(crate) surface: Surface<W>,
+    pub(crate) saved: Option<SavedCursor>,
+    pub(crate) replies: Vec<u8>,
+    pub(crate) held: String,
+}
+
+impl<W: Widths + Drop> TerminalState<W> {
+    /// Blanks of this many columns and rows, each from 1 to 2^32 - 1, with the cursor at home and a plain
+    /// pen, no saved cursor, no reply and no run.
+    pub fn new(
+        alloc: Global,
+        width: usize,
+        height: usize,
+        widths: W,
+    ) -> Result<TerminalState<W>, AllocError>
+        requires width { (0 < width) × (width < 2 ^ 32) }
+        requires height { (0 < height) × (height < 2 ^ 32) }
+        ensures view { IfOk result (λ t. view_of t ≡ new_view width height) }
+        ensures log { IfOk result (λ t. (surface_in t).log.log ≡ new_log) }
+        ensures widths { IfOk result (λ t. (surface_in t).canvas.widths ≡ widths) }
+        ensures ready { IfOk result (λ t. IsReady t) }
+    {
+        let surface = Surface::new(alloc, width, height, widths)?;
+        Ok(TerminalState {
+            surface,
+            saved: None,
+            replies: Vec::new(alloc),
+            held: String::new(alloc),
+        })
+    }
+
+    /// The surface, without the run that is still held.
+    pub fn surface(&self) -> &Surface<W>
+        ensures { result.now ≡ surface_in self.now }
+    {
+        &self.surface
+    }
+
+    /// Hands out the replies, and keeps none.
+    pub fn take_replies(&mut self) -> Vec<u8>
+        ensures replies { result.items ≡ (view_of self.old).state.replies }
+        ensures none { view_of self.new ≡ without_replies (view_of self.old) }
+        ensures surface { surface_in self.new ≡ surface_in self.old }
+    {
+        let none = Vec::new(*self.replies.allocator());
+        mem::replace(&mut self.replies, none)
+    }
+
+    /// The log forgets the changes before a number; none where it lies above the current one. No run ends.
+    pub fn forget_before(&mut self, number: SequenceNo)
+        ensures { Does (λ w. W.width_of w) self.old self.new (Forgot number ∷ []) }
+    {
+        self.surface.flush_changes_older_than(number);
+    }
+
+    /// The held run ends.
+    pub fn settle(&mut self) -> Result<(), SurfaceError>
+        ensures { OnOk result (Does (λ w. W.width_of w) self.old self.new (Looked ∷ [])) }
+    {
+        if self.held.is_empty() {
+            return Ok(());
+        }
+        let next = String::new(*self.replies.allocator());
+        let text = mem::replace(&mut self.held, next);
+        print(&mut self.surface, text)?;
+        Ok(())
+    }
+
+    /// A text joins the run.
+    pub fn hold(&mut self, text: &str) -> Result<(), AllocError>
+        ensures { OnOk result (Does (λ w. W.width_of w) self.old self.new (Act (print_string text.now) ∷ [])) }
+    {
+        self.held.push_str(text)
+    }
+
+    // An action that is no print ends the run, and is applied.
+    fn apply(&mut self, action: Action) -> Result<(), SurfaceError>
+        requires { is_print (value_of action) ≡ false }
+        ensures { OnOk result (Does (λ w. W.width_of w) self.old self.new (Act (value_of action) ∷ [])) }
+    {
+        self.settle()?;
+        apply(
+            &mut self.surface,
+            &mut self.saved,
+            &mut self.replies,
+            action,
+        )?;
+        Ok(())
+    }
+
+    /// A print joins the run, and every other action ends it.
+    pub fn act(&mut self, action: Action) -> Result<(), SurfaceError>
+        ensures { OnOk result (Does (λ w. W.width_of w) self.old self.new (Act (value_of action) ∷ [])) }
+    {
+        match action {
+            Action::Print(character) => {
+                self.held.push(character)?;
+                Ok(())
+            }
+            Action::PrintString(text) => {
+                self.held.push_str(&text)?;
+                Ok(())
+            }
+            other => self.apply(other),
+        }
+    }
+}

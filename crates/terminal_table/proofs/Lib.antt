@@ -1,0 +1,9 @@
+pub mod Computing
+pub mod ListLemmas
+pub mod TurnLemmas
+pub mod RunLemmas
+pub mod StateLemmas
+pub mod PrintLemmas
+pub mod EventLemmas
+pub mod JoinLemmas
+pub mod OtherLemmas

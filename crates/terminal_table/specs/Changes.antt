@@ -1,0 +1,86 @@
+-- The changes that are logged for each control function and for a run, in this order, on the state before it.
+use Rattle.std.specs.Prelude.{ℕ, ◌-◌, min, Bool, true, false, ◌==◌, List, [], ◌∷◌, Option, Some, None, if◌then◌else◌}
+use Rattle.cell_base.specs.declared.attributes.CursorVisibility.{CursorVisibility as Visibility}
+use Rattle.cell_base.specs.declared.attributes.CursorVisibility.TheVariants.{Hidden, Visible}
+use Rattle.cell_base.specs.declared.attributes.Position.TheVariants.{Absolute}
+use Rattle.cell_base.specs.declared.color.ColorAttribute.TheVariants.{Default}
+use Rattle.cell_base.specs.Attributes.{Attributes}
+use Rattle.cell_base.specs.AttributeValue as attribute
+use Rattle.cell_base.specs.Color.{attribute_of}
+use Rattle.cell_base.specs.Screen.{Screen, height}
+use Rattle.cell_change.specs.ChangeValue.{ChangeValue, Attribute, AllAttributes, Text, ClearScreen, ClearToEndOfLine, ClearToEndOfScreen, CursorPosition, CursorVisibility, ScrollRegionUp, ScrollRegionDown}
+use Rattle.cell_change.specs.ChangeValue as change
+use Rattle.csi_codec.specs.declared.rendition.Sgr.{Sgr}
+use Rattle.csi_codec.specs.declared.rendition.Sgr.TheVariants as sgr
+use Rattle.terminal_table.specs.State.{SavedCursor, State}
+use Rattle.terminal_table.specs.Functions.{Move, Up, ControlFunction, Moves, LineFeed, CarriageReturn, NextRow, ReverseIndex, EraseToEndOfDisplay, EraseDisplay, EraseToEndOfLine, EraseLine, ScrollUp, ScrollDown, Rendition, Hyperlink, Title, ShowCursor, SaveCursor, RestoreCursor, FullReset, ReportStatus, ReportPosition}
+use Rattle.terminal_table.specs.Steps.{active_column, target, with_rendition, cursor_to_restore}
+
+-- a position at a column and a row, or at the last ones
+abbrev pub position : ℕ × ℕ → Screen → ChangeValue
+position place screen = CursorPosition (Absolute (min place.0 (screen.width - 1))) (Absolute (min place.1 (height screen - 1)))
+
+-- where a move leads
+abbrev pub move_change : Move → Screen → ChangeValue
+move_change move screen = position (target move (active_column screen) screen.row) screen
+
+-- where the cursor is; no wrap is pending there
+abbrev pub same_place : Screen → ChangeValue
+same_place screen = position (active_column screen, screen.row) screen
+
+-- what has no change of its own is said by all attributes of the new pen
+abbrev pub rendition_changes : Sgr → Attributes → List ChangeValue
+rendition_changes (sgr.Intensity value) pen = Attribute (attribute.Intensity value) ∷ []
+rendition_changes (sgr.Underline value) pen = Attribute (attribute.Underline value) ∷ []
+rendition_changes (sgr.Blink value) pen = Attribute (attribute.Blink value) ∷ []
+rendition_changes (sgr.Italic value) pen = Attribute (attribute.Italic value) ∷ []
+rendition_changes (sgr.Inverse value) pen = Attribute (attribute.Reverse value) ∷ []
+rendition_changes (sgr.Invisible value) pen = Attribute (attribute.Invisible value) ∷ []
+rendition_changes (sgr.StrikeThrough value) pen = Attribute (attribute.StrikeThrough value) ∷ []
+rendition_changes (sgr.Foreground value) pen = Attribute (attribute.Foreground (attribute_of value)) ∷ []
+rendition_changes (sgr.Background value) pen = Attribute (attribute.Background (attribute_of value)) ∷ []
+rendition_changes (sgr.Font value) pen = []
+rendition_changes sgr.Reset pen = AllAttributes (with_rendition sgr.Reset pen) ∷ []
+rendition_changes (sgr.UnderlineColor value) pen = AllAttributes (with_rendition (sgr.UnderlineColor value) pen) ∷ []
+rendition_changes (sgr.Overline value) pen = AllAttributes (with_rendition (sgr.Overline value) pen) ∷ []
+rendition_changes (sgr.VerticalAlign value) pen = AllAttributes (with_rendition (sgr.VerticalAlign value) pen) ∷ []
+
+abbrev pub visibility : Bool → Visibility
+visibility true = Visible
+visibility false = Hidden
+
+-- a cursor that is restored
+abbrev pub cursor_changes : SavedCursor → Screen → List ChangeValue
+cursor_changes cursor screen = position (cursor.column, cursor.row) screen ∷ AllAttributes cursor.pen ∷ []
+
+-- the changes of a control function
+abbrev pub changes : ControlFunction → Option SavedCursor → Screen → List ChangeValue
+changes (Moves move) saved screen = move_change move screen ∷ []
+changes LineFeed saved screen = Text (10 ∷ []) ∷ []
+changes CarriageReturn saved screen = Text (13 ∷ []) ∷ []
+changes NextRow saved screen = Text (13 ∷ 10 ∷ []) ∷ []
+changes ReverseIndex saved screen = (if screen.row == 0 then ScrollRegionDown 0 (height screen) 1 else move_change (Up 1) screen) ∷ []
+changes EraseToEndOfDisplay saved screen = ClearToEndOfScreen screen.pen.background ∷ AllAttributes screen.pen ∷ []
+changes EraseDisplay saved screen = ClearScreen screen.pen.background ∷ same_place screen ∷ AllAttributes screen.pen ∷ []
+changes EraseToEndOfLine saved screen = ClearToEndOfLine screen.pen.background ∷ AllAttributes screen.pen ∷ []
+changes EraseLine saved screen = position (0, screen.row) screen ∷ ClearToEndOfLine screen.pen.background ∷ same_place screen ∷ AllAttributes screen.pen ∷ []
+changes (ScrollUp n) saved screen = ScrollRegionUp 0 (height screen) (min n (height screen)) ∷ []
+changes (ScrollDown n) saved screen = ScrollRegionDown 0 (height screen) (min n (height screen)) ∷ []
+changes (Rendition value) saved screen = rendition_changes value screen.pen
+changes (Hyperlink link) saved screen = Attribute (attribute.Hyperlink link) ∷ []
+changes (Title text) saved screen = change.Title text ∷ []
+changes (ShowCursor shown) saved screen = CursorVisibility (visibility shown) ∷ []
+changes SaveCursor saved screen = []
+changes RestoreCursor saved screen = cursor_changes (cursor_to_restore saved) screen
+changes FullReset saved screen = ClearScreen Default ∷ CursorVisibility Visible ∷ []
+changes ReportStatus saved screen = []
+changes ReportPosition saved screen = []
+
+-- the changes of what an action asks for
+abbrev pub changes_of : Option ControlFunction → State → List ChangeValue
+changes_of None state = []
+changes_of (Some function) state = changes function state.saved state.screen
+
+-- a run is one change
+abbrev pub run_change : List ℕ → ChangeValue
+run_change text = Text text

@@ -1,0 +1,9 @@
+pub mod State
+pub mod Functions
+pub mod Steps
+pub mod Changes
+pub mod History
+pub mod Meaning
+pub mod Logged
+pub mod Samples
+pub mod Turns

@@ -1,0 +1,44 @@
+-- What is logged of a history, and the log and the number that it leaves.
+use Rattle.std.specs.Prelude.{ℕ, List, [], ◌∷◌, ◌++◌, length, map, fold, ◌==◌, if◌then◌else◌}
+use Rattle.escape_stream.specs.StreamAction.{StreamAction, is_print}
+use Rattle.change_log.specs.Log.{most_due}
+use Rattle.change_log.specs.LogSteps as log
+use Rattle.change_log.specs.LogSteps.{LogStep, Logged, Sized, step_of_kept, log_of_kept}
+use Rattle.terminal_table.specs.Functions.{function_of}
+use Rattle.terminal_table.specs.Changes.{changes_of, run_change}
+use Rattle.terminal_table.specs.History.{History, Event, Act, Looked, Resized, Forgot, events}
+use Rattle.terminal_table.specs.Meaning.{View, new_view, settled, event_done}
+
+-- the held run, which ends
+abbrev pub run_logged : View → List LogStep
+run_logged view = if length view.held == 0 then [] else Logged (run_change view.held) ∷ []
+
+-- an action that is no print ends the run, and has its own changes
+abbrev pub action_logged : (List ℕ → ℕ) → View → StreamAction → List LogStep
+action_logged width_of view action =
+    if is_print action then []
+    else run_logged view ++ map Logged (changes_of (function_of action) (settled width_of view).state)
+
+-- what is logged for an event; another size empties the log, and with it changes how many changes may be due
+abbrev pub event_logged : (List ℕ → ℕ) → View → Event → List LogStep
+event_logged width_of view (Act action) = action_logged width_of view action
+event_logged width_of view Looked = run_logged view
+event_logged width_of view (Resized width height) = run_logged view ++ log.Resized (most_due width height) ∷ []
+event_logged width_of view (Forgot number) = log.Forgotten number ∷ []
+
+-- the events in turn
+abbrev pub events_logged : (List ℕ → ℕ) → View → List Event → List LogStep
+events_logged width_of view [] = []
+events_logged width_of view (event ∷ events) = event_logged width_of view event ++ events_logged width_of (event_done width_of view event) events
+
+-- what a history logs that goes on from a view
+abbrev pub logged : (List ℕ → ℕ) → View → History → List LogStep
+logged width_of view history = events_logged width_of view (events view.stream history)
+
+-- the log that it leaves
+abbrev pub log_after : (List ℕ → ℕ) → View → Sized → History → Sized
+log_after width_of view log history = fold step_of_kept log (logged width_of view history)
+
+-- the log of a history, on a new terminal: its number counts the changes, and the sizes that found it not empty
+abbrev pub log_of : (List ℕ → ℕ) → ℕ → ℕ → History → Sized
+log_of width_of width height history = log_of_kept (most_due width height) (logged width_of (new_view width height) history)

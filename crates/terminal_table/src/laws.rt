@@ -1,0 +1,91 @@
+//! Laws of the table: each is the contract of a function that does nothing.
+ghost use Rattle.std.specs.Prelude.{false, ◌≡◌, ℕ, ◌<◌, List, ◌∷◌, ◌++◌, None, []};
+ghost use Rattle.screen_effects.specs.Display.{Display, IsDisplay};
+ghost use Rattle.screen_effects.specs.Effect.{effect, replay};
+ghost use Rattle.terminal_table.specs.Functions.{ControlFunction, function_of};
+ghost use Rattle.escape_framing.specs.Held.{held_of};
+ghost use Rattle.escape_stream.specs.StreamAction.{StreamAction, is_print};
+ghost use Rattle.terminal_table.specs.History.{History, Piece, Event, Act, events};
+ghost use Rattle.terminal_table.specs.Logged.{run_logged, event_logged, logged};
+ghost use Rattle.terminal_table.specs.Meaning.{View, settled, event_done, after, with_size};
+ghost use Rattle.terminal_table.specs.State.{State, IsState, new_state};
+ghost use Rattle.terminal_table.specs.Steps.{step, step_of, run_step};
+ghost use Rattle.terminal_table.specs.Changes.{changes, changes_of, run_change};
+ghost use Rattle.terminal_table.specs.Turns.{Turns, IsPrinted, IsView, AreSizes, IsEvent, AreEvents, DecideAlike, replayed, all_replayed};
+
+use escape_framing::laws::{held_is_enough, one_cut};
+use escape_stream::action_laws::actions_of_pieces_join;
+
+/// The changes that are logged for a control function, for an action and for a run have on a display
+/// the effect of the table's step: they turn one that shows the state's screen into one that shows the
+/// screen behind the step.
+pub fn changes_have_the_effect_of_steps()
+    ensures functions { (width_of : List ℕ → ℕ) (function : ControlFunction) (state : State) (display : Display) → IsDisplay display → display.screen ≡ state.screen → Turns display (replay width_of display (changes function state.saved state.screen)) (step function state).screen }
+    ensures actions { (width_of : List ℕ → ℕ) (action : StreamAction) (state : State) (display : Display) → IsDisplay display → display.screen ≡ state.screen → Turns display (replay width_of display (changes_of (function_of action) state)) (step_of (function_of action) state).screen }
+    ensures runs { (width_of : List ℕ → ℕ) (text : List ℕ) (state : State) (display : Display) → IsPrinted text → display.screen ≡ state.screen → Turns display (effect width_of display (run_change text)) (run_step width_of text state).screen }
+{}
+
+/// A new terminal's state is lawful, and so is what steps, runs and other sizes leave of a lawful one.
+pub fn states_stay_lawful()
+    ensures new { (width : ℕ) (height : ℕ) → 0 < width → 0 < height → IsState (new_state width height) }
+    ensures steps { (function : ControlFunction) (state : State) → IsState state → IsState (step function state) }
+    ensures runs { (width_of : List ℕ → ℕ) (text : List ℕ) (state : State) → IsState state → IsState (run_step width_of text state) }
+    ensures sizes { (width : ℕ) (height : ℕ) (state : State) → 0 < width → 0 < height → IsState state → IsState (with_size width height state) }
+{}
+
+/// What a stream prints holds no controls.
+pub fn prints_hold_no_controls()
+    ensures { (stream : List ℕ) (history : History) → AreSizes history → AreEvents (events stream history) }
+{
+    one_cut();
+}
+
+/// An action for which the terminal has no control function leaves the state as it is, with the screen,
+/// its pen and title, the saved cursor and the replies, and has no changes. Where it is no print it
+/// ends a run, and nothing else.
+pub fn other_actions_end_runs()
+    ensures state { (action : StreamAction) (state : State) → function_of action ≡ None → step_of (function_of action) state ≡ state }
+    ensures changes { (action : StreamAction) (state : State) → function_of action ≡ None → changes_of (function_of action) state ≡ [] }
+    ensures view { (width_of : List ℕ → ℕ) (view : View) (action : StreamAction) → is_print action ≡ false → function_of action ≡ None → event_done width_of view (Act action) ≡ settled width_of view }
+    ensures logged { (width_of : List ℕ → ℕ) (view : View) (action : StreamAction) → is_print action ≡ false → function_of action ≡ None → event_logged width_of view (Act action) ≡ run_logged view }
+{}
+
+/// Histories leave lawful views, if each size has a column and a row.
+pub fn views_stay_lawful()
+    ensures event { (width_of : List ℕ → ℕ) (view : View) (event : Event) → IsView view → IsEvent event → IsView (event_done width_of view event) }
+    ensures history { (width_of : List ℕ → ℕ) (view : View) (history : History) → IsView view → AreSizes history → IsView (after width_of view history) }
+{
+    one_cut();
+}
+
+/// What is logged for an event, and for a history, has on a display the effect of the table: replayed on
+/// one that shows the screen before, it leaves one that shows the screen behind.
+pub fn logged_changes_show_the_meaning()
+    ensures event { (width_of : List ℕ → ℕ) (view : View) (event : Event) (display : Display) → IsView view → IsEvent event → IsDisplay display → display.screen ≡ view.state.screen → Turns display (replayed width_of view event display) (event_done width_of view event).state.screen }
+    ensures history { (width_of : List ℕ → ℕ) (view : View) (history : History) (display : Display) → IsView view → AreSizes history → IsDisplay display → display.screen ≡ view.state.screen → Turns display (all_replayed width_of view (events view.stream history) display) (after width_of view history).state.screen }
+{
+    one_cut();
+}
+
+/// Going on by one history and then by another is going on by both, in what is shown and in what is
+/// logged; and a piece that is cut in two is the same piece.
+pub fn histories_join()
+    ensures after { (width_of : List ℕ → ℕ) (view : View) (first : History) (second : History) → after width_of view (first ++ second) ≡ after width_of (after width_of view first) second }
+    ensures logged { (width_of : List ℕ → ℕ) (view : View) (first : History) (second : History) → logged width_of view (first ++ second) ≡ logged width_of view first ++ logged width_of (after width_of view first) second }
+    ensures cut { (width_of : List ℕ → ℕ) (view : View) (x : List ℕ) (y : List ℕ) (history : History) → after width_of view (Piece x ∷ Piece y ∷ history) ≡ after width_of view (Piece (x ++ y) ∷ history) }
+    ensures cut_logged { (width_of : List ℕ → ℕ) (view : View) (x : List ℕ) (y : List ℕ) (history : History) → logged width_of view (Piece x ∷ Piece y ∷ history) ≡ logged width_of view (Piece (x ++ y) ∷ history) }
+{
+    actions_of_pieces_join();
+}
+
+/// Of the stream so far only its unfinished end matters: views go on alike where every continuation of
+/// their streams has the same further actions, and so where the same is held of them.
+pub fn unfinished_ends_matter()
+    ensures held { (one : List ℕ) (other : List ℕ) → held_of one ≡ held_of other → DecideAlike one other }
+    ensures state { (width_of : List ℕ → ℕ) (view : View) (other : List ℕ) (history : History) → DecideAlike view.stream other → (after width_of (record view { stream = other }) history).state ≡ (after width_of view history).state }
+    ensures run { (width_of : List ℕ → ℕ) (view : View) (other : List ℕ) (history : History) → DecideAlike view.stream other → (after width_of (record view { stream = other }) history).held ≡ (after width_of view history).held }
+    ensures logged { (width_of : List ℕ → ℕ) (view : View) (other : List ℕ) (history : History) → DecideAlike view.stream other → logged width_of (record view { stream = other }) history ≡ logged width_of view history }
+{
+    held_is_enough();
+    actions_of_pieces_join();
+}
