@@ -96,15 +96,11 @@ fn parse(alloc: Global, input: &[u8]) -> Option<u64> {
 fn pieces(alloc: Global, input: &[u8]) -> Option<u64> {
     let mut sum = 0u64;
     let mut parser = Parser::new(alloc);
-    let mut pieces = parser.pieces(input);
-    for _ in 0..u64::MAX {
-        match pieces.next() {
-            None => return Some(sum),
-            Some(Err(_)) => return None,
-            Some(Ok(_)) => sum = sum.wrapping_add(1),
-        }
+    for piece in parser.pieces(input) {
+        let _ = piece.ok()?;
+        sum = sum.wrapping_add(1);
     }
-    None
+    Some(sum)
 }
 
 fn collect(alloc: Global, input: &[u8]) -> Option<u64> {

@@ -3,7 +3,6 @@ ghost use Rattle.std.specs.Prelude.{◌≡◌};
 ghost use Rattle.cases.specs.declared.fault.Fault.TheVariants.{Memory, Write};
 
 use cell_surface::SurfaceError;
-use escape_framing::FramerError;
 use escape_stream::ParseError;
 use std::alloc::{AllocError, AllocFailed};
 use std::io;
@@ -62,14 +61,6 @@ impl From<ParseError> for Fault {
     ghost from_gives = { λ _ e. e ≡ Memory };
 
     fn from(_error: ParseError) -> Fault {
-        Fault::Memory
-    }
-}
-
-impl From<FramerError> for Fault {
-    ghost from_gives = { λ _ e. e ≡ Memory };
-
-    fn from(_error: FramerError) -> Fault {
         Fault::Memory
     }
 }

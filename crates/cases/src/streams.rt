@@ -4,14 +4,26 @@ use crate::escapes;
 use crate::fault::Fault;
 use crate::row::Row;
 use crate::sheet::Sheet;
-use escape_stream::{Action, DeviceControlMode, ParseError, Parser, encode};
+use escape_stream::{Action, DeviceControlMode, ParseError, Parser, Piece, encode};
 use std::alloc::Global;
 
 // A stream is cut in two at its first places only, so that a long one takes no longer.
 const MOST_CUTS: usize = 1000;
 
-// Reads the bytes, and joins their actions with those that were read before.
-fn read_on(parser: &mut Parser, bytes: &[u8], actions: &mut Vec<Action>) -> Result<(), ParseError> {
+/// By which call of a parser a stream is read.
+#[derive(Clone, Copy)]
+enum Way {
+    Collected,
+    Called,
+    Lent,
+}
+
+// Reads the bytes by `parse_as_vec`, and joins their actions with those that were read before.
+fn collected_on(
+    parser: &mut Parser,
+    bytes: &[u8],
+    actions: &mut Vec<Action>,
+) -> Result<(), ParseError> {
     for action in parser.parse_as_vec(bytes)? {
         action.append_to(actions)?;
     }
@@ -37,63 +49,78 @@ fn called_on(
     }
 }
 
-// Whether the bytes have these actions by `parse_as_vec`, handed in as two pieces, the first with so many bytes.
-fn is_read_in_two(
-    alloc: Global,
-    bytes: &[u8],
-    count: usize,
-    whole: &[Action],
-) -> Result<bool, Fault> {
-    let (front, behind) = bytes.split_at(count.min(bytes.len()));
-    let mut parser = Parser::new(alloc);
-    let mut actions = Vec::new(alloc);
-    read_on(&mut parser, front, &mut actions)?;
-    read_on(&mut parser, behind, &mut actions)?;
-    Ok(actions.as_slice() == whole)
-}
-
-// The same by `parse`.
-fn is_called_in_two(
-    alloc: Global,
-    bytes: &[u8],
-    count: usize,
-    whole: &[Action],
-) -> Result<bool, Fault> {
-    let (front, behind) = bytes.split_at(count.min(bytes.len()));
-    let mut parser = Parser::new(alloc);
-    let mut actions = Vec::new(alloc);
-    called_on(&mut parser, front, &mut actions)?;
-    called_on(&mut parser, behind, &mut actions)?;
-    Ok(actions.as_slice() == whole)
-}
-
-// Whether the bytes have these actions by `parse_as_vec`, handed in one by one.
-fn is_read_byte_by_byte(alloc: Global, bytes: &[u8], whole: &[Action]) -> Result<bool, Fault> {
-    let mut parser = Parser::new(alloc);
-    let mut actions = Vec::new(alloc);
-    for byte in bytes {
-        read_on(&mut parser, &[*byte], &mut actions)?;
+// Joins the prints of a text's characters with the actions before.
+fn append_text(text: &str, actions: &mut Vec<Action>) -> Result<(), ParseError> {
+    for character in text.chars() {
+        Action::Print(character).append_to(actions)?;
     }
-    Ok(actions.as_slice() == whole)
+    Ok(())
 }
 
-// The same by `parse`.
-fn is_called_byte_by_byte(alloc: Global, bytes: &[u8], whole: &[Action]) -> Result<bool, Fault> {
-    let mut parser = Parser::new(alloc);
-    let mut actions = Vec::new(alloc);
-    for byte in bytes {
-        called_on(&mut parser, &[*byte], &mut actions)?;
+// The same by the pieces that `pieces` lends.
+fn lent_on(parser: &mut Parser, bytes: &[u8], actions: &mut Vec<Action>) -> Result<(), ParseError> {
+    for piece in parser.pieces(bytes) {
+        match piece? {
+            Piece::Text(text) => append_text(text, actions)?,
+            Piece::Action(action) => action.append_to(actions)?,
+        }
     }
-    Ok(actions.as_slice() == whole)
+    Ok(())
 }
 
-// Whether the bytes have these actions, cut in two there, by both calls.
+impl Way {
+    // Reads the bytes, and joins their actions with those that were read before.
+    fn read_on(
+        self,
+        parser: &mut Parser,
+        bytes: &[u8],
+        actions: &mut Vec<Action>,
+    ) -> Result<(), ParseError> {
+        match self {
+            Way::Collected => collected_on(parser, bytes, actions),
+            Way::Called => called_on(parser, bytes, actions),
+            Way::Lent => lent_on(parser, bytes, actions),
+        }
+    }
+
+    // Whether the bytes have these actions, handed in as two pieces, the first with so many bytes.
+    fn is_read_in_two(
+        self,
+        alloc: Global,
+        bytes: &[u8],
+        count: usize,
+        whole: &[Action],
+    ) -> Result<bool, Fault> {
+        let (front, behind) = bytes.split_at(count.min(bytes.len()));
+        let mut parser = Parser::new(alloc);
+        let mut actions = Vec::new(alloc);
+        self.read_on(&mut parser, front, &mut actions)?;
+        self.read_on(&mut parser, behind, &mut actions)?;
+        Ok(actions.as_slice() == whole)
+    }
+
+    // Whether the bytes have these actions, handed in one by one.
+    fn is_read_byte_by_byte(
+        self,
+        alloc: Global,
+        bytes: &[u8],
+        whole: &[Action],
+    ) -> Result<bool, Fault> {
+        let mut parser = Parser::new(alloc);
+        let mut actions = Vec::new(alloc);
+        for byte in bytes {
+            self.read_on(&mut parser, &[*byte], &mut actions)?;
+        }
+        Ok(actions.as_slice() == whole)
+    }
+}
+
+// Whether the bytes have these actions, cut in two there, by each call.
 fn is_read_at(alloc: Global, bytes: &[u8], count: usize, whole: &[Action]) -> Result<bool, Fault> {
-    if is_read_in_two(alloc, bytes, count, whole)? {
-        is_called_in_two(alloc, bytes, count, whole)
-    } else {
-        Ok(false)
-    }
+    let collected = Way::Collected.is_read_in_two(alloc, bytes, count, whole)?;
+    let called = Way::Called.is_read_in_two(alloc, bytes, count, whole)?;
+    let lent = Way::Lent.is_read_in_two(alloc, bytes, count, whole)?;
+    Ok(collected && called && lent)
 }
 
 // Says where the bytes don't have these actions.
@@ -104,10 +131,12 @@ fn say_torn(alloc: Global, bytes: &[u8], whole: &[Action], sheet: &mut Sheet) ->
             sheet.show(&count);
         }
     }
-    let is_read = is_read_byte_by_byte(alloc, bytes, whole)?;
-    sheet.word_if(!is_read, "but others byte by byte");
-    let is_called = is_called_byte_by_byte(alloc, bytes, whole)?;
+    let is_collected = Way::Collected.is_read_byte_by_byte(alloc, bytes, whole)?;
+    sheet.word_if(!is_collected, "but others byte by byte");
+    let is_called = Way::Called.is_read_byte_by_byte(alloc, bytes, whole)?;
     sheet.word_if(!is_called, "but parse calls at others byte by byte");
+    let is_lent = Way::Lent.is_read_byte_by_byte(alloc, bytes, whole)?;
+    sheet.word_if(!is_lent, "but pieces lends others byte by byte");
     Ok(())
 }
 
@@ -118,7 +147,8 @@ fn say_stream(alloc: Global, bytes: &[u8], sheet: &mut Sheet) -> Result<(), Faul
     say_torn(alloc, bytes, &whole, sheet)
 }
 
-/// `BYTES => ACTIONS`: a stream, whole, byte by byte and cut in two at each place, by `parse_as_vec` and by `parse`.
+/// `BYTES => ACTIONS`: a stream, whole, byte by byte and cut in two at each place, by `parse_as_vec`, by `parse`
+/// and by `pieces`.
 pub fn stream(row: &Row<'_>, sheet: &mut Sheet) -> Result<(), Fault> {
     let bytes = row.bytes(0)?;
     say_stream(row.alloc(), &bytes, sheet)

@@ -25,3 +25,6 @@ pub mod BreakLemmas
 pub mod LenLemmas
 pub mod StepLemmas
 pub mod SpellLemmas
+mod WideLemmas
+mod QuickLemmas
+mod LaneLemmas

@@ -17,3 +17,5 @@ pub mod FramerView
 pub mod Dispatched
 pub mod Framed
 pub mod Stepped
+pub mod Wide
+pub mod Quick

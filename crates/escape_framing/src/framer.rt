@@ -10,11 +10,13 @@ ghost use Rattle.escape_framing.specs.Decides.{Decides};
 ghost use Rattle.escape_framing.specs.Dispatched.{optional, dispatches_in, handed_in, Shows, TakesMemory};
 ghost use Rattle.escape_framing.specs.Framed.{takes_text, begun_bytes, IsTextLen, BeginsNoText};
 ghost use Rattle.escape_framing.specs.Stepped.{Reads};
+ghost use Rattle.escape_framing.specs.Quick.{IsSilent};
 
 use crate::characters::{Characters, Own};
 use crate::dispatch::Dispatch;
-use crate::error::FramerError;
-use crate::parameters::Parameters;
+use crate::error::ParseError;
+use crate::parameters::{Parameters, is_parameter};
+use crate::quick::body_of;
 use crate::step::Step;
 use crate::texts::text_len;
 use csi_codec::CsiParam;
@@ -37,7 +39,7 @@ const C1_LEAD: u8 = 0xc2;
 
 /// The intermediate bytes of an escape sequence, of more than two the first two.
 #[derive(Clone, Copy)]
-enum Intermediates {
+pub(crate) enum Intermediates {
     Zero,
     One(u8),
     More(u8, u8),
@@ -45,7 +47,7 @@ enum Intermediates {
 
 /// What is open.
 #[derive(Clone, Copy)]
-enum State {
+pub(crate) enum State {
     Characters,
     Escape(Intermediates),
     ControlSequence,
@@ -65,14 +67,14 @@ struct Handed {
 // ---- Classes of bytes
 
 #[tactic(auto, unfolding(crate::specs::Bytes::is_control))]
-fn is_control(byte: u8) -> bool
+pub(crate) fn is_control(byte: u8) -> bool
     ensures { result ≡ in_controls byte }
 {
     byte < 0x20 || byte == DELETE
 }
 
 #[tactic(auto, unfolding(crate::specs::Bytes::is_stop))]
-fn is_stop(byte: u8) -> bool
+pub(crate) fn is_stop(byte: u8) -> bool
     ensures { result ≡ in_stops byte }
 {
     byte == CANCEL || byte == SUBSTITUTE || byte == ESCAPE
@@ -92,13 +94,6 @@ fn is_intermediate(byte: u8) -> bool
     0x20 <= byte && byte <= 0x2f
 }
 
-#[tactic(auto, unfolding(crate::specs::Bytes::is_parameter))]
-fn is_parameter(byte: u8) -> bool
-    ensures { result ≡ in_parameters byte }
-{
-    0x20 <= byte && byte <= 0x3f
-}
-
 #[tactic(auto, unfolding(crate::specs::Bytes::is_cut))]
 fn is_cut(byte: u8) -> bool
     ensures { result ≡ in_cuts byte }
@@ -107,7 +102,7 @@ fn is_cut(byte: u8) -> bool
 }
 
 #[tactic(auto, unfolding(crate::specs::Bytes::is_opener, crate::specs::Bytes::is_string_opener))]
-fn is_opener(byte: u8) -> bool
+pub(crate) fn is_opener(byte: u8) -> bool
     ensures { result ≡ in_openers byte }
 {
     byte == b'[' || byte == b']' || byte == b'P' || byte == b'X' || byte == b'^' || byte == b'_'
@@ -177,12 +172,12 @@ fn with_intermediate(intermediates: Intermediates, byte: u8) -> Intermediates
 #[derive(Drop)]
 pub struct Framer {
     alloc: Global,
-    state: State,
+    pub(crate) state: State,
     waiting: bool,
     failed: bool,
     characters: Characters,
-    parameters: Parameters,
-    text: Vec<u8>,
+    pub(crate) parameters: Parameters,
+    pub(crate) text: Vec<u8>,
 }
 
 // Clauses see what is held of the stream, the parameters that are lent, and whether memory was refused.
@@ -235,13 +230,6 @@ impl Framer {
         self.failed
     }
 
-    /// Says that a call was refused memory, or that it goes on all the same.
-    pub fn set_failed(&mut self, failed: bool)
-        ensures { self.new ≡ record self.old { failed = failed } }
-    {
-        self.failed = failed;
-    }
-
     /// Whether nothing is unfinished: every byte that was read belongs to a whole segment.
     pub fn is_idle(&self) -> bool
         ensures { IsTrue result ↔ (self.now.held ≡ nothing_held) }
@@ -282,7 +270,7 @@ impl Framer {
     }
 
     // Nothing is open.
-    fn rest(&mut self)
+    pub(crate) fn rest(&mut self)
         ensures held { self.new.held ≡ record self.old.held { kept = InCharacter [] } }
         ensures parameters { self.new.parameters ≡ self.old.parameters }
         ensures failed { self.new.failed ≡ self.old.failed }
@@ -589,26 +577,26 @@ impl Framer {
     /// Reads one byte more, 00h to FFh, and hands out the dispatches that it decides, in order, with gaps: four at most.
     /// The tokens of a control sequence are lent by `parameters`. Memory is taken for the body of an operating system
     /// command and the header of a device control string alone; a framer that was refused memory answers `Failed`.
-    pub fn feed(&mut self, byte: u8) -> Result<[Option<Dispatch>; 4], FramerError>
+    pub fn feed(&mut self, byte: u8) -> Result<[Option<Dispatch>; 4], ParseError>
         // Where a stream has been read, in any pieces, the dispatches that the byte decides are handed out.
         ensures decided { IfOk result (λ ds. (stream : List ℕ) → self.old.held ≡ held_of stream → Decides stream byte (dispatches_in self.new.parameters ds) self.new.held) }
         // What is handed out, and what is held, in any case.
         ensures dispatches { IfOk result (λ ds. dispatches_in self.new.parameters ds ≡ (held_step self.old.held byte).dispatches) }
         ensures held { IfOk result (λ ds. self.new.held ≡ (held_step self.old.held byte).held) }
         // A call fails where an earlier one was refused memory, and only then is that its error.
-        ensures failed { IsErrOf result FramerError.Failed ↔ (self.old.failed ≡ true) }
-        ensures memory { IsErrOf result FramerError.Memory → TakesMemory self.old.held.kept }
+        ensures failed { IsErrOf result ParseError.Failed ↔ (self.old.failed ≡ true) }
+        ensures memory { IsErrOf result ParseError.Memory → TakesMemory self.old.held.kept }
         // A framer has failed once it was refused memory.
         ensures after { self.new.failed ≡ is_err result }
     {
         if self.failed {
-            return Err(FramerError::Failed);
+            return Err(ParseError::Failed);
         }
         match self.advance(byte) {
             Ok(dispatches) => Ok(dispatches),
             Err(_) => {
                 self.failed = true;
-                Err(FramerError::Memory)
+                Err(ParseError::Memory)
             }
         }
     }
@@ -658,6 +646,22 @@ impl Framer {
         }
     }
 
+    // Reads the bytes of a command's body at the front, up to one that may end it or stand for no byte of it.
+    fn read_body(&mut self, bytes: &[u8]) -> Result<usize, AllocError>
+        ensures reads { IfOk result (λ n. 0 < n → IsSilent self.old.held bytes.now n self.new.held) }
+        ensures none { IfOk result (λ n. n ≡ 0 → self.new ≡ self.old) }
+        ensures failed { IfOk result (λ n. self.new.failed ≡ self.old.failed) }
+    {
+        match self.state {
+            State::Command if !self.waiting => {
+                let body = body_of(bytes);
+                self.text.extend_from_slice(body)?;
+                Ok(body.len())
+            }
+            _ => Ok(0),
+        }
+    }
+
     // Reads the text at the front, or one byte; a text that breaks a character hands out U+FFFD first, and isn't read yet.
     fn read(&mut self, bytes: &[u8]) -> Result<Step, AllocError>
         ensures reads { IfOk result (λ s. Reads self.new.parameters self.old.held bytes.now s self.new.held) }
@@ -668,6 +672,10 @@ impl Framer {
         };
         let text = self.text_at(*byte, bytes);
         if text == 0 {
+            let body = self.read_body(bytes)?;
+            if body != 0 {
+                return Ok(Step::of_dispatches([None, None, None, None], body));
+            }
             let dispatches = self.advance(*byte)?;
             return Ok(Step::of_dispatches(dispatches, 1));
         }
@@ -684,21 +692,21 @@ impl Framer {
     /// Reads a text at the front of some bytes of one call, or one byte of them, and answers what that hands out and how
     /// many bytes were read; none where a text is to follow, behind a character that it breaks. A text is made of
     /// printable characters, U+0020 to U+007E and from U+00A0, but U+FFFD. Refusals are those of `feed`.
-    pub fn next(&mut self, bytes: &[u8]) -> Result<Step, FramerError>
+    pub fn next(&mut self, bytes: &[u8]) -> Result<Step, ParseError>
         ensures reads { IfOk result (λ s. Reads self.new.parameters self.old.held bytes.now s self.new.held) }
         // A call fails where an earlier one was refused memory, and only then is that its error.
-        ensures failed { IsErrOf result FramerError.Failed ↔ (self.old.failed ≡ true) }
+        ensures failed { IsErrOf result ParseError.Failed ↔ (self.old.failed ≡ true) }
         // A framer has failed once it was refused memory.
         ensures after { self.new.failed ≡ is_err result }
     {
         if self.failed {
-            return Err(FramerError::Failed);
+            return Err(ParseError::Failed);
         }
         match self.read(bytes) {
             Ok(step) => Ok(step),
             Err(_) => {
                 self.failed = true;
-                Err(FramerError::Memory)
+                Err(ParseError::Memory)
             }
         }
     }

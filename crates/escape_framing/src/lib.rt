@@ -6,11 +6,15 @@ pub mod dispatch;
 pub mod error;
 pub mod framer;
 pub mod laws;
+pub mod lone;
 mod parameters;
+mod plain;
+mod quick;
 pub mod step;
 mod texts;
 
 pub use dispatch::Dispatch;
-pub use error::FramerError;
+pub use error::ParseError;
 pub use framer::Framer;
+pub use lone::Lone;
 pub use step::Step;

@@ -1,5 +1,7 @@
 //! The tokens of a control sequence, as its bytes come.
-ghost use Rattle.std.specs.Prelude.{◌≡◌, ℕ, ◌<◌, ◌≤◌, Some, None, IsSome, IsTrue, false};
+ghost use Rattle.std.specs.Prelude.{◌≡◌, ℕ, ◌<◌, ◌≤◌, Some, None, IsSome, IsTrue, false, fold, take};
+ghost use Rattle.std.specs.List.{prefix_len};
+ghost use Rattle.escape_framing.specs.Bytes.{is_parameter as in_parameters};
 ghost use Rattle.std.specs.Char.{IsAsciiDigit};
 ghost use Rattle.escape_framing.specs.Parameters.{no_parameters, with_token, with_number, with_byte};
 ghost use Rattle.escape_framing.specs.Parameters.{next_number as number_behind};
@@ -12,6 +14,15 @@ const MOST_TOKENS: usize = 256;
 
 /// The largest number of a token.
 const LARGEST_NUMBER: u64 = 9_223_372_036_854_775_807;
+
+// A parameter byte or an intermediate byte.
+#[inline(always)]
+#[tactic(auto, unfolding(crate::specs::Bytes::is_parameter))]
+pub(crate) fn is_parameter(byte: u8) -> bool
+    ensures { result ≡ in_parameters byte }
+{
+    0x20 <= byte && byte <= 0x3f
+}
 
 // The number whose digits have begun, with one digit more, cut at the largest.
 fn next_number(number: Option<u64>, byte: u8) -> u64
@@ -122,5 +133,23 @@ impl Parameters {
         } else {
             self.add(CsiParam::P(byte), None);
         }
+    }
+
+    /// Reads the parameter bytes at the front, and answers how many there are.
+    pub fn push_all(&mut self, bytes: &[u8]) -> usize
+        ensures count { result ≡ prefix_len in_parameters bytes.now }
+        ensures tokens { self.new ≡ fold with_byte self.old (take result bytes.now) }
+    {
+        let mut rest = bytes;
+        let mut count = 0;
+        while let Some((byte, others)) = rest.split_first() {
+            if !is_parameter(*byte) {
+                return count;
+            }
+            self.push(*byte);
+            count += 1;
+            rest = others;
+        }
+        count
     }
 }

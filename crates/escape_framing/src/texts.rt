@@ -1,73 +1,171 @@
 //! Texts: the characters at the front of some bytes that are lent as they stand.
-ghost use Rattle.std.specs.Prelude.{◌≡◌, IsTrue, ℕ, ◌≤◌, false, encode_utf8, length, drop};
-ghost use Rattle.escape_framing.specs.Framed.{IsLendable, BeginsText, BeginsNoText, IsCharacterLen, IsTextLen};
-ghost use Rattle.escape_framing.specs.Framed.{width as width_of};
+ghost use Rattle.std.specs.Prelude.{◌≡◌, ◌↔◌, IsTrue, ℕ, ◌≤◌, ◌<◌, ◌∷◌, length, drop};
+ghost use Rattle.std.specs.List.{prefix_len};
+ghost use Rattle.escape_framing.specs.Framed.{IsCharacterLen, IsTextLen};
+ghost use Rattle.escape_framing.specs.Wide.{IsRunLen};
+ghost use Rattle.escape_framing.specs.Wide.{is_plain as in_plain, least_second as least_behind, most_second as most_behind, is_second as in_second, is_behind as in_behind};
 
-use std::str;
+use crate::plain::{is_plain, plain_len};
 
-const REPLACEMENT: char = '\u{fffd}';
-
-// A character of which a text is made: a printable one, but U+FFFD.
-fn is_lendable(c: char) -> bool
-    ensures yes { IsTrue result → IsLendable c }
-    ensures no { result ≡ false → IsLendable c → ⊥ }
+// The least byte behind the first of a character.
+#[inline(always)]
+fn least_second(lead: u8) -> u8
+    ensures { result ≡ least_behind lead }
 {
-    match c {
-        ' '..='~' => true,
-        '\0'..='\u{9f}' => false,
-        _ => c != REPLACEMENT,
+    if lead == 0xc2 {
+        0xa0
+    } else if lead == 0xe0 {
+        0xa0
+    } else if lead == 0xf0 {
+        0x90
+    } else {
+        0x80
     }
 }
 
-// How many bytes a character has that begins with this byte.
-fn width(byte: u8) -> usize
-    ensures { result ≡ width_of byte }
+// The greatest one.
+#[inline(always)]
+fn most_second(lead: u8) -> u8
+    ensures { result ≡ most_behind lead }
 {
-    match byte {
-        0x00..=0x7f => 1,
-        0x80..=0xdf => 2,
-        0xe0..=0xef => 3,
-        _ => 4,
+    if lead == 0xed {
+        0x9f
+    } else if lead == 0xf4 {
+        0x8f
+    } else {
+        0xbf
     }
 }
 
-// Whether a character that can be lent stands at the front.
-fn begins_text(text: &str) -> bool
-    ensures yes { IsTrue result → BeginsText text.now }
-    ensures no { result ≡ false → BeginsNoText text.now }
+// The second byte of a character.
+#[inline(always)]
+#[tactic(auto, unfolding(crate::specs::Wide::is_second))]
+fn is_second(lead: u8, byte: u8) -> bool
+    ensures { result ≡ in_second lead byte }
 {
-    match text.chars().next() {
-        Some(c) => is_lendable(c),
-        None => false,
+    least_second(lead) <= byte && byte <= most_second(lead)
+}
+
+// A byte behind the second.
+#[inline(always)]
+#[tactic(auto, unfolding(crate::specs::Wide::is_behind))]
+fn is_behind(byte: u8) -> bool
+    ensures { result ≡ in_behind byte }
+{
+    0x80 <= byte && byte <= 0xbf
+}
+
+// How many bytes the character at the front has, of two bytes; 0 where there is none that can be lent.
+#[inline(always)]
+fn two_len(lead: u8, others: &[u8]) -> usize
+    requires least { 0xC2 ≤ lead }
+    requires most { lead < 0xE0 }
+    ensures { IsCharacterLen (lead ∷ others.now) result }
+{
+    let Some((second, _)) = others.split_first() else {
+        return 0;
+    };
+    if is_second(lead, *second) { 2 } else { 0 }
+}
+
+// U+FFFD.
+#[inline(always)]
+fn is_replacement(lead: u8, second: u8, third: u8) -> bool
+    ensures { IsTrue result ↔ ((lead ≡ 0xEF) × (second ≡ 0xBF) × (third ≡ 0xBD)) }
+{
+    if lead != 0xef {
+        return false;
+    }
+    second == 0xbf && third == 0xbd
+}
+
+// The same of three bytes.
+#[inline(always)]
+fn three_len(lead: u8, others: &[u8]) -> usize
+    requires least { 0xE0 ≤ lead }
+    requires most { lead < 0xF0 }
+    ensures { IsCharacterLen (lead ∷ others.now) result }
+{
+    let Some((second, behind)) = others.split_first() else {
+        return 0;
+    };
+    if !is_second(lead, *second) {
+        return 0;
+    }
+    let Some((third, _)) = behind.split_first() else {
+        return 0;
+    };
+    if !is_behind(*third) {
+        return 0;
+    }
+    if is_replacement(lead, *second, *third) {
+        0
+    } else {
+        3
     }
 }
 
-// Whether the bytes are one character, and it can be lent.
-fn is_text(bytes: &[u8]) -> bool
-    ensures yes { IsTrue result → BeginsText bytes.now }
-    ensures no { result ≡ false → (c : ℕ) → IsLendable c → bytes.now ≡ encode_utf8 c → ⊥ }
+// The same of four bytes.
+fn four_len(lead: u8, others: &[u8]) -> usize
+    requires { 0xF0 ≤ lead }
+    ensures { IsCharacterLen (lead ∷ others.now) result }
 {
-    match str::from_utf8(bytes) {
-        Ok(text) => begins_text(text),
-        Err(_) => false,
+    let Some((second, behind)) = others.split_first() else {
+        return 0;
+    };
+    if !is_second(lead, *second) {
+        return 0;
     }
+    let Some((third, behind)) = behind.split_first() else {
+        return 0;
+    };
+    if !is_behind(*third) {
+        return 0;
+    }
+    let Some((fourth, _)) = behind.split_first() else {
+        return 0;
+    };
+    if 0xf4 < lead {
+        return 0;
+    }
+    if is_behind(*fourth) { 4 } else { 0 }
 }
 
-// How many bytes the character at the front has; 0 where there is none that can be lent.
-fn character_len(bytes: &[u8]) -> usize
+// How many bytes the character at the front has, which isn't plain; 0 where there is none that can be lent.
+fn wide_len(bytes: &[u8]) -> usize
+    requires { prefix_len in_plain bytes.now ≡ 0 }
     ensures { IsCharacterLen bytes.now result }
+{
+    let Some((lead, others)) = bytes.split_first() else {
+        return 0;
+    };
+    if *lead < 0xc2 {
+        0
+    } else if *lead < 0xe0 {
+        two_len(*lead, others)
+    } else if *lead < 0xf0 {
+        three_len(*lead, others)
+    } else {
+        four_len(*lead, others)
+    }
+}
+
+// How many bytes the plain characters at the front have, or the character there; 0 where none can be lent.
+fn run_len(bytes: &[u8]) -> usize
+    ensures { IsRunLen bytes.now result }
 {
     let Some((byte, _)) = bytes.split_first() else {
         return 0;
     };
-    let count = width(*byte);
-    if bytes.len() < count {
-        return 0;
+    if is_plain(*byte) {
+        plain_len(bytes)
+    } else {
+        wide_len(bytes)
     }
-    if is_text(&bytes[..count]) { count } else { 0 }
 }
 
 // What stands behind so many bytes.
+#[inline(always)]
 fn behind(bytes: &[u8], count: usize) -> &[u8]
     requires { count ≤ length bytes.now }
     ensures { result.now ≡ drop count bytes.now }
@@ -82,7 +180,7 @@ pub(crate) fn text_len(bytes: &[u8]) -> usize
     let mut rest = bytes;
     let mut len = 0;
     loop {
-        let count = character_len(rest);
+        let count = run_len(rest);
         if count == 0 {
             return len;
         }

@@ -12,13 +12,22 @@ use Rattle.escape_stream.specs.declared.action.Action.{Action}
 use Rattle.escape_stream.specs.declared.pieces.Piece.{Piece as PieceCode}
 use Rattle.escape_stream.specs.declared.pieces.Piece.TheVariants as code
 use Rattle.escape_stream.specs.declared.pieces.Pieces.{Pieces}
+use Rattle.escape_stream.specs.declared.pieces.Stage.{Stage}
+use Rattle.escape_stream.specs.declared.pieces.Stage.TheVariants as stage
+use Rattle.escape_framing.specs.declared.error.ParseError.{ParseError}
+use Rattle.escape_framing.specs.declared.error.ParseError.TheVariants as refusal
+use Rattle.std.specs.Prelude.{Result, Ok, Err}
+use Rattle.std.specs.Iterator.{MakesProgress, at_most}
 use Rattle.escape_stream.specs.StreamAction.{StreamAction}
 use Rattle.escape_stream.specs.StreamActionView.{value_of}
 use Rattle.escape_stream.specs.StreamActions.{actions_of}
 use Rattle.escape_stream.specs.Pending.{Gives}
 use Rattle.escape_stream.specs.Queue.{queue_actions}
+use Rattle.escape_stream.specs.declared.queue.Queue.{Queue}
+use Rattle.escape_framing.specs.declared.lone.Lone.{Lone as Read}
+use Rattle.escape_framing.specs.declared.lone.Lone.TheVariants as lone
 use Rattle.escape_stream.specs.Pieces.{Piece, Text, Lone, pieces_of, pieces}
-use Rattle.escape_stream.specs.PiecesView.{lender_of, open_pieces, held_at_end, IsUnderWay, HasRead, HasGiven, GoesOn}
+use Rattle.escape_stream.specs.PiecesView.{lender_of, parser_of, open_pieces, held_at_end, items_at, items_left, ready_at, IsReady, PiecesGo, IsOpen, IsOver, IsUnderWay, HasRead, HasReadLone, lone_values, HasGiven, GoesOn}
 use Rattle.escape_stream.proofs.PieceLemmas.{read_none, read_text, read_behind, if_none, comes_closer}
 
 -- only what waits has changed
@@ -156,8 +165,40 @@ given_too old mid new piece failed g e b n q = record {
   done = λ z. rw e (g.done z);
 }
 
-pub has_within : (old : Pieces) (text : ℕ) (new : Pieces) → old.count ≤ length old.bytes.now → HasRead old text new → new.bytes ≡ old.bytes → new.count ≤ length new.bytes.now
-has_within old text new l r e = rw (r.count, e) (omega (arith, r.reads.within, length-drop old.count old.bytes.now))
+-- ---- what is read at once
+
+pub same_then : (a b c : Pieces) → SameBut a b → SameBut b c → SameBut a c
+same_then a b c s t = record { parser = t.parser ∙ s.parser; bytes = t.bytes ∙ s.bytes; count = t.count ∙ s.count }
+
+-- with what a queue would hold
+abbrev loaded : (new : Pieces) → Queue → Pieces
+loaded new q = record new { queue = q }
+
+pub lone_gives : (first old mid new : Pieces) (after : List StreamAction) (l : Read) (a : Action) → GoesOn first old → SameBut old mid → Gives (queue_actions old.parser.now.parameters old.queue) None after → HasReadLone mid l new → new.bytes ≡ mid.bytes → value_of a ∷ [] ≡ lone_values l
+    → HasGiven first (Some (code.Action a)) new
+lone_gives first old mid new after l a g s e h b v =
+    gives_action first (loaded new h.queue) new a (goes_on first old mid (loaded new h.queue) after 0 g s e h.read b refl) (record { parser = refl; bytes = refl; count = refl })
+    (h.actions new.parser.now.parameters ∙ ap (λ (x : List StreamAction). x ++ queue_actions new.parser.now.parameters new.queue) (sym v))
+
+none_queued : (mid new : Pieces) (l : Read) (h : HasReadLone mid l new) → [] ≡ lone_values l → (p : Parameters) → queue_actions p h.queue ≡ queue_actions p new.queue
+none_queued mid new l h v p = h.actions p ∙ ap (λ (x : List StreamAction). x ++ queue_actions p new.queue) (sym v)
+
+pub lone_goes : (first old mid new : Pieces) (after : List StreamAction) (l : Read) → GoesOn first old → SameBut old mid → Gives (queue_actions old.parser.now.parameters old.queue) None after → HasReadLone mid l new → new.bytes ≡ mid.bytes → [] ≡ lone_values l → GoesOn first new
+lone_goes first old mid new after l g s e h b v =
+    let k = goes_on first old mid (loaded new h.queue) after 0 g s e h.read b refl in
+    record {
+      same = λ start. ap (λ (q : List StreamAction). map Lone q ++ pieces_of (framed_behind start (start + new.count) new.parser.now.held (drop new.count new.bytes.now))) (sym (none_queued mid new l h v new.parser.now.parameters)) ∙ k.same start;
+      ready = record { within = k.ready.within; reached = k.ready.reached; carried = k.ready.carried };
+      ends = k.ends;
+    }
+
+pub lone_closer : (first old mid new : Pieces) (after : List StreamAction) (l : Read) → old.count ≤ length old.bytes.now → SameBut old mid → Gives (queue_actions old.parser.now.parameters old.queue) None after → HasReadLone mid l new → new.bytes ≡ mid.bytes → [] ≡ lone_values l → mid.count ≢ length mid.bytes.now
+    → 2 * (length new.bytes.now - new.count) + if_none (queue_actions new.parser.now.parameters new.queue) < 2 * (length old.bytes.now - old.count) + if_none (queue_actions old.parser.now.parameters old.queue)
+lone_closer first old mid new after l w s e h b v m =
+    rw (← none_queued mid new l h v new.parser.now.parameters) (closer first old mid (loaded new h.queue) after 0 w s e h.read b refl m)
+
+pub some_lone : (l : Read) (a : Action) → value_of a ∷ [] ≡ lone_values l → l ≢ lone.Nothing
+some_lone l a v n = let k : value_of a ∷ [] ≡ [] = v ∙ ap lone_values n in cc
 
 -- ---- the beginning
 
@@ -181,3 +222,29 @@ begins it stream bytes h n b q = record {
   pieces = rw (q, n, b, h) (let k : length stream + 0 ≡ length stream = omega arith in ap (λ (m : ℕ). pieces_of (framed_behind (length stream) m (held_of stream) bytes)) k ∙ ap (λ l. pieces_of (framed (length stream) l)) (placed_same bytes stream));
   ends = rw (n, b, h) (sym (held_append stream bytes));
 }
+
+-- ---- how far it is to the end
+
+-- a piece was handed out, so fewer are left
+pub fewer_left : (old new : Pieces) (piece : PieceCode) → HasGiven old (Some piece) new → length (open_pieces 0 new) < length (open_pieces 0 old)
+fewer_left old new piece g = let p = g.gives 0 in omega (arith, ap length p.2)
+
+left_open : (it : Pieces) → IsOpen it → items_left it ≡ 1 + length (open_pieces 0 it)
+left_open it o = ap (λ (s : Stage). items_at s (open_pieces 0 it)) o
+
+left_over : (it : Pieces) → IsOver it → items_left it ≡ 0
+left_over it o = ap (λ (s : Stage). items_at s (open_pieces 0 it)) o
+
+-- one that is open can be asked again, and is nearer to its end
+goes_nearer : (old new : Pieces) (piece : PieceCode) → IsOpen old → IsOpen new → HasGiven old (Some piece) new → (parser_of new).failed ≡ true → IsReady new × (items_left new < items_left old)
+goes_nearer old new piece o n g f = (subst (λ (s : Stage). ready_at s new) (sym n) (g.ready, f), omega (arith, fewer_left old new piece g, left_open old o, left_open new n))
+
+-- one that is over
+goes_over : (old new : Pieces) → IsOpen old → IsOver new → IsReady new × (items_left new < items_left old)
+goes_over old new o n = (subst (λ (s : Stage). ready_at s new) (sym n) tt, omega (arith, left_open old o, left_over new n))
+
+pub progress : (old new : Pieces) (answer : Option (Result PieceCode ParseError)) → IsOpen old → PiecesGo old answer new → MakesProgress IsReady (λ it. at_most (items_left it)) old answer new
+progress old new (Some (Ok piece)) o g = let k = goes_nearer old new piece o g.items.1 g.items.2 g.parser in record { on = λ _. (k.0, tt, k.1); keeps = k.0; rests = λ _. tt }
+progress old new (Some (Err refusal.Memory)) o g = let k = goes_over old new o g.items.1 in record { on = λ _. (k.0, tt, k.1); keeps = k.0; rests = λ _. tt }
+progress old new (Some (Err refusal.Failed)) o g = let e : stage.Open ≡ stage.Failed = sym o ∙ g.items.0 in cc
+progress old new None o g = record { on = λ _. tt; keeps = tt; rests = λ _. tt }

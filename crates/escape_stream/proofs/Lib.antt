@@ -12,8 +12,11 @@ mod PairText
 mod PrintedText
 mod CommandText
 mod WritableLemmas
-pub mod PrintableLemmas
 pub mod QueueLemmas
 pub mod PieceLemmas
 pub mod AdvanceLemmas
 pub mod SpellLemmas
+pub mod SpokenLemmas
+pub mod JoinLemmas
+pub mod WalkLemmas
+pub mod LoneReading

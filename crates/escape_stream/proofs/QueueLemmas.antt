@@ -57,3 +57,14 @@ none_begun before after (Some a) e s = cc
 
 pub fewer_waiting : (d : Dispatch) (old new : Waiting) → waiting_dispatches no_parameters old ≡ optional no_parameters (Some d) ++ waiting_dispatches no_parameters new → length (waiting_dispatches no_parameters new) < length (waiting_dispatches no_parameters old)
 fewer_waiting d old new e = omega (arith, ap length e)
+
+-- no dispatch was the first, and none is behind it
+pub empty_behind : (p : Parameters) (old new : Waiting) (first : Option Dispatch) → first ≡ None → waiting_dispatches p old ≡ optional p first ++ waiting_dispatches p new → waiting_dispatches p old ≡ [] → waiting_dispatches p new ≡ []
+empty_behind p old new first n e z = sym (ap (λ (x : Option Dispatch). optional p x ++ waiting_dispatches p new) n) ∙ sym e ∙ z
+
+pub right_none : (xs ys : List StreamAction) → xs ++ ys ≡ [] → ys ≡ []
+right_none [] ys e = e
+right_none (x ∷ xs) ys e = cc
+
+pub empty_waiting : (p : Parameters) (q : Queue) → queue_actions p q ≡ [] → actions_of (waiting_dispatches p q.waiting) ≡ []
+empty_waiting p q e = right_none (sequence_actions p q.sequence) (actions_of (waiting_dispatches p q.waiting)) e

@@ -14,7 +14,7 @@ pub mod StreamWritable
 pub mod StreamActions
 pub mod Parsing
 pub mod Pending
-pub mod Printables
 pub mod Pieces
 pub mod Queue
 pub mod PiecesView
+pub mod ParserView

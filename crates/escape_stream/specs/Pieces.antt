@@ -1,6 +1,7 @@
 -- What `pieces` hands out: texts, lent from the bytes of one call, and actions by themselves.
 use Rattle.std.specs.Prelude.{◌≡◌, ℕ, List, [], ◌∷◌, ◌++◌, length, map, encode_utf8_all}
 use Rattle.std.specs.List.{flat_map}
+use Rattle.std.specs.Str.{chars}
 use Rattle.escape_framing.specs.Framed as framing
 use Rattle.escape_framing.specs.Framed.{Framed, framed}
 use Rattle.escape_framing.specs.Placed.{placed_from}
@@ -24,6 +25,14 @@ pieces_of items = flat_map pieces_of_framed items
 -- side by side, each wholly of these bytes, are a text.
 abbrev pub pieces : List ℕ → List ℕ → List Piece
 pieces stream bytes = pieces_of (framed (length stream) (placed_from stream bytes))
+
+-- the actions of pieces: a text prints its characters
+abbrev pub actions_of_piece : Piece → List StreamAction
+actions_of_piece (Text from text) = map print (chars text)
+actions_of_piece (Lone a) = a ∷ []
+
+abbrev pub actions_of_pieces : List Piece → List StreamAction
+actions_of_pieces items = flat_map actions_of_piece items
 
 -- the actions, where each text is printed character by character; no text is empty
 pub data Spells : List Piece → List StreamAction → Type 0 where

@@ -1,6 +1,8 @@
 -- What an iterator of pieces has yet to hand out, and of the parser that it borrows.
 use Rattle.std.specs.Prelude.{◌≡◌, ◌≢◌, ◌≤◌, ℕ, ◌+◌, Bool, true, false, List, [], ◌∷◌, ◌++◌, length, drop, map, Option, Some, None, Result, Ok, Err}
 use base.Fml.{GName}
+use Rattle.std.specs.Str.{chars}
+use Rattle.escape_stream.specs.StreamAction.{StreamAction, print, esc}
 use Rattle.std.specs.declared.alloc.AllocError.{AllocError}
 use Rattle.escape_framing.specs.Held.{Held, hand_out}
 use Rattle.escape_framing.specs.Framing.{Framing}
@@ -8,12 +10,18 @@ use Rattle.escape_framing.specs.Framed.{framed_behind, IsReached, IsCarried}
 use Rattle.escape_framing.specs.Dispatched.{dispatches_in}
 use Rattle.escape_framing.specs.Stepped.{Reads}
 use Rattle.escape_framing.specs.declared.step.Step.{Step}
-use Rattle.escape_stream.specs.StreamActions.{actions_of}
+use Rattle.escape_stream.specs.StreamActions.{actions_of, named_control}
 use Rattle.escape_stream.specs.Pieces.{Piece, Text, Lone, pieces_of}
-use Rattle.escape_stream.specs.Queue.{queue_actions}
+use Rattle.escape_stream.specs.Queue.{queue_actions, IsEmpty}
+use Rattle.escape_stream.specs.declared.queue.Queue.{Queue}
+use Rattle.escape_framing.specs.Parameters.{Parameters}
+use Rattle.escape_framing.specs.declared.lone.Lone.{Lone as Read}
+use Rattle.escape_framing.specs.declared.lone.Lone.TheVariants as lone
+use Rattle.csi_codec.specs.Escapes.{esc_reading}
+use Rattle.escape_stream.specs.Controls.{control_named}
 use Rattle.escape_stream.specs.StreamActionView.{value_of}
-use Rattle.escape_stream.specs.declared.error.ParseError.{ParseError}
-use Rattle.escape_stream.specs.declared.error.ParseError.TheVariants as refusal
+use Rattle.escape_framing.specs.declared.error.ParseError.{ParseError}
+use Rattle.escape_framing.specs.declared.error.ParseError.TheVariants as refusal
 use Rattle.escape_stream.specs.declared.pieces.Piece.{Piece as PieceCode}
 use Rattle.escape_stream.specs.declared.pieces.Piece.TheVariants as code
 use Rattle.escape_stream.specs.declared.pieces.Stage.{Stage}
@@ -46,10 +54,6 @@ pieces_left start it = left_at it.stage (open_pieces start it)
 abbrev pub held_at_end : Pieces → Held
 held_at_end it = (hand_out it.parser.now.held (drop it.count it.bytes.now)).held
 
--- no more bytes were read than there are
-abbrev pub IsWithin : Pieces → Type 0
-IsWithin it = it.count ≤ length it.bytes.now
-
 -- What was read are bytes of a stream, whatever came before the call; a character that has begun in it isn't one to lend.
 pub record IsUnderWay (it : Pieces) : Type 0 where
   pub within : it.count ≤ length it.bytes.now
@@ -62,6 +66,11 @@ IsPiece (Text from text) (code.Text t) = t.now ≡ text
 IsPiece (Text from text) (code.Action a) = ⊥
 IsPiece (Lone a) (code.Text t) = ⊥
 IsPiece (Lone a) (code.Action b) = value_of b ≡ a
+
+-- the actions of a piece: a text prints its characters
+abbrev pub actions_in : PieceCode → List StreamAction
+actions_in (code.Text t) = map print (chars t.now)
+actions_in (code.Action a) = value_of a ∷ []
 
 -- the next piece of some, and what is left of them
 abbrev pub GivesPiece : List Piece → Option PieceCode → List Piece → Type 0
@@ -76,6 +85,26 @@ pub record HasRead (old : Pieces) (text : ℕ) (new : Pieces) : Type 0 where
   pub count : new.count ≡ old.count + step.count
   pub queued : text ≡ 0 → queue_actions new.parser.now.parameters new.queue ≡ actions_of (dispatches_in new.parser.now.parameters step.dispatches)
   pub emptied : text ≢ 0 → queue_actions new.parser.now.parameters new.queue ≡ []
+
+-- nothing has changed
+pub record IsUnread (old new : Pieces) : Type 0 where
+  pub parser : new.parser.now ≡ old.parser.now
+  pub count : new.count ≡ old.count
+  pub queue : new.queue ≡ old.queue
+
+-- the action of what was read at once, unless it is a control sequence
+abbrev pub lone_values : Read → List StreamAction
+lone_values lone.Nothing = []
+lone_values (lone.Part n) = []
+lone_values (lone.Control b) = named_control (control_named b)
+lone_values (lone.Escape final) = esc (esc_reading None final) ∷ []
+lone_values (lone.ControlSequence final n) = []
+
+-- A control or a sequence was read at once, where nothing waited: its action is the first of those that a queue would hold.
+pub record HasReadLone (old : Pieces) (l : Read) (new : Pieces) : Type 0 where
+  pub queue : Queue
+  pub read : HasRead old 0 (record new { queue = queue })
+  pub actions : (p : Parameters) → queue_actions p queue ≡ lone_values l ++ queue_actions p new.queue
 
 -- what one call has handed out, and how it goes on
 pub record HasGiven (old : Pieces) (piece : Option PieceCode) (new : Pieces) : Type 0 where
@@ -100,13 +129,23 @@ IsOpen it = it.stage ≡ stage.Open
 abbrev pub IsOver : Pieces → Type 0
 IsOver it = it.stage ≡ stage.Over
 
+-- while it is open, what was read are bytes of a stream, and its parser has failed
+abbrev pub ready_at : Stage → Pieces → Type 0
+ready_at stage.Failed it = Unit {0}
+ready_at stage.Open it = IsUnderWay it × ((parser_of it).failed ≡ true)
+ready_at stage.Over it = Unit {0}
+
+-- `next` may be called
+abbrev pub IsReady : Pieces → Type 0
+IsReady it = ready_at it.stage it
+
 -- What a call of `next` answers: the next piece while there is one, then that there is none, and then so again; in place of
 -- a piece that memory is refused, or that the parser had failed, and then nothing more.
 abbrev pub HandsOutPiece : Pieces → Option (Result PieceCode ParseError) → Pieces → Type 0
-HandsOutPiece old (Some (Ok piece)) new = IsOpen old × IsOpen new × (IsUnderWay old → HasGiven old (Some piece) new)
+HandsOutPiece old (Some (Ok piece)) new = IsOpen old × IsOpen new × HasGiven old (Some piece) new
 HandsOutPiece old (Some (Err refusal.Memory)) new = IsOpen old × IsOver new
 HandsOutPiece old (Some (Err refusal.Failed)) new = HadFailed old × IsOver new
-HandsOutPiece old None new = IsOver new × (IsOpen old → IsUnderWay old → HasGiven old None new)
+HandsOutPiece old None new = IsOver new × (IsOpen old → HasGiven old None new)
 
 -- The parser has failed until the end, and then it has not.
 abbrev pub LeavesParser : Pieces → Option (Result PieceCode ParseError) → Pieces → Type 0
@@ -114,3 +153,19 @@ LeavesParser old (Some (Ok piece)) new = (parser_of new).failed ≡ true
 LeavesParser old (Some (Err refusal.Memory)) new = (parser_of new).failed ≡ true
 LeavesParser old (Some (Err refusal.Failed)) new = parser_of new ≡ parser_of old
 LeavesParser old None new = (IsOpen old → (parser_of new).failed ≡ false) × (IsOver old → parser_of new ≡ parser_of old)
+
+-- what a call of `next` does
+pub record PiecesGo (old : Pieces) (answer : Option (Result PieceCode ParseError)) (new : Pieces) : Type 0 where
+  -- it goes on with the parser that it was made of
+  pub same : lender_of new ≡ lender_of old
+  pub items : HandsOutPiece old answer new
+  pub parser : LeavesParser old answer new
+
+-- how many items may come before there is none: memory may be refused in place of the last
+abbrev pub items_at : Stage → List Piece → ℕ
+items_at stage.Failed left = 1
+items_at stage.Open left = 1 + length left
+items_at stage.Over left = 0
+
+abbrev pub items_left : Pieces → ℕ
+items_left it = items_at it.stage (open_pieces 0 it)

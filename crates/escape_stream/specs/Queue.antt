@@ -1,5 +1,5 @@
 -- What a queue of dispatches has yet to hand out.
-use Rattle.std.specs.Prelude.{List, [], ◌++◌, map, Option, Some, None}
+use Rattle.std.specs.Prelude.{◌≡◌, List, [], ◌++◌, map, Option, Some, None}
 use Rattle.csi_codec.specs.Parsing.{actions_from}
 use Rattle.escape_framing.specs.Dispatch as stream
 use Rattle.escape_framing.specs.Dispatched.{optional, dispatch_of}
@@ -45,3 +45,7 @@ later_actions p (code.OperatingSystemCommand body) = []
 later_actions p (code.Enter header byte) = []
 later_actions p (code.Data b) = []
 later_actions p code.Exit = []
+
+-- no action waits
+abbrev pub IsEmpty : Queue → Type 0
+IsEmpty q = (p : Parameters) → queue_actions p q ≡ []

@@ -4,7 +4,7 @@ ghost use Rattle.std.specs.List.{slice_get};
 ghost use Rattle.escape_stream.specs.StreamAction.{StreamAction};
 ghost use Rattle.escape_framing.specs.Dispatch.{Dispatch};
 ghost use Rattle.escape_framing.specs.Placed.{placed_from};
-ghost use Rattle.escape_stream.specs.Pieces.{pieces, Spells};
+ghost use Rattle.escape_stream.specs.Pieces.{pieces, Spells, actions_of_pieces};
 ghost use Rattle.escape_stream.specs.StreamActions.{actions_of, stream_actions, newly_decided_actions, placed_actions, IsPlacedAction, IsUndecidedAction};
 
 /// The placed actions are the stream's actions, in order, each with the least count of bytes that decides it however
@@ -27,7 +27,8 @@ pub fn actions_of_pieces_join()
 {}
 
 /// A law, which needs no call: the pieces of a call, their texts character by character, are the actions of the
-/// dispatches that have their places in it, in order; no text is empty.
+/// dispatches that have their places in it, in order, and so those that its bytes newly decide; no text is empty.
 pub fn pieces_are_actions()
-    ensures { (stream bytes : List ℕ) → Spells (pieces stream bytes) (actions_of (map (λ (p : ℕ × Dispatch). p.1) (placed_from stream bytes))) }
+    ensures placed { (stream bytes : List ℕ) → Spells (pieces stream bytes) (actions_of (map (λ (p : ℕ × Dispatch). p.1) (placed_from stream bytes))) }
+    ensures decided { (stream bytes : List ℕ) → actions_of_pieces (pieces stream bytes) ≡ newly_decided_actions stream bytes }
 {}

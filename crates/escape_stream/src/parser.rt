@@ -1,5 +1,5 @@
 //! The parser: from bytes to actions.
-ghost use Rattle.std.specs.Prelude.{◌≡◌, ◌≢◌, ◌↔◌, IsTrue, ℕ, ◌≤◌, Bool, true, false, IsErrOf, IfOk, OnOk, Option, Some, None, List, [], ◌∷◌, ◌++◌, map, fold, take, length, is_err};
+ghost use Rattle.std.specs.Prelude.{◌≡◌, ◌≢◌, ◌↔◌, IsTrue, ℕ, ◌≤◌, ◌<◌, Bool, true, false, IsErrOf, IfOk, OnOk, Option, Some, None, List, [], ◌∷◌, ◌++◌, map, fold, take, length, is_err};
 ghost use Rattle.escape_framing.specs.Decides.{Decides};
 ghost use Rattle.escape_framing.specs.Dispatched.{optional, dispatches_in};
 ghost use Rattle.escape_framing.specs.Held.{Held, held_step, hand_out, held_of, nothing_held};
@@ -9,20 +9,20 @@ ghost use Rattle.escape_stream.specs.StreamActionView.{value_of};
 ghost use Rattle.escape_stream.specs.StreamActions.{actions_of, newly_decided_actions};
 ghost use Rattle.escape_stream.specs.Parsing.{IsCalledAt, IsFirst, IsFirstSettled, bytes_read};
 ghost use Rattle.escape_stream.specs.Pending.{Begins, Gives};
-ghost use Rattle.escape_stream.specs.Printables.{PrintsFirst};
+ghost use Rattle.escape_framing.specs.Framed.{IsReached};
 ghost use Rattle.escape_framing.specs.Stepped.{Reads};
-ghost use Rattle.escape_stream.specs.PiecesView.{lender_of, parser_of, open_pieces, held_at_end, IsUnderWay, IsWithin, IsOpen, HadFailed};
+ghost use Rattle.escape_framing.specs.Quick.{text_step, lone_step};
+ghost use Rattle.escape_framing.specs.declared.lone.Lone.TheVariants.{Nothing};
+ghost use Rattle.escape_stream.specs.PiecesView.{lender_of, parser_of, open_pieces, held_at_end, IsUnderWay, IsOpen, HadFailed, IsReady};
 ghost use Rattle.escape_stream.specs.Pieces.{pieces};
-ghost use Rattle.escape_stream.specs.Queue.{queue_actions};
+ghost use Rattle.escape_stream.specs.Queue.{queue_actions, IsEmpty};
 ghost use Rattle.std.specs.Option.{option_map};
 
 use crate::action::Action;
-use crate::error::ParseError;
-use crate::pending::{Pending, append_each, call_at_each, push_each};
+use crate::pending::{Pending, push_each};
 use crate::pieces::{Pieces, Stage};
-use crate::printables::{append_printables, call_at_printables, split_printables};
 use crate::queue::Queue;
-use escape_framing::{Dispatch, Framer, Step};
+use escape_framing::{Dispatch, Framer, Lone, ParseError, Step};
 use std::alloc::{AllocError, Global};
 use std::marker::Model;
 
@@ -34,15 +34,20 @@ use std::marker::Model;
 pub struct Parser {
     alloc: Global,
     framer: Framer,
+    failed: bool,
 }
 
-// Clauses see what is held of the stream, the parameters of the last control sequence, and whether memory was refused.
+// Clauses see what is held of the stream, the parameters of the last control sequence, and whether the parser has failed.
 impl Model for Parser {
     ghost use Rattle.escape_framing.specs.Framing.{Framing};
 
     ghost Value = { Framing };
 
-    ghost view = { λ p. p.framer };
+    ghost use Rattle.escape_stream.specs.ParserView.{parsing_of, HoldsStream};
+
+    ghost view = { parsing_of };
+
+    ghost invariant = { HoldsStream };
 }
 
 // Whether there is no dispatch.
@@ -61,14 +66,27 @@ impl Parser {
         Parser {
             alloc,
             framer: Framer::new(alloc),
+            failed: false,
         }
     }
 
-    /// Whether a call was refused memory.
+    // Where memory is taken.
+    pub(crate) fn alloc(&self) -> Global {
+        self.alloc
+    }
+
+    /// Whether the parser has failed: a call was refused memory, or its pieces were left before their end.
     pub fn is_failed(&self) -> bool
         ensures { result ≡ self.now.failed }
     {
-        self.framer.is_failed()
+        self.failed
+    }
+
+    // A call was refused memory, or its pieces are yet to be handed out.
+    fn fail(&mut self)
+        ensures { self.new ≡ record self.old { failed = true } }
+    {
+        self.failed = true;
     }
 
     // The refusal of a call that was refused memory.
@@ -76,39 +94,57 @@ impl Parser {
         ensures error { result ≡ ParseError.Memory }
         ensures failed { self.new.failed ≡ true }
     {
-        self.framer.set_failed(true);
+        self.fail();
         ParseError::Memory
     }
 
     // Reads what stands at the front of the bytes at once, for pieces, whose parser has failed until they end.
     pub(crate) fn read(&mut self, bytes: &[u8]) -> Result<Step, AllocError>
+        requires { self.old.failed ≡ true }
         ensures reads { IfOk result (λ s. Reads self.new.parameters self.old.held bytes.now s self.new.held) }
         ensures failed { self.new.failed ≡ true }
     {
-        self.framer.set_failed(false);
         match self.framer.next(bytes) {
-            Ok(step) => {
-                self.framer.set_failed(true);
-                Ok(step)
-            }
+            Ok(step) => Ok(step),
             Err(_) => Err(AllocError),
         }
     }
 
+    // How many bytes the text at the front has, where nothing is unfinished.
+    #[inline(always)]
+    pub(crate) fn read_text(&self, bytes: &[u8]) -> usize
+        ensures { 0 < result → Reads self.now.parameters self.now.held bytes.now (text_step result) self.now.held }
+    {
+        self.framer.next_text(bytes)
+    }
+
+    // Reads a control or a sequence that stands at the front, for pieces.
+    #[inline(always)]
+    pub(crate) fn read_lone(&mut self, bytes: &[u8]) -> Lone
+        requires { self.old.failed ≡ true }
+        ensures reads { result ≢ Nothing → Reads self.new.parameters self.old.held bytes.now (lone_step result) self.new.held }
+        ensures nothing { result ≡ Nothing → self.new ≡ self.old }
+        ensures failed { self.new.failed ≡ true }
+    {
+        self.framer.next_lone(bytes)
+    }
+
     // The next action of a queue.
     pub(crate) fn next_action(&self, queue: &mut Queue) -> Result<Option<Action>, AllocError>
-        ensures { IfOk result (λ next. Gives (queue_actions self.now.parameters queue.old) next (queue_actions self.now.parameters queue.new)) }
+        ensures gives { IfOk result (λ next. Gives (queue_actions self.now.parameters queue.old) next (queue_actions self.now.parameters queue.new)) }
+        ensures empty { IfOk result (λ next. next ≡ None → IsEmpty queue.new) }
     {
         let parameters = self.framer.parameters();
         let truncated = self.framer.parameters_truncated();
         queue.next(self.alloc, parameters, truncated)
     }
 
-    // Says whether the pieces of a call are still to come, or were left, or memory was refused.
-    pub(crate) fn set_failed(&mut self, failed: bool)
-        ensures { self.new ≡ record self.old { failed = failed } }
+    // The pieces of a call were taken to their end.
+    pub(crate) fn go_on(&mut self)
+        requires { IsReached self.old.held }
+        ensures { self.new ≡ record self.old { failed = false } }
     {
-        self.framer.set_failed(failed);
+        self.failed = false;
     }
 
     /// Reads bytes, and lends the texts and actions that they decide behind those that were read before, in order. The
@@ -118,18 +154,19 @@ impl Parser {
         ensures same { lender_of result ≡ self.entry.ghost_name }
         // Where a stream has been read, in any pieces, what is to come is what these bytes hand out behind it.
         ensures pieces { (stream : List ℕ) → self.old.held ≡ held_of stream → IsUnderWay result × (open_pieces (length stream) result ≡ pieces stream bytes.now) × (held_at_end result ≡ held_of (stream ++ bytes.now)) }
+        // They can be asked for, and end.
+        ensures ready { IsReady result }
         // A parser that had failed tells so; another one is open, and has failed until the end.
         ensures failed { HadFailed result ↔ (self.old.failed ≡ true) }
         ensures open { IsOpen result ↔ (self.old.failed ≡ false) }
-        ensures within { IsWithin result }
         ensures parser { (parser_of result).failed ≡ true }
     {
-        let stage = if self.is_failed() {
+        let stage = if self.failed {
             Stage::Failed
         } else {
             Stage::Open
         };
-        self.set_failed(true);
+        self.fail();
         Pieces {
             parser: self,
             bytes,
@@ -148,7 +185,10 @@ impl Parser {
     {
         match self.framer.feed(byte) {
             Ok(dispatches) => Ok(dispatches),
-            Err(_) => Err(AllocError),
+            Err(_) => {
+                self.failed = true;
+                Err(AllocError)
+            }
         }
     }
 
@@ -162,175 +202,6 @@ impl Parser {
             self.framer.parameters_truncated(),
             dispatch,
         )
-    }
-
-    // The printable characters at the front, where nothing is unfinished, and the bytes behind them.
-    fn split_prints<'b>(&self, bytes: &'b [u8]) -> (&'b [u8], &'b [u8])
-        ensures { PrintsFirst self.now.held bytes.now result.0.now result.1.now }
-    {
-        if self.framer.is_idle() {
-            split_printables(bytes)
-        } else {
-            bytes.split_at(0)
-        }
-    }
-
-    // Calls the callback at each action of a dispatch, and gives it back.
-    fn call_at<F: FnMut(Action)>(
-        &self,
-        dispatch: Option<Dispatch>,
-        mut callback: F,
-    ) -> Result<F, AllocError>
-        requires { F.IsAlwaysCallable callback }
-        ensures called { IfOk result (λ last. IsCalledAt (λ f a f'. F.step f a tt f') callback (actions_of (optional self.now.parameters dispatch)) last) }
-        ensures callable { IfOk result (λ last. F.IsAlwaysCallable last) }
-    {
-        match dispatch {
-            None => Ok(callback),
-            Some(Dispatch::Print(character)) => {
-                callback(Action::Print(character));
-                Ok(callback)
-            }
-            Some(other) => call_at_each(self.pending(Some(other))?, callback),
-        }
-    }
-
-    // Calls the callback at each action of the dispatches, and gives it back.
-    fn call_at_dispatches<F: FnMut(Action)>(
-        &self,
-        dispatches: [Option<Dispatch>; 4],
-        callback: F,
-    ) -> Result<F, AllocError>
-        requires { F.IsAlwaysCallable callback }
-        ensures called { IfOk result (λ last. IsCalledAt (λ f a f'. F.step f a tt f') callback (actions_of (dispatches_in self.now.parameters dispatches)) last) }
-        ensures callable { IfOk result (λ last. F.IsAlwaysCallable last) }
-    {
-        if is_nothing(&dispatches) {
-            return Ok(callback);
-        }
-        let [first, second, third, fourth] = dispatches;
-        let callback = self.call_at(first, callback)?;
-        let callback = self.call_at(second, callback)?;
-        let callback = self.call_at(third, callback)?;
-        let callback = self.call_at(fourth, callback)?;
-        Ok(callback)
-    }
-
-    // Reads the bytes, and calls the callback at each action.
-    fn call_at_all<F: FnMut(Action)>(
-        &mut self,
-        bytes: &[u8],
-        mut callback: F,
-    ) -> Result<(), AllocError>
-        requires { F.IsAlwaysCallable callback }
-        ensures called { OnOk result ((last : F) × IsCalledAt (λ f a f'. F.step f a tt f') callback (actions_of (hand_out self.old.held bytes.now).dispatches) last) }
-        ensures held { OnOk result (self.new.held ≡ (hand_out self.old.held bytes.now).held) }
-        ensures failed { OnOk result (self.new.failed ≡ self.old.failed) }
-    {
-        let mut rest = bytes;
-        while let Some((byte, others)) = rest.split_first() {
-            let dispatches = self.feed(*byte)?;
-            callback = self.call_at_dispatches(dispatches, callback)?;
-            let (printables, behind) = self.split_prints(others);
-            callback = call_at_printables(printables, callback);
-            rest = behind;
-        }
-        Ok(())
-    }
-
-    /// Reads bytes, and calls the callback at each action that they decide behind those that were read before, in order.
-    /// A call that was refused memory answers `Memory`, and each later call `Failed`, without reading.
-    pub fn parse<F: FnMut(Action)>(&mut self, bytes: &[u8], callback: F) -> Result<(), ParseError>
-        requires { F.IsAlwaysCallable callback }
-        // Where a stream has been read, in any pieces, the callback is called at each action that the bytes newly decide.
-        ensures called { OnOk result ((stream : List ℕ) → self.old.held ≡ held_of stream → (last : F) × IsCalledAt (λ f a f'. F.step f a tt f') callback (newly_decided_actions stream bytes.now) last) }
-        // The bytes have then been read too.
-        ensures held { OnOk result ((stream : List ℕ) → self.old.held ≡ held_of stream → self.new.held ≡ held_of (stream ++ bytes.now)) }
-        // A call fails where an earlier one was refused memory, and only then is that its error.
-        ensures failed { IsErrOf result ParseError.Failed ↔ (self.old.failed ≡ true) }
-        // A parser has failed once it was refused memory.
-        ensures after { self.new.failed ≡ is_err result }
-    {
-        if self.is_failed() {
-            return Err(ParseError::Failed);
-        }
-        match self.call_at_all(bytes, callback) {
-            Ok(()) => Ok(()),
-            Err(_) => Err(self.refused()),
-        }
-    }
-
-    // Appends the actions of a dispatch, a print behind a print as one.
-    fn append(
-        &self,
-        dispatch: Option<Dispatch>,
-        actions: &mut Vec<Action>,
-    ) -> Result<(), AllocError>
-        ensures { IfOk result (λ _. map value_of actions.new.items ≡ fold appended (map value_of actions.old.items) (actions_of (optional self.now.parameters dispatch))) }
-    {
-        match dispatch {
-            None => Ok(()),
-            Some(Dispatch::Print(character)) => Action::Print(character).append_to(actions),
-            Some(other) => append_each(self.pending(Some(other))?, actions),
-        }
-    }
-
-    // Appends the actions of the dispatches, a print behind a print as one.
-    fn append_dispatches(
-        &self,
-        dispatches: [Option<Dispatch>; 4],
-        actions: &mut Vec<Action>,
-    ) -> Result<(), AllocError>
-        ensures { IfOk result (λ _. map value_of actions.new.items ≡ fold appended (map value_of actions.old.items) (actions_of (dispatches_in self.now.parameters dispatches))) }
-    {
-        if is_nothing(&dispatches) {
-            return Ok(());
-        }
-        let [first, second, third, fourth] = dispatches;
-        self.append(first, actions)?;
-        self.append(second, actions)?;
-        self.append(third, actions)?;
-        self.append(fourth, actions)?;
-        Ok(())
-    }
-
-    // Reads the bytes, and joins their actions.
-    fn append_all(&mut self, bytes: &[u8]) -> Result<Vec<Action>, AllocError>
-        ensures actions { IfOk result (λ actions. map value_of actions.items ≡ fold appended [] (actions_of (hand_out self.old.held bytes.now).dispatches)) }
-        ensures held { IfOk result (λ _. self.new.held ≡ (hand_out self.old.held bytes.now).held) }
-        ensures failed { IfOk result (λ _. self.new.failed ≡ self.old.failed) }
-    {
-        let mut actions = Vec::new(self.alloc);
-        let mut rest = bytes;
-        while let Some((byte, others)) = rest.split_first() {
-            let dispatches = self.feed(*byte)?;
-            self.append_dispatches(dispatches, &mut actions)?;
-            let (printables, behind) = self.split_prints(others);
-            append_printables(self.alloc, printables, &mut actions)?;
-            rest = behind;
-        }
-        Ok(actions)
-    }
-
-    /// Reads bytes, and answers the actions that they decide behind those that were read before, joined by `append_to`.
-    /// A call that was refused memory answers `Memory`, and each later call `Failed`, without reading.
-    pub fn parse_as_vec(&mut self, bytes: &[u8]) -> Result<Vec<Action>, ParseError>
-        // Where a stream has been read, in any pieces, these are the actions that the bytes newly decide.
-        ensures actions { IfOk result (λ actions. (stream : List ℕ) → self.old.held ≡ held_of stream → map value_of actions.items ≡ fold appended [] (newly_decided_actions stream bytes.now)) }
-        // The bytes have then been read too.
-        ensures held { IfOk result (λ _. (stream : List ℕ) → self.old.held ≡ held_of stream → self.new.held ≡ held_of (stream ++ bytes.now)) }
-        // A call fails where an earlier one was refused memory, and only then is that its error.
-        ensures failed { IsErrOf result ParseError.Failed ↔ (self.old.failed ≡ true) }
-        // A parser has failed once it was refused memory.
-        ensures after { self.new.failed ≡ is_err result }
-    {
-        if self.is_failed() {
-            return Err(ParseError::Failed);
-        }
-        match self.append_all(bytes) {
-            Ok(actions) => Ok(actions),
-            Err(_) => Err(self.refused()),
-        }
     }
 
     // The first action of a dispatch.

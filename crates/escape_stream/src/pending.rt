@@ -158,34 +158,6 @@ pub(crate) fn enter_action(alloc: Global, header: Vec<u8>, byte: u8) -> Result<A
     Ok(Action::DeviceControl(DeviceControlMode::Enter(opening)))
 }
 
-/// Calls the callback at each action, in order, and gives it back.
-pub(crate) fn call_at_each<F: FnMut(Action)>(
-    mut pending: Pending<'_>,
-    mut callback: F,
-) -> Result<F, AllocError>
-    requires { F.IsAlwaysCallable callback }
-    ensures called { IfOk result (λ last. IsCalledAt (λ f a f'. F.step f a tt f') callback pending.entry last) }
-    ensures callable { IfOk result (λ last. F.IsAlwaysCallable last) }
-{
-    while let Some(action) = pending.next()? {
-        callback(action);
-    }
-    Ok(callback)
-}
-
-/// Appends each action to a list, in order, a print behind a print as one.
-pub(crate) fn append_each(
-    mut pending: Pending<'_>,
-    actions: &mut Vec<Action>,
-) -> Result<(), AllocError>
-    ensures { IfOk result (λ _. map value_of actions.new.items ≡ fold appended (map value_of actions.old.items) pending.entry) }
-{
-    while let Some(action) = pending.next()? {
-        action.append_to(actions)?;
-    }
-    Ok(())
-}
-
 /// Pushes each action on a list, in order.
 pub(crate) fn push_each(
     mut pending: Pending<'_>,

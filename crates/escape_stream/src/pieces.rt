@@ -1,15 +1,17 @@
 //! The pieces of a stream: texts, which are lent from the bytes that are fed, and actions.
-ghost use Rattle.std.specs.Prelude.{◌≡◌, ◌+◌, ◌≤◌, ℕ, true, IfOk, length, drop, take};
+ghost use Rattle.std.specs.Prelude.{◌≡◌, ◌≢◌, ◌↔◌, ◌+◌, ◌≤◌, ℕ, true, None, IsTrue, IfOk, length, drop, take};
 ghost use Rattle.escape_framing.specs.Framed.{IsText};
-ghost use Rattle.escape_stream.specs.PiecesView.{IsUnderWay, IsWithin, IsOpen, HandsOutPiece, LeavesParser, open_pieces, lender_of, held_at_end, HasGiven, HasRead};
-ghost use Rattle.escape_stream.specs.Pending.{Gives};
-ghost use Rattle.escape_stream.specs.Queue.{queue_actions};
+ghost use Rattle.escape_stream.specs.PiecesView.{IsUnderWay, IsOpen, lender_of, parser_of, lone_values, IsUnread, HasGiven, HasRead, HasReadLone, PiecesGo};
+ghost use Rattle.escape_stream.specs.Pending.{Gives, pending_values};
+ghost use Rattle.escape_stream.specs.Queue.{queue_actions, IsEmpty};
+ghost use Rattle.escape_framing.specs.declared.lone.Lone.TheVariants.{Nothing};
 
 use crate::action::Action;
-use crate::error::ParseError;
 use crate::parser::Parser;
+use crate::pending::control_action;
 use crate::queue::Queue;
-use escape_framing::Step;
+use csi_codec::Esc;
+use escape_framing::{Lone, ParseError, Step};
 use std::alloc::AllocError;
 use std::str;
 
@@ -43,18 +45,38 @@ pub struct Pieces<'a> {
     pub(crate) stage: Stage,
 }
 
+// The action of what was read at once, unless it is a control sequence.
+#[inline(always)]
+fn lone_action(lone: Lone) -> Option<Action>
+    ensures { pending_values result None ≡ lone_values lone }
+{
+    match lone {
+        Lone::Control(byte) => control_action(byte),
+        Lone::Escape(control) => Some(Action::Esc(Esc::parse(None, control))),
+        Lone::Nothing | Lone::Part { .. } | Lone::ControlSequence { .. } => None,
+    }
+}
+
+// Whether nothing was read at once.
+#[inline(always)]
+fn is_nothing(lone: Lone) -> bool
+    ensures { IsTrue result ↔ (lone ≡ Nothing) }
+{
+    matches!(lone, Lone::Nothing)
+}
+
 // Bytes that are a text, as one.
+#[inline(always)]
 fn text_of(bytes: &[u8]) -> &str
     requires { IsText bytes.now }
     ensures { result.now ≡ bytes.now }
 {
-    match str::from_utf8(bytes) {
-        Ok(text) => text,
-        Err(_) => "",
-    }
+    // SAFETY: a text is UTF-8.
+    unsafe { str::from_utf8_unchecked(bytes) }
 }
 
 // So many bytes behind others.
+#[inline(always)]
 fn part(bytes: &[u8], from: usize, count: usize) -> &[u8]
     requires { from + count ≤ length bytes.now }
     ensures { result.now ≡ take count (drop from bytes.now) }
@@ -63,6 +85,7 @@ fn part(bytes: &[u8], from: usize, count: usize) -> &[u8]
 }
 
 // The bytes behind so many.
+#[inline(always)]
 fn behind(bytes: &[u8], count: usize) -> &[u8]
     requires { count ≤ length bytes.now }
     ensures { result.now ≡ drop count bytes.now }
@@ -71,9 +94,20 @@ fn behind(bytes: &[u8], count: usize) -> &[u8]
 }
 
 impl<'a> Pieces<'a> {
+    // The parser, whatever is left of the pieces.
+    pub(crate) fn into_parser(self) -> &'a mut Parser
+        ensures same { result.ghost_name ≡ lender_of self.entry }
+        ensures parser { result.now ≡ parser_of self.entry }
+    {
+        let Pieces { parser, .. } = self;
+        parser
+    }
+
     // Reads what stands at the front of the bytes that are left at once, and answers how many bytes of text that is.
+    #[inline(never)]
     fn read(&mut self) -> Result<usize, AllocError>
-        requires { self.old.count ≤ length self.old.bytes.now }
+        requires within { self.old.count ≤ length self.old.bytes.now }
+        requires failed { self.old.parser.now.failed ≡ true }
         ensures same { lender_of self.new ≡ lender_of self.old }
         ensures bytes { self.new.bytes ≡ self.old.bytes }
         ensures stage { self.new.stage ≡ self.old.stage }
@@ -98,6 +132,23 @@ impl<'a> Pieces<'a> {
     }
 
     // The next action of those that wait.
+    #[inline(never)]
+    fn queued_action(&mut self) -> Result<Option<Action>, AllocError>
+        ensures same { lender_of self.new ≡ lender_of self.old }
+        ensures parser { self.new.parser.now ≡ self.old.parser.now }
+        ensures bytes { self.new.bytes ≡ self.old.bytes }
+        ensures count { self.new.count ≡ self.old.count }
+        ensures stage { self.new.stage ≡ self.old.stage }
+        ensures gives { IfOk result (λ next. Gives (queue_actions self.old.parser.now.parameters self.old.queue) next (queue_actions self.old.parser.now.parameters self.new.queue)) }
+        ensures empty { IfOk result (λ next. next ≡ None → IsEmpty self.new.queue) }
+    {
+        let parser = &*self.parser;
+        let next = parser.next_action(&mut self.queue)?;
+        Ok(next)
+    }
+
+    // The same, faster where none wait.
+    #[inline(always)]
     fn next_action(&mut self) -> Result<Option<Action>, AllocError>
         ensures same { lender_of self.new ≡ lender_of self.old }
         ensures parser { self.new.parser.now ≡ self.old.parser.now }
@@ -105,13 +156,65 @@ impl<'a> Pieces<'a> {
         ensures count { self.new.count ≡ self.old.count }
         ensures stage { self.new.stage ≡ self.old.stage }
         ensures gives { IfOk result (λ next. Gives (queue_actions self.old.parser.now.parameters self.old.queue) next (queue_actions self.old.parser.now.parameters self.new.queue)) }
+        ensures empty { IfOk result (λ next. next ≡ None → IsEmpty self.new.queue) }
     {
-        let parser = &*self.parser;
-        let next = parser.next_action(&mut self.queue)?;
-        Ok(next)
+        if !self.queue.is_waiting() {
+            return Ok(None);
+        }
+        self.queued_action()
+    }
+
+    // Reads a text of the bytes that are left, where nothing is unfinished, and answers how many bytes that is.
+    #[inline(always)]
+    fn read_text(&mut self) -> usize
+        requires within { self.old.count ≤ length self.old.bytes.now }
+        requires empty { IsEmpty self.old.queue }
+        ensures same { lender_of self.new ≡ lender_of self.old }
+        ensures bytes { self.new.bytes ≡ self.old.bytes }
+        ensures stage { self.new.stage ≡ self.old.stage }
+        ensures parser { self.new.parser.now ≡ self.old.parser.now }
+        ensures queue { self.new.queue ≡ self.old.queue }
+        ensures reads { result ≢ 0 → HasRead self.old result self.new }
+        ensures none { result ≡ 0 → self.new.count ≡ self.old.count }
+    {
+        let bytes = self.bytes;
+        let before = self.count;
+        let text = self.parser.read_text(behind(bytes, before));
+        self.count = before + text;
+        text
+    }
+
+    // Reads a control or a sequence of the bytes that are left, where nothing is unfinished.
+    #[inline(always)]
+    fn read_lone(&mut self) -> Lone
+        requires within { self.old.count ≤ length self.old.bytes.now }
+        requires failed { self.old.parser.now.failed ≡ true }
+        requires empty { IsEmpty self.old.queue }
+        ensures same { lender_of self.new ≡ lender_of self.old }
+        ensures bytes { self.new.bytes ≡ self.old.bytes }
+        ensures stage { self.new.stage ≡ self.old.stage }
+        ensures failed { self.new.parser.now.failed ≡ true }
+        ensures reads { result ≢ Nothing → HasReadLone self.old result self.new }
+        ensures nothing { result ≡ Nothing → IsUnread self.old self.new }
+    {
+        let bytes = self.bytes;
+        let before = self.count;
+        let lone = self.parser.read_lone(behind(bytes, before));
+        match lone {
+            Lone::Nothing => {}
+            Lone::Part { count } => self.count = before + count,
+            Lone::Control(_) => self.count = before + 1,
+            Lone::Escape(_) => self.count = before + 2,
+            Lone::ControlSequence { control, count } => {
+                self.count = before + count;
+                self.queue.start(control);
+            }
+        }
+        lone
     }
 
     // The bytes of a text that was read of those behind so many.
+    #[inline(always)]
     fn text_at(&self, count: usize, len: usize) -> &'a str
         requires fits { count + len ≤ length self.now.bytes.now }
         requires text { IsText (take len (drop count self.now.bytes.now)) }
@@ -122,12 +225,14 @@ impl<'a> Pieces<'a> {
     }
 
     // The next piece, if there is one.
+    #[inline(always)]
     fn advance(&mut self) -> Result<Option<Piece<'a>>, AllocError>
-        requires { IsWithin self.old }
+        requires ready { IsUnderWay self.old }
+        requires failed { self.old.parser.now.failed ≡ true }
         ensures same { lender_of self.new ≡ lender_of self.old }
         ensures stage { self.new.stage ≡ self.old.stage }
-        ensures within { IfOk result (λ piece. IsWithin self.new) }
-        ensures gives { IfOk result (λ piece. IsUnderWay self.old → HasGiven self.old piece self.new) }
+        ensures failed { self.new.parser.now.failed ≡ true }
+        ensures gives { IfOk result (λ piece. HasGiven self.old piece self.new) }
     {
         loop {
             let action = self.next_action()?;
@@ -138,6 +243,17 @@ impl<'a> Pieces<'a> {
             if count == self.bytes.len() {
                 return Ok(None);
             }
+            let text = self.read_text();
+            if text != 0 {
+                return Ok(Some(Piece::Text(self.text_at(count, text))));
+            }
+            let lone = self.read_lone();
+            if let Some(action) = lone_action(lone) {
+                return Ok(Some(Piece::Action(action)));
+            }
+            if !is_nothing(lone) {
+                continue;
+            }
             let text = self.read()?;
             if text != 0 {
                 return Ok(Some(Piece::Text(self.text_at(count, text))));
@@ -146,41 +262,42 @@ impl<'a> Pieces<'a> {
     }
 
     // The next item of pieces that are open.
+    #[inline(always)]
     fn next_open(&mut self) -> Option<Result<Piece<'a>, ParseError>>
-        requires within { IsWithin self.old }
         requires open { IsOpen self.old }
-        ensures same { lender_of self.new ≡ lender_of self.old }
-        ensures items { HandsOutPiece self.old result self.new }
-        ensures parser { LeavesParser self.old result self.new }
-        ensures within { IsOpen self.new → IsWithin self.new }
+        requires ready { IsUnderWay self.old }
+        requires failed { self.old.parser.now.failed ≡ true }
+        ensures { PiecesGo self.old result self.new }
     {
         match self.advance() {
-            Ok(Some(piece)) => {
-                self.parser.set_failed(true);
-                Some(Ok(piece))
-            }
+            Ok(Some(piece)) => Some(Ok(piece)),
             Ok(None) => {
-                self.parser.set_failed(false);
+                self.parser.go_on();
                 self.stage = Stage::Over;
                 None
             }
             Err(_) => {
-                self.parser.set_failed(true);
                 self.stage = Stage::Over;
                 Some(Err(ParseError::Memory))
             }
         }
     }
+}
 
-    /// The next piece. After a refusal, and after the last one, it answers `None`, and `None` again.
-    pub fn next(&mut self) -> Option<Result<Piece<'a>, ParseError>>
-        requires { IsOpen self.old → IsWithin self.old }
-        // It goes on with the parser that it was made of.
-        ensures same { lender_of self.new ≡ lender_of self.old }
-        ensures items { HandsOutPiece self.old result self.new }
-        ensures parser { LeavesParser self.old result self.new }
-        ensures within { IsOpen self.new → IsWithin self.new }
-    {
+impl<'a> Iterator for Pieces<'a> {
+    ghost use Rattle.std.specs.Iterator.{at_most};
+    ghost use Rattle.escape_stream.specs.PiecesView.{IsReady, PiecesGo, items_left};
+
+    type Item = Result<Piece<'a>, ParseError>;
+
+    ghost can_next = { IsReady };
+
+    ghost next_gives = { PiecesGo };
+
+    ghost remaining = { λ it. at_most (items_left it) };
+
+    #[inline(always)]
+    fn next(&mut self) -> Option<Result<Piece<'a>, ParseError>> {
         match self.stage {
             Stage::Open => self.next_open(),
             Stage::Over => None,

@@ -1,10 +1,10 @@
 //! The actions of a step's dispatches, one by one.
-ghost use Rattle.std.specs.Prelude.{◌≡◌, ◌++◌, [], IfOk, None, Some};
+ghost use Rattle.std.specs.Prelude.{◌≡◌, ◌++◌, [], IfOk, None, Some, false};
 ghost use Rattle.escape_framing.specs.Dispatched.{optional, dispatch_of, dispatches_in};
 ghost use Rattle.escape_stream.specs.StreamActions.{actions_of, actions_of_dispatch};
 ghost use Rattle.escape_framing.specs.Parameters.{Parameters};
 ghost use Rattle.escape_stream.specs.Pending.{Gives, pending_values};
-ghost use Rattle.escape_stream.specs.Queue.{waiting_dispatches, sequence_actions, queue_actions, lone_actions, later_actions};
+ghost use Rattle.escape_stream.specs.Queue.{waiting_dispatches, sequence_actions, queue_actions, lone_actions, later_actions, IsEmpty};
 ghost use Rattle.escape_framing.specs.Dispatch.{ControlSequence};
 
 use crate::action::Action;
@@ -38,6 +38,23 @@ pub(crate) struct Queue {
 }
 
 impl Waiting {
+    // Whether there is a dispatch.
+    #[inline(always)]
+    fn is_some(&self) -> bool
+        ensures { result ≡ false → (p : Parameters) → waiting_dispatches p self.now ≡ [] }
+    {
+        if self.first.is_some() {
+            return true;
+        }
+        if self.second.is_some() {
+            return true;
+        }
+        if self.third.is_some() {
+            return true;
+        }
+        self.fourth.is_some()
+    }
+
     // The first dispatch.
     fn pop(&mut self) -> Option<Dispatch>
         ensures some { (p : Parameters) → waiting_dispatches p self.old ≡ optional p result ++ waiting_dispatches p self.new }
@@ -155,6 +172,26 @@ impl Queue {
         }
     }
 
+    /// Whether an action may wait.
+    #[inline(always)]
+    pub fn is_waiting(&self) -> bool
+        ensures { result ≡ false → IsEmpty self.now }
+    {
+        if self.sequence.is_some() {
+            return true;
+        }
+        self.waiting.is_some()
+    }
+
+    /// The actions of a control sequence with this final byte, where none wait.
+    #[inline(always)]
+    pub fn start(&mut self, control: u8)
+        requires { IsEmpty self.old }
+        ensures { (p : Parameters) → queue_actions p self.new ≡ actions_of_dispatch (ControlSequence p.tokens p.truncated control) }
+    {
+        self.sequence = Some(Sequence::start(control));
+    }
+
     // The next action of the control sequence that is read, if there is one.
     fn next_of_sequence(
         &mut self,
@@ -191,12 +228,17 @@ impl Queue {
         parameters: &[CsiParam],
         truncated: bool,
     ) -> Result<Option<Action>, AllocError>
-        ensures { (p : Parameters) → p.tokens ≡ parameters.now → p.truncated ≡ truncated → IfOk result (λ next. Gives (queue_actions p self.old) next (queue_actions p self.new)) }
+        ensures gives { (p : Parameters) → p.tokens ≡ parameters.now → p.truncated ≡ truncated → IfOk result (λ next. Gives (queue_actions p self.old) next (queue_actions p self.new)) }
+        ensures empty { IfOk result (λ next. next ≡ None → IsEmpty self.new) }
     {
         loop {
             let next = self.next_of_sequence(alloc, parameters, truncated)?;
             if next.is_some() {
                 return Ok(next);
+            }
+            self.sequence = None;
+            if !self.waiting.is_some() {
+                return Ok(None);
             }
             let Some(dispatch) = self.waiting.pop() else {
                 return Ok(None);

@@ -132,20 +132,20 @@ second_bounds : (x y : ℕ) → is_in_range (second_byte_min x) (second_byte_max
     → (x ≡ 0xE0 → 0xA0 ≤ y) × (x ≡ 0xED → y ≤ 0x9F) × (x ≡ 0xF0 → 0x90 ≤ y) × (x ≡ 0xF4 → y ≤ 0x8F) × (0x80 ≤ y) × (y ≤ 0xBF)
 second_bounds x y h = (λ e. grind (arith, nat_tests), λ e. grind (arith, nat_tests), λ e. grind (arith, nat_tests), λ e. grind (arith, nat_tests), grind (arith, nat_tests), grind (arith, nat_tests))
 
-scalar_low : (c : ℕ) → c < 55296 → IsScalar c
+pub scalar_low : (c : ℕ) → c < 55296 → IsScalar c
 scalar_low c h = low_scalar c h
 
 pub scalar_high : (c : ℕ) → 57344 ≤ c → c < 1114112 → IsScalar c
 scalar_high c l h = grind (arith, nat_tests)
 
-two_bytes : (x y : ℕ) → 194 ≤ x → x < 224 → 0x80 ≤ y → y ≤ 0xBF → (c : ℕ) × IsScalar c × (encode c ≡ x ∷ y ∷ [])
+pub two_bytes : (x y : ℕ) → 194 ≤ x → x < 224 → 0x80 ≤ y → y ≤ 0xBF → (c : ℕ) × IsScalar c × (encode c ≡ x ∷ y ∷ [])
 two_bytes x y l h m n =
     let c = (x - 192) * 64 + (y - 128) in
     let p : 192 + c / 64 ≡ x = omega arith in
     let q : next c ≡ y = omega arith in
     (c, scalar_low c (omega arith), two c (omega arith) (omega arith) ∙ (λ k. p k ∷ q k ∷ []))
 
-three_bytes : (x y z : ℕ) → 224 ≤ x → x < 240 → (x ≡ 0xE0 → 0xA0 ≤ y) → (x ≡ 0xED → y ≤ 0x9F) → 0x80 ≤ y → y ≤ 0xBF → 0x80 ≤ z → z ≤ 0xBF
+pub three_bytes : (x y z : ℕ) → 224 ≤ x → x < 240 → (x ≡ 0xE0 → 0xA0 ≤ y) → (x ≡ 0xED → y ≤ 0x9F) → 0x80 ≤ y → y ≤ 0xBF → 0x80 ≤ z → z ≤ 0xBF
     → (c : ℕ) × IsScalar c × (encode c ≡ x ∷ y ∷ z ∷ [])
 three_bytes x y z l h e0 ed m n m' n' =
     let c = (x - 224) * 4096 + (y - 128) * 64 + (z - 128) in
@@ -156,7 +156,7 @@ three_bytes x y z l h e0 ed m n m' n' =
     let least : 2048 ≤ c = ⊎_elim (λ u. let low : 0xA0 ≤ y = e0 (omega arith) in omega arith) (λ u. omega arith) (order x 225) in
     (c, s, three c least (omega arith) ∙ (λ k. p k ∷ q k ∷ r k ∷ []))
 
-four_bytes : (x y z w : ℕ) → 240 ≤ x → x ≤ 244 → (x ≡ 0xF0 → 0x90 ≤ y) → (x ≡ 0xF4 → y ≤ 0x8F) → 0x80 ≤ y → y ≤ 0xBF → 0x80 ≤ z → z ≤ 0xBF → 0x80 ≤ w → w ≤ 0xBF
+pub four_bytes : (x y z w : ℕ) → 240 ≤ x → x ≤ 244 → (x ≡ 0xF0 → 0x90 ≤ y) → (x ≡ 0xF4 → y ≤ 0x8F) → 0x80 ≤ y → y ≤ 0xBF → 0x80 ≤ z → z ≤ 0xBF → 0x80 ≤ w → w ≤ 0xBF
     → (c : ℕ) × IsScalar c × (encode c ≡ x ∷ y ∷ z ∷ w ∷ [])
 four_bytes x y z w l h f0 f4 m n m' n' m'' n'' =
     let c = (x - 240) * 262144 + (y - 128) * 4096 + (z - 128) * 64 + (w - 128) in

@@ -1,10 +1,8 @@
-use Rattle.std.proofs.Common.{◌∙◌}
-use Rattle.escape_stream.proofs.PendingLemmas.{called_newly, held_behind}
+use Rattle.std.proofs.Common.{length}
+use Rattle.escape_stream.proofs.WalkLemmas.{called_whole, on_ok}
 use Rattle.escape_stream.proofs.parser.Parser.parse.Goals as goal
 
-pub returns-in-Ok-clause-called : goal.returns-in-Ok-clause-called
-returns-in-Ok-clause-called g c = λ stream e.
-    (c.in-Ok.ensures.called.0, called_newly _ c.args.callback c.in-Ok.ensures.called.0 c.args.self.now.held stream c.args.bytes.now e c.in-Ok.ensures.called.1)
-
-pub returns-in-Ok-clause-held : goal.returns-in-Ok-clause-held
-returns-in-Ok-clause-held g c = λ stream e. c.in-Ok.ensures.held ∙ held_behind c.args.self.now.held stream c.args.bytes.now e
+pub returns-clause-called : goal.returns-clause-called
+returns-clause-called g c = on_ok c.call_at_pieces-result.result _ _ c.call_at_pieces-result.ensures.called (λ called stream e.
+    let w = called (length stream) in
+    (w.0, called_whole _ c.args.callback w.0 c.pieces-pieces.result stream c.args.bytes.now (c.pieces-pieces.ensures.pieces stream e).1 w.1))

@@ -1,10 +1,9 @@
-use Rattle.std.proofs.Common.{[], ◌∙◌, ap, fold}
-use Rattle.escape_stream.specs.StreamAction.{appended}
-use Rattle.escape_stream.proofs.PendingLemmas.{newly_read, held_behind}
+use Rattle.std.proofs.Common.{length, [], map, fold, ap, ◌∙◌}
+use Rattle.escape_stream.specs.StreamAction.{StreamAction, appended}
+use Rattle.escape_stream.specs.StreamActionView.{value_of}
+use Rattle.escape_stream.specs.Pieces.{actions_of_pieces}
+use Rattle.escape_stream.proofs.WalkLemmas.{joined_whole}
 use Rattle.escape_stream.proofs.parser.Parser.parse_as_vec.Goals as goal
 
-pub returns-in-Ok-clause-actions : goal.returns-in-Ok-clause-actions
-returns-in-Ok-clause-actions c = λ stream e. c.in-Ok.ensures.actions ∙ ap (fold appended []) (newly_read c.args.self.now.held stream c.args.bytes.now e)
-
-pub returns-in-Ok-clause-held : goal.returns-in-Ok-clause-held
-returns-in-Ok-clause-held c = λ stream e. c.in-Ok.ensures.held ∙ held_behind c.args.self.now.held stream c.args.bytes.now e
+pub returns-clause-actions : goal.returns-clause-actions
+returns-clause-actions c = λ stream e. joined_whole _ (map value_of c.new-actions.result.items) c.pieces-pieces.result stream c.args.bytes.now (c.pieces-pieces.ensures.pieces stream e).1 (ap (map value_of) c.new-actions.ensures.items) (c.in_ok-result.ensures.joined (length stream))

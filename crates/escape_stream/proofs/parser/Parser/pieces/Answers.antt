@@ -5,5 +5,5 @@ use Rattle.escape_stream.proofs.parser.Parser.pieces.Goals as goal
 
 pub returns-clause-pieces : goal.returns-clause-pieces
 returns-clause-pieces c = λ stream e.
-    let b = begins _ stream c.args.bytes.now (ap (λ (f : Framing). f.held) c.set_failed.ensures ∙ e) refl refl (c.new.ensures c.set_failed.new.self.parameters) in
+    let b = begins _ stream c.args.bytes.now (ap (λ (f : Framing). f.held) c.fail.ensures ∙ e) refl refl (c.new.ensures c.fail.new.self.parameters) in
     (b.ready, b.pieces, b.ends)

@@ -1,8 +1,10 @@
-use Rattle.std.proofs.Common.{rules, ◌≡◌, ◌≢◌, ◌∙◌, Option, Some, None, subst, arith}
+use Rattle.std.proofs.Common.{rules, refl, ◌≡◌, ◌≢◌, ◌∷◌, [], ◌∙◌, sym, ap, Option, Some, None, subst, length, arith}
+use Rattle.escape_framing.specs.declared.lone.Lone.TheVariants.{Nothing}
 use Rattle.escape_stream.specs.declared.action.Action.{Action}
-use Rattle.escape_stream.specs.Pending.{Gives}
+use Rattle.escape_stream.specs.Pending.{Gives, pending_values}
 use Rattle.escape_stream.specs.Queue.{queue_actions}
-use Rattle.escape_stream.proofs.AdvanceLemmas.{SameBut, gives_action, gives_none, gives_text, goes_on, closer, has_within}
+use Rattle.escape_stream.specs.PiecesView.{lone_values}
+use Rattle.escape_stream.proofs.AdvanceLemmas.{SameBut, same_then, gives_action, gives_none, gives_text, goes_on, closer, lone_gives, lone_goes, lone_closer, some_lone}
 use Rattle.escape_stream.proofs.pieces.Pieces.advance.Goals as goal
 
 pub returns-in-Some-clause-gives : goal.returns-in-Some-clause-gives
@@ -10,7 +12,7 @@ returns-in-Some-clause-gives c =
     let n = c.in_ok-action.ensures in
     let s : SameBut c.loop-action.self c.next_action.new.self = record { parser = n.parser; bytes = n.bytes; count = n.count } in
     let p = c.loop-action.self.parser.now.parameters in
-    λ u. gives_action c.args.self.now c.loop-action.self c.next_action.new.self c.in-Some.action (c.loop-action.invariant.goes u) s
+    gives_action c.args.self.now c.loop-action.self c.next_action.new.self c.in-Some.action c.loop-action.invariant.goes s
     (subst (λ (x : Option Action). Gives (queue_actions p c.loop-action.self.queue) x (queue_actions p c.next_action.new.self.queue)) c.in-Some.is n.gives)
 
 pub returns-then-count-self-clause-gives : goal.returns-then-count-self-clause-gives
@@ -19,8 +21,8 @@ returns-then-count-self-clause-gives c =
     let s : SameBut c.loop-action.self c.next_action.new.self = record { parser = n.parser; bytes = n.bytes; count = n.count } in
     let p = c.loop-action.self.parser.now.parameters in
     let e : c.in_ok-action.action ≡ None = search rules in
-    λ u. gives_none c.args.self.now c.loop-action.self c.next_action.new.self (queue_actions p c.next_action.new.self.queue) (c.loop-action.invariant.goes u) s
-    (subst (λ (x : Option Action). Gives (queue_actions p c.loop-action.self.queue) x (queue_actions p c.next_action.new.self.queue)) e n.gives) c.if-count-self.true
+    let g = subst (λ (x : Option Action). Gives (queue_actions p c.loop-action.self.queue) x (queue_actions p c.next_action.new.self.queue)) e n.gives in
+    gives_none c.args.self.now c.loop-action.self c.next_action.new.self (queue_actions p c.next_action.new.self.queue) c.loop-action.invariant.goes s g c.if-count-self.true
 
 pub returns-then-text-ne0-clause-gives : goal.returns-then-text-ne0-clause-gives
 returns-then-text-ne0-clause-gives c =
@@ -28,9 +30,77 @@ returns-then-text-ne0-clause-gives c =
     let s : SameBut c.loop-action.self c.next_action.new.self = record { parser = n.parser; bytes = n.bytes; count = n.count } in
     let p = c.loop-action.self.parser.now.parameters in
     let e : c.in_ok-action.action ≡ None = search rules in
-    λ u. gives_text c.args.self.now c.loop-action.self c.next_action.new.self c.read.new.self (queue_actions p c.next_action.new.self.queue) c.in_ok-text.text c.text_at.result (c.loop-action.invariant.goes u) s
-    (subst (λ (x : Option Action). Gives (queue_actions p c.loop-action.self.queue) x (queue_actions p c.next_action.new.self.queue)) e n.gives) c.in_ok-text.ensures.reads c.in_ok-text.ensures.bytes c.if-text-ne0.true
-    (rw (← c.in_ok-text.ensures.bytes) c.text_at.ensures)
+    let g = subst (λ (x : Option Action). Gives (queue_actions p c.loop-action.self.queue) x (queue_actions p c.next_action.new.self.queue)) e n.gives in
+    let t = c.read_text-text.ensures in
+    gives_text c.args.self.now c.loop-action.self c.next_action.new.self c.read_text-text.new.self (queue_actions p c.next_action.new.self.queue) c.read_text-text.result c.text_at.result c.loop-action.invariant.goes s g (t.reads c.if-text-ne0.true) t.bytes c.if-text-ne0.true
+    (rw (← t.bytes) c.text_at.ensures)
+
+pub returns-in-Some-lone_action-clause-gives : goal.returns-in-Some-lone_action-clause-gives
+returns-in-Some-lone_action-clause-gives c =
+    let n = c.in_ok-action.ensures in
+    let s : SameBut c.loop-action.self c.next_action.new.self = record { parser = n.parser; bytes = n.bytes; count = n.count } in
+    let p = c.loop-action.self.parser.now.parameters in
+    let e : c.in_ok-action.action ≡ None = search rules in
+    let g = subst (λ (x : Option Action). Gives (queue_actions p c.loop-action.self.queue) x (queue_actions p c.next_action.new.self.queue)) e n.gives in
+    let t = c.read_text-text.ensures in
+    let u : SameBut c.next_action.new.self c.read_text-text.new.self = record { parser = t.parser; bytes = t.bytes; count = t.none (search rules) } in
+    let v = same_then c.loop-action.self c.next_action.new.self c.read_text-text.new.self s u in
+    let q = c.read_lone-lone.ensures in
+    let a = subst (λ (x : Option Action). pending_values x None ≡ lone_values c.read_lone-lone.result) c.in-Some-lone_action.is c.lone_action.ensures in
+    lone_gives c.args.self.now c.loop-action.self c.read_text-text.new.self c.read_lone-lone.new.self (queue_actions p c.next_action.new.self.queue) c.read_lone-lone.result c.in-Some-lone_action.action c.loop-action.invariant.goes v g (q.reads (some_lone c.read_lone-lone.result c.in-Some-lone_action.action a)) q.bytes a
+
+pub loop-action-smaller-then-not-is_nothing : goal.loop-action-smaller-then-not-is_nothing
+loop-action-smaller-then-not-is_nothing c =
+    let n = c.in_ok-action.ensures in
+    let s : SameBut c.loop-action.self c.next_action.new.self = record { parser = n.parser; bytes = n.bytes; count = n.count } in
+    let p = c.loop-action.self.parser.now.parameters in
+    let e : c.in_ok-action.action ≡ None = search rules in
+    let g = subst (λ (x : Option Action). Gives (queue_actions p c.loop-action.self.queue) x (queue_actions p c.next_action.new.self.queue)) e n.gives in
+    let t = c.read_text-text.ensures in
+    let u : SameBut c.next_action.new.self c.read_text-text.new.self = record { parser = t.parser; bytes = t.bytes; count = t.none (search rules) } in
+    let v = same_then c.loop-action.self c.next_action.new.self c.read_text-text.new.self s u in
+    let q = c.read_lone-lone.ensures in
+    let r : c.read_lone-lone.result ≢ Nothing = search rules in
+    let a : [] ≡ lone_values c.read_lone-lone.result = search rules in
+    let k : c.read_text-text.new.self.count ≢ length c.read_text-text.new.self.bytes.now = rw (u.count, u.bytes) c.if-count-self.false in
+    lone_closer c.args.self.now c.loop-action.self c.read_text-text.new.self c.read_lone-lone.new.self (queue_actions p c.next_action.new.self.queue) c.read_lone-lone.result c.loop-action.invariant.goes.ready.within v g (q.reads r) q.bytes a k
+
+pub loop-action-preserved-then-not-is_nothing : goal.loop-action-preserved-then-not-is_nothing
+loop-action-preserved-then-not-is_nothing c =
+    let n = c.in_ok-action.ensures in
+    let s : SameBut c.loop-action.self c.next_action.new.self = record { parser = n.parser; bytes = n.bytes; count = n.count } in
+    let p = c.loop-action.self.parser.now.parameters in
+    let e : c.in_ok-action.action ≡ None = search rules in
+    let g = subst (λ (x : Option Action). Gives (queue_actions p c.loop-action.self.queue) x (queue_actions p c.next_action.new.self.queue)) e n.gives in
+    let t = c.read_text-text.ensures in
+    let u : SameBut c.next_action.new.self c.read_text-text.new.self = record { parser = t.parser; bytes = t.bytes; count = t.none (search rules) } in
+    let v = same_then c.loop-action.self c.next_action.new.self c.read_text-text.new.self s u in
+    let q = c.read_lone-lone.ensures in
+    let r : c.read_lone-lone.result ≢ Nothing = search rules in
+    let a : [] ≡ lone_values c.read_lone-lone.result = search rules in
+    record {
+      same = q.same ∙ t.same ∙ n.same ∙ c.loop-action.invariant.same;
+      stage = q.stage ∙ t.stage ∙ n.stage ∙ c.loop-action.invariant.stage;
+      failed = q.failed;
+      goes = lone_goes c.args.self.now c.loop-action.self c.read_text-text.new.self c.read_lone-lone.new.self (queue_actions p c.next_action.new.self.queue) c.read_lone-lone.result c.loop-action.invariant.goes v g (q.reads r) q.bytes a;
+    }
+
+pub returns-then-text-ne0-2-clause-gives : goal.returns-then-text-ne0-2-clause-gives
+returns-then-text-ne0-2-clause-gives c =
+    let n = c.in_ok-action.ensures in
+    let s : SameBut c.loop-action.self c.next_action.new.self = record { parser = n.parser; bytes = n.bytes; count = n.count } in
+    let p = c.loop-action.self.parser.now.parameters in
+    let e : c.in_ok-action.action ≡ None = search rules in
+    let g = subst (λ (x : Option Action). Gives (queue_actions p c.loop-action.self.queue) x (queue_actions p c.next_action.new.self.queue)) e n.gives in
+    let t = c.read_text-text.ensures in
+    let u : SameBut c.next_action.new.self c.read_text-text.new.self = record { parser = t.parser; bytes = t.bytes; count = t.none (search rules) } in
+    let v = same_then c.loop-action.self c.next_action.new.self c.read_text-text.new.self s u in
+    let q = c.read_lone-lone.ensures in
+    let m = q.nothing (search rules) in
+    let w : SameBut c.read_text-text.new.self c.read_lone-lone.new.self = record { parser = m.parser; bytes = q.bytes; count = m.count } in
+    let x = same_then c.loop-action.self c.read_text-text.new.self c.read_lone-lone.new.self v w in
+    gives_text c.args.self.now c.loop-action.self c.read_lone-lone.new.self c.read.new.self (queue_actions p c.next_action.new.self.queue) c.in_ok-text.text c.text_at-then-text-ne0-2.result c.loop-action.invariant.goes x g c.in_ok-text.ensures.reads c.in_ok-text.ensures.bytes c.if-text-ne0-2.true
+    (rw (← c.in_ok-text.ensures.bytes, w.count, u.count) c.text_at-then-text-ne0-2.ensures)
 
 pub loop-action-smaller : goal.loop-action-smaller
 loop-action-smaller c =
@@ -38,8 +108,16 @@ loop-action-smaller c =
     let s : SameBut c.loop-action.self c.next_action.new.self = record { parser = n.parser; bytes = n.bytes; count = n.count } in
     let p = c.loop-action.self.parser.now.parameters in
     let e : c.in_ok-action.action ≡ None = search rules in
-    closer c.args.self.now c.loop-action.self c.next_action.new.self c.read.new.self (queue_actions p c.next_action.new.self.queue) c.in_ok-text.text c.loop-action.invariant.within s
-    (subst (λ (x : Option Action). Gives (queue_actions p c.loop-action.self.queue) x (queue_actions p c.next_action.new.self.queue)) e n.gives) c.in_ok-text.ensures.reads c.in_ok-text.ensures.bytes (search rules) c.if-count-self.false
+    let g = subst (λ (x : Option Action). Gives (queue_actions p c.loop-action.self.queue) x (queue_actions p c.next_action.new.self.queue)) e n.gives in
+    let t = c.read_text-text.ensures in
+    let u : SameBut c.next_action.new.self c.read_text-text.new.self = record { parser = t.parser; bytes = t.bytes; count = t.none (search rules) } in
+    let v = same_then c.loop-action.self c.next_action.new.self c.read_text-text.new.self s u in
+    let q = c.read_lone-lone.ensures in
+    let m = q.nothing (search rules) in
+    let w : SameBut c.read_text-text.new.self c.read_lone-lone.new.self = record { parser = m.parser; bytes = q.bytes; count = m.count } in
+    let x = same_then c.loop-action.self c.read_text-text.new.self c.read_lone-lone.new.self v w in
+    let k : c.read_lone-lone.new.self.count ≢ length c.read_lone-lone.new.self.bytes.now = rw (w.count, w.bytes, u.count, u.bytes) c.if-count-self.false in
+    closer c.args.self.now c.loop-action.self c.read_lone-lone.new.self c.read.new.self (queue_actions p c.next_action.new.self.queue) c.in_ok-text.text c.loop-action.invariant.goes.ready.within x g c.in_ok-text.ensures.reads c.in_ok-text.ensures.bytes (search rules) k
 
 pub loop-action-preserved : goal.loop-action-preserved
 loop-action-preserved c =
@@ -47,10 +125,17 @@ loop-action-preserved c =
     let s : SameBut c.loop-action.self c.next_action.new.self = record { parser = n.parser; bytes = n.bytes; count = n.count } in
     let p = c.loop-action.self.parser.now.parameters in
     let e : c.in_ok-action.action ≡ None = search rules in
+    let g = subst (λ (x : Option Action). Gives (queue_actions p c.loop-action.self.queue) x (queue_actions p c.next_action.new.self.queue)) e n.gives in
+    let t = c.read_text-text.ensures in
+    let u : SameBut c.next_action.new.self c.read_text-text.new.self = record { parser = t.parser; bytes = t.bytes; count = t.none (search rules) } in
+    let v = same_then c.loop-action.self c.next_action.new.self c.read_text-text.new.self s u in
+    let q = c.read_lone-lone.ensures in
+    let m = q.nothing (search rules) in
+    let w : SameBut c.read_text-text.new.self c.read_lone-lone.new.self = record { parser = m.parser; bytes = q.bytes; count = m.count } in
+    let x = same_then c.loop-action.self c.read_text-text.new.self c.read_lone-lone.new.self v w in
     record {
-      same = c.in_ok-text.ensures.same ∙ n.same ∙ c.loop-action.invariant.same;
-      stage = c.in_ok-text.ensures.stage ∙ n.stage ∙ c.loop-action.invariant.stage;
-      within = (has_within c.next_action.new.self c.in_ok-text.text c.read.new.self (rw (s.count, s.bytes) c.loop-action.invariant.within) c.in_ok-text.ensures.reads c.in_ok-text.ensures.bytes);
-      goes = λ u. goes_on c.args.self.now c.loop-action.self c.next_action.new.self c.read.new.self (queue_actions p c.next_action.new.self.queue) c.in_ok-text.text (c.loop-action.invariant.goes u) s
-          (subst (λ (x : Option Action). Gives (queue_actions p c.loop-action.self.queue) x (queue_actions p c.next_action.new.self.queue)) e n.gives) c.in_ok-text.ensures.reads c.in_ok-text.ensures.bytes (search rules);
+      same = c.in_ok-text.ensures.same ∙ q.same ∙ t.same ∙ n.same ∙ c.loop-action.invariant.same;
+      stage = c.in_ok-text.ensures.stage ∙ q.stage ∙ t.stage ∙ n.stage ∙ c.loop-action.invariant.stage;
+      failed = c.in_ok-text.ensures.failed;
+      goes = goes_on c.args.self.now c.loop-action.self c.read_lone-lone.new.self c.read.new.self (queue_actions p c.next_action.new.self.queue) c.in_ok-text.text c.loop-action.invariant.goes x g c.in_ok-text.ensures.reads c.in_ok-text.ensures.bytes (search rules);
     }

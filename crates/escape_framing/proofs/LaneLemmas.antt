@@ -1,0 +1,100 @@
+-- Plain characters, sixteen bytes at a time.
+use Rattle.std.proofs.Common.{◌≡◌, ◌≢◌, ℕ, zero, suc, ◌+◌, ◌-◌, ◌%◌, ◌^◌, ◌<◌, ◌≤◌, eqb, Bool, true, false, not, ◌||◌, List, [], ◌∷◌, map, take, drop, length, get_or, replicate, Fits, w8, refl, sym, ap, ap₂, ◌∙◌, subst, arith, inl, inr}
+use Rattle.std.specs.List.{prefix_len}
+use Rattle.std.proofs.lemmas.Bool.{agree_below, agree_below_at, cases_eq, eq-eqb, ne_eqb, cond-true, cond-false}
+use Rattle.std.proofs.lemmas.Simd.{map-map, mask_l-mod, leading_from_mask_l, trailing_mask_l}
+use Rattle.std.proofs.lemmas.List.{length-map}
+use lib.Lanes.{zip2, mask_l, top}
+use Rattle.escape_framing.specs.Wide.{is_plain, first_set}
+
+zip2-map : (h : ℕ → ℕ → ℕ) (f g : ℕ → ℕ) (xs : List ℕ) → zip2 h (map f xs) (map g xs) ≡ map (λ x. h (f x) (g x)) xs
+zip2-map h f g [] = refl
+zip2-map h f g (x ∷ xs) = ap (λ r. h (f x) (g x) ∷ r) (zip2-map h f g xs)
+
+-- an operation on two vectors that were computed lane by lane from v
+pub joined : (h : ℕ → ℕ → ℕ) (f g : ℕ → ℕ) (v : List ℕ) {a b : List ℕ} → a ≡ map f v → b ≡ map g v → zip2 h a b ≡ map (λ x. h (f x) (g x)) v
+joined h f g v p q = ap₂ (zip2 h) p q ∙ zip2-map h f g v
+
+pub splat_is : (v : List ℕ) (n y : ℕ) → length v ≡ n → replicate n y ≡ map (λ _. y) v
+splat_is [] n y e = ap (λ k. replicate k y) (sym e)
+splat_is (x ∷ xs) n y e = ap (λ k. replicate k y) (sym e) ∙ ap (λ r. y ∷ r) (splat_is xs (length xs) y refl)
+
+pub itself : (v : List ℕ) → v ≡ map (λ x. x) v
+itself [] = refl
+itself (x ∷ xs) = ap (λ r. x ∷ r) (itself xs)
+
+run_is : (p : ℕ → Bool) (v : List ℕ) (n : ℕ) → length v ≡ n → n ≤ 64 → first_set (mask_l (map p v)) n ≡ prefix_len (λ x. not (p x)) v
+run_is p v n long few =
+    elim (cases_eq (mask_l (map p v)) 0) [
+      | inl none ↦ cond-true _ _ _ (eq-eqb _ _ none) ∙ sym (leading_from_mask_l p v none ∙ long)
+      | inr some ↦ cond-false _ _ _ (ne_eqb _ _ some) ∙ trailing_mask_l p 64 v (omega arith) (omega arith)
+    ]
+
+-- tests that agree on bytes count alike
+same_len : (p q : ℕ → Bool) (v : List ℕ) → ((k : ℕ) → Fits w8 (get_or v k 0)) → agree_below p q 256 ≡ true → prefix_len p v ≡ prefix_len q v
+same_len p q [] fits all = refl
+same_len p q (x ∷ v) fits all = by_test (q x) refl (agree_below_at p q 256 x all (fits 0).fits) (same_len p q v (λ k. fits (suc k)) all)
+  where
+    by_test : (t : Bool) → q x ≡ t → p x ≡ q x → prefix_len p v ≡ prefix_len q v → prefix_len p (x ∷ v) ≡ prefix_len q (x ∷ v)
+    by_test true e h k = rw (h ∙ e, e) (ap (λ n. 1 + n) k)
+    by_test false e h k = rw (h ∙ e, e) refl
+
+module _ (q : ℕ → Bool) (v z : List ℕ) (n r : ℕ) (long : length v ≡ n) (few : n ≤ 64) (fits : (k : ℕ) → Fits w8 (get_or v k 0))
+    (found : r ≡ first_set (mask_l (map (top 7) z) % 2 ^ 64) n) (f : ℕ → ℕ) (lanes : z ≡ map f v) where
+  abbrev stops : ℕ → Bool
+  stops x = top 7 (f x)
+
+  counted : r ≡ prefix_len (λ x. not (stops x)) v
+  counted =
+      let mask = ap (λ l. mask_l l % 2 ^ 64) (ap (map (top 7)) lanes ∙ map-map (top 7) f v) ∙ mask_l-mod (map stops v) 64 (omega (arith, length-map v stops, long)) in
+      found ∙ ap (λ m. first_set m n) mask ∙ run_is stops v n long few
+
+  pub run_len : agree_below (λ x. not (stops x)) q 256 ≡ true → r ≡ prefix_len q v
+  run_len all = counted ∙ same_len (λ x. not (stops x)) q v fits all
+
+-- ---- one block after another
+
+prefix_cons : (p : ℕ → Bool) (x : ℕ) (xs : List ℕ) → p x ≡ true → prefix_len p (x ∷ xs) ≡ 1 + prefix_len p xs
+prefix_cons p x xs h = rw h refl
+
+prefix_stop : (p : ℕ → Bool) (x : ℕ) (xs : List ℕ) → p x ≡ false → prefix_len p (x ∷ xs) ≡ 0
+prefix_stop p x xs h = rw h refl
+
+pub block_stops : (p : ℕ → Bool) (n : ℕ) (xs : List ℕ) → prefix_len p (take n xs) < n → n ≤ length xs → prefix_len p xs ≡ prefix_len p (take n xs)
+block_stops p zero xs h l = absurd (omega arith)
+block_stops p (suc n) [] h l = absurd (omega arith)
+block_stops p (suc n) (x ∷ xs) h l = by_test (p x) refl (λ k. block_stops p n xs k (omega arith))
+  where
+    by_test : (t : Bool) → p x ≡ t → (prefix_len p (take n xs) < n → prefix_len p xs ≡ prefix_len p (take n xs)) → prefix_len p (x ∷ xs) ≡ prefix_len p (take (suc n) (x ∷ xs))
+    by_test true e k =
+        let a = prefix_cons p x xs e in
+        let b = prefix_cons p x (take n xs) e in
+        let c : prefix_len p xs ≡ prefix_len p (take n xs) = k (omega arith) in omega arith
+    by_test false e k = prefix_stop p x xs e ∙ sym (prefix_stop p x (take n xs) e)
+
+pub block_goes : (p : ℕ → Bool) (n : ℕ) (xs : List ℕ) → n ≤ prefix_len p (take n xs) → prefix_len p xs ≡ n + prefix_len p (drop n xs)
+block_goes p zero xs h = omega arith
+block_goes p (suc n) [] h = absurd (omega arith)
+block_goes p (suc n) (x ∷ xs) h = by_test (p x) refl (λ k. block_goes p n xs k)
+  where
+    by_test : (t : Bool) → p x ≡ t → (n ≤ prefix_len p (take n xs) → prefix_len p xs ≡ n + prefix_len p (drop n xs)) → prefix_len p (x ∷ xs) ≡ suc n + prefix_len p (drop (suc n) (x ∷ xs))
+    by_test true e k =
+        let a = prefix_cons p x xs e in
+        let b = prefix_cons p x (take n xs) e in
+        let c : prefix_len p xs ≡ n + prefix_len p (drop n xs) = k (omega arith) in omega arith
+    by_test false e k = let b = prefix_stop p x (take n xs) e in absurd (omega arith)
+
+pub take_fits : (n : ℕ) (xs : List ℕ) → ((k : ℕ) → Fits w8 (get_or xs k 0)) → (k : ℕ) → Fits w8 (get_or (take n xs) k 0)
+take_fits zero xs f k = record { fits = omega arith }
+take_fits (suc n) [] f k = record { fits = omega arith }
+take_fits (suc n) (x ∷ xs) f zero = f zero
+take_fits (suc n) (x ∷ xs) f (suc k) = take_fits n xs (λ j. f (suc j)) k
+
+pub prefix_taken : (p : ℕ → Bool) (n : ℕ) (xs : List ℕ) → prefix_len p (take n xs) ≤ prefix_len p xs
+prefix_taken p zero xs = omega arith
+prefix_taken p (suc n) [] = omega arith
+prefix_taken p (suc n) (x ∷ xs) = by_test (p x) refl (prefix_taken p n xs)
+  where
+    by_test : (t : Bool) → p x ≡ t → prefix_len p (take n xs) ≤ prefix_len p xs → prefix_len p (take (suc n) (x ∷ xs)) ≤ prefix_len p (x ∷ xs)
+    by_test true e h = let a = prefix_cons p x xs e in let b = prefix_cons p x (take n xs) e in omega arith
+    by_test false e h = let b = prefix_stop p x (take n xs) e in omega arith

@@ -1,0 +1,301 @@
+-- What is read at once where nothing is unfinished.
+use Rattle.std.proofs.Common.{◌≡◌, ◌≢◌, ℕ, zero, suc, ◌+◌, ◌<◌, ◌≤◌, ◌⊎◌, inl, inr, Bool, true, false, List, [], ◌∷◌, ◌++◌, length, map, fold, take, drop, Option, Some, None, refl, sym, ap, subst, ◌∙◌, arith, append_assoc, append-nil, length-append, length-drop}
+use Rattle.std.specs.Prelude.{◌==◌, ◌&&◌, ◌||◌, not, nat_le, nat_lt}
+use Rattle.std.specs.List.{prefix_len, list_all}
+use Rattle.std.proofs.lemmas.Bool.Decides.{nat_tests}
+use Rattle.std.proofs.lemmas.List.{map-append, take-append-drop, length-take-le}
+use Rattle.std.proofs.lemmas.List.Sums.{prefix_len-le-length}
+use Rattle.escape_framing.specs.Bytes.{is_control, is_stop, is_embedded, is_intermediate, is_parameter, is_final, is_escape_final, is_string_opener, is_opener, is_cut}
+use Rattle.escape_framing.specs.Dispatch.{Dispatch, Print, Control, Escape, ControlSequence, OperatingSystemCommand, Enter, Data, Exit, escape_dispatch}
+use Rattle.escape_framing.specs.Parameters.{Parameters, no_parameters, with_byte}
+use Rattle.escape_framing.specs.Held.{Kept, InCharacter, InEscape, InControlSequence, InCommand, InHeader, InDevice, InString, Step, steps, Held, Handed, handed, kept_step, character_step, escape_step, final_step, opened, control_sequence_step, command_step, fresh_step, held_step, nothing_held, hand_out, held_of}
+use Rattle.escape_framing.specs.Framed.{Framed, Text, Lone, framed, at_place, placed_behind, framed_behind, begun_bytes, IsText, no_text, IsCarried, IsReached, Frames, IsTextLen}
+use Rattle.escape_framing.specs.Dispatched.{dispatches_in}
+use Rattle.escape_framing.specs.declared.step.Step as stepped
+use Rattle.escape_framing.specs.declared.dispatch.Dispatch.TheVariants as dispatch
+use Rattle.escape_framing.specs.declared.lone.Lone.{Lone as Read}
+use Rattle.escape_framing.specs.declared.lone.Lone.TheVariants as lone
+use Rattle.escape_framing.specs.Stepped.{items_in, Reads}
+use Rattle.escape_framing.specs.Quick.{text_step, lone_step, IsLastAt, is_body_byte, IsSilent}
+use Rattle.escape_framing.proofs.HeldLemmas.{hand_append, held_append}
+use Rattle.escape_framing.proofs.PrintLemmas.{PrintNone}
+use Rattle.escape_framing.proofs.LoneLemmas.{none_alone, carried_none}
+use Rattle.escape_framing.proofs.FirstLemmas.{first_escape, first_control}
+use Rattle.escape_framing.proofs.StepLemmas.{reads_a_text}
+use Rattle.escape_framing.specs.Framing.{Framing}
+
+-- ---- bytes whose dispatches print nothing
+
+both_none : (xs ys : List Dispatch) → PrintNone (xs ++ ys) → PrintNone xs × PrintNone ys
+both_none [] ys p = (tt, p)
+both_none (Print c ∷ xs) ys p = absurd p
+both_none (Control b ∷ xs) ys p = both_none xs ys p
+both_none (Escape i f ∷ xs) ys p = both_none xs ys p
+both_none (ControlSequence t x f ∷ xs) ys p = both_none xs ys p
+both_none (OperatingSystemCommand body ∷ xs) ys p = both_none xs ys p
+both_none (Enter h f ∷ xs) ys p = both_none xs ys p
+both_none (Data b ∷ xs) ys p = both_none xs ys p
+both_none (Exit ∷ xs) ys p = both_none xs ys p
+
+front_alone : (start count : ℕ) (h : Held) (front rest : List ℕ) → PrintNone (hand_out h front).dispatches
+    → framed_behind start count h (front ++ rest) ≡ map Lone (hand_out h front).dispatches ++ framed_behind start (count + length front) (hand_out h front).held rest
+unfolding placed_behind hand_out
+front_alone start count h [] rest p = let k : count ≡ count + 0 = omega arith in ap (λ (n : ℕ). framed_behind start n h rest) k
+front_alone start count h (b ∷ front) rest p =
+    let first = held_step h b in
+    let more = hand_out first.held front in
+    let q = both_none first.dispatches more.dispatches p in
+    let n : count + 1 + length front ≡ count + length (b ∷ front) = omega arith in
+    none_alone start (count + 1) first.dispatches q.0 (placed_behind (count + 1) first.held (front ++ rest))
+    ∙ ap (λ (l : List Framed). map Lone first.dispatches ++ l) (front_alone start (count + 1) first.held front rest q.1 ∙ ap (λ (m : ℕ). map Lone more.dispatches ++ framed_behind start m more.held rest) n)
+    ∙ sym (append_assoc (map Lone first.dispatches) (map Lone more.dispatches) (framed_behind start (count + length (b ∷ front)) more.held rest))
+    ∙ ap (λ (l : List Framed). l ++ framed_behind start (count + length (b ∷ front)) more.held rest) (sym (map-append Lone first.dispatches more.dispatches))
+
+drop_front : (front rest : List ℕ) → drop (length front) (front ++ rest) ≡ rest
+drop_front [] rest = refl
+drop_front (b ∷ front) rest = drop_front front rest
+
+pub reads_front : (p : Parameters) (h after : Held) (bytes front rest : List ℕ) (s : stepped.Step) → bytes ≡ front ++ rest → 0 < length front → s.text ≡ 0 → s.count ≡ length front → dispatches_in p s.dispatches ≡ (hand_out h front).dispatches
+    → (hand_out h front).held ≡ after → PrintNone (hand_out h front).dispatches → begun_bytes after ≡ [] → Reads p h bytes s after
+reads_front p h after bytes front rest s e l t n d a q z = subst (λ (b : List ℕ). Reads p h b s after) (sym e) (record {
+  frames = λ count r c. record {
+    within = omega (arith, n, length-append front rest);
+    lends = λ start.
+        front_alone start (start + count) h front rest q
+        ∙ (λ i. map Lone (sym d i) ++ framed_behind start (start + count + sym n i) (a i) (sym (drop_front front rest) i))
+        ∙ ap (λ (k : ℕ). map Lone (dispatches_in p s.dispatches) ++ framed_behind start (start + count + s.count) after (drop k (front ++ rest))) (sym n)
+        ∙ ap (λ (x : List Framed). x ++ framed_behind start (start + count + s.count) after (drop s.count (front ++ rest))) (sym (items (start + count)));
+    keeps = ap (λ (x : Handed). x.held) (hand_append h front rest) ∙ (λ i. (hand_out (a i) (sym (drop_front front rest) i)).held) ∙ ap (λ (k : ℕ). (hand_out after (drop k (front ++ rest))).held) (sym n);
+    reached = (r.0 ++ front, sym a ∙ ap (λ (x : Held). (hand_out x front).held) r.1 ∙ sym (held_append r.0 front));
+    carried = carried_none 0 (count + s.count) after (drop s.count (front ++ rest)) z;
+  };
+  within = omega (arith, n, length-append front rest);
+  fits = omega (arith, t);
+  text = rw t no_text;
+  moves = λ x y m. absurd (omega (arith, n));
+})
+  where
+    items : (from : ℕ) → items_in p s (front ++ rest) from ≡ map Lone (dispatches_in p s.dispatches)
+    items from = rw t refl
+
+-- ---- parameter bytes
+
+embedded_not : (b : ℕ) → is_parameter b ≡ true → (is_embedded b ≡ false) × ((b == 0xC2) ≡ false)
+unfolding is_parameter is_embedded is_control is_stop
+embedded_not b h = (grind (arith, nat_tests), grind (arith, nat_tests))
+
+abbrev in_sequence : Parameters → Held
+in_sequence p = record { kept = InControlSequence p; waiting = false }
+
+parameter_step : (p : Parameters) (b : ℕ) → is_parameter b ≡ true → held_step (in_sequence p) b ≡ record { dispatches = []; held = in_sequence (with_byte p b) }
+unfolding held_step fresh_step control_sequence_step
+parameter_step p b h = let e = embedded_not b h in rw (e.1, e.0, h) refl
+
+both : (x y : Bool) → (x && y) ≡ true → (x ≡ true) × (y ≡ true)
+both true y h = (refl, h)
+both false y h = cc
+
+pub parameters_handed : (p : Parameters) (xs : List ℕ) → list_all is_parameter xs ≡ true → hand_out (in_sequence p) xs ≡ record { dispatches = []; held = in_sequence (fold with_byte p xs) }
+unfolding hand_out
+parameters_handed p [] h = refl
+parameters_handed p (b ∷ xs) h =
+    let t = both (is_parameter b) (list_all is_parameter xs) h in
+    rw (parameter_step p b t.0) (rw (parameters_handed (with_byte p b) xs t.1) refl)
+
+all_taken : (xs : List ℕ) → list_all is_parameter (take (prefix_len is_parameter xs) xs) ≡ true
+all_taken [] = refl
+all_taken (b ∷ xs) = by_test (is_parameter b) refl (all_taken xs)
+  where
+    by_test : (t : Bool) → is_parameter b ≡ t → list_all is_parameter (take (prefix_len is_parameter xs) xs) ≡ true → list_all is_parameter (take (prefix_len is_parameter (b ∷ xs)) (b ∷ xs)) ≡ true
+    by_test true e h = let k : 1 + prefix_len is_parameter xs ≡ suc (prefix_len is_parameter xs) = omega arith in rw e (rw k (rw e h))
+    by_test false e h = rw e refl
+
+-- ---- the begin of a sequence
+
+escape_handed : held_step nothing_held 0x1B ≡ record { dispatches = []; held = record { kept = InEscape []; waiting = false } }
+unfolding held_step fresh_step
+escape_handed = ap (λ (s : Step). handed s false) first_escape
+
+bracket_handed : held_step (record { kept = InEscape []; waiting = false }) 0x5B ≡ record { dispatches = []; held = in_sequence no_parameters }
+unfolding held_step fresh_step escape_step opened is_embedded is_control is_stop is_intermediate is_cut is_opener
+bracket_handed = refl
+
+opening_handed : (xs : List ℕ) → hand_out nothing_held (0x1B ∷ 0x5B ∷ xs) ≡ hand_out (in_sequence no_parameters) xs
+unfolding hand_out
+opening_handed xs = rw escape_handed (rw bracket_handed refl)
+
+final_not : (b : ℕ) → is_final b ≡ true → (is_embedded b ≡ false) × (is_parameter b ≡ false) × (is_cut b ≡ false) × ((b == 0xC2) ≡ false)
+unfolding is_final is_embedded is_parameter is_cut is_control is_stop
+final_not b h = (grind (arith, nat_tests), grind (arith, nat_tests), grind (arith, nat_tests), grind (arith, nat_tests))
+
+final_handed : (p : Parameters) (b : ℕ) → is_final b ≡ true → held_step (in_sequence p) b ≡ record { dispatches = ControlSequence p.tokens p.truncated b ∷ []; held = nothing_held }
+unfolding held_step fresh_step control_sequence_step
+final_handed p b h = let e = final_not b h in rw (e.3, e.0, e.1, e.2) refl
+
+one_handed : (h : Held) (b : ℕ) (r : Handed) → held_step h b ≡ r → hand_out h (b ∷ []) ≡ record { dispatches = r.dispatches ++ []; held = r.held }
+unfolding hand_out
+one_handed h b r e = rw e refl
+
+-- the parameter bytes behind ESC [, of which so many stand there
+module _ (others : List ℕ) (n : ℕ) (is : n ≡ prefix_len is_parameter others) where
+  abbrev front : List ℕ
+  front = 0x1B ∷ 0x5B ∷ take n others
+
+  within : n ≤ length others
+  within = let l = prefix_len-le-length is_parameter others in omega arith
+
+  part_handed : hand_out nothing_held front ≡ record { dispatches = []; held = in_sequence (fold with_byte no_parameters (take n others)) }
+  part_handed = opening_handed (take n others) ∙ parameters_handed no_parameters (take n others) (subst (λ (m : ℕ). list_all is_parameter (take m others) ≡ true) (sym is) (all_taken others))
+
+  pub part_reads : (p q : Parameters) (held after : Held) → held ≡ nothing_held → q ≡ fold with_byte no_parameters (take n others) → after ≡ in_sequence q → Reads p held (0x1B ∷ 0x5B ∷ others) (lone_step (lone.Part (n + 2))) after
+  part_reads p q held after e k a =
+      let h : (hand_out held front) ≡ record { dispatches = []; held = in_sequence (fold with_byte no_parameters (take n others)) } = ap (λ (x : Held). hand_out x front) e ∙ part_handed in
+      reads_front p held after (0x1B ∷ 0x5B ∷ others) front (drop n others) (lone_step (lone.Part (n + 2))) (ap (λ (l : List ℕ). 0x1B ∷ 0x5B ∷ l) (sym (take-append-drop n others))) (omega arith) refl (omega (arith, length-take-le n others within))
+      (ap (λ (x : Handed). x.dispatches) (sym h)) (ap (λ (x : Handed). x.held) h ∙ ap in_sequence (sym k) ∙ sym a) (subst PrintNone (ap (λ (x : Handed). x.dispatches) (sym h)) tt) (rw a refl)
+
+  pub sequence_reads : (p : Parameters) (held after : Held) (b : ℕ) (rest : List ℕ) → held ≡ nothing_held → p ≡ fold with_byte no_parameters (take n others) → after ≡ held → is_final b ≡ true → drop n others ≡ b ∷ rest
+      → Reads p held (0x1B ∷ 0x5B ∷ others) (lone_step (lone.ControlSequence b (n + 3))) after
+  sequence_reads p held after b rest e k a f d =
+      let q = fold with_byte no_parameters (take n others) in
+      let h : hand_out held (front ++ b ∷ []) ≡ record { dispatches = ControlSequence p.tokens p.truncated b ∷ []; held = nothing_held } =
+      ap (λ (x : Held). hand_out x (front ++ b ∷ [])) e ∙ hand_append nothing_held front (b ∷ [])
+      ∙ rw part_handed (one_handed (in_sequence q) b (record { dispatches = ControlSequence q.tokens q.truncated b ∷ []; held = nothing_held }) (final_handed q b f))
+      ∙ ap (λ (x : Parameters). record { dispatches = ControlSequence x.tokens x.truncated b ∷ []; held = nothing_held }) (sym k) in
+      reads_front p held after (0x1B ∷ 0x5B ∷ others) (front ++ b ∷ []) rest (lone_step (lone.ControlSequence b (n + 3)))
+      (ap (λ (l : List ℕ). 0x1B ∷ 0x5B ∷ l) (sym (take-append-drop n others) ∙ ap (λ (l : List ℕ). take n others ++ l) d ∙ sym (append_assoc (take n others) (b ∷ []) rest)))
+      (omega (arith, length-append front (b ∷ []))) refl (omega (arith, length-append front (b ∷ []), length-take-le n others within))
+      (ap (λ (x : Handed). x.dispatches) (sym h)) (ap (λ (x : Handed). x.held) h ∙ sym e ∙ sym a) (subst PrintNone (ap (λ (x : Handed). x.dispatches) (sym h)) tt) (rw (a, e) refl)
+
+pub one_more : (b : ℕ) (xs : List ℕ) → is_parameter b ≡ true → prefix_len is_parameter (b ∷ xs) ≡ 1 + prefix_len is_parameter xs
+one_more b xs h = rw h refl
+
+pub fold_more : (p : Parameters) (b : ℕ) (xs bytes : List ℕ) → bytes ≡ b ∷ xs → is_parameter b ≡ true → fold with_byte (with_byte p b) (take (prefix_len is_parameter xs) xs) ≡ fold with_byte p (take (prefix_len is_parameter bytes) bytes)
+fold_more p b xs bytes e h =
+    let k : 1 + prefix_len is_parameter xs ≡ suc (prefix_len is_parameter xs) = omega arith in
+    sym (ap (λ (l : List ℕ). fold with_byte p (take (prefix_len is_parameter l) l)) e ∙ ap (λ (n : ℕ). fold with_byte p (take n (b ∷ xs))) (one_more b xs h ∙ k))
+
+pub count_more : (count b : ℕ) (xs bytes : List ℕ) → bytes ≡ b ∷ xs → is_parameter b ≡ true → count + 1 + prefix_len is_parameter xs ≡ count + prefix_len is_parameter bytes
+count_more count b xs bytes e h = let k : prefix_len is_parameter bytes ≡ 1 + prefix_len is_parameter xs = ap (prefix_len is_parameter) e ∙ one_more b xs h in omega arith
+
+-- ---- a text
+
+pub text_reads : (p : Parameters) (held : Held) (bytes : List ℕ) (n : ℕ) → held ≡ nothing_held → IsTextLen bytes n → 0 < n → Reads p held bytes (text_step n) held
+text_reads p held [] n e t l = absurd (let k = t.within in omega arith)
+text_reads p held (b ∷ bytes) n e t l = reads_a_text p held b n bytes (b ∷ bytes) (text_step n) held refl refl refl e (rw e refl) (rw e refl) t l
+
+-- ---- fields
+
+pub not_waiting : (f g : Framing) → f ≡ g → g.held ≡ nothing_held → f.held.waiting ≡ false
+not_waiting f g e h = ap (λ (x : Framing). x.held.waiting) e ∙ ap (λ (x : Held). x.waiting) h
+
+pub at_rest : (w : Bool) → w ≡ false → record { kept = InCharacter []; waiting = w } ≡ nothing_held
+at_rest w e = ap (λ (x : Bool). record { kept = InCharacter []; waiting = x }) e
+
+pub within_sequence : (p : Parameters) (w : Bool) → w ≡ false → record { kept = InControlSequence p; waiting = w } ≡ in_sequence p
+within_sequence p w e = ap (λ (x : Bool). record { kept = InControlSequence p; waiting = x }) e
+
+-- ---- a control, and an escape sequence of two bytes
+
+control_range : (b : ℕ) → is_control b ≡ true → (b < 0x20) ⊎ (b ≡ 0x7F)
+unfolding is_control
+control_range b h = grind (arith, nat_tests)
+
+not_lead : (b : ℕ) → (b < 0x20) ⊎ (b ≡ 0x7F) → (b == 0xC2) ≡ false
+not_lead b h = grind (arith, nat_tests)
+
+control_handed : (b : ℕ) → is_control b ≡ true → b ≢ 0x1B → held_step nothing_held b ≡ record { dispatches = Control b ∷ []; held = nothing_held }
+unfolding held_step fresh_step
+control_handed b h n = let k = control_range b h in rw (not_lead b k) (ap (λ (s : Step). handed s false) (first_control b k n))
+
+pub control_reads : (p : Parameters) (held : Held) (bytes : List ℕ) (b : ℕ) (rest : List ℕ) → held ≡ nothing_held → bytes ≡ b ∷ rest → is_control b ≡ true → b ≢ 0x1B → Reads p held bytes (lone_step (lone.Control b)) held
+control_reads p held bytes b rest e s h n =
+    let k : hand_out held (b ∷ []) ≡ record { dispatches = Control b ∷ []; held = nothing_held } = ap (λ (x : Held). hand_out x (b ∷ [])) e ∙ one_handed nothing_held b (record { dispatches = Control b ∷ []; held = nothing_held }) (control_handed b h n) in
+    reads_front p held held bytes (b ∷ []) rest (lone_step (lone.Control b)) s (omega arith) refl refl (ap (λ (x : Handed). x.dispatches) (sym k)) (ap (λ (x : Handed). x.held) k ∙ sym e) (subst PrintNone (ap (λ (x : Handed). x.dispatches) (sym k)) tt) (rw e refl)
+
+escape_final_not : (b : ℕ) → is_escape_final b ≡ true → (is_embedded b ≡ false) × (is_intermediate b ≡ false) × (is_cut b ≡ false) × ((b == 0xC2) ≡ false)
+unfolding is_escape_final is_embedded is_intermediate is_cut is_control is_stop
+escape_final_not b h = (grind (arith, nat_tests), grind (arith, nat_tests), grind (arith, nat_tests), grind (arith, nat_tests))
+
+escape_final_handed : (b : ℕ) → is_escape_final b ≡ true → is_opener b ≡ false → held_step (record { kept = InEscape []; waiting = false }) b ≡ record { dispatches = Escape None b ∷ []; held = nothing_held }
+unfolding held_step fresh_step escape_step escape_dispatch
+escape_final_handed b h o = let e = escape_final_not b h in rw (e.3, e.0, e.1, e.2, o) refl
+
+two_handed : (b : ℕ) → hand_out nothing_held (0x1B ∷ b ∷ []) ≡ hand_out (record { kept = InEscape []; waiting = false }) (b ∷ [])
+unfolding hand_out
+two_handed b = rw escape_handed refl
+
+pub escape_reads : (p : Parameters) (held : Held) (bytes : List ℕ) (b : ℕ) (rest : List ℕ) → held ≡ nothing_held → bytes ≡ 0x1B ∷ b ∷ rest → is_escape_final b ≡ true → is_opener b ≡ false → Reads p held bytes (lone_step (lone.Escape b)) held
+escape_reads p held bytes b rest e s h o =
+    let k : hand_out held (0x1B ∷ b ∷ []) ≡ record { dispatches = Escape None b ∷ []; held = nothing_held } =
+    ap (λ (x : Held). hand_out x (0x1B ∷ b ∷ [])) e ∙ two_handed b ∙ one_handed (record { kept = InEscape []; waiting = false }) b (record { dispatches = Escape None b ∷ []; held = nothing_held }) (escape_final_handed b h o) in
+    reads_front p held held bytes (0x1B ∷ b ∷ []) rest (lone_step (lone.Escape b)) s (omega arith) refl refl (ap (λ (x : Handed). x.dispatches) (sym k)) (ap (λ (x : Handed). x.held) k ∙ sym e) (subst PrintNone (ap (λ (x : Handed). x.dispatches) (sym k)) tt) (rw e refl)
+
+-- ---- the body of a command
+
+abbrev in_command : List ℕ → Held
+in_command body = record { kept = InCommand body; waiting = false }
+
+body_byte_not : (b : ℕ) → is_body_byte b ≡ true → (is_control b ≡ false) × ((b == 0xC2) ≡ false) × ((b == 0x07) ≡ false) × (is_stop b ≡ false)
+unfolding is_body_byte is_control is_stop
+body_byte_not b h = (grind (arith, nat_tests), grind (arith, nat_tests), grind (arith, nat_tests), grind (arith, nat_tests))
+
+body_step : (body : List ℕ) (b : ℕ) → is_body_byte b ≡ true → held_step (in_command body) b ≡ record { dispatches = []; held = in_command (body ++ b ∷ []) }
+unfolding held_step fresh_step command_step
+body_step body b h = let e = body_byte_not b h in rw (e.1, e.2, e.3, e.0) refl
+
+body_handed : (body xs : List ℕ) → list_all is_body_byte xs ≡ true → hand_out (in_command body) xs ≡ record { dispatches = []; held = in_command (body ++ xs) }
+unfolding hand_out
+body_handed body [] h = ap (λ (l : List ℕ). record { dispatches = []; held = in_command l }) (sym (append-nil body))
+body_handed body (b ∷ xs) h =
+    let t = both (is_body_byte b) (list_all is_body_byte xs) h in
+    rw (body_step body b t.0) (rw (body_handed (body ++ b ∷ []) xs t.1) (ap (λ (l : List ℕ). record { dispatches = []; held = in_command l }) (append_assoc body (b ∷ []) xs)))
+
+all_body : (xs : List ℕ) → list_all is_body_byte (take (prefix_len is_body_byte xs) xs) ≡ true
+all_body [] = refl
+all_body (b ∷ xs) = by_test (is_body_byte b) refl (all_body xs)
+  where
+    by_test : (t : Bool) → is_body_byte b ≡ t → list_all is_body_byte (take (prefix_len is_body_byte xs) xs) ≡ true → list_all is_body_byte (take (prefix_len is_body_byte (b ∷ xs)) (b ∷ xs)) ≡ true
+    by_test true e h = let k : 1 + prefix_len is_body_byte xs ≡ suc (prefix_len is_body_byte xs) = omega arith in rw e (rw k (rw e h))
+    by_test false e h = rw e refl
+
+taken_len : (xs : List ℕ) → length (take (prefix_len is_body_byte xs) xs) ≡ prefix_len is_body_byte xs
+taken_len xs = length-take-le (prefix_len is_body_byte xs) xs (prefix_len-le-length is_body_byte xs)
+
+-- the body grows by them
+pub body_silent : (held after : Held) (body new bytes front : List ℕ) (w : Bool) → held ≡ record { kept = InCommand body; waiting = w } → w ≡ false → front ≡ take (prefix_len is_body_byte bytes) bytes → new ≡ body ++ front → after ≡ record { kept = InCommand new; waiting = w } → IsSilent held bytes (length front) after
+body_silent held after body new bytes front w e f k n a =
+    let l : length front ≡ prefix_len is_body_byte bytes = ap length k ∙ taken_len bytes in
+    let t : take (length front) bytes ≡ front = ap (λ (m : ℕ). take m bytes) l ∙ sym k in
+    let q : hand_out held (take (length front) bytes) ≡ record { dispatches = []; held = after } =
+    (λ i. hand_out (e i) (t i)) ∙ ap (λ (x : Bool). hand_out (record { kept = InCommand body; waiting = x }) front) f
+    ∙ body_handed body front (subst (λ (x : List ℕ). list_all is_body_byte x ≡ true) (sym k) (all_body bytes))
+    ∙ ap (λ (x : List ℕ). record { dispatches = []; held = in_command x }) (sym n)
+    ∙ ap (λ (x : Held). record { dispatches = []; held = x }) (sym (a ∙ ap (λ (x : Bool). record { kept = InCommand new; waiting = x }) f)) in
+    record {
+      within = let m = prefix_len-le-length is_body_byte bytes in omega arith;
+      silent = ap (λ (x : Handed). x.dispatches) q;
+      keeps = ap (λ (x : Handed). x.held) q;
+      none = rw a refl;
+    }
+
+-- bytes that hand nothing out
+pub silent_reads : (p : Parameters) (held after : Held) (bytes : List ℕ) (n : ℕ) (s : stepped.Step) → IsSilent held bytes n after → 0 < n → s.text ≡ 0 → s.count ≡ n → dispatches_in p s.dispatches ≡ [] → Reads p held bytes s after
+silent_reads p held after bytes n s q l t c d =
+    let m = length-take-le n bytes q.within in
+    reads_front p held after bytes (take n bytes) (drop n bytes) s (sym (take-append-drop n bytes)) (omega (arith, m)) t (c ∙ sym m) (d ∙ sym q.silent) q.keeps (subst PrintNone (sym q.silent) tt) q.none
+
+bracket_opens : held_step (record { kept = InEscape []; waiting = false }) 0x5D ≡ record { dispatches = []; held = in_command [] }
+unfolding held_step fresh_step escape_step opened is_embedded is_control is_stop is_intermediate is_cut is_opener is_string_opener
+bracket_opens = refl
+
+command_opening : hand_out nothing_held (0x1B ∷ 0x5D ∷ []) ≡ record { dispatches = []; held = in_command [] }
+unfolding hand_out
+command_opening = rw escape_handed (rw bracket_opens refl)
+
+pub command_reads : (p : Parameters) (held after : Held) (others : List ℕ) → held ≡ nothing_held → after ≡ in_command [] → Reads p held (0x1B ∷ 0x5D ∷ others) (lone_step (lone.Part 2)) after
+command_reads p held after others e a =
+    let h : hand_out held (0x1B ∷ 0x5D ∷ []) ≡ record { dispatches = []; held = in_command [] } = ap (λ (x : Held). hand_out x (0x1B ∷ 0x5D ∷ [])) e ∙ command_opening in
+    reads_front p held after (0x1B ∷ 0x5D ∷ others) (0x1B ∷ 0x5D ∷ []) others (lone_step (lone.Part 2)) refl (omega arith) refl refl (ap (λ (x : Handed). x.dispatches) (sym h)) (ap (λ (x : Handed). x.held) h ∙ sym a) (subst PrintNone (ap (λ (x : Handed). x.dispatches) (sym h)) tt) (rw a refl)
+
+pub within_command : (body : List ℕ) (w : Bool) → body ≡ [] → w ≡ false → record { kept = InCommand body; waiting = w } ≡ in_command []
+within_command body w n e = (λ i. record { kept = InCommand (n i); waiting = e i })
