@@ -1,10 +1,10 @@
 -- The pieces of a call, one after another.
 use Rattle.std.proofs.Common.{◌≡◌, ℕ, suc, ◌≤◌, List, [], ◌∷◌, ◌++◌, length, fold, refl, sym, ap, subst, ◌∙◌, append_assoc, arith}
-use Rattle.std.specs.Prelude.{Some, None}
+use Rattle.std.specs.Prelude.{true, Some, None}
 use Rattle.std.proofs.lemmas.List.Sums.{fold-append}
 use Rattle.change_log.specs.LogSteps.{step_of_kept}
 use Rattle.escape_stream.specs.Pieces as stream
-use Rattle.escape_stream.specs.PiecesView.{IsPiece, GivesPiece, HasGiven, IsOpen, IsUnderWay, open_pieces, lender_of}
+use Rattle.escape_stream.specs.PiecesView.{IsPiece, GivesPiece, HasGiven, IsReady as MayGo, ready_at, IsOpen, IsUnderWay, open_pieces, lender_of, parser_of}
 use Rattle.escape_stream.specs.StreamAction.{print_string}
 use Rattle.escape_stream.specs.declared.pieces.Piece.{Piece as PieceCode}
 use Rattle.escape_stream.specs.declared.pieces.Piece.TheVariants as code
@@ -36,6 +36,13 @@ same_event (stream.Text from text) (code.Action a) e = absurd e
 same_event (stream.Lone a) (code.Text t) e = absurd e
 same_event (stream.Lone a) (code.Action b) e = ap Act (sym e)
 
+-- open pieces that are ready
+pub ready_is : (it : Pieces) → IsOpen it → MayGo it → IsUnderWay it × ((parser_of it).failed ≡ true)
+ready_is it o r = subst (λ s. ready_at s it) o r
+
+pub ready_from : (it : Pieces) → IsOpen it → IsUnderWay it → (parser_of it).failed ≡ true → MayGo it
+ready_from it o u f = subst (λ s. ready_at s it) (sym o) (u, f)
+
 -- one piece less
 pub fewer : (start : ℕ) (it new : Pieces) (piece : PieceCode) → HasGiven it (Some piece) new → suc (length (open_pieces start new)) ≤ length (open_pieces start it)
 fewer start it new piece h = let g = h.gives start in let e = ap length g.2 in omega arith
@@ -54,20 +61,22 @@ module _ {W : Type 0} (width_of : W → List ℕ → ℕ) where
     ready = k.ready;
   }
 
-  pub takes_first : (t : TerminalState W) (it : Pieces) → IsOpen it → IsUnderWay it → IsTaking width_of t t it it
-  takes_first t it o u = record {
+  pub takes_first : (t : TerminalState W) (it : Pieces) → IsOpen it → IsUnderWay it → (parser_of it).failed ≡ true → IsTaking width_of t t it it
+  takes_first t it o u f = record {
     same = refl;
     opened = o;
     under = u;
+    fails = f;
     ends = refl;
     goes = λ start. record { done = []; whole = refl; had = λ ready events. record { view = refl; log = refl; widths = refl; ready = ready } };
   }
 
-  pub takes_next : (t now next : TerminalState W) (first it new : Pieces) (piece : PieceCode) → IsTaking width_of t now first it → lender_of new ≡ lender_of it → IsOpen new → HasGiven it (Some piece) new → Does width_of now next (code_event piece ∷ []) → IsTaking width_of t next first new
-  takes_next t now next first it new piece h same opened given does = record {
+  pub takes_next : (t now next : TerminalState W) (first it new : Pieces) (piece : PieceCode) → IsTaking width_of t now first it → lender_of new ≡ lender_of it → IsOpen new → (parser_of new).failed ≡ true → HasGiven it (Some piece) new → Does width_of now next (code_event piece ∷ []) → IsTaking width_of t next first new
+  takes_next t now next first it new piece h same opened fails given does = record {
     same = same ∙ h.same;
     opened = opened;
     under = given.ready;
+    fails = fails;
     ends = given.ends ∙ h.ends;
     goes = λ start. record {
       done = (h.goes start).done ++ code_event piece ∷ [];

@@ -1,8 +1,8 @@
 -- The refusals of what a terminal stands on, as its own.
 use Rattle.cell_surface.specs.declared.error.SurfaceError.{SurfaceError}
 use Rattle.cell_surface.specs.declared.error.SurfaceError.TheVariants as surface
-use Rattle.escape_stream.specs.declared.error.ParseError.{ParseError}
-use Rattle.escape_stream.specs.declared.error.ParseError.TheVariants as parser
+use Rattle.escape_framing.specs.declared.error.ParseError.{ParseError}
+use Rattle.escape_framing.specs.declared.error.ParseError.TheVariants as parser
 use Rattle.terminal_steps.specs.declared.error.TerminalError.{TerminalError}
 use Rattle.terminal_steps.specs.declared.error.TerminalError.TheVariants.{Failed, Number, Memory}
 

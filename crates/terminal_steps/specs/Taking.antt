@@ -1,8 +1,8 @@
 -- The pieces of a call as events, and what they make of what a terminal keeps.
-use Rattle.std.specs.Prelude.{◌≡◌, ℕ, List, ◌++◌, map}
+use Rattle.std.specs.Prelude.{◌≡◌, ℕ, true, List, ◌++◌, map}
 use Rattle.escape_stream.specs.Pieces as stream
 use Rattle.escape_stream.specs.StreamAction.{print_string}
-use Rattle.escape_stream.specs.PiecesView.{IsOpen, IsUnderWay, open_pieces, held_at_end, lender_of}
+use Rattle.escape_stream.specs.PiecesView.{IsOpen, IsUnderWay, open_pieces, held_at_end, lender_of, parser_of}
 use Rattle.escape_stream.specs.declared.pieces.Piece.{Piece as PieceCode}
 use Rattle.escape_stream.specs.declared.pieces.Piece.TheVariants as code
 use Rattle.escape_stream.specs.declared.pieces.Pieces.{Pieces}
@@ -40,5 +40,6 @@ pub record IsTaking {W : Type 0} (width_of : W → List ℕ → ℕ) (before now
   pub same : lender_of it ≡ lender_of first
   pub opened : IsOpen it
   pub under : IsUnderWay it
+  pub fails : (parser_of it).failed ≡ true
   pub ends : held_at_end it ≡ held_at_end first
   pub goes : (start : ℕ) → GoesOn width_of before now start first it

@@ -20,7 +20,7 @@ use std::mem;
 ///
 /// A call that is refused may have done a part of its work.
 #[derive(Drop)]
-pub struct TerminalState<W> {
+pub struct TerminalState<W: Widths> {
     pub(crate) surface: Surface<W>,
     pub(crate) saved: Option<SavedCursor>,
     pub(crate) replies: Vec<u8>,
