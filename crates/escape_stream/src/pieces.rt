@@ -94,8 +94,8 @@ fn behind(bytes: &[u8], count: usize) -> &[u8]
 }
 
 impl<'a> Pieces<'a> {
-    // The parser, whatever is left of the pieces.
-    pub(crate) fn into_parser(self) -> &'a mut Parser
+    /// The parser that they are read by, whatever is left of them.
+    pub fn into_parser(self) -> &'a mut Parser
         ensures same { result.ghost_name ≡ lender_of self.entry }
         ensures parser { result.now ≡ parser_of self.entry }
     {

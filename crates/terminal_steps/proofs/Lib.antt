@@ -1,3 +1,4 @@
 pub mod StateLemmas
+pub mod NumberLemmas
 pub mod TakeLemmas
 pub mod SpellLemmas

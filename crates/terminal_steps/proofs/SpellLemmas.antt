@@ -1,5 +1,5 @@
 -- The pieces of a call, and the actions that they spell.
-use Rattle.std.proofs.Common.{◌≡◌, ℕ, ◌+◌, List, [], ◌∷◌, ◌++◌, length, drop, map, fold, refl, sym, ap, subst, ◌∙◌, append_assoc, arith}
+use Rattle.std.proofs.Common.{◌≡◌, ℕ, ◌+◌, List, [], ◌∷◌, ◌++◌, length, drop, map, fold, refl, sym, ap, subst, ◌∙◌, arith}
 use Rattle.std.specs.Prelude.{encode_utf8, encode_utf8_all}
 use Rattle.std.proofs.lemmas.List.Sums.{fold-append}
 use Rattle.escape_framing.specs.Cut.{dispatches, newly_decided}
@@ -16,6 +16,7 @@ use Rattle.terminal_table.specs.Turns.{IsPrinted, AreEvents}
 use Rattle.terminal_table.proofs.ListLemmas.{append_nil, drop_past}
 use Rattle.terminal_table.proofs.PrintLemmas.{AllCut, events_are}
 use Rattle.terminal_table.proofs.RunLemmas.{printed_append}
+use Rattle.terminal_table.proofs.TextLemmas.{prints, with_text, text_logged}
 use Rattle.terminal_steps.specs.Taking.{piece_events}
 
 map-append : {A B : Type 0} (f : A → B) (xs ys : List A) → map f (xs ++ ys) ≡ map f xs ++ map f ys
@@ -31,7 +32,7 @@ same_again : (n : ℕ) (ds : List Dispatch) → map (λ (p : ℕ × Dispatch). p
 same_again n [] = refl
 same_again n (d ∷ ds) = ap (λ xs. d ∷ xs) (same_again n ds)
 
-none_newly : (stream : List ℕ) → newly_decided stream [] ≡ []
+pub none_newly : (stream : List ℕ) → newly_decided stream [] ≡ []
 none_newly stream = ap (λ s. drop (length (dispatches stream)) (dispatches s)) (append_nil stream) ∙ drop_past (length (dispatches stream)) (dispatches stream) (omega arith)
 
 placed_are : DispatchesJoin → (front bytes : List ℕ) → map (λ (p : ℕ × Dispatch). p.1) (placed_from front bytes) ≡ newly_decided front bytes
@@ -41,18 +42,7 @@ placed_are joins front (b ∷ bytes) =
     ∙ (λ i. same_again (length front + 1) (newly_decided front (b ∷ [])) i ++ placed_are joins (front ++ b ∷ []) bytes i)
     ∙ sym (joins front (b ∷ []) bytes)
 
--- ---- prints in turn are one text
-
-abbrev prints : List ℕ → List Event
-prints cs = map Act (map print cs)
-
-with_text : (width_of : List ℕ → ℕ) (v : View) (cs : List ℕ) → fold (event_done width_of) v (prints cs) ≡ record v { held = v.held ++ encode_utf8_all cs }
-with_text width_of v [] = λ i. record v { held = sym (append_nil v.held) i }
-with_text width_of v (c ∷ cs) = with_text width_of (record v { held = v.held ++ encode_utf8 c }) cs ∙ (λ i. record v { held = append_assoc v.held (encode_utf8 c) (encode_utf8_all cs) i })
-
-text_logged : (width_of : List ℕ → ℕ) (v : View) (cs : List ℕ) (others : List Event) → events_logged width_of v (prints cs ++ others) ≡ events_logged width_of (record v { held = v.held ++ encode_utf8_all cs }) others
-text_logged width_of v [] others = λ i. events_logged width_of (record v { held = sym (append_nil v.held) i }) others
-text_logged width_of v (c ∷ cs) others = text_logged width_of (record v { held = v.held ++ encode_utf8 c }) cs others ∙ (λ i. events_logged width_of (record v { held = append_assoc v.held (encode_utf8 c) (encode_utf8_all cs) i }) others)
+-- ---- what a text prints
 
 text_printed : (cs : List ℕ) (others : List Event) → AreEvents (prints cs ++ others) → IsPrinted (encode_utf8_all cs) × AreEvents others
 text_printed [] others h = (refl, h)

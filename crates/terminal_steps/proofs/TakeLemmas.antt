@@ -22,15 +22,15 @@ nothing_behind : (es : List Event) → es ++ [] ≡ es
 nothing_behind [] = refl
 nothing_behind (e ∷ es) = ap (λ xs. e ∷ xs) (nothing_behind es)
 
-are_front : (xs ys : List Event) → AreEvents (xs ++ ys) → AreEvents xs
+pub are_front : (xs ys : List Event) → AreEvents (xs ++ ys) → AreEvents xs
 are_front [] ys h = tt
 are_front (x ∷ xs) ys h = (h.0, are_front xs ys h.1)
 
-are_behind : (xs ys : List Event) → AreEvents (xs ++ ys) → AreEvents ys
+pub are_behind : (xs ys : List Event) → AreEvents (xs ++ ys) → AreEvents ys
 are_behind [] ys h = h
 are_behind (x ∷ xs) ys h = are_behind xs ys h.1
 
-same_event : (p : stream.Piece) (piece : PieceCode) → IsPiece p piece → piece_event p ≡ code_event piece
+pub same_event : (p : stream.Piece) (piece : PieceCode) → IsPiece p piece → piece_event p ≡ code_event piece
 same_event (stream.Text from text) (code.Text t) e = ap (λ x. Act (print_string x)) (sym e)
 same_event (stream.Text from text) (code.Action a) e = absurd e
 same_event (stream.Lone a) (code.Text t) e = absurd e

@@ -22,4 +22,4 @@ pub use applying::{apply, print};
 pub use error::TerminalError;
 pub use saved::SavedCursor;
 pub use state::TerminalState;
-pub use taking::take_pieces;
+pub use taking::{take_bytes, take_pieces};

@@ -1,11 +1,11 @@
 //! What a terminal keeps beside its parser, and what events make of it.
-ghost use Rattle.std.specs.Prelude.{◌≡◌, ◌<◌, ◌^◌, false, IfOk, OnOk, [], ◌∷◌};
+ghost use Rattle.std.specs.Prelude.{◌≡◌, ◌<◌, ◌^◌, false, IsOk, IfOk, OnOk, IsErrOf, [], ◌∷◌};
 ghost use Rattle.escape_stream.specs.StreamAction.{is_print, print_string};
 ghost use Rattle.escape_stream.specs.StreamActionView.{value_of};
 ghost use Rattle.change_log.specs.Log.{new_log};
 ghost use Rattle.terminal_table.specs.Meaning.{new_view};
-ghost use Rattle.terminal_table.specs.History.{Act, Forgot, Looked};
-ghost use Rattle.terminal_steps.specs.Events.{Does, IsReady, surface_in, view_of, without_replies};
+ghost use Rattle.terminal_table.specs.History.{Act, Forgot, Looked, Resized};
+ghost use Rattle.terminal_steps.specs.Events.{Does, IsReady, NeedsNumber, surface_in, view_of, without_replies};
 
 use crate::applying::{apply, print};
 use crate::saved::SavedCursor;
@@ -78,7 +78,10 @@ impl<W: Widths + Drop> TerminalState<W> {
 
     /// The held run ends.
     pub fn settle(&mut self) -> Result<(), SurfaceError>
-        ensures { OnOk result (Does (λ w. W.width_of w) self.old self.new (Looked ∷ [])) }
+        ensures done { OnOk result (Does (λ w. W.width_of w) self.old self.new (Looked ∷ [])) }
+        ensures failed { IsErrOf result SurfaceError.Failed → IsReady self.old → ⊥ }
+        ensures numbers { IsErrOf result SurfaceError.Number → NeedsNumber (λ w. W.width_of w) self.old (Looked ∷ []) }
+        ensures nothing { (view_of self.old).held ≡ [] → IsOk result }
     {
         if self.held.is_empty() {
             return Ok(());
@@ -86,6 +89,20 @@ impl<W: Widths + Drop> TerminalState<W> {
         let next = String::new(*self.replies.allocator());
         let text = mem::replace(&mut self.held, next);
         print(&mut self.surface, text)?;
+        Ok(())
+    }
+
+    /// Becomes so many columns wide and rows high, each from 1 to 2^32 - 1. The run ends before; a saved cursor
+    /// stays as it is.
+    pub fn resize(&mut self, width: usize, height: usize) -> Result<(), SurfaceError>
+        requires width { (0 < width) × (width < 2 ^ 32) }
+        requires height { (0 < height) × (height < 2 ^ 32) }
+        ensures done { OnOk result (Does (λ w. W.width_of w) self.old self.new (Resized width height ∷ [])) }
+        ensures failed { IsErrOf result SurfaceError.Failed → IsReady self.old → ⊥ }
+        ensures numbers { IsErrOf result SurfaceError.Number → NeedsNumber (λ w. W.width_of w) self.old (Resized width height ∷ []) }
+    {
+        self.settle()?;
+        self.surface.resize(width, height)?;
         Ok(())
     }
 
@@ -99,7 +116,9 @@ impl<W: Widths + Drop> TerminalState<W> {
     // An action that is no print ends the run, and is applied.
     fn apply(&mut self, action: Action) -> Result<(), SurfaceError>
         requires { is_print (value_of action) ≡ false }
-        ensures { OnOk result (Does (λ w. W.width_of w) self.old self.new (Act (value_of action) ∷ [])) }
+        ensures done { OnOk result (Does (λ w. W.width_of w) self.old self.new (Act (value_of action) ∷ [])) }
+        ensures failed { IsErrOf result SurfaceError.Failed → IsReady self.old → ⊥ }
+        ensures numbers { IsErrOf result SurfaceError.Number → NeedsNumber (λ w. W.width_of w) self.old (Act (value_of action) ∷ []) }
     {
         self.settle()?;
         apply(
@@ -113,7 +132,9 @@ impl<W: Widths + Drop> TerminalState<W> {
 
     /// A print joins the run, and every other action ends it.
     pub fn act(&mut self, action: Action) -> Result<(), SurfaceError>
-        ensures { OnOk result (Does (λ w. W.width_of w) self.old self.new (Act (value_of action) ∷ [])) }
+        ensures done { OnOk result (Does (λ w. W.width_of w) self.old self.new (Act (value_of action) ∷ [])) }
+        ensures failed { IsErrOf result SurfaceError.Failed → IsReady self.old → ⊥ }
+        ensures numbers { IsErrOf result SurfaceError.Number → NeedsNumber (λ w. W.width_of w) self.old (Act (value_of action) ∷ []) }
     {
         match action {
             Action::Print(character) => {

@@ -20,7 +20,7 @@ drop-front (x ∷ xs) ys = drop-front xs ys
 
 -- ---- the stream of a view is nothing to events
 
-abbrev with_stream : List ℕ → View → View
+abbrev pub with_stream : List ℕ → View → View
 with_stream stream v = record v { stream = stream }
 
 done_with : (width_of : List ℕ → ℕ) (v : View) (stream : List ℕ) (event : Event) → event_done width_of (with_stream stream v) event ≡ with_stream stream (event_done width_of v event)
@@ -33,11 +33,11 @@ done_with width_of v stream Looked = refl
 done_with width_of v stream (Resized width height) = refl
 done_with width_of v stream (Forgot number) = refl
 
-all_done_with : (width_of : List ℕ → ℕ) (v : View) (stream : List ℕ) (es : List Event) → fold (event_done width_of) (with_stream stream v) es ≡ with_stream stream (fold (event_done width_of) v es)
+pub all_done_with : (width_of : List ℕ → ℕ) (v : View) (stream : List ℕ) (es : List Event) → fold (event_done width_of) (with_stream stream v) es ≡ with_stream stream (fold (event_done width_of) v es)
 all_done_with width_of v stream [] = refl
 all_done_with width_of v stream (e ∷ es) = ap (λ x. fold (event_done width_of) x es) (done_with width_of v stream e) ∙ all_done_with width_of (event_done width_of v e) stream es
 
-logged_with : (width_of : List ℕ → ℕ) (v : View) (stream : List ℕ) (es : List Event) → events_logged width_of (with_stream stream v) es ≡ events_logged width_of v es
+pub logged_with : (width_of : List ℕ → ℕ) (v : View) (stream : List ℕ) (es : List Event) → events_logged width_of (with_stream stream v) es ≡ events_logged width_of v es
 logged_with width_of v stream [] = refl
 logged_with width_of v stream (e ∷ es) =
     ap (λ x. event_logged width_of (with_stream stream v) e ++ events_logged width_of x es) (done_with width_of v stream e)
@@ -59,7 +59,7 @@ pieces-append (Look ∷ a) b = pieces-append a b
 pieces-append (Resize width height ∷ a) b = pieces-append a b
 pieces-append (Forget number ∷ a) b = pieces-append a b
 
-nothing_behind : (xs : List ℕ) → xs ++ [] ≡ xs
+pub nothing_behind : (xs : List ℕ) → xs ++ [] ≡ xs
 nothing_behind [] = refl
 nothing_behind (x ∷ xs) = ap (λ ys. x ∷ ys) (nothing_behind xs)
 

@@ -7,3 +7,5 @@ pub mod PrintLemmas
 pub mod EventLemmas
 pub mod JoinLemmas
 pub mod OtherLemmas
+pub mod TextLemmas
+pub mod LoneLemmas

@@ -7,3 +7,4 @@ pub mod Meaning
 pub mod Logged
 pub mod Samples
 pub mod Turns
+pub mod Alone

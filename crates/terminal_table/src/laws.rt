@@ -2,6 +2,8 @@
 ghost use Rattle.std.specs.Prelude.{false, ◌≡◌, ℕ, ◌<◌, List, ◌∷◌, ◌++◌, None, []};
 ghost use Rattle.screen_effects.specs.Display.{Display, IsDisplay};
 ghost use Rattle.screen_effects.specs.Effect.{effect, replay};
+ghost use Rattle.escape_stream.specs.StreamWritable.{IsWritable};
+ghost use Rattle.terminal_table.specs.Alone.{IsIdle, alone, row_done, row_logged};
 ghost use Rattle.terminal_table.specs.Functions.{ControlFunction, function_of};
 ghost use Rattle.escape_framing.specs.Held.{held_of};
 ghost use Rattle.escape_stream.specs.StreamAction.{StreamAction, is_print};
@@ -13,8 +15,9 @@ ghost use Rattle.terminal_table.specs.Steps.{step, step_of, run_step};
 ghost use Rattle.terminal_table.specs.Changes.{changes, changes_of, run_change};
 ghost use Rattle.terminal_table.specs.Turns.{Turns, IsPrinted, IsView, AreSizes, IsEvent, AreEvents, DecideAlike, replayed, all_replayed};
 
-use escape_framing::laws::{held_is_enough, one_cut};
+use escape_framing::laws::{held_is_enough, idle_streams, one_cut};
 use escape_stream::action_laws::actions_of_pieces_join;
+use escape_stream::encoding_laws::writable_lists_read_on;
 
 /// The changes that are logged for a control function, for an action and for a run have on a display
 /// the effect of the table's step: they turn one that shows the state's screen into one that shows the
@@ -88,4 +91,15 @@ pub fn unfinished_ends_matter()
 {
     held_is_enough();
     actions_of_pieces_join();
+}
+
+/// The text of one action that is writable by itself, where nothing is unfinished and no run is held, and
+/// then a look, are its row of the table: its step, and its changes; and nothing is unfinished behind.
+pub fn lone_actions_are_their_rows()
+    ensures state { (width_of : List ℕ → ℕ) (view : View) (action : StreamAction) → IsIdle view → IsWritable (action ∷ []) → (after width_of view (alone action)).state ≡ row_done width_of action view.state }
+    ensures logged { (width_of : List ℕ → ℕ) (view : View) (action : StreamAction) → IsIdle view → IsWritable (action ∷ []) → logged width_of view (alone action) ≡ row_logged action view.state }
+    ensures idle { (width_of : List ℕ → ℕ) (view : View) (action : StreamAction) → IsIdle view → IsWritable (action ∷ []) → IsIdle (after width_of view (alone action)) }
+{
+    idle_streams();
+    writable_lists_read_on();
 }

@@ -1,0 +1,180 @@
+-- Numbers never fall, so what is refused a number leads past the last one.
+use Rattle.std.proofs.Common.{◌≡◌, ℕ, ◌+◌, ◌-◌, ◌<◌, ◌≤◌, ◌^◌, Bool, true, false, List, [], ◌∷◌, ◌++◌, length, map, fold, refl, sym, ap, subst, ◌∙◌, arith}
+use Rattle.std.specs.Prelude.{◌==◌, ◌≢◌, if◌then◌else◌, nat_lt}
+use Rattle.std.specs.String.{string_bytes}
+use Rattle.std.proofs.lemmas.List.Sums.{fold-append}
+use Rattle.cell_change.specs.ChangeValue.{ChangeValue}
+use Rattle.cell_surface.specs.Surface.{Surface, shown_by, number_of, Resizes}
+use Rattle.change_log.specs.Log.{most_due, forgotten, resized_log}
+use Rattle.change_log.specs.LogSteps as log
+use Rattle.change_log.specs.LogSteps.{LogStep, Logged, Forgotten, Sized, step_of_kept}
+use Rattle.escape_stream.specs.StreamAction.{StreamAction, is_print}
+use Rattle.screen_effects.specs.Display.{IsDisplay}
+use Rattle.screen_effects.proofs.EffectLaws.{resized_is}
+use Rattle.terminal_table.specs.Functions.{function_of}
+use Rattle.terminal_table.specs.Changes.{changes_of, run_change}
+use Rattle.terminal_table.specs.History.{Event, Act, Looked, Resized}
+use Rattle.terminal_table.specs.Meaning.{View, settled, event_done, with_size}
+use Rattle.terminal_table.specs.Logged.{run_logged, event_logged, events_logged}
+use Rattle.terminal_table.specs.Turns.{AreEvents, IsPrinted}
+use Rattle.terminal_table.proofs.JoinLemmas.{events_logged-append}
+use Rattle.terminal_table.proofs.ListLemmas.{append_nil}
+use Rattle.std.specs.Prelude.{Some}
+use Rattle.escape_stream.specs.PiecesView.{GivesPiece, HasGiven, open_pieces}
+use Rattle.escape_stream.specs.declared.pieces.Piece.{Piece as PieceCode}
+use Rattle.escape_stream.specs.declared.pieces.Pieces.{Pieces}
+use Rattle.terminal_steps.specs.Taking.{piece_events, code_event, IsTaking}
+use Rattle.terminal_steps.proofs.TakeLemmas.{are_front, are_behind, same_event}
+use Rattle.terminal_steps.specs.Applying.{state_of}
+use Rattle.terminal_steps.specs.Events.{view_of, IsReady, Had, NeedsNumber, log_behind}
+use Rattle.terminal_steps.specs.declared.state.TerminalState.{TerminalState}
+
+pub step_number : (s : Sized) (step : LogStep) → s.log.number ≤ (step_of_kept s step).log.number
+step_number s (Logged change) = omega arith
+step_number s (Forgotten number) = by_test (nat_lt s.log.number number) refl
+  where
+    by_test : (b : Bool) → nat_lt s.log.number number ≡ b → s.log.number ≤ (forgotten number s.log).number
+    by_test true e = rw e (omega arith)
+    by_test false e = rw e (omega arith)
+step_number s (log.Resized next) = by_entries s.log.entries refl
+  where
+    by_entries : (cs : List ChangeValue) → s.log.entries ≡ cs → s.log.number ≤ (resized_log s.log).number
+    by_entries [] e = rw e (omega arith)
+    by_entries (c ∷ cs) e = rw e (omega arith)
+
+pub fold_number : (steps : List LogStep) (s : Sized) → s.log.number ≤ (fold step_of_kept s steps).log.number
+fold_number [] s = omega arith
+fold_number (step ∷ steps) s = let one = step_number s step in let more = fold_number steps (step_of_kept s step) in omega arith
+
+pub all_number : (changes : List ChangeValue) (s : Sized) → (fold step_of_kept s (map Logged changes)).log.number ≡ s.log.number + length changes
+all_number [] s = omega arith
+all_number (change ∷ changes) s = let more = all_number changes (step_of_kept s (Logged change)) in omega arith
+
+abbrev Past : Sized → Type 0
+Past s = 2 ^ 64 ≤ s.log.number
+
+pub past_behind : (s : Sized) (steps : List LogStep) → Past s → Past (fold step_of_kept s steps)
+past_behind s steps h = let more = fold_number steps s in omega arith
+
+module _ {W : Type 0} (width_of : W → List ℕ → ℕ) where
+  abbrev of : TerminalState W → List ℕ → ℕ
+  of t = width_of t.surface.canvas.widths
+
+  pub settled_number : (t : TerminalState W) → (length (string_bytes t.held) == 0) ≡ false → 2 ^ 64 ≤ number_of t.surface + 1 → Past (log_behind width_of t (Looked ∷ []))
+  settled_number t e n = subst (λ b. Past (fold step_of_kept t.surface.log ((if b then [] else Logged (run_change (string_bytes t.held)) ∷ []) ++ []))) (sym e) n
+
+  -- ---- what is logged for one event behind others
+
+  behind_front : (t : TerminalState W) (front back : List LogStep) → fold step_of_kept t.surface.log ((front ++ back) ++ []) ≡ fold step_of_kept (fold step_of_kept t.surface.log (front ++ [])) back
+  behind_front t front back =
+      ap (fold step_of_kept t.surface.log) (append_nil (front ++ back))
+      ∙ fold-append step_of_kept t.surface.log front back
+      ∙ ap (λ xs. fold step_of_kept (fold step_of_kept t.surface.log xs) back) (sym (append_nil front))
+
+  resized_behind : (t : TerminalState W) (width height : ℕ) → log_behind width_of t (Resized width height ∷ []) ≡ step_of_kept (log_behind width_of t (Looked ∷ [])) (log.Resized (most_due width height))
+  resized_behind t width height = behind_front t (run_logged (view_of t)) (log.Resized (most_due width height) ∷ [])
+
+  acted_behind : (t : TerminalState W) (action : StreamAction) → is_print action ≡ false
+      → log_behind width_of t (Act action ∷ []) ≡ fold step_of_kept (log_behind width_of t (Looked ∷ [])) (map Logged (changes_of (function_of action) (settled (of t) (view_of t)).state))
+  acted_behind t action p = ap logged p ∙ behind_front t (run_logged (view_of t)) (map Logged (changes_of (function_of action) (settled (of t) (view_of t)).state))
+    where
+      logged : Bool → Sized
+      logged b = fold step_of_kept t.surface.log ((if b then [] else run_logged (view_of t) ++ map Logged (changes_of (function_of action) (settled (of t) (view_of t)).state)) ++ [])
+
+  -- ---- actions
+
+  pub act_past : (t : TerminalState W) (action : StreamAction) → is_print action ≡ false → NeedsNumber width_of t (Looked ∷ []) → NeedsNumber width_of t (Act action ∷ [])
+  act_past t action p n = λ ready events. subst Past (sym (acted_behind t action p)) (past_behind (log_behind width_of t (Looked ∷ [])) (map Logged (changes_of (function_of action) (settled (of t) (view_of t)).state)) (n ready (tt, tt)))
+
+  pub act_number : (t u : TerminalState W) (action : StreamAction) → is_print action ≡ false
+      → (IsReady t → AreEvents (Looked ∷ []) → Had width_of t u (Looked ∷ []))
+      → 2 ^ 64 ≤ number_of u.surface + length (changes_of (function_of action) (view_of u).state) → NeedsNumber width_of t (Act action ∷ [])
+  act_number t u action p does n = λ ready events.
+      let h : Had width_of t u (Looked ∷ []) = does ready (tt, tt) in
+      let all = all_number (changes_of (function_of action) (view_of u).state) u.surface.log in
+      let past : Past (fold step_of_kept u.surface.log (map Logged (changes_of (function_of action) (view_of u).state))) = omega arith in
+      let same : fold step_of_kept u.surface.log (map Logged (changes_of (function_of action) (view_of u).state)) ≡ fold step_of_kept (log_behind width_of t (Looked ∷ [])) (map Logged (changes_of (function_of action) (settled (of t) (view_of t)).state))
+          = λ i. fold step_of_kept (h.log i) (map Logged (changes_of (function_of action) (h.view i).state)) in
+      subst Past (same ∙ sym (acted_behind t action p)) past
+
+  -- ---- other sizes
+
+  pub resized_past : (t : TerminalState W) (width height : ℕ) → NeedsNumber width_of t (Looked ∷ []) → NeedsNumber width_of t (Resized width height ∷ [])
+  resized_past t width height n = λ ready events. subst Past (sym (resized_behind t width height)) (past_behind (log_behind width_of t (Looked ∷ [])) (log.Resized (most_due width height) ∷ []) (n ready (tt, tt)))
+
+  counted : (s : Sized) (most : ℕ) → s.log.number ≡ 2 ^ 64 - 1 → s.log.entries ≢ [] → Past (step_of_kept s (log.Resized most))
+  counted s most n f = by_entries s.log.entries refl
+    where
+      by_entries : (cs : List ChangeValue) → s.log.entries ≡ cs → 2 ^ 64 ≤ (resized_log s.log).number
+      by_entries [] e = absurd (f e)
+      by_entries (c ∷ cs) e = rw e (omega (arith, n))
+
+  pub resized_number : (t u : TerminalState W) (width height : ℕ)
+      → (IsReady t → AreEvents (Looked ∷ []) → Had width_of t u (Looked ∷ []))
+      → number_of u.surface ≡ 2 ^ 64 - 1 → u.surface.log.log.entries ≢ [] → NeedsNumber width_of t (Resized width height ∷ [])
+  resized_number t u width height does n f = λ ready events.
+      subst Past (ap (λ s. step_of_kept s (log.Resized (most_due width height))) (does ready (tt, tt)).log ∙ sym (resized_behind t width height)) (counted u.surface.log (most_due width height) n f)
+
+  pub resized_had : (t u : TerminalState W) (s : Surface W) (r : TerminalState W) (width height : ℕ) → 0 < width → 0 < height
+      → r.surface ≡ s → string_bytes r.held ≡ string_bytes u.held → r.saved ≡ u.saved → r.replies.items ≡ u.replies.items
+      → Had width_of t u (Looked ∷ [])
+      → Resizes width height u.surface s
+      → Had width_of t r (Resized width height ∷ [])
+  resized_had t u s r width height w k e n v q h a = record {
+    view = (λ i. record { state = states i; stream = []; held = n i }) ∙ ap {B = View} (λ (x : View). record x { state = with_size width height x.state }) h.view;
+    log = ap (λ x. x.log) e ∙ a.log ∙ ap (λ l. step_of_kept l (log.Resized (most_due width height))) h.log ∙ sym (resized_behind t width height);
+    widths = ap (λ x. x.canvas.widths) e ∙ a.widths ∙ h.widths;
+    ready = record {
+      stays = ap (λ x. x.is_failed) e ∙ a.stays;
+      shown = subst (λ x. IsDisplay (shown_by x)) (sym e) (subst IsDisplay (sym a.shown) (resized_is width height (shown_by u.surface) w k h.ready.shown));
+      plain = subst IsPrinted (sym n) h.ready.plain;
+    };
+  }
+    where
+      states : state_of r.surface r.saved r.replies.items ≡ with_size width height (state_of u.surface u.saved u.replies.items)
+      states = λ i. record { screen = (ap (λ x. (shown_by x).screen) e ∙ ap (λ d. d.screen) a.shown) i; saved = v i; replies = q i }
+
+  -- ---- events in turn
+
+  pub behind_had : (t now : TerminalState W) (xs ys : List Event) → Had width_of t now xs → log_behind width_of t (xs ++ ys) ≡ log_behind width_of now ys
+  behind_had t now xs ys h =
+      ap (fold step_of_kept t.surface.log) (events_logged-append (of t) (view_of t) xs ys)
+      ∙ fold-append step_of_kept t.surface.log (events_logged (of t) (view_of t) xs) (events_logged (of t) (fold (event_done (of t)) (view_of t) xs) ys)
+      ∙ (λ i. fold step_of_kept (sym h.log i) (events_logged (width_of (sym h.widths i)) (sym h.view i) ys))
+
+  pub past_first : (t : TerminalState W) (x : Event) (ys : List Event) → Past (log_behind width_of t (x ∷ [])) → Past (log_behind width_of t (x ∷ ys))
+  past_first t x ys h =
+      let first = event_logged (of t) (view_of t) x in
+      let rest = events_logged (of t) (event_done (of t) (view_of t) x) ys in
+      subst Past (sym (fold-append step_of_kept t.surface.log first rest))
+          (past_behind (fold step_of_kept t.surface.log first) rest (subst (λ xs. Past (fold step_of_kept t.surface.log xs)) (append_nil first) h))
+
+  -- ---- pieces in turn
+
+  -- the pieces of a call, where one is taken behind others
+  taken_all : (t now : TerminalState W) (first it new : Pieces) (piece : PieceCode) (h : IsTaking width_of t now first it) → HasGiven it (Some piece) new → (start : ℕ)
+      → piece_events (open_pieces start first) ≡ (h.goes start).done ++ code_event piece ∷ piece_events (open_pieces start new)
+  taken_all t now first it new piece h given start =
+      let g : GivesPiece (open_pieces start it) (Some piece) (open_pieces start new) = given.gives start in
+      let done = (h.goes start).done in
+      (h.goes start).whole ∙ ap (λ ps. done ++ piece_events ps) g.2 ∙ ap (λ e. done ++ e ∷ piece_events (open_pieces start new)) (same_event g.0 piece g.1)
+
+  pub taking_number : (t now : TerminalState W) (first it new : Pieces) (piece : PieceCode) → IsTaking width_of t now first it → HasGiven it (Some piece) new
+      → NeedsNumber width_of now (code_event piece ∷ []) → (start : ℕ) → NeedsNumber width_of t (piece_events (open_pieces start first))
+  taking_number t now first it new piece h given n start = λ ready events.
+      let all = taken_all t now first it new piece h given start in
+      let done = (h.goes start).done in
+      let rest = piece_events (open_pieces start new) in
+      let es : AreEvents (done ++ code_event piece ∷ rest) = subst AreEvents all events in
+      let had = (h.goes start).had ready (are_front done (code_event piece ∷ rest) es) in
+      let one : AreEvents (code_event piece ∷ []) = ((are_behind done (code_event piece ∷ rest) es).0, tt) in
+      subst (λ xs. Past (log_behind width_of t xs)) (sym all)
+          (subst Past (sym (behind_had t now done (code_event piece ∷ rest) had)) (past_first now (code_event piece) rest (n had.ready one)))
+
+  pub taking_ready : (t now : TerminalState W) (first it new : Pieces) (piece : PieceCode) → IsTaking width_of t now first it → HasGiven it (Some piece) new
+      → (IsReady now → ⊥) → (start : ℕ) → IsReady t → AreEvents (piece_events (open_pieces start first)) → ⊥
+  taking_ready t now first it new piece h given n start ready events =
+      let all = taken_all t now first it new piece h given start in
+      let done = (h.goes start).done in
+      let es : AreEvents (done ++ code_event piece ∷ piece_events (open_pieces start new)) = subst AreEvents all events in
+      n ((h.goes start).had ready (are_front done (code_event piece ∷ piece_events (open_pieces start new)) es)).ready

@@ -1,0 +1,29 @@
+-- One action by itself: its text is fed where nothing is unfinished and no run is held, and then the screen is looked at.
+use Rattle.std.specs.Prelude.{◌≡◌, ℕ, List, [], ◌∷◌, map, if◌then◌else◌}
+use Rattle.change_log.specs.LogSteps.{LogStep, Logged}
+use Rattle.escape_framing.specs.Held.{held_of, nothing_held}
+use Rattle.escape_stream.specs.StreamAction.{StreamAction, is_print, printed}
+use Rattle.escape_stream.specs.StreamText.{stream_text}
+use Rattle.terminal_table.specs.State.{State}
+use Rattle.terminal_table.specs.Functions.{function_of}
+use Rattle.terminal_table.specs.Steps.{step_of, run_step}
+use Rattle.terminal_table.specs.Changes.{changes_of, run_change}
+use Rattle.terminal_table.specs.History.{History, Piece, Look}
+use Rattle.terminal_table.specs.Meaning.{View}
+
+-- nothing of the stream is unfinished, and no run is held
+pub record IsIdle (view : View) : Type 0 where
+  pub run : view.held ≡ []
+  pub stream : held_of view.stream ≡ nothing_held
+
+-- the action's text, and a look
+abbrev pub alone : StreamAction → History
+alone action = Piece (stream_text (action ∷ [])) ∷ Look ∷ []
+
+-- its row of the table: what it prints is a run
+abbrev pub row_done : (List ℕ → ℕ) → StreamAction → State → State
+row_done width_of action state = if is_print action then run_step width_of (printed action) state else step_of (function_of action) state
+
+-- and the changes that its row logs
+abbrev pub row_logged : StreamAction → State → List LogStep
+row_logged action state = if is_print action then Logged (run_change (printed action)) ∷ [] else map Logged (changes_of (function_of action) state)
