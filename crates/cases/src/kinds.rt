@@ -4,7 +4,7 @@ use crate::row::Row;
 use crate::sheet::Sheet;
 use crate::{
     codes, commands, framing, lines, screens, sequences, sequences_of_changes, streams, surfaces,
-    values,
+    terminals, values,
 };
 
 // How many arguments a kind takes.
@@ -19,6 +19,7 @@ fn count_of(kind: &str) -> usize {
         | "question"
         | "screen"
         | "settled screen"
+        | "terminal"
         | "surface"
         | "sequence" => 2,
         _ => 1,
@@ -37,6 +38,8 @@ fn answer_value(kind: &str, row: &Row<'_>, sheet: &mut Sheet) -> Result<(), Faul
         "question" => lines::asked(row, sheet),
         "screen" => screens::screen(row, sheet),
         "settled screen" => screens::settled(row, sheet),
+        "terminal" => terminals::terminal(row, sheet),
+        "torn" => terminals::torn(row, sheet),
         "surface" => surfaces::surface(row, sheet),
         "sequence" => sequences_of_changes::sequence(row, sheet),
         _ => Err(Fault::Kind),

@@ -26,6 +26,7 @@ mod steps;
 mod streams;
 mod surfaces;
 mod tally;
+mod terminals;
 mod values;
 
 use fault::Fault;

@@ -126,9 +126,8 @@ fn say_cells(surface: &Plain, sheet: &mut Sheet) -> Result<(), Fault> {
     Ok(())
 }
 
-// What is asked of the surface; whether the step asks.
-fn ask(stage: &Stage, call: &Call<'_>, sheet: &mut Sheet) -> Result<bool, Fault> {
-    let surface = &stage.surface;
+/// What is asked of a surface by itself; whether the step asks.
+pub fn ask_surface(surface: &Plain, call: &Call<'_>, sheet: &mut Sheet) -> Result<bool, Fault> {
     match call.word(0) {
         "rows" => sheet.word(surface.screen_chars_to_string()?.as_str()),
         "cursor" => {
@@ -143,14 +142,22 @@ fn ask(stage: &Stage, call: &Call<'_>, sheet: &mut Sheet) -> Result<bool, Fault>
         "pen?" => attributes::say(surface.pen(), sheet),
         "title?" => sheet.quoted(surface.title()),
         "number" => sheet.show(&surface.current_seqno()),
-        "answer" => sheet.show(&stage.answer),
         "cells" => say_cells(surface, sheet)?,
         "changes" => say_changes(surface, call.number(1, sheet), sheet)?,
+        _ => return Ok(false),
+    }
+    Ok(true)
+}
+
+// What is asked of the surface, or of both; whether the step asks.
+fn ask(stage: &Stage, call: &Call<'_>, sheet: &mut Sheet) -> Result<bool, Fault> {
+    match call.word(0) {
+        "answer" => sheet.show(&stage.answer),
         "diff_screens" | "diff_region" | "diff_line" | "diff_lines" => {
             let changes = difference(stage, call, sheet)?;
             changes::say_all(changes.as_slice(), sheet);
         }
-        _ => return Ok(false),
+        _ => return ask_surface(&stage.surface, call, sheet),
     }
     Ok(true)
 }

@@ -1,8 +1,5 @@
-pub mod KindLemmas
-pub mod DecoderLemmas
-pub mod ScreenLemmas
-pub mod VecLemmas
-pub mod MeaningLemmas
-pub mod FeedLemmas
+pub mod GoLemmas
+pub mod PlayLemmas
 pub mod AppendLemmas
 pub mod ReadAllLemmas
+pub mod LawLemmas

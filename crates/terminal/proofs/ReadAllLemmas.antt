@@ -1,49 +1,85 @@
 -- An input that is read and fed in pieces.
-use Rattle.std.proofs.Common.{◌≡◌, ℕ, ◌^◌, ◌≤◌, arith, List, [], ◌∷◌, ◌++◌, refl, sym, ap, subst, ◌∙◌, Option, Some, None}
+use Rattle.std.proofs.Common.{◌≡◌, ℕ, ◌^◌, ◌≤◌, false, List, [], ◌∷◌, ◌++◌, refl, sym, ap, subst, ◌∙◌, Option, Some, None, append_assoc}
 use Rattle.std.specs.Prelude.{IfSome}
 use Rattle.std.specs.Io.KnownBytes.{Consumes, IsAtEnd}
-use Rattle.escape_stream.specs.Cut.{IsTail}
-use Rattle.terminal.specs.History.{Piece, Look}
-use Rattle.terminal.specs.Meaning.{View, after}
-use Rattle.terminal.specs.Fed.{LeadsOn, Feeds, NeedsNumber}
-use Rattle.terminal.proofs.MeaningLemmas.{bytes_are_after, pieces_join, look_joins, after_number}
+use Rattle.cell_base.specs.Screen.{Screen, screen_text}
+use Rattle.change_log.specs.Log.{most_due, new_log}
+use Rattle.change_log.specs.LogSteps.{Sized}
+use Rattle.terminal.specs.Terminal.{Terminal, StandsAt, GoesBy, NeedsNumber, state_in}
+use Rattle.terminal.specs.Shown.{rows_shown}
+use Rattle.terminal.specs.Fed.{HasFed, FeedsOn, Feeds, FeedingNeedsNumber}
+use Rattle.terminal.proofs.GoLemmas.{in_turn, joined, stays, past_front, past_later, past_joined, log_joins}
+use Rattle.terminal_table.specs.History.{Piece, Look}
+use Rattle.terminal_table.specs.Logged.{log_after, log_of}
+use Rattle.terminal_table.specs.Meaning.{View, new_view, after, meaning}
+use Rattle.terminal_table.proofs.JoinLemmas.{nothing_behind}
 
-module _ (f : List ℕ → ℕ) where
-  pub leads_start : (input : Option (List ℕ)) (v : View) → LeadsOn f input v input v
-  leads_start None v = tt
-  leads_start (Some input) v = refl
+module _ {W : Type 0} (width_of : W → List ℕ → ℕ) where
+  pub feeds_first : (input : Option (List ℕ)) (t : Terminal W) → t.is_failed ≡ false → FeedsOn width_of input input t t
+  feeds_first None t sound = tt
+  feeds_first (Some input) t sound = record { fed = []; whole = refl; goes = stays width_of t sound }
 
-  pub leads_more : (input rest next : Option (List ℕ)) (v now then : View) (bytes : List ℕ) → IsTail now.tail → LeadsOn f input v rest now → Consumes rest next bytes → then ≡ after f now (Piece bytes ∷ []) → LeadsOn f input v next then
-  leads_more None rest next v now then bytes g h c e = tt
-  leads_more (Some input) None next v now then bytes g h c e = absurd h
-  leads_more (Some input) (Some rest) None v now then bytes g h c e = absurd c
-  leads_more (Some input) (Some rest) (Some next) v now then bytes g h c e =
-      ap (λ (w : View). after f w (Piece next ∷ [])) e ∙ pieces_join f now bytes next g ∙ ap (λ l. after f now (Piece l ∷ [])) (sym c) ∙ h
+  pub feeds_more : (input rest next : Option (List ℕ)) (t now then : Terminal W) (bytes : List ℕ) → FeedsOn width_of input rest t now → Consumes rest next bytes → GoesBy width_of now then (Piece bytes ∷ []) → FeedsOn width_of input next t then
+  feeds_more None rest next t now then bytes h c g = tt
+  feeds_more (Some input) None next t now then bytes h c g = absurd h
+  feeds_more (Some input) (Some rest) None t now then bytes h c g = absurd c
+  feeds_more (Some input) (Some rest) (Some next) t now then bytes h c g = record {
+    fed = h.fed ++ bytes;
+    whole = h.whole ∙ ap (λ l. h.fed ++ l) c ∙ sym (append_assoc h.fed bytes next);
+    goes = joined width_of t then h.fed bytes (in_turn width_of t now then (Piece h.fed ∷ []) (Piece bytes ∷ []) h.goes g);
+  }
 
-  pub leads_end : (input rest next : Option (List ℕ)) (v now : View) → IsTail now.tail → LeadsOn f input v rest now → Consumes rest next [] → IsAtEnd next → Feeds f input v now
-  leads_end None rest next v now g h c n = tt
-  leads_end (Some input) None next v now g h c n = absurd h
-  leads_end (Some input) (Some rest) None v now g h c n = absurd c
-  leads_end (Some input) (Some rest) (Some next) v now g h c n =
-      let none : rest ≡ [] = c ∙ n in bytes_are_after f now [] g ∙ ap (λ l. after f now (Piece l ∷ [])) (sym none) ∙ h
+  pub feeds_all : (input rest next : Option (List ℕ)) (t now : Terminal W) → FeedsOn width_of input rest t now → Consumes rest next [] → IsAtEnd next → Feeds width_of input t now
+  feeds_all None rest next t now h c n = tt
+  feeds_all (Some input) None next t now h c n = absurd h
+  feeds_all (Some input) (Some rest) None t now h c n = absurd c
+  feeds_all (Some input) (Some rest) (Some next) t now h c n =
+      subst (λ l. GoesBy width_of t now (Piece l ∷ [])) (sym (h.whole ∙ ap (λ l. h.fed ++ l) (c ∙ n) ∙ nothing_behind h.fed)) h.goes
 
-  pub number_leads : (input rest next : Option (List ℕ)) (v now : View) (bytes : List ℕ) → IsTail now.tail → LeadsOn f input v rest now → Consumes rest next bytes
-      → 2 ^ 64 ≤ (after f now (Piece bytes ∷ [])).number → NeedsNumber f input v
-  number_leads None rest next v now bytes g h c n = tt
-  number_leads (Some input) None next v now bytes g h c n = absurd h
-  number_leads (Some input) (Some rest) None v now bytes g h c n = absurd c
-  number_leads (Some input) (Some rest) (Some next) v now bytes g h c n =
-      let more = after_number f (after f now (Piece bytes ∷ [])) (Piece next ∷ []) in
-      let same : after f (after f now (Piece bytes ∷ [])) (Piece next ∷ []) ≡ after f v (Piece input ∷ []) = pieces_join f now bytes next g ∙ ap (λ l. after f now (Piece l ∷ [])) (sym c) ∙ h in
-      subst (λ (w : View). 2 ^ 64 ≤ w.number) same (omega (arith, n, more))
+  pub number_fed : (input rest next : Option (List ℕ)) (t now : Terminal W) (bytes : List ℕ) → FeedsOn width_of input rest t now → Consumes rest next bytes
+      → NeedsNumber width_of now (Piece bytes ∷ []) → FeedingNeedsNumber width_of input t
+  number_fed None rest next t now bytes h c n = tt
+  number_fed (Some input) None next t now bytes h c n = absurd h
+  number_fed (Some input) (Some rest) None t now bytes h c n = absurd c
+  number_fed (Some input) (Some rest) (Some next) t now bytes h c n =
+      subst (λ l. NeedsNumber width_of t (Piece l ∷ [])) (append_assoc h.fed bytes next ∙ ap (λ l. h.fed ++ l) (sym c) ∙ sym h.whole)
+          (past_joined width_of t (h.fed ++ bytes) next
+              (past_front width_of t (Piece (h.fed ++ bytes) ∷ []) (Piece next ∷ [])
+                  (past_joined width_of t h.fed bytes (past_later width_of t now (Piece h.fed ∷ []) (Piece bytes ∷ []) h.goes n))))
 
-  -- what a piece needs, the piece and a look need
-  pub number_at_look : (input : Option (List ℕ)) (v : View) → IsTail v.tail → NeedsNumber f input v → IfSome input (λ x. 2 ^ 64 ≤ (after f v (Piece x ∷ Look ∷ [])).number)
-  number_at_look None v g n = tt
-  number_at_look (Some x) v g n =
-      let more = after_number f (after f v (Piece x ∷ [])) (Look ∷ []) in
-      subst (λ (w : View). 2 ^ 64 ≤ w.number) (look_joins f v x g) (omega (arith, n, more))
+  -- ---- a new terminal that is fed all of an input, and settles
 
-  pub number_of_look : (input : Option (List ℕ)) (v now : View) → IsTail v.tail → Feeds f input v now → 2 ^ 64 ≤ (after f now (Look ∷ [])).number → IfSome input (λ x. 2 ^ 64 ≤ (after f v (Piece x ∷ Look ∷ [])).number)
-  number_of_look None v now g h n = tt
-  number_of_look (Some x) v now g h n = subst (λ (w : View). 2 ^ 64 ≤ w.number) (ap (λ (w : View). after f w (Look ∷ [])) h ∙ look_joins f v x g) n
+  abbrev first : ℕ → ℕ → Sized
+  first width height = record { most = most_due width height; log = new_log }
+
+  shows : (w : W) (width height : ℕ) (input : List ℕ) (new fed now : Terminal W) → StandsAt new (new_view width height) → new.surface.canvas.widths ≡ w
+      → GoesBy width_of new fed (Piece input ∷ []) → GoesBy width_of fed now (Look ∷ []) → (state_in now).screen ≡ (meaning (width_of w) width height (Piece input ∷ Look ∷ [])).state.screen
+  shows w width height input new fed now st e g h =
+      ap (λ s. s.screen) ((in_turn width_of new fed now (Piece input ∷ []) (Look ∷ []) g h).stands (new_view width height) st).state
+      ∙ ap (λ v. (after (width_of v) (new_view width height) (Piece input ∷ Look ∷ [])).state.screen) e
+
+  pub shows_input : (w : W) (width height : ℕ) (input : Option (List ℕ)) (new fed now : Terminal W) → StandsAt new (new_view width height) → new.surface.canvas.widths ≡ w
+      → Feeds width_of input new fed → GoesBy width_of fed now (Look ∷ []) → IfSome input (λ x. (state_in now).screen ≡ (meaning (width_of w) width height (Piece x ∷ Look ∷ [])).state.screen)
+  shows_input w width height None new fed now st e g h = tt
+  shows_input w width height (Some x) new fed now st e g h = shows w width height x new fed now st e g h
+
+  -- what refused a number to a new terminal
+  pub new_past : (w : W) (width height : ℕ) (input : List ℕ) (new : Terminal W) → StandsAt new (new_view width height) → new.surface.canvas.widths ≡ w → new.surface.log ≡ first width height
+      → NeedsNumber width_of new (Piece input ∷ Look ∷ []) → 2 ^ 64 ≤ (log_of (width_of w) width height (Piece input ∷ Look ∷ [])).log.number
+  new_past w width height input new st e log n =
+      subst (λ (l : Sized). 2 ^ 64 ≤ l.log.number) (λ i. log_after (width_of (e i)) (new_view width height) (log i) (Piece input ∷ Look ∷ [])) (n (new_view width height) st)
+
+  pub number_at_look : (w : W) (width height : ℕ) (input : Option (List ℕ)) (new : Terminal W) → StandsAt new (new_view width height) → new.surface.canvas.widths ≡ w → new.surface.log ≡ first width height
+      → FeedingNeedsNumber width_of input new → IfSome input (λ x. 2 ^ 64 ≤ (log_of (width_of w) width height (Piece x ∷ Look ∷ [])).log.number)
+  number_at_look w width height None new st e log n = tt
+  number_at_look w width height (Some x) new st e log n = new_past w width height x new st e log (past_front width_of new (Piece x ∷ []) (Look ∷ []) n)
+
+  pub number_of_look : (w : W) (width height : ℕ) (input : Option (List ℕ)) (new fed : Terminal W) → StandsAt new (new_view width height) → new.surface.canvas.widths ≡ w → new.surface.log ≡ first width height
+      → Feeds width_of input new fed → NeedsNumber width_of fed (Look ∷ []) → IfSome input (λ x. 2 ^ 64 ≤ (log_of (width_of w) width height (Piece x ∷ Look ∷ [])).log.number)
+  number_of_look w width height None new fed st e log g n = tt
+  number_of_look w width height (Some x) new fed st e log g n = new_past w width height x new st e log (past_later width_of new fed (Piece x ∷ []) (Look ∷ []) g n)
+
+pub rows_are : (f : List ℕ → ℕ) (width height : ℕ) (input : Option (List ℕ)) (screen : Screen) (bytes : List ℕ) → IfSome input (λ x. screen ≡ (meaning f width height (Piece x ∷ Look ∷ [])).state.screen)
+    → bytes ≡ screen_text screen → IfSome input (λ x. bytes ≡ rows_shown f width height x)
+rows_are f width height None screen bytes h e = tt
+rows_are f width height (Some x) screen bytes h e = e ∙ ap screen_text h

@@ -1,20 +1,25 @@
 -- What reading an input feeds.
-use Rattle.std.specs.Prelude.{◌≡◌, ℕ, ◌^◌, ◌≤◌, List, [], ◌∷◌, Option, Some, None}
-use Rattle.terminal.specs.History.{Piece}
-use Rattle.terminal.specs.Meaning.{View, after}
+use Rattle.std.specs.Prelude.{◌≡◌, ℕ, List, [], ◌∷◌, ◌++◌, Option, Some, None}
+use Rattle.terminal.specs.Terminal.{Terminal, GoesBy, NeedsNumber}
+use Rattle.terminal_table.specs.History.{Piece}
 
--- what is still to be read of an input leads to where the whole leads
-abbrev pub LeadsOn : (List ℕ → ℕ) → Option (List ℕ) → View → Option (List ℕ) → View → Type 0
-LeadsOn width_of None first rest now = Unit {0}
-LeadsOn width_of (Some input) first None now = ⊥
-LeadsOn width_of (Some input) first (Some rest) now = after width_of now (Piece rest ∷ []) ≡ after width_of first (Piece input ∷ [])
+-- of a known input some bytes were read, and fed; and others are left
+pub record HasFed {W : Type 0} (width_of : W → List ℕ → ℕ) (input rest : List ℕ) (before now : Terminal W) : Type 0 where
+  pub fed : List ℕ
+  pub whole : input ≡ fed ++ rest
+  pub goes : GoesBy width_of before now (Piece fed ∷ [])
+
+abbrev pub FeedsOn : {W : Type 0} → (W → List ℕ → ℕ) → Option (List ℕ) → Option (List ℕ) → Terminal W → Terminal W → Type 0
+FeedsOn width_of None rest before now = Unit {0}
+FeedsOn width_of (Some input) None before now = ⊥
+FeedsOn width_of (Some input) (Some rest) before now = HasFed width_of input rest before now
 
 -- all of a known input was fed
-abbrev pub Feeds : (List ℕ → ℕ) → Option (List ℕ) → View → View → Type 0
-Feeds width_of None first now = Unit {0}
-Feeds width_of (Some input) first now = now ≡ after width_of first (Piece input ∷ [])
+abbrev pub Feeds : {W : Type 0} → (W → List ℕ → ℕ) → Option (List ℕ) → Terminal W → Terminal W → Type 0
+Feeds width_of None before now = Unit {0}
+Feeds width_of (Some input) before now = GoesBy width_of before now (Piece input ∷ [])
 
--- the number of what a known input leads to is past 64 bits
-abbrev pub NeedsNumber : (List ℕ → ℕ) → Option (List ℕ) → View → Type 0
-NeedsNumber width_of None first = Unit {0}
-NeedsNumber width_of (Some input) first = 2 ^ 64 ≤ (after width_of first (Piece input ∷ [])).number
+-- a known input leads past the numbers of 64 bits
+abbrev pub FeedingNeedsNumber : {W : Type 0} → (W → List ℕ → ℕ) → Option (List ℕ) → Terminal W → Type 0
+FeedingNeedsNumber width_of None before = Unit {0}
+FeedingNeedsNumber width_of (Some input) before = NeedsNumber width_of before (Piece input ∷ [])

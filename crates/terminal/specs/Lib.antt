@@ -1,11 +1,6 @@
-pub mod Decoded
-pub mod Kind
-pub mod ColumnView
-pub mod ScreenView
-pub mod History
-pub mod Meaning
-pub mod Bytes
+pub mod Terminal
 pub mod TerminalView
+pub mod Played
 pub mod Watched
 pub mod WatchedView
 pub mod Shown

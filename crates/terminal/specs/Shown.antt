@@ -1,9 +1,9 @@
 -- What `show` writes of an input.
-use Rattle.std.specs.Prelude.{◌≡◌, ℕ, List, [], ◌∷◌, ◌++◌, Option, Some, None}
+use Rattle.std.specs.Prelude.{◌≡◌, ℕ, List, [], ◌∷◌, ◌++◌, Option}
 use Rattle.std.specs.Io.KnownBytes.{Appends}
 use Rattle.cell_base.specs.Screen.{screen_text}
-use Rattle.terminal.specs.History.{Piece, Look}
-use Rattle.terminal.specs.Meaning.{meaning}
+use Rattle.terminal_table.specs.History.{Piece, Look}
+use Rattle.terminal_table.specs.Meaning.{meaning}
 
 -- the rows of the input with one look at the end, each with a line feed behind it
 abbrev pub rows_shown : (List ℕ → ℕ) → ℕ → ℕ → List ℕ → List ℕ

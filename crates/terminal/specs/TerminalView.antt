@@ -1,11 +1,26 @@
--- What a terminal holds, as clauses see it.
-use Rattle.std.specs.Prelude.{[], None}
+-- What a `Terminal` holds.
+use Rattle.std.specs.Prelude.{◌≡◌, false}
 use Rattle.std.specs.String.{string_bytes}
-use Rattle.terminal.specs.Meaning.{View, Terminal}
+use Rattle.escape_framing.specs.Framed.{IsReached}
+use Rattle.terminal.specs.Terminal.{Terminal}
 use Rattle.terminal.specs.declared.terminal.Terminal.TheInside.{Inside}
-
-abbrev pub view_of : {W : Type 0} → Inside W → View
-view_of a = record { state = record { screen = a.screen; saved = None; replies = [] }; number = a.number; tail = a.decoder; held = string_bytes a.held }
+use Rattle.terminal_steps.specs.Events.{IsReady}
 
 abbrev pub terminal_of : {W : Type 0} → Inside W → Terminal W
-terminal_of a = record { widths = a.widths; view = view_of a; is_failed = a.is_failed }
+terminal_of i = record {
+  surface = i.state.surface;
+  saved = i.state.saved;
+  replies = i.state.replies.items;
+  run = string_bytes i.state.held;
+  unfinished = i.parser.held;
+  is_failed = i.is_failed;
+}
+
+-- while no call was refused, its parts go on, and what is unfinished is that of some stream
+pub record CanGoOn {W : Type 0} (i : Inside W) : Type 0 where
+  pub ready : IsReady i.state
+  pub parser : i.parser.failed ≡ false
+  pub reached : IsReached i.parser.held
+
+abbrev pub IsSound : {W : Type 0} → Inside W → Type 0
+IsSound i = i.is_failed ≡ false → CanGoOn i

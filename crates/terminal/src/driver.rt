@@ -1,17 +1,20 @@
-ghost use Rattle.std.specs.Prelude.{◌≡◌, ◌↔◌, ℕ, ◌+◌, ◌<◌, ◌≤◌, ◌^◌, false, List, [], ◌∷◌, IsTrue, IsErr, IfSome, OnOk, OnErr, IsErrOf};
+ghost use Rattle.std.specs.Prelude.{◌≡◌, ◌↔◌, ℕ, ◌+◌, ◌<◌, ◌≤◌, ◌^◌, false, List, [], ◌∷◌, IsTrue, IsErr, IfOk, IfSome, OnOk, OnErr, IsErrOf};
 ghost use Rattle.std.specs.Io.KnownBytes.{Appends, Keeps};
-ghost use Rattle.escape_stream.specs.Cut.{IsTail};
-ghost use Rattle.terminal.specs.Fed.{Feeds, NeedsNumber};
-ghost use Rattle.terminal.specs.History.{Piece, Look};
-ghost use Rattle.terminal.specs.Meaning.{meaning};
+ghost use Rattle.std.specs.String.{string_bytes};
+ghost use Rattle.cell_surface.specs.Surface.{shown_by};
+ghost use Rattle.terminal.specs.Fed.{Feeds, FeedingNeedsNumber};
 ghost use Rattle.terminal.specs.Shown.{AppendsPrefix, rows_shown};
+ghost use Rattle.terminal_table.specs.History.{Piece, Look};
+ghost use Rattle.terminal_table.specs.Logged.{log_of};
+ghost use Rattle.terminal_table.specs.Meaning.{meaning};
 
-use crate::error::{RunError, TerminalError};
+use crate::error::RunError;
 use crate::terminal::Terminal;
 use crate::watched::Watched;
 use cell_base::Widths;
 use std::alloc::Global;
 use std::io::{Read, Write};
+use terminal_steps::TerminalError;
 
 // Writes the bytes, of which each write may take a part, and flushes.
 fn write_all<T: Write>(writer: &mut Watched<T>, bytes: &[u8]) -> Result<(), RunError>
@@ -46,17 +49,13 @@ fn feed_all<R: Read, W: Widths + Drop>(
     requires not_failed { reader.old.has_failed ≡ false }
     requires unread { reader.old.reads ≡ 0 }
     requires sound { terminal.old.is_failed ≡ false }
-    requires tail { IsTail terminal.old.view.tail }
-    ensures ok { OnOk result (Feeds (W.width_of terminal.old.widths) (R.remaining reader.old.inner) terminal.old.view terminal.new.view) }
+    ensures ok { OnOk result (Feeds (λ w. W.width_of w) (R.remaining reader.old.inner) terminal.old terminal.new) }
     ensures sound { OnOk result (terminal.new.is_failed ≡ false) }
-    ensures tail { IsTail terminal.new.view.tail }
-    ensures widths { OnOk result (terminal.new.widths ≡ terminal.old.widths) }
     ensures read { IsErrOf result RunError.Read ↔ IsTrue reader.new.has_failed }
     ensures too_long { IsErrOf result RunError.TooLong → reader.new.reads ≡ 2 ^ 48 }
     ensures write { IsErrOf result RunError.Write → ⊥ }
     ensures failed { IsErrOf result (RunError.Terminal TerminalError.Failed) → ⊥ }
-    ensures number { IsErrOf result (RunError.Terminal TerminalError.Number)
-        → NeedsNumber (W.width_of terminal.old.widths) (R.remaining reader.old.inner) terminal.old.view }
+    ensures number { IsErrOf result (RunError.Terminal TerminalError.Number) → FeedingNeedsNumber (λ w. W.width_of w) (R.remaining reader.old.inner) terminal.old }
 {
     let mut buffer = [0u8; 4096];
     for _ in 0..READS {
@@ -70,6 +69,58 @@ fn feed_all<R: Read, W: Widths + Drop>(
         terminal.feed(&buffer[..count])?;
     }
     Err(RunError::TooLong)
+}
+
+// A new terminal that was fed the whole input, and settled.
+fn read_all<R: Read, W: Widths + Drop>(
+    alloc: Global,
+    reader: &mut Watched<R>,
+    width: usize,
+    height: usize,
+    widths: W,
+) -> Result<Terminal<W>, RunError>
+    requires width { (0 < width) × (width < 2 ^ 32) }
+    requires height { (0 < height) × (height < 2 ^ 32) }
+    requires not_failed { reader.old.has_failed ≡ false }
+    requires unread { reader.old.reads ≡ 0 }
+    ensures ok { IfOk result (λ t. IfSome (R.remaining reader.old.inner) (λ input.
+        (shown_by t.surface).screen ≡ (meaning (W.width_of widths) width height (Piece input ∷ Look ∷ [])).state.screen)) }
+    ensures read { IsErrOf result RunError.Read ↔ IsTrue reader.new.has_failed }
+    ensures too_long { IsErrOf result RunError.TooLong → reader.new.reads ≡ 2 ^ 48 }
+    ensures write { IsErrOf result RunError.Write → ⊥ }
+    ensures failed { IsErrOf result (RunError.Terminal TerminalError.Failed) → ⊥ }
+    ensures number { IsErrOf result (RunError.Terminal TerminalError.Number) → IfSome (R.remaining reader.old.inner) (λ input.
+        2 ^ 64 ≤ (log_of (W.width_of widths) width height (Piece input ∷ Look ∷ [])).log.number) }
+{
+    let mut terminal = Terminal::new(alloc, width, height, widths)?;
+    feed_all(reader, &mut terminal)?;
+    terminal.settle()?;
+    Ok(terminal)
+}
+
+// The rows of such a terminal.
+fn rows_of<R: Read, W: Widths + Drop>(
+    alloc: Global,
+    reader: &mut Watched<R>,
+    width: usize,
+    height: usize,
+    widths: W,
+) -> Result<String, RunError>
+    requires width { (0 < width) × (width < 2 ^ 32) }
+    requires height { (0 < height) × (height < 2 ^ 32) }
+    requires not_failed { reader.old.has_failed ≡ false }
+    requires unread { reader.old.reads ≡ 0 }
+    ensures ok { IfOk result (λ text. IfSome (R.remaining reader.old.inner) (λ input. string_bytes text ≡ rows_shown (W.width_of widths) width height input)) }
+    ensures read { IsErrOf result RunError.Read ↔ IsTrue reader.new.has_failed }
+    ensures too_long { IsErrOf result RunError.TooLong → reader.new.reads ≡ 2 ^ 48 }
+    ensures write { IsErrOf result RunError.Write → ⊥ }
+    ensures failed { IsErrOf result (RunError.Terminal TerminalError.Failed) → ⊥ }
+    ensures number { IsErrOf result (RunError.Terminal TerminalError.Number) → IfSome (R.remaining reader.old.inner) (λ input.
+        2 ^ 64 ≤ (log_of (W.width_of widths) width height (Piece input ∷ Look ∷ [])).log.number) }
+{
+    let terminal = read_all(alloc, reader, width, height, widths)?;
+    let rows = terminal.surface().screen_chars_to_string()?;
+    Ok(rows)
 }
 
 /// Feeds the whole input to a new terminal, looks once at its end, and writes the rows, each with
@@ -104,11 +155,8 @@ pub fn show<R: Read, T: Write, W: Widths + Drop>(
         → Keeps (T.contents writer.old.inner) (T.contents writer.new.inner) }
     ensures failed { IsErrOf result (RunError.Terminal TerminalError.Failed) → ⊥ }
     ensures number { IsErrOf result (RunError.Terminal TerminalError.Number) → IfSome (R.remaining reader.old.inner) (λ input.
-        2 ^ 64 ≤ (meaning (W.width_of widths) width height (Piece input ∷ Look ∷ [])).number) }
+        2 ^ 64 ≤ (log_of (W.width_of widths) width height (Piece input ∷ Look ∷ [])).log.number) }
 {
-    let mut terminal = Terminal::new(alloc, width, height, widths)?;
-    feed_all(reader, &mut terminal)?;
-    terminal.settle()?;
-    let rows = terminal.surface().screen_chars_to_string()?;
+    let rows = rows_of(alloc, reader, width, height, widths)?;
     write_all(writer, rows.as_bytes())
 }

@@ -1,39 +1,10 @@
 ghost use Rattle.std.specs.Prelude.{◌≡◌};
-ghost use Rattle.terminal.specs.declared.error.TerminalError.TheVariants.{Memory};
 ghost use Rattle.terminal.specs.declared.error.RunError.TheVariants.{Terminal};
+ghost use Rattle.terminal_steps.specs.declared.error.TerminalError.TheVariants.{Memory};
 
-use std::alloc::{AllocError, AllocFailed};
+use std::alloc::AllocError;
+use terminal_steps::TerminalError;
 use thiserror::Error;
-
-/// Why a call of a terminal was refused.
-#[derive(Clone, Copy, Debug, PartialEq, Eq, Error)]
-pub enum TerminalError {
-    /// An earlier feed or settling was refused; from then on each one answers this.
-    #[error("the terminal has failed")]
-    Failed,
-    /// The number of changes would pass `usize::MAX`.
-    #[error("the numbers are used up")]
-    Number,
-    /// There was no memory.
-    #[error("out of memory")]
-    Memory,
-}
-
-impl From<AllocError> for TerminalError {
-    ghost from_gives = { λ _ e. e ≡ Memory };
-
-    fn from(_error: AllocError) -> TerminalError {
-        TerminalError::Memory
-    }
-}
-
-impl<T: Drop> From<AllocFailed<T>> for TerminalError {
-    ghost from_gives = { λ _ e. e ≡ Memory };
-
-    fn from(_error: AllocFailed<T>) -> TerminalError {
-        TerminalError::Memory
-    }
-}
 
 /// Why `show` ended early.
 #[derive(Clone, Copy, Debug, PartialEq, Eq, Error)]

@@ -1,18 +1,44 @@
-//! Laws of the definitions, as the contracts of functions that do nothing.
+//! Laws of terminals, as the contracts of functions that do nothing.
+ghost use Rattle.std.specs.Prelude.{◌≡◌, ℕ, false, List, [], ◌∷◌, ◌++◌, fold};
+ghost use Rattle.change_log.specs.LogSteps.{step_of_kept};
+ghost use Rattle.escape_stream.specs.StreamAction.{StreamAction};
+ghost use Rattle.escape_stream.specs.StreamWritable.{IsWritable};
+ghost use Rattle.terminal.specs.Terminal.{Terminal, StandsAt, GoesBy, IsIdle, IsAlike, state_in};
+ghost use Rattle.terminal_table.specs.Alone.{alone, row_done, row_logged};
+ghost use Rattle.terminal_table.specs.History.{History, Piece};
+ghost use Rattle.terminal_table.specs.Meaning.{View};
+ghost use Rattle.terminal_table.specs.Turns.{IsView};
 
-ghost use Rattle.std.specs.Prelude.{◌≡◌, ℕ, List, [], ◌∷◌, ◌++◌};
-ghost use Rattle.escape_stream.specs.Cut.{IsTail};
-ghost use Rattle.terminal.specs.History.{Piece, Look};
-ghost use Rattle.terminal.specs.Meaning.{View, after};
+use crate::terminal::Terminal;
+use cell_base::Widths;
+use terminal_table::laws::lone_actions_are_their_rows;
 
-/// Between two looks only the joined pieces count: feeding two pieces is feeding them joined.
-pub fn pieces_join()
-    ensures { (width_of : List ℕ → ℕ) (view : View) (x y : List ℕ) → IsTail view.tail
-        → after width_of (after width_of view (Piece x ∷ [])) (Piece y ∷ []) ≡ after width_of view (Piece (x ++ y) ∷ []) }
+/// Each terminal that hasn't failed stands at a view, with a lawful state and a run without controls.
+pub fn terminals_stand<W: Widths + Drop>(terminal: &Terminal<W>)
+    ensures { terminal.now.is_failed ≡ false → (view : View) × StandsAt terminal.now view × IsView view }
+{
+    terminal.stands();
+}
+
+/// Going on by one history and then by another is going on by both; and feeding two pieces is feeding
+/// their bytes joined. So between two looks only the joined bytes count.
+pub fn histories_join<W: Widths>()
+    ensures in_turn { (first : Terminal W) (between : Terminal W) (last : Terminal W) (one : History) (other : History) → GoesBy (λ w. W.width_of w) first between one → GoesBy (λ w. W.width_of w) between last other → GoesBy (λ w. W.width_of w) first last (one ++ other) }
+    ensures pieces { (first : Terminal W) (between : Terminal W) (last : Terminal W) (x : List ℕ) (y : List ℕ) → GoesBy (λ w. W.width_of w) first between (Piece x ∷ []) → GoesBy (λ w. W.width_of w) between last (Piece y ∷ []) → GoesBy (λ w. W.width_of w) first last (Piece (x ++ y) ∷ []) }
 {}
 
-/// A look behind a piece is the look of the history that has both.
-pub fn looks_join()
-    ensures { (width_of : List ℕ → ℕ) (view : View) (x : List ℕ) → IsTail view.tail
-        → after width_of (after width_of view (Piece x ∷ [])) (Look ∷ []) ≡ after width_of view (Piece x ∷ Look ∷ []) }
+/// Where two terminals have gone on from one by the same history they show the same, have the same replies
+/// and log, hold the same run, and go on alike.
+pub fn histories_decide<W: Widths>()
+    ensures { (before : Terminal W) (one : Terminal W) (other : Terminal W) (history : History) (view : View) → StandsAt before view → GoesBy (λ w. W.width_of w) before one history → GoesBy (λ w. W.width_of w) before other history → IsAlike one other }
 {}
+
+/// The text of one action that is writable by itself, fed to an idle terminal that then settles, is the
+/// action's row of the table: its step, and its changes; and it leaves the terminal idle.
+pub fn lone_actions<W: Widths>()
+    ensures state { (before : Terminal W) (now : Terminal W) (view : View) (action : StreamAction) → IsIdle before → StandsAt before view → IsWritable (action ∷ []) → GoesBy (λ w. W.width_of w) before now (alone action) → state_in now ≡ row_done (W.width_of before.surface.canvas.widths) action (state_in before) }
+    ensures log { (before : Terminal W) (now : Terminal W) (view : View) (action : StreamAction) → IsIdle before → StandsAt before view → IsWritable (action ∷ []) → GoesBy (λ w. W.width_of w) before now (alone action) → now.surface.log ≡ fold step_of_kept before.surface.log (row_logged action (state_in before)) }
+    ensures idle { (before : Terminal W) (now : Terminal W) (view : View) (action : StreamAction) → IsIdle before → StandsAt before view → IsWritable (action ∷ []) → GoesBy (λ w. W.width_of w) before now (alone action) → IsIdle now }
+{
+    lone_actions_are_their_rows();
+}

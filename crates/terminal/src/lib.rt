@@ -1,18 +1,19 @@
-//! A terminal's screen, kept from the bytes that an application writes.
+//! A terminal: its screen and replies, kept from the bytes that an application writes.
 #![tactic(auto)]
 
-mod clusters;
-mod decoder;
 mod driver;
 mod error;
 pub mod laws;
-mod screen;
+
+mod steps;
 mod terminal;
 mod watched;
 
 pub use cell_base::{ProgramWidth, SequenceNo, Widths};
+pub use cell_surface::Surface;
 pub use driver::show;
-pub use error::{RunError, TerminalError};
-pub use screen::Screen;
+pub use error::RunError;
+pub use steps::{Step, play};
 pub use terminal::Terminal;
+pub use terminal_steps::TerminalError;
 pub use watched::Watched;

@@ -1,23 +1,43 @@
-use Rattle.std.proofs.Common.{◌≤◌, ap, sym, subst, ◌∙◌}
-use Rattle.terminal.specs.Meaning.{View, Terminal}
-use Rattle.terminal.proofs.FeedLemmas.{kept, tail_is}
-use Rattle.terminal.proofs.MeaningLemmas.{bytes_are_after}
+use Rattle.std.proofs.Common.{Result, Err, ◌≡◌, sym, ap, ◌∙◌}
+use Rattle.std.proofs.lemmas.Result.{err_from_is_err_and}
+use Rattle.terminal.specs.Terminal.{Terminal}
+use Rattle.terminal.proofs.GoLemmas.{fed, fed_ready, fed_reached, fed_past, fed_sound, with_parts}
+use Rattle.terminal_steps.specs.declared.error.TerminalError.{TerminalError}
+use Rattle.terminal_steps.specs.declared.error.TerminalError.TheVariants.{Failed, Number}
 use Rattle.terminal.proofs.terminal.Terminal.feed.Goals as goal
 
-pub returns-clause-ok : goal.returns-clause-ok
-returns-clause-ok g c =
-    let f = g.W.Widths.width_of c.args.self.now.widths in
-    let failed = c.is_err-self-inside.result in
-    kept c.take_bytes-result.result c.args.self.now c.take_bytes-result.new.self _ failed _ _
-    (bytes_are_after f c.args.self.now.view c.args.piece.now (tail_is _ _ c.self.view_is c.self.invariant))
-    c.take_bytes-result.ensures.ok
-    (ap (λ (z : Terminal g.row.W.Denot). record z { is_failed = failed }) c.self-2.view_is)
-    c.is_err-self-inside.ensures.value
-    (sym (ap (λ (z : Terminal g.row.W.Denot). z.is_failed) c.self.view_is) ∙ c.if-self.false)
+pub returns-in_err-take_bytes-clause-failed : goal.returns-in_err-take_bytes-clause-failed
+returns-in_err-take_bytes-clause-failed g c =
+    let p = err_from_is_err_and c.from_residual.result c.from_residual.ensures.1 in
+    let can = c.self.invariant c.if-self.false in
+    let whole = sym (ap (λ (t : Terminal g.row.W.Denot). t.is_failed) c.self.view_is) ∙ c.if-self.false in
+    rw (p.1, p.2) ((λ e.
+    let refused : ◌≡◌ {A = Result (Unit {0}) TerminalError} (Err c.in_err-take_bytes.field-0.0) (Err Failed) = cc in
+    absurd (fed_sound (λ w. g.W.Widths.width_of w) c.self.inside.state c.self.inside.parser.held c.args.piece.now can.reached can.ready (c.in_err-take_bytes.ensures.failed refused))),
+    (λ e. absurd cc))
 
-pub returns-clause-number : goal.returns-clause-number
-returns-clause-number g c =
-    let f = g.W.Widths.width_of c.args.self.now.widths in
-    λ e. subst (λ (v : View). 18446744073709551616 ≤ v.number)
-    (bytes_are_after f c.args.self.now.view c.args.piece.now (tail_is _ _ c.self.view_is c.self.invariant))
-    (c.take_bytes-result.ensures.number e)
+pub returns-in_err-take_bytes-clause-number : goal.returns-in_err-take_bytes-clause-number
+returns-in_err-take_bytes-clause-number g c =
+    let p = err_from_is_err_and c.from_residual.result c.from_residual.ensures.1 in
+    let can = c.self.invariant c.if-self.false in
+    rw (p.1, p.2) (λ e.
+    let refused : ◌≡◌ {A = Result (Unit {0}) TerminalError} (Err c.in_err-take_bytes.field-0.0) (Err Number) = cc in
+    fed_past (λ w. g.W.Widths.width_of w) c.self.inside.state c.self.inside.parser.held c.args.self.now c.args.piece.now can.ready
+    ((λ i. record (with_parts c.self.inside.state c.self.inside.parser.held) { is_failed = sym c.if-self.false i }) ∙ c.self.view_is)
+    (c.in_err-take_bytes.ensures.numbers refused))
+
+pub invariant_of-self-2 : goal.invariant_of-self-2
+invariant_of-self-2 g c =
+    let can = c.self.invariant c.if-self.false in
+    λ e. record {
+      ready = fed_ready (λ w. g.W.Widths.width_of w) c.self.inside.state c.take_bytes.new.state c.self.inside.parser.held c.args.piece.now can.reached can.ready c.in_ok-take_bytes.ensures.takes;
+      parser = c.in_ok-take_bytes.ensures.parser;
+      reached = fed_reached (λ w. g.W.Widths.width_of w) c.self.inside.parser.held c.take_bytes.new.parser.held c.args.piece.now can.reached c.in_ok-take_bytes.ensures.held;
+    }
+
+pub returns-clause-done : goal.returns-clause-done
+returns-clause-done g c =
+    let can = c.self.invariant c.if-self.false in
+    fed (λ w. g.W.Widths.width_of w) c.self.inside.state c.take_bytes.new.state c.self.inside.parser.held c.take_bytes.new.parser.held c.args.self.now c.args.piece.now can.reached can.ready
+    ((λ i. record (with_parts c.self.inside.state c.self.inside.parser.held) { is_failed = sym c.if-self.false i }) ∙ c.self.view_is)
+    c.in_ok-take_bytes.ensures.takes c.in_ok-take_bytes.ensures.held

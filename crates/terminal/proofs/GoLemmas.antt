@@ -1,0 +1,205 @@
+-- Terminals that go on by histories.
+use Rattle.std.proofs.Common.{◌≡◌, ℕ, ◌≤◌, ◌^◌, false, List, [], ◌∷◌, ◌++◌, map, fold, refl, sym, ap, subst, ◌∙◌, arith}
+use Rattle.std.specs.String.{string_bytes}
+use Rattle.std.proofs.lemmas.Grind.{flat_map-append}
+use Rattle.std.proofs.lemmas.List.Sums.{fold-append}
+use Rattle.change_log.specs.LogSteps.{Sized, step_of_kept}
+use Rattle.escape_framing.specs.Framed.{IsReached}
+use Rattle.escape_framing.specs.Cut.{the_cut, newly_decided}
+use Rattle.escape_framing.specs.Held.{Held, held_of}
+use Rattle.escape_framing.proofs.PlacedLemmas.{newly_join}
+use Rattle.escape_stream.specs.Pieces.{pieces}
+use Rattle.escape_stream.specs.StreamActions.{actions_of_dispatch, actions_of}
+use Rattle.escape_stream.proofs.SpellLemmas.{pieces_spell}
+use Rattle.terminal.specs.Terminal.{Terminal, StandsAt, GoesBy, NeedsNumber, state_in, log_behind}
+use Rattle.terminal_steps.specs.Events as steps
+use Rattle.terminal_steps.specs.Events.{IsReady, Had, view_of}
+use Rattle.terminal_steps.specs.Taking.{piece_events, Leads}
+use Rattle.terminal_steps.specs.declared.state.TerminalState.{TerminalState}
+use Rattle.terminal_steps.proofs.NumberLemmas.{fold_number, past_behind}
+use Rattle.terminal_steps.proofs.SpellLemmas.{call_state, call_held, call_logged, call_events, none_newly}
+use Rattle.terminal_table.specs.History.{History, Piece, Look, Resize, Forget, Event, Act, Looked, Resized, Forgot}
+use Rattle.terminal_table.specs.History as table
+use Rattle.terminal_table.specs.Logged.{events_logged, logged, log_after}
+use Rattle.terminal_table.specs.Meaning.{View, event_done, after}
+use Rattle.terminal_table.specs.Turns.{IsView, AreEvents}
+use Rattle.terminal_table.proofs.JoinLemmas.{with_stream, all_done_with, logged_with, after_joins, logged_joins, PiecesJoin, cut_after, cut_logged, nothing_behind}
+
+actions_join : PiecesJoin
+actions_join stream x y = ap actions_of (newly_join stream x y) ∙ flat_map-append actions_of_dispatch (newly_decided stream x) (newly_decided (stream ++ x) y)
+
+-- ---- events that are those of a history
+
+-- the events do to a view what the history does
+pub record AreOf (f : List ℕ → ℕ) (view : View) (events : List Event) (history : History) : Type 0 where
+  pub state : (fold (event_done f) view events).state ≡ (after f view history).state
+  pub run : (fold (event_done f) view events).held ≡ (after f view history).held
+  pub logged : events_logged f view events ≡ logged f view history
+
+pub looked : (f : List ℕ → ℕ) (view : View) → AreOf f view (Looked ∷ []) (Look ∷ [])
+looked f view = record { state = refl; run = refl; logged = refl }
+
+pub resized : (width height : ℕ) (f : List ℕ → ℕ) (view : View) → AreOf f view (Resized width height ∷ []) (Resize width height ∷ [])
+resized width height f view = record { state = refl; run = refl; logged = refl }
+
+pub forgot : (number : ℕ) (f : List ℕ → ℕ) (view : View) → AreOf f view (Forgot number ∷ []) (Forget number ∷ [])
+forgot number f view = record { state = refl; run = refl; logged = refl }
+
+pub pieced : (bytes : List ℕ) (f : List ℕ → ℕ) (view : View) → AreOf f view (piece_events (pieces view.stream bytes)) (Piece bytes ∷ [])
+pieced bytes f view = record {
+  state = call_state newly_join pieces_spell f view bytes;
+  run = call_held newly_join pieces_spell f view bytes;
+  logged = call_logged newly_join pieces_spell f view bytes;
+}
+
+-- ---- a terminal by its parts
+
+abbrev pub with_parts : {W : Type 0} → TerminalState W → Held → Terminal W
+with_parts s unfinished = record { surface = s.surface; saved = s.saved; replies = s.replies.items; run = string_bytes s.held; unfinished = unfinished; is_failed = false }
+
+module _ {W : Type 0} (width_of : W → List ℕ → ℕ) where
+  abbrev of : Terminal W → List ℕ → ℕ
+  of t = width_of t.surface.canvas.widths
+
+  -- what a terminal's parts show, at a view
+  same_view : (s : TerminalState W) (u : Held) (view : View) → StandsAt (with_parts s u) view → view_of s ≡ with_stream [] view
+  same_view s u view st = λ i. record { state = st.state i; stream = []; held = st.run i }
+
+  some_view : (s : TerminalState W) (u : Held) → (reached : IsReached u) → (view : View) × StandsAt (with_parts s u) view
+  some_view s u reached = (record { state = (view_of s).state; stream = reached.0; held = (view_of s).held }, record { state = refl; run = refl; unfinished = reached.1 })
+
+  pub stands_somewhere : (s : TerminalState W) (u : Held) (now : Terminal W) → IsReached u → IsReady s → with_parts s u ≡ now → (view : View) × StandsAt now view × IsView view
+  unfolding some_view
+  stands_somewhere s u now reached ready same =
+      let some = some_view s u reached in
+      (some.0, subst (λ t. StandsAt t some.0) same some.1, record { lawful = record { lawful = ready.shown.lawful; whole = ready.shown.whole }; plain = ready.plain })
+
+  pub went : (s r : TerminalState W) (u w : Held) (history : History) (events : View → List Event)
+      → IsReached u
+      → ((view : View) → AreOf (width_of s.surface.canvas.widths) view (events view) history)
+      → ((view : View) → u ≡ held_of view.stream → w ≡ held_of (view.stream ++ table.pieces history))
+      → ((view : View) → u ≡ held_of view.stream → Had width_of s r (events view))
+      → GoesBy width_of (with_parts s u) (with_parts r w) history
+  went s r u w history events reached are ends had =
+      let some = some_view s u reached in
+      record {
+        stands = λ view st. record {
+          state = ap (λ v. v.state) (shown view st) ∙ (are view).state;
+          run = ap (λ v. v.held) (shown view st) ∙ (are view).run;
+          unfinished = ends view st.unfinished;
+        };
+        log = λ view st. (had view st.unfinished).log ∙ ap (fold step_of_kept s.surface.log) (logs view st ∙ (are view).logged);
+        widths = (had some.0 some.1.unfinished).widths;
+        sound = refl;
+      }
+    where
+      f : List ℕ → ℕ
+      f = width_of s.surface.canvas.widths
+
+      shown : (view : View) → StandsAt (with_parts s u) view → view_of r ≡ with_stream [] (fold (event_done f) view (events view))
+      shown view st = (had view st.unfinished).view ∙ ap (λ v. fold (event_done f) v (events view)) (same_view s u view st) ∙ all_done_with f view [] (events view)
+
+      logs : (view : View) → StandsAt (with_parts s u) view → events_logged f (view_of s) (events view) ≡ events_logged f view (events view)
+      logs view st = ap (λ v. events_logged f v (events view)) (same_view s u view st) ∙ logged_with f view [] (events view)
+
+  -- what is refused a number
+  pub past : (s : TerminalState W) (u : Held) (history : History) (events : View → List Event)
+      → ((view : View) → AreOf (width_of s.surface.canvas.widths) view (events view) history)
+      → ((view : View) → u ≡ held_of view.stream → 2 ^ 64 ≤ (steps.log_behind width_of s (events view)).log.number)
+      → NeedsNumber width_of (with_parts s u) history
+  past s u history events are number = λ view st.
+      subst (λ (l : Sized). 2 ^ 64 ≤ l.log.number)
+          (ap (fold step_of_kept s.surface.log)
+              (ap (λ v. events_logged (width_of s.surface.canvas.widths) v (events view)) (same_view s u view st) ∙ logged_with (width_of s.surface.canvas.widths) view [] (events view) ∙ (are view).logged))
+          (number view st.unfinished)
+
+  -- ---- a piece
+
+  events_are : (stream bytes : List ℕ) → AreEvents (piece_events (pieces stream bytes))
+  events_are stream bytes = call_events (λ s. (the_cut s).is_cut) newly_join pieces_spell stream bytes
+
+  -- what is unfinished behind it
+  piece_ends : (u w : Held) (bytes : List ℕ) → ((stream : List ℕ) → u ≡ held_of stream → w ≡ held_of (stream ++ bytes)) → (view : View) → u ≡ held_of view.stream → w ≡ held_of (view.stream ++ table.pieces (Piece bytes ∷ []))
+  piece_ends u w bytes ends view e = ends view.stream e ∙ ap (λ xs. held_of (view.stream ++ xs)) (sym (nothing_behind bytes))
+
+  pub fed : (s r : TerminalState W) (u w : Held) (now : Terminal W) (bytes : List ℕ) → IsReached u → IsReady s → with_parts s u ≡ now
+      → ((stream : List ℕ) → u ≡ held_of stream → Leads width_of s r (pieces stream bytes))
+      → ((stream : List ℕ) → u ≡ held_of stream → w ≡ held_of (stream ++ bytes))
+      → GoesBy width_of now (with_parts r w) (Piece bytes ∷ [])
+  fed s r u w now bytes reached ready same takes ends =
+      subst (λ t. GoesBy width_of t (with_parts r w) (Piece bytes ∷ [])) same
+          (went s r u w (Piece bytes ∷ []) (λ view. piece_events (pieces view.stream bytes)) reached (pieced bytes (width_of s.surface.canvas.widths)) (piece_ends u w bytes ends)
+              (λ view e. takes view.stream e ready (events_are view.stream bytes)))
+
+  pub fed_ready : (s r : TerminalState W) (u : Held) (bytes : List ℕ) → IsReached u → IsReady s
+      → ((stream : List ℕ) → u ≡ held_of stream → Leads width_of s r (pieces stream bytes)) → IsReady r
+  fed_ready s r u bytes reached ready takes = (takes reached.0 reached.1 ready (events_are reached.0 bytes)).ready
+
+  pub fed_reached : (u w : Held) (bytes : List ℕ) → IsReached u → ((stream : List ℕ) → u ≡ held_of stream → w ≡ held_of (stream ++ bytes)) → IsReached w
+  fed_reached u w bytes reached ends = (reached.0 ++ bytes, ends reached.0 reached.1)
+
+  pub fed_past : (s : TerminalState W) (u : Held) (now : Terminal W) (bytes : List ℕ) → IsReady s → with_parts s u ≡ now
+      → ((stream : List ℕ) → u ≡ held_of stream → steps.NeedsNumber width_of s (piece_events (pieces stream bytes))) → NeedsNumber width_of now (Piece bytes ∷ [])
+  fed_past s u now bytes ready same numbers =
+      subst (λ t. NeedsNumber width_of t (Piece bytes ∷ [])) same
+          (past s u (Piece bytes ∷ []) (λ view. piece_events (pieces view.stream bytes)) (pieced bytes (width_of s.surface.canvas.widths))
+              (λ view e. numbers view.stream e ready (events_are view.stream bytes)))
+
+  pub fed_sound : (s : TerminalState W) (u : Held) (bytes : List ℕ) → IsReached u → IsReady s
+      → ((stream : List ℕ) → u ≡ held_of stream → IsReady s → AreEvents (piece_events (pieces stream bytes)) → ⊥) → ⊥
+  fed_sound s u bytes reached ready never = never reached.0 reached.1 ready (events_are reached.0 bytes)
+
+  -- ---- histories in turn
+
+  pub log_joins : (f : List ℕ → ℕ) (view : View) (log : Sized) (a b : History) → log_after f view log (a ++ b) ≡ log_after f (after f view a) (log_after f view log a) b
+  log_joins f view log a b = ap (fold step_of_kept log) (logged_joins f view a b) ∙ fold-append step_of_kept log (logged f view a) (logged f (after f view a) b)
+
+  pub in_turn : (x y z : Terminal W) (a b : History) → GoesBy width_of x y a → GoesBy width_of y z b → GoesBy width_of x z (a ++ b)
+  in_turn x y z a b g h = record {
+    stands = λ view st. subst (StandsAt z) (ap (λ w. after (width_of w) (after (of x) view a) b) g.widths ∙ sym (after_joins (of x) view a b)) (h.stands (after (of x) view a) (g.stands view st));
+    log = λ view st. h.log (after (of x) view a) (g.stands view st)
+        ∙ (λ i. log_after (width_of (g.widths i)) (after (of x) view a) (g.log view st i) b)
+        ∙ sym (log_joins (of x) view x.surface.log a b);
+    widths = h.widths ∙ g.widths;
+    sound = h.sound;
+  }
+
+  -- one piece is both
+  pub joined : (x z : Terminal W) (a b : List ℕ) → GoesBy width_of x z (Piece a ∷ Piece b ∷ []) → GoesBy width_of x z (Piece (a ++ b) ∷ [])
+  joined x z a b g = record {
+    stands = λ view st. subst (StandsAt z) (cut_after actions_join (of x) view a b []) (g.stands view st);
+    log = λ view st. g.log view st ∙ ap (fold step_of_kept x.surface.log) (cut_logged actions_join (of x) view a b []);
+    widths = g.widths;
+    sound = g.sound;
+  }
+
+  pub past_front : (x : Terminal W) (a b : History) → NeedsNumber width_of x a → NeedsNumber width_of x (a ++ b)
+  past_front x a b n = λ view st.
+      subst (λ (l : Sized). 2 ^ 64 ≤ l.log.number) (sym (log_joins (of x) view x.surface.log a b))
+          (past_behind (log_behind width_of x view a) (logged (of x) (after (of x) view a) b) (n view st))
+
+  pub past_later : (x y : Terminal W) (a b : History) → GoesBy width_of x y a → NeedsNumber width_of y b → NeedsNumber width_of x (a ++ b)
+  past_later x y a b g n = λ view st.
+      subst (λ (l : Sized). 2 ^ 64 ≤ l.log.number)
+          ((λ i. log_after (width_of (g.widths i)) (after (of x) view a) (g.log view st i) b) ∙ sym (log_joins (of x) view x.surface.log a b))
+          (n (after (of x) view a) (g.stands view st))
+
+  pub past_joined : (x : Terminal W) (a b : List ℕ) → NeedsNumber width_of x (Piece a ∷ Piece b ∷ []) → NeedsNumber width_of x (Piece (a ++ b) ∷ [])
+  past_joined x a b n = λ view st.
+      subst (λ (l : Sized). 2 ^ 64 ≤ l.log.number) (ap (fold step_of_kept x.surface.log) (cut_logged actions_join (of x) view a b [])) (n view st)
+
+  -- ---- a piece of no bytes
+
+  no_events : (stream : List ℕ) → table.events stream (Piece [] ∷ []) ≡ []
+  no_events stream = ap (λ ds. map Act (actions_of ds) ++ []) (none_newly stream)
+
+  view_stays : (f : List ℕ → ℕ) (view : View) → after f view (Piece [] ∷ []) ≡ with_stream (view.stream ++ []) view
+  view_stays f view = ap (λ es. with_stream (view.stream ++ []) (fold (event_done f) view es)) (no_events view.stream)
+
+  pub stays : (x : Terminal W) → x.is_failed ≡ false → GoesBy width_of x x (Piece [] ∷ [])
+  stays x sound = record {
+    stands = λ view st. subst (StandsAt x) (sym (view_stays (of x) view)) (record { state = st.state; run = st.run; unfinished = st.unfinished ∙ ap held_of (sym (nothing_behind view.stream)) });
+    log = λ view st. ap (λ es. fold step_of_kept x.surface.log (events_logged (of x) view es)) (sym (no_events view.stream));
+    widths = refl;
+    sound = sound;
+  }

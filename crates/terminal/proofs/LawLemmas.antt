@@ -1,0 +1,49 @@
+-- What histories make of terminals.
+use Rattle.std.proofs.Common.{◌≡◌, ℕ, List, [], ◌∷◌, ◌++◌, fold, refl, sym, ap, ◌∙◌}
+use Rattle.change_log.specs.LogSteps.{step_of_kept}
+use Rattle.escape_stream.specs.StreamAction.{StreamAction}
+use Rattle.escape_stream.specs.StreamWritable.{IsWritable}
+use Rattle.terminal.specs.Terminal.{Terminal, StandsAt, GoesBy, IsIdle, IsAlike, state_in}
+use Rattle.terminal.proofs.GoLemmas.{in_turn, joined}
+use Rattle.terminal_table.specs.Alone as alone
+use Rattle.terminal_table.specs.Alone.{row_done, row_logged}
+use Rattle.terminal_table.specs.History.{History, Piece}
+use Rattle.terminal_table.specs.Logged.{logged}
+use Rattle.terminal_table.specs.Meaning.{View, after}
+use Rattle.terminal_table.specs.State.{State}
+
+module _ {W : Type 0} (width_of : W → List ℕ → ℕ) where
+  pub pieces_in_turn : (first between last : Terminal W) (x y : List ℕ) → GoesBy width_of first between (Piece x ∷ []) → GoesBy width_of between last (Piece y ∷ []) → GoesBy width_of first last (Piece (x ++ y) ∷ [])
+  pieces_in_turn first between last x y g h = joined width_of first last x y (in_turn width_of first between last (Piece x ∷ []) (Piece y ∷ []) g h)
+
+  pub alike : (before one other : Terminal W) (history : History) (view : View) → StandsAt before view → GoesBy width_of before one history → GoesBy width_of before other history → IsAlike one other
+  alike before one other history view st g h = record {
+    state = (g.stands view st).state ∙ sym (h.stands view st).state;
+    run = (g.stands view st).run ∙ sym (h.stands view st).run;
+    unfinished = (g.stands view st).unfinished ∙ sym (h.stands view st).unfinished;
+    log = g.log view st ∙ sym (h.log view st);
+  }
+
+  -- an idle terminal stands at idle views
+  idle_view : (t : Terminal W) (view : View) → IsIdle t → StandsAt t view → alone.IsIdle view
+  idle_view t view idle st = record { run = sym st.run ∙ idle.run; stream = sym st.unfinished ∙ idle.unfinished }
+
+  abbrev of : Terminal W → List ℕ → ℕ
+  of t = width_of t.surface.canvas.widths
+
+  pub alone_state : ((f : List ℕ → ℕ) (view : View) (action : StreamAction) → alone.IsIdle view → IsWritable (action ∷ []) → (after f view (alone.alone action)).state ≡ row_done f action view.state)
+      → (before now : Terminal W) (view : View) (action : StreamAction) → IsIdle before → StandsAt before view → IsWritable (action ∷ []) → GoesBy width_of before now (alone.alone action) → state_in now ≡ row_done (of before) action (state_in before)
+  alone_state law before now view action idle st w g =
+      (g.stands view st).state ∙ law (of before) view action (idle_view before view idle st) w ∙ ap (row_done (of before) action) (sym st.state)
+
+  pub alone_log : ((f : List ℕ → ℕ) (view : View) (action : StreamAction) → alone.IsIdle view → IsWritable (action ∷ []) → logged f view (alone.alone action) ≡ row_logged action view.state)
+      → (before now : Terminal W) (view : View) (action : StreamAction) → IsIdle before → StandsAt before view → IsWritable (action ∷ []) → GoesBy width_of before now (alone.alone action)
+      → now.surface.log ≡ fold step_of_kept before.surface.log (row_logged action (state_in before))
+  alone_log law before now view action idle st w g =
+      g.log view st ∙ ap (fold step_of_kept before.surface.log) (law (of before) view action (idle_view before view idle st) w ∙ ap (row_logged action) (sym st.state))
+
+  pub alone_idle : ((f : List ℕ → ℕ) (view : View) (action : StreamAction) → alone.IsIdle view → IsWritable (action ∷ []) → alone.IsIdle (after f view (alone.alone action)))
+      → (before now : Terminal W) (view : View) (action : StreamAction) → IsIdle before → StandsAt before view → IsWritable (action ∷ []) → GoesBy width_of before now (alone.alone action) → IsIdle now
+  alone_idle law before now view action idle st w g =
+      let behind = law (of before) view action (idle_view before view idle st) w in
+      record { run = (g.stands view st).run ∙ behind.run; unfinished = (g.stands view st).unfinished ∙ behind.stream }
