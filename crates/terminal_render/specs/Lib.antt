@@ -1,0 +1,6 @@
+pub mod Links
+pub mod Texts
+pub mod Pen
+pub mod Places
+pub mod Rendering
+pub mod Samples

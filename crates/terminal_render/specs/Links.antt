@@ -1,0 +1,39 @@
+-- Links that OSC 8 carries (hyperlinks in terminal emulators), and texts that a stream carries as they are.
+use Rattle.std.specs.Prelude.{ℕ, Bool, true, false, not, ◌&&◌, List, [], ◌∷◌, Option, Some, None, Result, Ok, Err}
+use Rattle.std.specs.List.{list_all, list_any}
+use Rattle.std.specs.Str.{bytes_eq}
+use Rattle.cell_base.specs.declared.link_error.LinkError.{LinkError}
+use Rattle.cell_base.specs.Link.{Link, Param}
+use Rattle.cell_base.specs.LinkText.{link_text, link_reading, pieces}
+use Rattle.escape_osc.specs.Parts.{holds_c1}
+use Rattle.escape_osc.specs.Writable.{is_control}
+
+-- no C0 control, no DEL, and no U+0080 to U+009F
+abbrev pub is_plain_text : List ℕ → Bool
+is_plain_text text = not (list_any is_control text) && not (holds_c1 text)
+
+-- the same keys and values, in the same order
+abbrev pub same_params : List Param → List Param → Bool
+same_params [] [] = true
+same_params [] (q ∷ qs) = false
+same_params (p ∷ ps) [] = false
+same_params (p ∷ ps) (q ∷ qs) = (bytes_eq p.0 q.0 && bytes_eq p.1 q.1) && same_params ps qs
+
+-- whether what was read is the link
+abbrev pub is_reading_of : Link → Result (Option Link) LinkError → Bool
+is_reading_of link (Ok (Some read)) = same_params read.params link.params && bytes_eq read.uri link.uri
+is_reading_of link (Ok None) = false
+is_reading_of link (Err error) = false
+
+-- whether the link was given by a program, and its text reads back as it
+abbrev pub reads_back : Link → Bool
+reads_back link = not link.implicit && is_reading_of link (link_reading (pieces 59 (link_text link)))
+
+-- whether its URI, its keys and its values are such texts
+abbrev pub has_plain_texts : Link → Bool
+has_plain_texts link = list_all (λ p. is_plain_text p.0 && is_plain_text p.1) link.params && is_plain_text link.uri
+
+-- whether OSC 8 carries the link; the end of one it always does
+unfoldable pub is_carried : Option Link → Bool
+is_carried None = true
+is_carried (Some link) = reads_back link && has_plain_texts link
