@@ -19,19 +19,22 @@ same_params [] (q ∷ qs) = false
 same_params (p ∷ ps) [] = false
 same_params (p ∷ ps) (q ∷ qs) = (bytes_eq p.0 q.0 && bytes_eq p.1 q.1) && same_params ps qs
 
--- whether what was read is the link
+-- whether what was read is the link; what is read is never implicit
 abbrev pub is_reading_of : Link → Result (Option Link) LinkError → Bool
-is_reading_of link (Ok (Some read)) = same_params read.params link.params && bytes_eq read.uri link.uri
+is_reading_of link (Ok (Some read)) = (not read.implicit && not link.implicit) && (same_params read.params link.params && bytes_eq read.uri link.uri)
 is_reading_of link (Ok None) = false
 is_reading_of link (Err error) = false
 
--- whether the link was given by a program, and its text reads back as it
+-- whether the link's text reads back as it
 abbrev pub reads_back : Link → Bool
-reads_back link = not link.implicit && is_reading_of link (link_reading (pieces 59 (link_text link)))
+reads_back link = is_reading_of link (link_reading (pieces 59 (link_text link)))
 
 -- whether its URI, its keys and its values are such texts
+abbrev pub is_plain_param : Param → Bool
+is_plain_param p = is_plain_text p.0 && is_plain_text p.1
+
 abbrev pub has_plain_texts : Link → Bool
-has_plain_texts link = list_all (λ p. is_plain_text p.0 && is_plain_text p.1) link.params && is_plain_text link.uri
+has_plain_texts link = list_all is_plain_param link.params && is_plain_text link.uri
 
 -- whether OSC 8 carries the link; the end of one it always does
 unfoldable pub is_carried : Option Link → Bool

@@ -1,5 +1,5 @@
 -- What is sent for a change, so that a terminal of a size does to its screen what the change does.
-use Rattle.std.specs.Prelude.{ℕ, ◌&&◌, ◌==◌, nat_le, min, List, [], ◌∷◌, map, Option, Some, None, option_map, if◌then◌else◌}
+use Rattle.std.specs.Prelude.{ℕ, Bool, ◌&&◌, ◌==◌, nat_le, min, List, [], ◌∷◌, map, Option, Some, None, option_map, if◌then◌else◌}
 use Rattle.cell_base.specs.declared.attributes.CursorVisibility.{CursorVisibility as Visibility}
 use Rattle.cell_base.specs.declared.attributes.CursorVisibility.TheVariants.{Hidden, Visible}
 use Rattle.cell_change.specs.ChangeValue.{ChangeValue, Attribute, AllAttributes, Text, ClearScreen, ClearToEndOfLine, ClearToEndOfScreen, CursorPosition, CursorColor, CursorShape, CursorVisibility, LineAttribute, ScrollRegionUp, ScrollRegionDown, Title}
@@ -25,10 +25,14 @@ edited value = csi (codec.edit value)
 abbrev pub moved : Cursor → StreamAction
 moved value = csi (codec.cursor value)
 
--- SU and SD (ECMA-48 8.3.147 and 8.3.113) move all rows; a region past the last row ends there, and one of fewer rows can't be told
+-- whether a region is of all rows; one that goes past the last row ends there
+abbrev pub is_whole : ℕ → ℕ → ℕ → Bool
+is_whole height first size = first == 0 && nat_le height size
+
+-- SU and SD (ECMA-48 8.3.147 and 8.3.113) move all rows; a region of fewer can't be told
 unfoldable pub scroll_rendering : (ℕ → Edit) → ℕ → ℕ → ℕ → ℕ → Option (List StreamAction)
 scroll_rendering scroll height first size count =
-    if first == 0 && nat_le height size then Some (if count == 0 then [] else edited (scroll (min count height)) ∷ []) else None
+    if is_whole height first size then Some (if count == 0 then [] else edited (scroll (min count height)) ∷ []) else None
 
 -- DECTCEM, DEC private mode 25 (xterm: DEC Private Mode Set)
 abbrev pub visibility_mode : Visibility → Mode

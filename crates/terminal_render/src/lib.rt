@@ -1,4 +1,15 @@
 //! What is sent to a terminal for a change of a screen: actions that have the change's effect there.
 #![tactic(auto)]
 
+mod actions;
+mod error;
 pub mod examples;
+mod links;
+mod lists;
+mod pen;
+mod places;
+mod rendering;
+mod texts;
+
+pub use error::RenderError;
+pub use rendering::render;

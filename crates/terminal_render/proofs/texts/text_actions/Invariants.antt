@@ -1,0 +1,19 @@
+-- the actions so far, and those of what is left, are those of the whole
+use denote.Shadow.{shadow}
+use denote.Text.{Utf8}
+use Rattle.std.proofs.Common.{◌≡◌, ◌++◌, length}
+use Rattle.std.specs.List.{flat_map}
+use Rattle.screen_canvas.specs.Parts.{IsAtControl}
+use Rattle.screen_effects.specs.Strokes.{text_parts}
+use Rattle.terminal_render.specs.Texts.{part_actions}
+use Rattle.terminal_render.proofs.texts.text_actions.Given as goal
+
+abbrev pub invariant-loop-control : goal.invariant-loop-control
+invariant-loop-control l = record {
+  same : l.actions ++ flat_map part_actions (text_parts l.rest) ≡ flat_map part_actions (text_parts l.text);
+  control : IsAtControl l.rest;
+  text : shadow (Utf8 l.rest);
+}
+
+abbrev pub decreases-loop-control : goal.decreases-loop-control
+decreases-loop-control l = length l.rest
