@@ -5,3 +5,4 @@ pub mod Places
 pub mod PlacesView
 pub mod Rendering
 pub mod Samples
+pub mod Effects

@@ -4,6 +4,7 @@
 mod actions;
 mod error;
 pub mod examples;
+pub mod laws;
 mod links;
 mod lists;
 mod pen;

@@ -1,0 +1,32 @@
+-- What the laws say of actions that are sent: they do to the screen what the change does, and nothing is held behind them.
+use Rattle.std.specs.Prelude.{◌≡◌, ℕ, ◌<◌, ◌^◌, List, [], map, fold, Some}
+use Rattle.cell_base.specs.Screen.{height}
+use Rattle.cell_change.specs.ChangeValue.{ChangeValue}
+use Rattle.escape_stream.specs.StreamAction.{StreamAction}
+use Rattle.screen_effects.specs.Display.{Display}
+use Rattle.screen_effects.specs.Effect.{effect}
+use Rattle.terminal_table.specs.State.{IsState}
+use Rattle.terminal_table.specs.History.{Act}
+use Rattle.terminal_table.specs.Meaning.{View, event_done}
+use Rattle.terminal_render.specs.Rendering.{rendering}
+
+-- the actions in turn, by the terminal's table
+abbrev pub actions_done : (List ℕ → ℕ) → View → List StreamAction → View
+actions_done width_of view actions = fold (event_done width_of) view (map Act actions)
+
+-- the view on which a change had its effect: another screen, and all else as it was
+abbrev pub with_change : (List ℕ → ℕ) → View → Display → ChangeValue → View
+with_change width_of view display change = record view { state = record view.state { screen = (effect width_of display change).screen } }
+
+-- a terminal that can be sent changes: its state is lawful, its width and its height are less than 2^32, and no run is held
+pub record IsReady (view : View) : Type 0 where
+  pub lawful : IsState view.state
+  pub width : view.state.screen.width < 2 ^ 32
+  pub height : height view.state.screen < 2 ^ 32
+  pub run : view.held ≡ []
+
+-- what is sent for a change has its effect: on the screen of a terminal that is ready what the change has on any display of
+-- that screen, and no other; the saved cursor and the replies stay, and no run is held
+abbrev pub RenderingsHaveTheEffect : Type 0
+RenderingsHaveTheEffect = (width_of : List ℕ → ℕ) (view : View) (display : Display) (change : ChangeValue) (actions : List StreamAction) → IsReady view → display.screen ≡ view.state.screen
+    → rendering change view.state.screen.width (height view.state.screen) ≡ Some actions → actions_done width_of view actions ≡ with_change width_of view display change
