@@ -6,3 +6,5 @@ pub mod PlaceLemmas
 pub mod ScrollLemmas
 pub mod ClearLemmas
 pub mod WholeLemmas
+pub mod CharacterLemmas
+pub mod WritableLemmas

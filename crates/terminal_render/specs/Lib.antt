@@ -6,3 +6,4 @@ pub mod PlacesView
 pub mod Rendering
 pub mod Samples
 pub mod Effects
+pub mod Carried

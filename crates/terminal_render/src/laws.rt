@@ -1,8 +1,19 @@
-//! Laws of what is sent: each is the contract of a function that does nothing.
+//! Laws of what is sent: each is the contract of a function that does nothing but name the laws below.
+ghost use Rattle.terminal_render.specs.Carried.{RenderingsAreWritable};
 ghost use Rattle.terminal_render.specs.Effects.{RenderingsHaveTheEffect};
+
+use csi_codec::laws::writable_actions_read_back;
 
 /// What is sent for a change has its effect: the terminal's table makes of a screen what the change
 /// makes of it, and nothing is held behind. The saved cursor and the replies stay.
 pub fn renderings_have_the_effect()
     ensures { RenderingsHaveTheEffect }
 {}
+
+/// What is sent for a change reads back from its bytes: so a parser that reads what `encode` writes of it
+/// hands out these actions.
+pub fn renderings_are_writable()
+    ensures { RenderingsAreWritable }
+{
+    writable_actions_read_back();
+}

@@ -1,0 +1,468 @@
+-- What is sent for a change is a writable list.
+use Rattle.std.proofs.Common.{◌≡◌, ℕ, ◌^◌, ◌<◌, inl, Bool, true, false, List, [], ◌∷◌, ◌++◌, map, refl, subst, ◌∙◌, arith}
+use Rattle.std.specs.Prelude.{⊤, ◌==◌, ◌&&◌, ◌||◌, not, min, Option, None, Some, IfSome, option_map, option_and_then, pos, negsuc}
+use Rattle.std.specs.List.{flat_map, list_all, list_any}
+use Rattle.std.specs.Str.{IsUtf8}
+use Rattle.std.proofs.lemmas.Bool.{and_parts, or_parts, false≢true}
+use Rattle.std.proofs.lemmas.Bool.Decides.{nat_tests}
+use Rattle.std.proofs.lemmas.List.Elements.{All-cons, All-nil}
+use Rattle.std.proofs.lemmas.List.Folds.{list_any-append}
+use lib.Utf8.{encode}
+use Rattle.cell_base.specs.declared.attributes.CursorVisibility.{CursorVisibility as Visibility}
+use Rattle.cell_base.specs.declared.attributes.CursorVisibility.TheVariants.{Hidden, Visible}
+use Rattle.cell_base.specs.declared.attributes.Intensity.{Intensity}
+use Rattle.cell_base.specs.declared.attributes.Intensity.TheVariants as intensity
+use Rattle.cell_base.specs.declared.attributes.Underline.{Underline}
+use Rattle.cell_base.specs.declared.attributes.Underline.TheVariants as underline
+use Rattle.cell_base.specs.declared.attributes.Blink.{Blink}
+use Rattle.cell_base.specs.declared.attributes.Blink.TheVariants as blink
+use Rattle.cell_base.specs.declared.attributes.VerticalAlign.{VerticalAlign}
+use Rattle.cell_base.specs.declared.attributes.VerticalAlign.TheVariants as align
+use Rattle.cell_base.specs.declared.attributes.Position.{Position}
+use Rattle.cell_base.specs.declared.attributes.Position.TheVariants.{Relative, Absolute, EndRelative}
+use Rattle.cell_base.specs.declared.color.ColorAttribute.{ColorAttribute}
+use Rattle.cell_base.specs.declared.color.ColorAttribute.TheVariants as attribute
+use Rattle.cell_base.specs.declared.color.ColorSpec.{ColorSpec}
+use Rattle.cell_base.specs.declared.color.ColorSpec.TheVariants as spec
+use Rattle.cell_base.specs.Attributes.{Attributes}
+use Rattle.cell_base.specs.AttributeValue as one
+use Rattle.cell_base.specs.AttributeValue.{AttributeValue}
+use Rattle.cell_base.specs.Link.{Link, Param}
+use Rattle.cell_base.specs.LinkText.{param_text, params_text, link_text, text_of_link, link_reading, texts_reading}
+use Rattle.cell_base.specs.Row.{space}
+use Rattle.cell_change.specs.ChangeValue.{ChangeValue, Attribute, AllAttributes, Text, ClearScreen, ClearToEndOfLine, ClearToEndOfScreen, CursorPosition, CursorColor, CursorShape, CursorVisibility, LineAttribute, ScrollRegionUp, ScrollRegionDown, Title}
+use Rattle.csi_codec.specs.Actions as codec
+use Rattle.csi_codec.specs.Actions.{spelling_of}
+use Rattle.csi_codec.specs.Fronts.{whole_front}
+use Rattle.csi_codec.specs.Parameters.{word_max}
+use Rattle.csi_codec.specs.Writable as codec_writable
+use Rattle.csi_codec.specs.Writable.{IsColour, IsPlace, IsWritableCursor, IsWritableSgr, WritableActionsReadBack, WritableTextsAreFronts}
+use Rattle.csi_codec.specs.declared.cursors.Cursor.{Cursor}
+use Rattle.csi_codec.specs.declared.cursors.Cursor.TheVariants as cursor
+use Rattle.csi_codec.specs.declared.edits.Edit.{Edit}
+use Rattle.csi_codec.specs.declared.edits.Edit.TheVariants as edit
+use Rattle.csi_codec.specs.declared.rendition.Sgr.{Sgr}
+use Rattle.csi_codec.specs.declared.rendition.Sgr.TheVariants as sgr
+use Rattle.escape_framing.specs.Segment.{IsPrintable}
+use Rattle.escape_osc.proofs.C1Lemmas.{holds_c1-cons, holds_c1-joint}
+use Rattle.escape_osc.specs.Command.{set_hyperlink, set_window_title}
+use Rattle.escape_osc.specs.Parts.{holds_c1}
+use Rattle.escape_osc.specs.Writable as osc
+use Rattle.escape_osc.specs.Writable.{is_control, IsReadableLink}
+use Rattle.escape_stream.specs.StreamAction.{StreamAction, print, print_string, control, enter, data_byte, exit, command, csi, esc}
+use Rattle.escape_stream.specs.StreamWritable.{IsReadBack, IsPrintableText, IsWritableAction, IsWritable}
+use Rattle.screen_effects.specs.Strokes.{TextPart, Control, Plain, text_parts}
+use Rattle.terminal_render.specs.Carried.{IsColor, HaveColors, HasColor, IsChange, RenderingsAreWritable}
+use Rattle.terminal_render.specs.Links.{is_plain_text, is_plain_param, has_plain_texts, reads_back, is_carried}
+use Rattle.terminal_render.specs.Pen.{colour_setting, rendition, link_action, attribute_action, unless_normal, unless_none, unless_steady, unless_off, unless_base_line, unless_default, settings, set, pen_actions, is_output, is_unsaid, pen_rendering, plain_pen, clear_rendering}
+use Rattle.terminal_render.specs.Places.{Way, At, Back, On, way_of, is_past, move_by, moves, position_moves}
+use Rattle.terminal_render.specs.Rendering.{edited, moved, is_whole, scroll_rendering, visibility_mode, rendering}
+use Rattle.terminal_render.specs.Texts.{run_actions, part_actions, text_rendering, title_rendering}
+use Rattle.terminal_render.proofs.CharacterLemmas.{IsGood, AreGood, parts_good, printable_text}
+use Rattle.terminal_render.proofs.LinkLemmas.{reads_back_is}
+
+-- ---- lists without device control strings
+
+-- each action is writable by itself
+abbrev AreAlone : List StreamAction → Type 0
+AreAlone [] = ⊤
+AreAlone (a ∷ others) = IsWritableAction a × AreAlone others
+
+writable_alone : (actions : List StreamAction) → AreAlone actions → IsWritable actions
+writable_alone [] h = tt
+writable_alone (print c ∷ others) h = (h.0, writable_alone others h.1)
+writable_alone (print_string text ∷ others) h = (h.0, writable_alone others h.1)
+writable_alone (control n ∷ others) h = (h.0, writable_alone others h.1)
+writable_alone (enter header byte ∷ others) h = absurd h.0
+writable_alone (data_byte byte ∷ others) h = absurd h.0
+writable_alone (exit ∷ others) h = absurd h.0
+writable_alone (command c ∷ others) h = (h.0, writable_alone others h.1)
+writable_alone (csi a ∷ others) h = (h.0, writable_alone others h.1)
+writable_alone (esc e ∷ others) h = (h.0, writable_alone others h.1)
+
+alone_append : (xs ys : List StreamAction) → AreAlone xs → AreAlone ys → AreAlone (xs ++ ys)
+alone_append [] ys h k = k
+alone_append (x ∷ xs) ys h k = (h.0, alone_append xs ys h.1 k)
+
+-- ---- texts
+
+null_alone : IsWritableAction (control 0)
+null_alone = inl (omega arith, λ e. omega arith)
+
+run_alone : (text : List ℕ) → IsPrintableText text → AreAlone (run_actions text)
+run_alone text h = (h, (null_alone, tt))
+
+space_printable : IsPrintableText space
+unfolding encode
+space_printable = printable_text space (record { cs = 32 ∷ []; are = refl; spell = refl; some = λ e. cc; printable = All-cons IsPrintable 32 [] (inl (omega arith, omega arith)) (All-nil IsPrintable) })
+
+control_alone : (byte : ℕ) → (byte == 13 || byte == 10) ≡ true → IsWritableAction (control byte)
+control_alone byte e = inl (grind (arith, nat_tests), λ k. grind (arith, nat_tests))
+
+part_alone : (part : TextPart) → IsGood part → AreAlone (part_actions part)
+part_alone (Plain text) h = run_alone text (printable_text text h)
+part_alone (Control byte) h = by_test (byte == 13 || byte == 10) refl
+  where
+    by_test : (b : Bool) → (byte == 13 || byte == 10) ≡ b → AreAlone (part_actions (Control byte))
+    by_test true e = rw e (control_alone byte e, tt)
+    by_test false e = rw e (run_alone space space_printable)
+
+parts_alone : (parts : List TextPart) → AreGood parts → AreAlone (flat_map part_actions parts)
+parts_alone [] h = tt
+parts_alone (part ∷ parts) h = alone_append (part_actions part) (flat_map part_actions parts) (part_alone part h.0) (parts_alone parts h.1)
+
+abbrev Alone : Option (List StreamAction) → Type 0
+Alone found = IfSome found AreAlone
+
+text_is : (text : List ℕ) → IsUtf8 text → Alone (text_rendering text)
+unfolding text_rendering
+text_is text u = by_test (holds_c1 text) refl
+  where
+    by_test : (b : Bool) → holds_c1 text ≡ b → Alone (text_rendering text)
+    by_test true e = rw e tt
+    by_test false e = rw e (parts_alone (text_parts text) (parts_good text u e))
+
+is_off : (b : Bool) → not b ≡ true → b ≡ false
+is_off true e = absurd (false≢true e)
+is_off false e = refl
+
+record IsPlain (text : List ℕ) : Type 0 where
+  no_c0 : list_any is_control text ≡ false
+  no_c1 : holds_c1 text ≡ false
+
+plain_text : (text : List ℕ) → is_plain_text text ≡ true → IsPlain text
+plain_text text e = let both = and_parts (not (list_any is_control text)) (not (holds_c1 text)) e in record { no_c0 = is_off (list_any is_control text) both.0; no_c1 = is_off (holds_c1 text) both.1 }
+
+title_writable : (text : List ℕ) → IsUtf8 text → IsPlain text → osc.IsWritable (set_window_title text)
+title_writable text u h = record {
+  spelling = u;
+  no_c0 = h.no_c0;
+  no_c1 = holds_c1-cons 50 (59 ∷ text) (omega arith) ∙ holds_c1-cons 59 text (omega arith) ∙ h.no_c1;
+}
+
+title_is : (text : List ℕ) → IsUtf8 text → Alone (title_rendering text)
+unfolding title_rendering
+title_is text u = by_test (is_plain_text text) refl
+  where
+    by_test : (b : Bool) → is_plain_text text ≡ b → Alone (title_rendering text)
+    by_test true e = rw e (title_writable text u (plain_text text e), tt)
+    by_test false e = rw e tt
+
+-- ---- links
+
+or_from : (a b : Bool) → a ≡ false → b ≡ false → (a || b) ≡ false
+or_from a b e f = rw e f
+
+-- plain texts round a byte below 80h that is no control
+joint_plain : (xs : List ℕ) (c : ℕ) (ys : List ℕ) → c < 128 → is_control c ≡ false → IsPlain xs → IsPlain ys → IsPlain (xs ++ c ∷ ys)
+joint_plain xs c ys l e h k = record {
+  no_c0 = list_any-append is_control xs (c ∷ ys) ∙ or_from (list_any is_control xs) (list_any is_control (c ∷ ys)) h.no_c0 (or_from (is_control c) (list_any is_control ys) e k.no_c0);
+  no_c1 = holds_c1-joint xs c ys l ∙ or_from (holds_c1 xs) (holds_c1 ys) h.no_c1 k.no_c1;
+}
+
+nothing_plain : IsPlain []
+unfolding holds_c1
+nothing_plain = record { no_c0 = refl; no_c1 = refl }
+
+joined_plain : (p : Param) (ps : List Param) → list_all is_plain_param (p ∷ ps) ≡ true → IsPlain (params_text (p ∷ ps))
+joined_plain p [] e = param_plain p (and_parts (is_plain_param p) true e).0
+  where
+    param_plain : (p : Param) → is_plain_param p ≡ true → IsPlain (param_text p)
+    param_plain p e = let both = and_parts (is_plain_text p.0) (is_plain_text p.1) e in joint_plain p.0 61 p.1 (omega arith) refl (plain_text p.0 both.0) (plain_text p.1 both.1)
+joined_plain p (q ∷ ps) e =
+    let all = and_parts (is_plain_param p) (list_all is_plain_param (q ∷ ps)) e in
+    let both = and_parts (is_plain_text p.0) (is_plain_text p.1) all.0 in
+    joint_plain (param_text p) 58 (params_text (q ∷ ps)) (omega arith) refl (joint_plain p.0 61 p.1 (omega arith) refl (plain_text p.0 both.0) (plain_text p.1 both.1)) (joined_plain q ps all.1)
+
+params_plain : (ps : List Param) → list_all is_plain_param ps ≡ true → IsPlain (params_text ps)
+params_plain [] e = nothing_plain
+params_plain (p ∷ ps) e = joined_plain p ps e
+
+link_plain : (link : Link) → has_plain_texts link ≡ true → IsPlain (text_of_link (Some link))
+unfolding link_text
+link_plain link e =
+    let both = and_parts (list_all is_plain_param link.params) (is_plain_text link.uri) e in
+    let texts = joint_plain (params_text link.params) 59 link.uri (omega arith) refl (params_plain link.params both.0) (plain_text link.uri both.1) in
+    record { no_c0 = texts.no_c0; no_c1 = holds_c1-cons 56 _ (omega arith) ∙ holds_c1-cons 59 _ (omega arith) ∙ texts.no_c1 }
+
+pub link_writable : (link : Option Link) → is_carried link ≡ true → osc.IsWritable (set_hyperlink link)
+unfolding is_carried link_reading texts_reading holds_c1
+link_writable None e = record { spelling = refl; no_c0 = refl; no_c1 = refl }
+link_writable (Some link) e =
+    let both = and_parts (reads_back link) (has_plain_texts link) e in
+    let texts = link_plain link both.1 in
+    record { spelling = reads_back_is link both.0; no_c0 = texts.no_c0; no_c1 = texts.no_c1 }
+
+no_link : is_carried None ≡ true
+unfolding is_carried
+no_link = refl
+
+module _ (back : WritableActionsReadBack) (fronts : WritableTextsAreFronts) where
+  -- ---- control sequences
+
+  sequence : (a : codec.Action) → codec_writable.IsWritable a → IsReadBack a
+  sequence a w = record { front = whole_front (spelling_of a); stands = fronts a w; whole = refl; action = back false a w }
+
+  -- ---- attributes
+
+  -- a setting, if there is one
+  abbrev IsSet : Option Sgr → Type 0
+  IsSet None = ⊤
+  IsSet (Some value) = IsWritableSgr value
+
+  abbrev AreSet : List (Option Sgr) → Type 0
+  AreSet [] = ⊤
+  AreSet (value ∷ values) = IsSet value × AreSet values
+
+  set_alone : (value : Option Sgr) → IsSet value → AreAlone (set value)
+  set_alone None h = tt
+  set_alone (Some value) h = (sequence (codec.sgr value) h, tt)
+
+  sets_alone : (values : List (Option Sgr)) → AreSet values → AreAlone (flat_map set values)
+  sets_alone [] h = tt
+  sets_alone (value ∷ values) h = alone_append (set value) (flat_map set values) (set_alone value h.0) (sets_alone values h.1)
+
+  normal_set : (v : Intensity) → IsSet (unless_normal v)
+  normal_set intensity.Normal = tt
+  normal_set intensity.Bold = tt
+  normal_set intensity.Half = tt
+
+  none_set : (v : Underline) → IsSet (unless_none v)
+  none_set underline.None = tt
+  none_set underline.Single = tt
+  none_set underline.Double = tt
+  none_set underline.Curly = tt
+  none_set underline.Dotted = tt
+  none_set underline.Dashed = tt
+
+  steady_set : (v : Blink) → IsSet (unless_steady v)
+  steady_set blink.None = tt
+  steady_set blink.Slow = tt
+  steady_set blink.Rapid = tt
+
+  off_set : (setting : Bool → Sgr) (on : Bool) → IsWritableSgr (setting true) → IsSet (unless_off setting on)
+  off_set setting true h = h
+  off_set setting false h = tt
+
+  base_line_set : (v : VerticalAlign) → IsSet (unless_base_line v)
+  base_line_set align.BaseLine = tt
+  base_line_set align.SuperScript = tt
+  base_line_set align.SubScript = tt
+
+  default_set : (setting : ColorSpec → Sgr) (c : ColorSpec) → (IsColour c → IsWritableSgr (setting c)) → IsColour c → IsSet (unless_default setting c)
+  default_set setting spec.Default w h = tt
+  default_set setting (spec.PaletteIndex n) w h = w h
+  default_set setting (spec.TrueColor c) w h = w h
+
+  settings_set : (a : Attributes) (front rear line : ColorSpec) → IsColour front → IsColour rear → IsColour line → AreSet (settings a front rear line)
+  settings_set a front rear line f r l = (
+    normal_set a.intensity,
+    (
+      none_set a.underline,
+      (
+        steady_set a.blink,
+        (
+          off_set sgr.Italic a.italic tt,
+          (
+            off_set sgr.Inverse a.reverse tt,
+            (
+              off_set sgr.StrikeThrough a.strikethrough tt,
+              (
+                off_set sgr.Invisible a.invisible tt,
+                (
+                  off_set sgr.Overline a.overline tt,
+                  (
+                    base_line_set a.vertical_align,
+                    (default_set sgr.Foreground front (λ h. h) f, (default_set sgr.Background rear (λ h. h) r, (default_set sgr.UnderlineColor line (λ h. h) l, tt))),
+                  ),
+                ),
+              ),
+            ),
+          ),
+        ),
+      ),
+    ),
+  )
+
+  -- a colour that can be told
+  color_is : (color : ColorAttribute) → IsColor color → IfSome (colour_setting color) IsColour
+  color_is (attribute.TrueColorWithPaletteFallback c index) h = tt
+  color_is (attribute.TrueColorWithDefaultFallback c) h = h
+  color_is (attribute.PaletteIndex index) h = h
+  color_is attribute.Default h = tt
+
+  link_alone : (link : Option Link) → is_carried link ≡ true → AreAlone (link_action link ∷ [])
+  link_alone link e = (link_writable link e, tt)
+
+  pen_alone : (a : Attributes) (front rear line : ColorSpec) → is_unsaid a ≡ false → IsColour front → IsColour rear → IsColour line → AreAlone (pen_actions (settings a front rear line) a.hyperlink)
+  pen_alone a front rear line e f r l =
+      let carried : is_carried a.hyperlink ≡ true = is_on (is_carried a.hyperlink) (or_parts (a.wrapped || not (is_output a.semantic_type)) (not (is_carried a.hyperlink)) e).1 in
+      (sequence (codec.sgr sgr.Reset) tt, alone_append (flat_map set (settings a front rear line)) (link_action a.hyperlink ∷ []) (sets_alone (settings a front rear line) (settings_set a front rear line f r l)) (link_alone a.hyperlink carried))
+    where
+      is_on : (b : Bool) → not b ≡ false → b ≡ true
+      is_on true e = refl
+      is_on false e = cc
+
+  pen_is : (a : Attributes) → HaveColors a → Alone (pen_rendering a)
+  unfolding pen_rendering
+  pen_is a h = by_test (is_unsaid a) refl
+    where
+      by_line : is_unsaid a ≡ false → (front rear : ColorSpec) → IsColour front → IsColour rear → (found : Option ColorSpec) → IfSome found IsColour
+          → Alone (option_map (λ values. pen_actions values a.hyperlink) (option_map (λ line. settings a front rear line) found))
+      by_line e front rear f r None l = tt
+      by_line e front rear f r (Some line) l = pen_alone a front rear line e f r l
+
+      by_rear : is_unsaid a ≡ false → (front : ColorSpec) → IsColour front → (found : Option ColorSpec) → IfSome found IsColour
+          → Alone (option_map (λ values. pen_actions values a.hyperlink) (option_and_then (λ rear. option_map (λ line. settings a front rear line) (colour_setting a.underline_color)) found))
+      by_rear e front f None r = tt
+      by_rear e front f (Some rear) r = by_line e front rear f r (colour_setting a.underline_color) (color_is a.underline_color h.2)
+
+      by_front : is_unsaid a ≡ false → (found : Option ColorSpec) → IfSome found IsColour
+          → Alone (option_map (λ values. pen_actions values a.hyperlink) (option_and_then (λ front. option_and_then (λ rear. option_map (λ line. settings a front rear line) (colour_setting a.underline_color)) (colour_setting a.background)) found))
+      by_front e None f = tt
+      by_front e (Some front) f = by_rear e front f (colour_setting a.background) (color_is a.background h.1)
+
+      by_test : (b : Bool) → is_unsaid a ≡ b → Alone (pen_rendering a)
+      by_test true e = rw e tt
+      by_test false e = rw e (by_front e (colour_setting a.foreground) (color_is a.foreground h.0))
+
+  abbrev attribute_rendering : AttributeValue → Option (List StreamAction)
+  attribute_rendering change = option_map (λ action. action ∷ []) (attribute_action change)
+
+  link_is : (link : Option Link) → Alone (attribute_rendering (one.Hyperlink link))
+  unfolding attribute_action
+  link_is link = by_test (is_carried link) refl
+    where
+      by_test : (b : Bool) → is_carried link ≡ b → Alone (attribute_rendering (one.Hyperlink link))
+      by_test true e = rw e (link_alone link e)
+      by_test false e = rw e tt
+
+  colored : (setting : ColorSpec → Sgr) (found : Option ColorSpec) → ((c : ColorSpec) → IsColour c → IsWritableSgr (setting c)) → IfSome found IsColour → Alone (option_map (λ action. action ∷ []) (option_map rendition (option_map setting found)))
+  colored setting None w h = tt
+  colored setting (Some c) w h = (sequence (codec.sgr (setting c)) (w c h), tt)
+
+  attribute_is : (change : AttributeValue) → HasColor change → Alone (attribute_rendering change)
+  unfolding attribute_action
+  attribute_is (one.Intensity value) h = (sequence (codec.sgr (sgr.Intensity value)) tt, tt)
+  attribute_is (one.Underline value) h = (sequence (codec.sgr (sgr.Underline value)) tt, tt)
+  attribute_is (one.Italic value) h = (sequence (codec.sgr (sgr.Italic value)) tt, tt)
+  attribute_is (one.Blink value) h = (sequence (codec.sgr (sgr.Blink value)) tt, tt)
+  attribute_is (one.Reverse value) h = (sequence (codec.sgr (sgr.Inverse value)) tt, tt)
+  attribute_is (one.StrikeThrough value) h = (sequence (codec.sgr (sgr.StrikeThrough value)) tt, tt)
+  attribute_is (one.Invisible value) h = (sequence (codec.sgr (sgr.Invisible value)) tt, tt)
+  attribute_is (one.Foreground color) h = colored sgr.Foreground (colour_setting color) (λ c k. k) (color_is color h)
+  attribute_is (one.Background color) h = colored sgr.Background (colour_setting color) (λ c k. k) (color_is color h)
+  attribute_is (one.Hyperlink link) h = link_is link
+
+  -- ---- clears
+
+  clear_is : (color : ColorAttribute) (erasure : List StreamAction) → IsColor color → AreAlone erasure → Alone (clear_rendering color erasure)
+  unfolding clear_rendering
+  clear_is color erasure h k = by_color (colour_setting color) (color_is color h)
+    where
+      by_color : (found : Option ColorSpec) → IfSome found IsColour → Alone (option_map (λ c. plain_pen c ++ erasure) found)
+      by_color None h = tt
+      by_color (Some c) h = (sequence (codec.sgr sgr.Reset) tt, (link_writable None no_link, alone_append (set (unless_default sgr.Background c)) erasure (set_alone (unless_default sgr.Background c) (default_set sgr.Background c (λ w. w) h)) k))
+
+  edit_alone : (value : Edit) → codec_writable.IsWritableEdit value → AreAlone (edited value ∷ [])
+  edit_alone value h = (sequence (codec.edit value) h, tt)
+
+  -- ---- positions
+
+  abbrev AreMoves : List Cursor → Type 0
+  AreMoves [] = ⊤
+  AreMoves (move ∷ others) = IsWritableCursor move × AreMoves others
+
+  moves_alone : (cursors : List Cursor) → AreMoves cursors → AreAlone (map moved cursors)
+  moves_alone [] h = tt
+  moves_alone (move ∷ others) h = (sequence (codec.cursor move) h.0, moves_alone others h.1)
+
+  moves_append : (xs ys : List Cursor) → AreMoves xs → AreMoves ys → AreMoves (xs ++ ys)
+  moves_append [] ys h k = k
+  moves_append (x ∷ xs) ys h k = (h.0, moves_append xs ys h.1 k)
+
+  by_is : (move : ℕ → Cursor) (count : ℕ) → ((n : ℕ) → IsPlace n → IsWritableCursor (move n)) → AreMoves (move_by move count)
+  by_is move count w = by_test (count == 0) refl
+    where
+      by_test : (b : Bool) → (count == 0) ≡ b → AreMoves (move_by move count)
+      by_test true e = rw e tt
+      by_test false e = let some : 0 < count = grind (arith, nat_tests) in rw e (w (min count word_max) (omega arith, omega arith), tt)
+
+  -- a way to a place that a parameter can hold
+  abbrev IsNamed : Way → Type 0
+  IsNamed (At place) = IsPlace place
+  IsNamed (Back count) = ⊤
+  IsNamed (On count) = ⊤
+
+  way_is : (size : ℕ) (position : Position) → 0 < size → size < 2 ^ 32 → IsNamed (way_of size position)
+  way_is size (Absolute at) h k = (omega arith, omega arith)
+  way_is size (EndRelative back) h k = (omega arith, omega arith)
+  way_is size (Relative (pos n)) h k = tt
+  way_is size (Relative (negsuc n)) h k = tt
+
+  moves_are : (column row : Way) → IsNamed column → IsNamed row → IfSome (moves column row) AreMoves
+  unfolding moves
+  moves_are (At column) (At row) h k = ((k, h), tt)
+  moves_are (At column) (Back rows) h k = moves_append (move_by cursor.Up rows) (cursor.CharacterAbsolute column ∷ []) (by_is cursor.Up rows (λ n w. w)) (h, tt)
+  moves_are (At column) (On rows) h k = moves_append (move_by cursor.Down rows) (cursor.CharacterAbsolute column ∷ []) (by_is cursor.Down rows (λ n w. w)) (h, tt)
+  moves_are (On columns) (At row) h k = moves_append (move_by cursor.Right columns) (cursor.LinePositionAbsolute row ∷ []) (by_is cursor.Right columns (λ n w. w)) (k, tt)
+  moves_are (On columns) (Back rows) h k = moves_append (move_by cursor.Right columns) (move_by cursor.Up rows) (by_is cursor.Right columns (λ n w. w)) (by_is cursor.Up rows (λ n w. w))
+  moves_are (On columns) (On rows) h k = by_test (columns == 0 && rows == 0) refl
+    where
+      by_test : (b : Bool) → (columns == 0 && rows == 0) ≡ b → IfSome (moves (On columns) (On rows)) AreMoves
+      by_test true e = rw e tt
+      by_test false e = rw e (moves_append (move_by cursor.Right columns) (move_by cursor.Down rows) (by_is cursor.Right columns (λ n w. w)) (by_is cursor.Down rows (λ n w. w)))
+  moves_are (Back columns) row h k = tt
+
+  found_moves : (found : Option (List Cursor)) → IfSome found AreMoves → Alone (option_map (map moved) found)
+  found_moves None h = tt
+  found_moves (Some cursors) h = moves_alone cursors h
+
+  position_is : (width height : ℕ) (x y : Position) → 0 < width → width < 2 ^ 32 → 0 < height → height < 2 ^ 32 → Alone (option_map (map moved) (position_moves width height x y))
+  unfolding position_moves
+  position_is width height x y a b c d = by_test (is_past width x) refl
+    where
+      by_test : (t : Bool) → is_past width x ≡ t → Alone (option_map (map moved) (position_moves width height x y))
+      by_test true e = rw e tt
+      by_test false e = rw e (found_moves (moves (way_of width x) (way_of height y)) (moves_are (way_of width x) (way_of height y) (way_is width x a b) (way_is height y c d)))
+
+  -- ---- scrolls
+
+  scroll_is : (scroll : ℕ → Edit) (height first size count : ℕ) → ((n : ℕ) → IsPlace n → codec_writable.IsWritableEdit (scroll n)) → 0 < height → height < 2 ^ 32 → Alone (scroll_rendering scroll height first size count)
+  unfolding scroll_rendering
+  scroll_is scroll height first size count w h k = by_test (is_whole height first size) refl
+    where
+      by_count : is_whole height first size ≡ true → (b : Bool) → (count == 0) ≡ b → Alone (scroll_rendering scroll height first size count)
+      by_count e true z = rw (e, z) tt
+      by_count e false z = let some : 0 < count = grind (arith, nat_tests) in rw (e, z) (edit_alone (scroll (min count height)) (w (min count height) (omega arith, omega arith)))
+
+      by_test : (b : Bool) → is_whole height first size ≡ b → Alone (scroll_rendering scroll height first size count)
+      by_test true e = by_count e (count == 0) refl
+      by_test false e = rw e tt
+
+  -- ---- all changes
+
+  visibility_is : (v : Visibility) → AreAlone (csi (codec.mode (visibility_mode v)) ∷ [])
+  visibility_is Visible = (sequence (codec.mode (visibility_mode Visible)) tt, tt)
+  visibility_is Hidden = (sequence (codec.mode (visibility_mode Hidden)) tt, tt)
+
+  all_alone : (change : ChangeValue) (width height : ℕ) → IsChange change → 0 < width → width < 2 ^ 32 → 0 < height → height < 2 ^ 32 → Alone (rendering change width height)
+  all_alone (Text text) width height h a b c d = text_is text h
+  all_alone (Title text) width height h a b c d = title_is text h
+  all_alone (Attribute change) width height h a b c d = attribute_is change h
+  all_alone (AllAttributes pen) width height h a b c d = pen_is pen h
+  all_alone (ClearScreen color) width height h a b c d =
+      clear_is color _ h (sequence _ tt, (sequence (codec.cursor (cursor.Position 1 1)) ((omega arith, omega arith), (omega arith, omega arith)), tt))
+  all_alone (ClearToEndOfLine color) width height h a b c d = clear_is color _ h (sequence _ tt, tt)
+  all_alone (ClearToEndOfScreen color) width height h a b c d = clear_is color _ h (sequence _ tt, tt)
+  all_alone (CursorPosition x y) width height h a b c d = position_is width height x y a b c d
+  all_alone (CursorVisibility v) width height h a b c d = visibility_is v
+  all_alone (ScrollRegionUp first size count) width height h a b c d = scroll_is edit.ScrollUp height first size count (λ n w. w) c d
+  all_alone (ScrollRegionDown first size count) width height h a b c d = scroll_is edit.ScrollDown height first size count (λ n w. w) c d
+  all_alone (CursorColor color) width height h a b c d = tt
+  all_alone (CursorShape shape) width height h a b c d = tt
+  all_alone (LineAttribute size) width height h a b c d = tt
+
+  pub are_writable : RenderingsAreWritable
+  are_writable change width height actions h a b c d stands =
+      writable_alone actions (subst (λ (found : Option (List StreamAction)). IfSome found AreAlone) stands (all_alone change width height h a b c d))
