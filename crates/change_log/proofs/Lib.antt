@@ -1,2 +1,3 @@
+pub mod DueLemmas
 pub mod LogLemmas
 pub mod StoredLemmas

@@ -124,22 +124,26 @@ new_tail most = record { number = refl; counted = omega arith; gone = 0; some = 
 
 -- ---- what is due
 
-due_of : Bool → Bool → Bool → Bool → List ChangeValue → Option (List ChangeValue)
+pub due_of : Bool → Bool → Bool → Bool → List ChangeValue → Option (List ChangeValue)
 due_of a b c d changes = if a || b || c || d then None else Some changes
 
-early : (a c d : Bool) (changes : List ChangeValue) → due_of a true c d changes ≡ None
+pub zero : (b c d : Bool) (changes : List ChangeValue) → due_of true b c d changes ≡ None
+unfolding due_of
+zero b c d changes = refl
+
+pub early : (a c d : Bool) (changes : List ChangeValue) → due_of a true c d changes ≡ None
 unfolding due_of
 early true c d changes = refl
 early false c d changes = refl
 
-many : (a b c : Bool) (changes : List ChangeValue) → due_of a b c true changes ≡ None
+pub many : (a b c : Bool) (changes : List ChangeValue) → due_of a b c true changes ≡ None
 unfolding due_of
 many true b c changes = refl
 many false true c changes = refl
 many false false true changes = refl
 many false false false changes = refl
 
-due_is : (most : ℕ) (log : Log) (number : ℕ) → due most log number ≡ due_of (number == 0) (nat_lt number (first_number log)) (nat_lt log.number number) (nat_lt most (log.number - number)) (drop (number - first_number log) log.entries)
+pub due_is : (most : ℕ) (log : Log) (number : ℕ) → due most log number ≡ due_of (number == 0) (nat_lt number (first_number log)) (nat_lt log.number number) (nat_lt most (log.number - number)) (drop (number - first_number log) log.entries)
 unfolding due_of
 due_is most log number = refl
 

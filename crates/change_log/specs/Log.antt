@@ -1,4 +1,5 @@
 -- A log of numbered changes, and what of it is due to somebody who has seen the first ones.
+use Rattle.std.specs.Option.{option_map}
 use Rattle.std.specs.Prelude.{min, ◌^◌, ℕ, ◌+◌, ◌-◌, ◌*◌, ◌/◌, ◌||◌, ◌==◌, nat_lt, List, [], ◌∷◌, ◌++◌, length, drop, Option, Some, None, if◌then◌else◌}
 use Rattle.cell_change.specs.ChangeValue.{ChangeValue}
 
@@ -40,3 +41,8 @@ abbrev pub due : ℕ → Log → ℕ → Option (List ChangeValue)
 due most log number =
     if number == 0 || nat_lt number (first_number log) || nat_lt log.number number || nat_lt most (log.number - number) then None
     else Some (drop (number - first_number log) log.entries)
+
+-- behind one more change: what was due before it, and the change, as long as no more are due than so many
+abbrev pub due_behind : ℕ → Log → ChangeValue → ℕ → Option (List ChangeValue)
+due_behind most log change number =
+    if nat_lt most (log.number + 1 - number) then None else option_map (λ changes. changes ++ change ∷ []) (due most log number)

@@ -117,6 +117,14 @@ impl ChangeLog {
         self.most = most;
     }
 
+    // Each change that is kept has a number, and no more are than may be due.
+    pub(crate) fn is_counted(&self)
+        ensures numbered { length self.now.log.entries ≤ self.now.log.number }
+        ensures most { length self.now.log.entries ≤ self.now.most }
+    {
+        let _changes = &self.changes;
+    }
+
     /// A copy.
     pub fn try_clone(&self, alloc: Global) -> Result<ChangeLog, AllocError>
         ensures { IfOk result (λ log. log ≡ self.now) }

@@ -1,14 +1,45 @@
 //! Laws of logs: each is the contract of a function that does nothing.
-ghost use Rattle.std.specs.Prelude.{◌≡◌, ℕ, ◌<◌, List, [], ◌∷◌, codes, replicate};
-ghost use Rattle.cell_change.specs.ChangeValue.{Text};
-ghost use Rattle.change_log.specs.Log.{due, most_due};
-ghost use Rattle.change_log.specs.LogSteps.{LogStep, AreSized, Forgotten, Resized, a_text, log_of_all, log_of_kept};
+ghost use Rattle.std.specs.Prelude.{◌≡◌, ◌≢◌, ℕ, ◌+◌, ◌<◌, ◌≤◌, List, [], ◌∷◌, codes, length, replicate};
+ghost use Rattle.cell_change.specs.ChangeValue.{ChangeValue, Text};
+ghost use Rattle.change_log.specs.Log.{due, due_behind, most_due};
+ghost use Rattle.change_log.specs.LogSteps.{LogStep, Sized, AreSized, Forgotten, Logged, Resized, a_text, log_of_all, log_of_kept, step_of_kept};
+
+use crate::change_log::ChangeLog;
 
 /// A log that keeps the last changes which may be due answers as one that keeps all, whatever has
 /// happened: the same is due at each number, and the numbers are the same.
 pub fn nothing_due_is_lost()
     ensures due { (most : ℕ) (steps : List LogStep) (number : ℕ) → 0 < most → AreSized steps → due (log_of_kept most steps).most (log_of_kept most steps).log number ≡ due (log_of_all most steps).most (log_of_all most steps).log number }
     ensures number { (most : ℕ) (steps : List LogStep) → 0 < most → AreSized steps → (log_of_kept most steps).log.number ≡ (log_of_all most steps).log.number }
+{}
+
+/// Each change that a log keeps has a number, and at most as many are kept as may be due.
+pub fn kept_changes_are_counted(log: &ChangeLog)
+    ensures numbered { length log.now.log.entries ≤ log.now.log.number }
+    ensures most { length log.now.log.entries ≤ log.now.most }
+{
+    log.is_counted();
+}
+
+/// Behind one more change what is due from a number on is what was due before it, and the change; or
+/// nothing, so that a repaint is, where nothing was due, or where more would be than may be. To
+/// somebody who has seen the change none is due. Each change that the log keeps is taken to have a
+/// number, as in all logs.
+pub fn another_change_is_due_behind_the_others()
+    ensures due { (log : Sized) (change : ChangeValue) (number : ℕ) → length log.log.entries ≤ log.log.number → number ≤ log.log.number → due log.most (step_of_kept log (Logged change)).log number ≡ due_behind log.most log.log change number }
+    ensures seen { (log : Sized) (change : ChangeValue) → length log.log.entries ≤ log.log.number → due log.most (step_of_kept log (Logged change)).log (log.log.number + 1) ≡ Some [] }
+{}
+
+/// Another size counts one where the log isn't empty, and empties it; where it is empty nothing is
+/// changed but how many may be due.
+pub fn other_sizes_empty_the_log()
+    ensures counted { (log : Sized) (most : ℕ) → log.log.entries ≢ [] → step_of_kept log (Resized most) ≡ record { most = most; log = record { number = log.log.number + 1; entries = [] } } }
+    ensures empty { (log : Sized) (most : ℕ) → log.log.entries ≡ [] → step_of_kept log (Resized most) ≡ record log { most = most } }
+{}
+
+/// Where the changes before a number are forgotten, from that number on the same is due as before.
+pub fn forgotten_changes_are_not_due()
+    ensures { (log : Sized) (before : ℕ) (number : ℕ) → length log.log.entries ≤ log.log.number → before ≤ number → due log.most (step_of_kept log (Forgotten before)).log number ≡ due log.most log.log number }
 {}
 
 /// Worked logs of a screen of one column and row, which keep four changes: of five the last four are
