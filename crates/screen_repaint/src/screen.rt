@@ -133,12 +133,13 @@ pub fn repaint<W: Widths + Drop>(
     ensures { IfOk result (λ changes. map value_of changes.items ≡ repaint (display_of canvas.now)) }
 {
     let plain = CellAttributes::blank();
+    let pen = canvas.pen();
     let mut writer = CellWriter::new(alloc, &plain);
     write_clear(&mut writer)?;
     write_title(alloc, &mut writer, canvas.title())?;
     let painted = paint_rows(&mut writer, canvas.lines())?;
     write_place(&mut writer, canvas.cursor_position(), painted)?;
-    write_pen(&mut writer, canvas.pen())?;
+    write_pen(&mut writer, pen)?;
     write_cursor(
         &mut writer,
         canvas.cursor_visibility(),

@@ -26,5 +26,5 @@ returns g c =
     (c.in_ok-painted.ensures.written ∙ ap (λ (ls : List LineContent). with_changes (rows_painted c.write_title.new.writer.pen (rows_of ls)) c.write_title.new.writer) c.lines.ensures)
     (c.in_ok-painted.ensures.any ∙ ap (λ (ls : List LineContent). are_some (rows_painted c.write_title.new.writer.pen (rows_of ls))) c.lines.ensures)
     (c.in_ok-write_place.ensures ∙ (λ i. with_changes (cursor_placed c.in_ok-painted.painted (c.cursor_position.ensures.column i) (c.cursor_position.ensures.row i)) c.paint_rows.new.writer))
-    (c.in_ok-write_pen.ensures ∙ ap (λ (a : Attributes). with_changes (attributes_due c.write_place.new.writer.pen a) c.write_place.new.writer) c.pen.ensures)
+    (c.in_ok-write_pen.ensures ∙ ap (λ (a : Attributes). with_changes (attributes_due c.write_place.new.writer.pen a) c.write_place.new.writer) c.pen-pen.ensures)
     (c.in_ok-write_cursor.ensures ∙ (λ i. with_changes (cursor_shown (c.cursor_visibility.ensures i) (c.cursor_shape.ensures i)) c.write_pen.new.writer))
