@@ -91,8 +91,9 @@ impl<W: Widths + Drop> Surface<W> {
         Ok(changes)
     }
 
-    /// Draws another surface at column `x` and row `y`: adds the difference there, and then the
-    /// cursor's place and the pen as they were. Answers as `add_changes` of them.
+    /// Draws another surface with its top left at column `x` and row `y`: adds the difference there, and
+    /// then the cursor's place and the pen as they were. Columns and rows that this surface lacks are left
+    /// out. Answers as `add_changes` of the whole list.
     pub fn draw_from_screen(
         &mut self,
         other: &Surface<W>,
@@ -102,6 +103,7 @@ impl<W: Widths + Drop> Surface<W> {
         ensures number { IfOk result (λ n. n ≡ number_of self.old - 1 + length (drawn (shown_by self.old) (shown_by other.now) x y)) }
         ensures added { OnOk result (AddsAll (W.width_of self.old.canvas.widths) self.old self.new (drawn (shown_by self.old) (shown_by other.now) x y)) }
         ensures failed { IsErrOf result SurfaceError.Failed ↔ (self.old.is_failed ≡ true) }
+        ensures still_failed { IsErrOf result SurfaceError.Failed → self.new ≡ self.old }
         ensures numbers { IsErrOf result SurfaceError.Number → (2 ^ 64 ≤ number_of self.old + length (drawn (shown_by self.old) (shown_by other.now) x y)) × (self.new ≡ self.old) }
         ensures memory { IsErrOf result SurfaceError.Memory → self.new.is_failed ≡ true }
     {
@@ -139,8 +141,11 @@ impl<W: Widths + Drop> Surface<W> {
         Ok(changes)
     }
 
-    /// Copies a region, whose top left is at column `src_x` and row `src_y`, to another place: adds the
-    /// difference there, and answers as `add_changes` of it.
+    /// Copies a region, whose top left is at column `src_x` and row `src_y`, so that its top left stands at
+    /// column `dest_x` and row `dest_y`: adds the difference there, and answers as `add_changes` of it.
+    /// Columns and rows that the surface lacks at either place are left out; the cursor and the pen are
+    /// where the difference leaves them. What is copied is what was shown before, also where both places
+    /// share cells.
     pub fn copy_region(
         &mut self,
         src_x: usize,
@@ -153,6 +158,7 @@ impl<W: Widths + Drop> Surface<W> {
         ensures number { IfOk result (λ n. n ≡ number_of self.old - 1 + length (regions_difference (shown_by self.old) dest_x dest_y width height (shown_by self.old) src_x src_y)) }
         ensures added { OnOk result (AddsAll (W.width_of self.old.canvas.widths) self.old self.new (regions_difference (shown_by self.old) dest_x dest_y width height (shown_by self.old) src_x src_y)) }
         ensures failed { IsErrOf result SurfaceError.Failed ↔ (self.old.is_failed ≡ true) }
+        ensures still_failed { IsErrOf result SurfaceError.Failed → self.new ≡ self.old }
         ensures numbers { IsErrOf result SurfaceError.Number → (2 ^ 64 ≤ number_of self.old + length (regions_difference (shown_by self.old) dest_x dest_y width height (shown_by self.old) src_x src_y)) × (self.new ≡ self.old) }
         ensures memory { IsErrOf result SurfaceError.Memory → self.new.is_failed ≡ true }
     {

@@ -141,7 +141,8 @@ impl<W: Widths + Drop> Surface<W> {
         self.log.number() != seq
     }
 
-    /// Whether a call that changes the surface was refused memory.
+    /// Whether a call that changes the surface was refused memory, so that such calls and `get_changes`
+    /// answer `Failed`.
     pub fn is_failed(&self) -> bool
         ensures { result ≡ self.now.is_failed }
     {
@@ -173,7 +174,9 @@ impl<W: Widths + Drop> Surface<W> {
         ensures number { IfOk result (λ n. n ≡ number_of self.old) }
         ensures added { IfOk result (λ n. (c : Change) × C.converts change c × Adds (W.width_of self.old.canvas.widths) self.old self.new (value_of c)) }
         ensures failed { IsErrOf result SurfaceError.Failed ↔ (self.old.is_failed ≡ true) }
-        ensures numbers { IsErrOf result SurfaceError.Number → (number_of self.old ≡ 2 ^ 64 - 1) × (self.new ≡ self.old) }
+        ensures numbers { IsErrOf result SurfaceError.Number ↔ ((self.old.is_failed ≡ false) × (number_of self.old ≡ 2 ^ 64 - 1)) }
+        ensures unchanged { IsErrOf result SurfaceError.Number → self.new ≡ self.old }
+        ensures still_failed { IsErrOf result SurfaceError.Failed → self.new ≡ self.old }
         ensures memory { IsErrOf result SurfaceError.Memory → self.new.is_failed ≡ true }
     {
         if self.is_failed {
@@ -207,7 +210,8 @@ impl<W: Widths + Drop> Surface<W> {
         ensures number { IfOk result (λ n. n ≡ number_of self.old - 1 + length changes.items) }
         ensures added { OnOk result (AddsAll (W.width_of self.old.canvas.widths) self.old self.new (map value_of changes.items)) }
         ensures never { IsErrOf result SurfaceError.Failed → ⊥ }
-        ensures numbers { IsErrOf result SurfaceError.Number → (2 ^ 64 ≤ number_of self.old + length changes.items) × (self.new ≡ self.old) }
+        ensures numbers { IsErrOf result SurfaceError.Number ↔ (2 ^ 64 ≤ number_of self.old + length changes.items) }
+        ensures unchanged { IsErrOf result SurfaceError.Number → self.new ≡ self.old }
         ensures memory { IsErrOf result SurfaceError.Memory → self.new.is_failed ≡ true }
     {
         let number = self.log.number();
@@ -221,13 +225,18 @@ impl<W: Widths + Drop> Surface<W> {
         Ok(number.saturating_sub(1) + count)
     }
 
-    /// Adds changes in turn; answers the number before them less one, but at least 0, and how many
-    /// they are.
+    /// Adds changes in turn. Answers the number before them less one, but at least 0, plus how many they
+    /// are; so for no changes at all the number less one, or 0.
+    ///
+    /// Where the number would pass `usize::MAX` before the last of them, none is made. Where one of them
+    /// is refused memory the surface has failed, and those behind it are dropped.
     pub fn add_changes(&mut self, changes: Vec<Change>) -> Result<SequenceNo, SurfaceError>
         ensures number { IfOk result (λ n. n ≡ number_of self.old - 1 + length changes.items) }
         ensures added { OnOk result (AddsAll (W.width_of self.old.canvas.widths) self.old self.new (map value_of changes.items)) }
         ensures failed { IsErrOf result SurfaceError.Failed ↔ (self.old.is_failed ≡ true) }
-        ensures numbers { IsErrOf result SurfaceError.Number → (2 ^ 64 ≤ number_of self.old + length changes.items) × (self.new ≡ self.old) }
+        ensures numbers { IsErrOf result SurfaceError.Number ↔ ((self.old.is_failed ≡ false) × (2 ^ 64 ≤ number_of self.old + length changes.items)) }
+        ensures unchanged { IsErrOf result SurfaceError.Number → self.new ≡ self.old }
+        ensures still_failed { IsErrOf result SurfaceError.Failed → self.new ≡ self.old }
         ensures memory { IsErrOf result SurfaceError.Memory → self.new.is_failed ≡ true }
     {
         if self.is_failed {
@@ -245,7 +254,9 @@ impl<W: Widths + Drop> Surface<W> {
         requires height { (0 < height) × (height < 2 ^ 32) }
         ensures resized { OnOk result (Resizes width height self.old self.new) }
         ensures failed { IsErrOf result SurfaceError.Failed ↔ (self.old.is_failed ≡ true) }
-        ensures numbers { IsErrOf result SurfaceError.Number → (number_of self.old ≡ 2 ^ 64 - 1) × (self.old.log.log.entries ≢ []) × (self.new ≡ self.old) }
+        ensures numbers { IsErrOf result SurfaceError.Number ↔ ((self.old.is_failed ≡ false) × (number_of self.old ≡ 2 ^ 64 - 1) × (self.old.log.log.entries ≢ [])) }
+        ensures unchanged { IsErrOf result SurfaceError.Number → self.new ≡ self.old }
+        ensures still_failed { IsErrOf result SurfaceError.Failed → self.new ≡ self.old }
         ensures memory { IsErrOf result SurfaceError.Memory → self.new.is_failed ≡ true }
     {
         if self.is_failed {
@@ -262,9 +273,9 @@ impl<W: Widths + Drop> Surface<W> {
     }
 
     /// The current number, and the changes from a number on, lent from the log; or, at 0, before the
-    /// first change of the log, above the current number, while that is 0, and where more changes are
-    /// due than a repaint is worth, the repaint: changes which paint this screen on any screen of its
-    /// size.
+    /// first change of the log, above the current number, while that is 0, and where more than
+    /// 3 + 6wh/5 changes (rounded down, of w columns and h rows) are due, the repaint: changes which
+    /// paint this screen on any screen of its size. At the current number no change is due.
     pub fn get_changes(
         &self,
         seq: SequenceNo,
