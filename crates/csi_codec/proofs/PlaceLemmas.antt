@@ -1,5 +1,5 @@
 -- Steps from place to place of a list.
-use Rattle.std.proofs.Common.{◌≡◌, ℕ, zero, suc, ◌+◌, ◌<◌, ◌≤◌, eqb, Bool, true, false, cond, List, [], ◌∷◌, length, drop, drop-drop, Option, Some, None, Result, IfSome, IfNone, option_map, arith, refl, sym, ap, ◌∙◌, subst}
+use Rattle.std.proofs.Common.{◌≡◌, ◌≢◌, ℕ, zero, suc, ◌+◌, ◌<◌, ◌≤◌, eqb, Bool, true, false, cond, List, [], ◌∷◌, length, length-drop, drop, drop-drop, Option, Some, None, Result, IfSome, IfNone, option_map, arith, refl, sym, ap, ◌∙◌, subst}
 use Rattle.std.specs.Prelude.{is_some}
 use Rattle.std.proofs.lemmas.Bool.Decides.{nat_tests}
 use Rattle.std.specs.declared.alloc.AllocError.{AllocError}
@@ -13,6 +13,7 @@ use Rattle.csi_codec.specs.Rendition.{sgr_piece}
 use Rattle.csi_codec.specs.Sequences.{HandsOut, action_of}
 use Rattle.csi_codec.specs.Actions.{Kind, Action, sgr, sgr_pieces, unspecified, rendition_piece, piece_of, pieces, all_sgr_tokens, sgr_reading, modes_or, lone_or, csi_reading}
 use Rattle.csi_codec.proofs.PieceLemmas.{piece_of_takes, pieces_found, pieces_rest, pieces_none, pieces_ended}
+use Rattle.csi_codec.proofs.ReadingLemmas.{csi_reading-counted}
 use Rattle.csi_codec.proofs.SgrTokens.{sgr_tokens_behind}
 
 -- ---- The first piece
@@ -147,3 +148,27 @@ pub next_piece : (k : Kind) (read n : ℕ) (ts us : List CsiParam) (final : ℕ)
     → IsNext read ts final a (read + n)
 next_piece k read n ts us final a h kind at first =
     next_further read n ts final a h (subst (λ x. IsFirstPiece (list_kind final ts) final x a n) at (subst (λ k. IsFirstPiece k final us a n) kind first))
+
+-- ---- The end of a list
+
+pub none_behind : (n : ℕ) (ts : List CsiParam) → 0 < n → length ts ≤ n → (truncated : Bool) (final : ℕ) → actions_behind n ts truncated final ≡ []
+none_behind n ts some h truncated final = behind_some n ts truncated final some ∙ pieces_ended (list_kind final ts) truncated final ts n h
+
+one_or_more : (x : Action) (xs : List Action) → x ∷ xs ≢ []
+one_or_more x xs e = cc
+
+not_empty : (xs : List Action) → 0 < length xs → xs ≢ []
+not_empty [] h e = absurd (omega arith)
+not_empty (x ∷ xs) h e = cc
+
+pub first_to_come : (n : ℕ) (ts : List CsiParam) → n ≡ 0 → (truncated : Bool) (final : ℕ) → actions_behind n ts truncated final ≢ []
+unfolding actions_behind
+first_to_come n ts e truncated final = rw e (not_empty (csi_reading ts truncated final) (csi_reading-counted ts truncated final).some)
+
+pieces_to_come : (k : Kind) (truncated : Bool) (final : ℕ) (ts : List CsiParam) (found : Option (Action × ℕ)) → 0 < length ts → piece_of k final ts ≡ found → pieces k truncated final ts ≢ []
+pieces_to_come k truncated final ts None h e z = one_or_more _ _ (sym (pieces_rest k truncated final ts e h) ∙ z)
+pieces_to_come k truncated final ts (Some f) h e z = one_or_more _ _ (sym (pieces_found k truncated final ts f.0 f.1 e) ∙ z)
+
+pub more_to_come : (n : ℕ) (ts : List CsiParam) → 0 < n → n < length ts → (truncated : Bool) (final : ℕ) → actions_behind n ts truncated final ≢ []
+more_to_come n ts some h truncated final z =
+    pieces_to_come (list_kind final ts) truncated final (drop n ts) _ (omega (arith, length-drop n ts)) refl (sym (behind_some n ts truncated final some) ∙ z)

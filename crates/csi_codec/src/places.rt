@@ -1,5 +1,5 @@
 //! Reading the actions of a list from place to place.
-ghost use Rattle.std.specs.Prelude.{◌≡◌, ◌<◌, ◌≤◌, Bool, IfNone, IfSome, ◌∷◌, [], drop, length, option_map};
+ghost use Rattle.std.specs.Prelude.{◌≡◌, ◌≢◌, ◌<◌, ◌≤◌, ℕ, Bool, true, false, IfNone, IfSome, ◌∷◌, [], drop, length, option_map};
 ghost use Rattle.csi_codec.specs.Actions.{Kind as PieceKind, csi_reading, lone_or, modes_or, piece_of, pieces, sgr_pieces, sgr_reading, unspecified};
 ghost use Rattle.csi_codec.specs.Known.{found_action};
 ghost use Rattle.csi_codec.specs.Parsing.{HasNoPiece, HasNoRendition, IsEnd, IsFirstPiece, IsFirstRendition, IsNext, IsStart, actions_behind, actions_from, kind_of, list_kind};
@@ -61,7 +61,20 @@ impl CSIPlace {
         self.by_step(alloc, params, parameters_truncated, control)
     }
 
-    /// The same, whatever stands at this place.
+    /// Whether no action of a list is to come at this place.
+    #[inline(always)]
+    pub fn is_end(&self, params: &[CsiParam]) -> bool
+        ensures done { result ≡ true → (truncated : Bool) (control : ℕ) → actions_from self.now params.now truncated control ≡ [] }
+        ensures more { result ≡ false → (truncated : Bool) (control : ℕ) → actions_from self.now params.now truncated control ≢ [] }
+    {
+        let read = self.index;
+        if read == 0 {
+            return false;
+        }
+        read >= params.len()
+    }
+
+    /// The action at this place, whatever stands there.
     #[inline(always)]
     fn by_step(
         &mut self,
@@ -84,13 +97,22 @@ fn first_known(params: &[CsiParam], control: char) -> Option<(CSI, usize)>
     ensures { IfSome result (λ found. IsNext 0 params.now control (action_of found.0) found.1) }
 {
     if control == 'm' {
-        if params.is_empty() {
-            return Some((CSI::Sgr(Sgr::Reset), 1));
-        }
-        let (value, len) = first_sgr(params)?;
-        return Some((CSI::Sgr(value), len));
+        first_rendition_known(params)
+    } else {
+        first_other(params, control)
     }
-    first_other(params, control)
+}
+
+/// The same before `m`.
+#[inline(never)]
+fn first_rendition_known(params: &[CsiParam]) -> Option<(CSI, usize)>
+    ensures { IfSome result (λ found. IsNext 0 params.now 109 (action_of found.0) found.1) }
+{
+    if params.is_empty() {
+        return Some((CSI::Sgr(Sgr::Reset), 1));
+    }
+    let (value, len) = first_sgr(params)?;
+    Some((CSI::Sgr(value), len))
 }
 
 /// The same before any other final byte.

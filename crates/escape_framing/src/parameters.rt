@@ -25,15 +25,21 @@ pub(crate) fn is_parameter(byte: u8) -> bool
 }
 
 // The number whose digits have begun, with one digit more, cut at the largest.
+#[inline(always)]
 fn next_number(number: Option<u64>, byte: u8) -> u64
     requires { IsAsciiDigit byte }
     ensures { result ≡ number_behind number byte }
 {
-    number
-        .unwrap_or(0)
-        .saturating_mul(10)
-        .saturating_add(u64::from(byte - b'0'))
-        .min(LARGEST_NUMBER)
+    let begun = number.unwrap_or(0);
+    let digit = u64::from(byte - b'0');
+    if begun < LARGEST_NUMBER / 10 {
+        begun * 10 + digit
+    } else {
+        begun
+            .saturating_mul(10)
+            .saturating_add(digit)
+            .min(LARGEST_NUMBER)
+    }
 }
 
 /// The first tokens of a control sequence.

@@ -1,11 +1,11 @@
 //! What a framer reads at once where nothing is unfinished: texts, controls, and sequences whose bytes stand there.
-ghost use Rattle.std.specs.Prelude.{◌≡◌, ◌≢◌, ◌<◌, ◌≤◌, ℕ, ◌∷◌, List, length, take, drop};
+ghost use Rattle.std.specs.Prelude.{◌≡◌, ◌≢◌, ◌<◌, ◌≤◌, ℕ, ◌∷◌, List, length, take, drop, IfSome};
 ghost use Rattle.std.specs.List.{prefix_len};
 ghost use Rattle.escape_framing.specs.Bytes.{is_final as in_finals, is_escape_final as in_escape_finals};
 ghost use Rattle.escape_framing.specs.Held.{nothing_held};
 ghost use Rattle.escape_framing.specs.Stepped.{Reads};
 ghost use Rattle.escape_framing.specs.Quick.{text_step, lone_step, IsLastAt, is_body_byte as in_bodies};
-ghost use Rattle.escape_framing.specs.declared.lone.Lone.TheVariants.{Nothing};
+ghost use Rattle.escape_framing.specs.declared.lone.Lone.TheVariants.{Nothing, Control, ControlSequence};
 
 use crate::framer::{Framer, State, is_control, is_opener};
 use crate::lone::Lone;
@@ -50,6 +50,17 @@ fn last_at(bytes: &[u8], count: usize) -> Option<u8>
     if is_final(*byte) { Some(*byte) } else { None }
 }
 
+// What stands behind ESC [.
+#[inline(always)]
+fn behind_introducer(bytes: &[u8]) -> Option<&[u8]>
+    ensures { IfSome result (λ others. bytes.now ≡ 0x1B ∷ 0x5B ∷ others.now) }
+{
+    match bytes {
+        [0x1b, b'[', others @ ..] => Some(others),
+        _ => None,
+    }
+}
+
 // A byte of a command's body that stands for itself.
 #[inline(always)]
 #[tactic(auto, unfolding(crate::specs::Quick::is_body_byte, crate::specs::Bytes::is_control))]
@@ -85,6 +96,53 @@ impl Framer {
         ensures { 0 < result → Reads self.now.parameters self.now.held bytes.now (text_step result) self.now.held }
     {
         if self.is_idle() { text_len(bytes) } else { 0 }
+    }
+
+    /// The control at the front of some bytes of one call, C0 but ESC, or DEL, where nothing is unfinished. It is read by
+    /// this, as `next` reads it, since it leaves nothing.
+    #[inline(always)]
+    pub fn next_control(&self, bytes: &[u8]) -> Option<u8>
+        ensures { IfSome result (λ byte. Reads self.now.parameters self.now.held bytes.now (lone_step (Control byte)) self.now.held) }
+    {
+        let (byte, _) = bytes.split_first()?;
+        if !is_control(*byte) {
+            return None;
+        }
+        if *byte == ESCAPE {
+            return None;
+        }
+        if self.is_idle() { Some(*byte) } else { None }
+    }
+
+    // Reads the rest of a control sequence, where all its bytes stand there; else nothing.
+    #[inline(always)]
+    fn whole_sequence(&mut self, others: &[u8]) -> Option<(u8, usize)>
+        requires { self.old.held ≡ nothing_held }
+        ensures some { IfSome result (λ s. Reads self.new.parameters self.old.held (0x1B ∷ 0x5B ∷ others.now) (lone_step (ControlSequence s.0 s.1)) self.new.held) }
+        ensures held { self.new.held ≡ self.old.held }
+        ensures failed { self.new.failed ≡ self.old.failed }
+    {
+        self.parameters.clear();
+        let count = self.parameters.push_all(others);
+        self.rest();
+        let control = last_at(others, count)?;
+        Some((control, count + 3))
+    }
+
+    /// Reads the control sequence at the front of some bytes of one call, where nothing is unfinished and all its bytes
+    /// stand there, and answers its final byte and how many bytes it has. Else nothing is read, and the parameters of the
+    /// last control sequence are lent no more.
+    #[inline(always)]
+    pub fn next_sequence(&mut self, bytes: &[u8]) -> Option<(u8, usize)>
+        ensures some { IfSome result (λ s. Reads self.new.parameters self.old.held bytes.now (lone_step (ControlSequence s.0 s.1)) self.new.held) }
+        ensures held { self.new.held ≡ self.old.held }
+        ensures failed { self.new.failed ≡ self.old.failed }
+    {
+        let others = behind_introducer(bytes)?;
+        if !self.is_idle() {
+            return None;
+        }
+        self.whole_sequence(others)
     }
 
     // The rest of a control sequence, as far as its bytes stand there.

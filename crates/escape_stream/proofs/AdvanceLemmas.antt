@@ -5,6 +5,9 @@ use Rattle.escape_framing.specs.Held.{Held, hand_out, held_of}
 use Rattle.escape_framing.specs.Parameters.{Parameters}
 use Rattle.escape_framing.specs.Framing.{Framing}
 use Rattle.escape_framing.specs.Dispatched.{dispatches_in}
+use Rattle.escape_framing.specs.Stepped.{Reads}
+use Rattle.escape_framing.specs.Quick.{text_step, lone_step}
+use Rattle.escape_stream.proofs.LoneReading.{lone_read, queue_of, queued, sequence_queued}
 use Rattle.escape_framing.specs.Framed.{framed, framed_behind, placed_behind, begun_bytes, IsText}
 use Rattle.escape_framing.proofs.HeldLemmas.{held_append}
 use Rattle.escape_framing.proofs.SpellLemmas.{placed_same}
@@ -22,12 +25,12 @@ use Rattle.escape_stream.specs.StreamAction.{StreamAction}
 use Rattle.escape_stream.specs.StreamActionView.{value_of}
 use Rattle.escape_stream.specs.StreamActions.{actions_of}
 use Rattle.escape_stream.specs.Pending.{Gives}
-use Rattle.escape_stream.specs.Queue.{queue_actions}
+use Rattle.escape_stream.specs.Queue.{queue_actions, sequence_values}
 use Rattle.escape_stream.specs.declared.queue.Queue.{Queue}
 use Rattle.escape_framing.specs.declared.lone.Lone.{Lone as Read}
 use Rattle.escape_framing.specs.declared.lone.Lone.TheVariants as lone
 use Rattle.escape_stream.specs.Pieces.{Piece, Text, Lone, pieces_of, pieces}
-use Rattle.escape_stream.specs.PiecesView.{lender_of, parser_of, open_pieces, held_at_end, items_at, items_left, ready_at, IsReady, PiecesGo, IsOpen, IsOver, IsUnderWay, HasRead, HasReadLone, lone_values, HasGiven, GoesOn}
+use Rattle.escape_stream.specs.PiecesView.{lender_of, parser_of, open_pieces, held_at_end, items_at, items_left, ready_at, IsReady, PiecesGo, IsOpen, IsOver, IsUnderWay, HasRead, HasReadLone, HasReadSequence, lone_values, GivesPiece, HasGiven, GoesOn}
 use Rattle.escape_stream.proofs.PieceLemmas.{read_none, read_text, read_behind, if_none, comes_closer}
 
 -- only what waits has changed
@@ -248,3 +251,104 @@ progress old new (Some (Ok piece)) o g = let k = goes_nearer old new piece o g.i
 progress old new (Some (Err refusal.Memory)) o g = let k = goes_over old new o g.items.1 in record { on = λ _. (k.0, tt, k.1); keeps = k.0; rests = λ _. tt }
 progress old new (Some (Err refusal.Failed)) o g = let e : stage.Open ≡ stage.Failed = sym o ∙ g.items.0 in cc
 progress old new None o g = record { on = λ _. tt; keeps = tt; rests = λ _. tt }
+
+-- ---- a text at once
+
+pub gives_at_once : (old new : Pieces) (len : ℕ) (t : Bor (List ℕ)) → IsUnderWay old → ((p : Parameters) → queue_actions p old.queue ≡ []) → 0 < len → Reads old.parser.now.parameters old.parser.now.held (drop old.count old.bytes.now) (text_step len) old.parser.now.held
+    → new.parser.now ≡ old.parser.now → new.bytes ≡ old.bytes → new.count ≡ old.count + len → new.queue ≡ old.queue → t.now ≡ take len (drop old.count old.bytes.now) → HasGiven old (Some (code.Text t)) new
+gives_at_once old new len t u q l r p b n w e =
+    gives_text old old old new [] len t
+    (record { same = λ start. refl; ready = u; ends = refl })
+    (record { parser = refl; bytes = refl; count = refl })
+    (q old.parser.now.parameters)
+    (record {
+      step = text_step len;
+      reads = rw p r;
+      is_text = refl;
+      count = n;
+      queued = λ z. absurd (omega arith);
+      emptied = λ z. rw w (q new.parser.now.parameters);
+    })
+    b (λ z. omega arith) e
+
+-- ---- a control at once
+
+pub stays : (it : Pieces) → IsUnderWay it → GoesOn it it
+stays it u = record { same = λ start. refl; ready = u; ends = refl }
+
+nothing_changes : (it : Pieces) → SameBut it it
+nothing_changes it = record { parser = refl; bytes = refl; count = refl }
+
+pub gives_control : (old new : Pieces) (a : Action) (byte : ℕ) → IsUnderWay old → ((p : Parameters) → queue_actions p old.queue ≡ []) → Reads old.parser.now.parameters old.parser.now.held (drop old.count old.bytes.now) (lone_step (lone.Control byte)) old.parser.now.held
+    → value_of a ∷ [] ≡ lone_values (lone.Control byte) → new.parser.now ≡ old.parser.now → new.bytes ≡ old.bytes → new.count ≡ old.count + 1 → new.queue ≡ old.queue → HasGiven old (Some (code.Action a)) new
+gives_control old new a byte u q r v p b n w =
+    lone_gives old old old new [] (lone.Control byte) a (stays old u) (nothing_changes old) (q old.parser.now.parameters)
+    (lone_read old new (drop old.count old.bytes.now) (lone.Control byte) refl (rw p r) n (λ x. rw w (q x)))
+    b v
+
+-- ---- a control sequence at once
+
+-- with its dispatch waiting
+waiting_sequence : (old mid : Pieces) (control : ℕ) (h : HasReadSequence old control mid) → HasRead old 0 (loaded mid (queue_of (lone.ControlSequence control h.len)))
+waiting_sequence old mid control h = record {
+  step = lone_step (lone.ControlSequence control h.len);
+  reads = h.reads;
+  is_text = refl;
+  count = h.count;
+  queued = λ z. queued mid.parser.now.parameters (lone.ControlSequence control h.len);
+  emptied = λ z. absurd (z refl);
+}
+
+sequence_waits : (old mid : Pieces) (control : ℕ) (h : HasReadSequence old control mid) → IsUnderWay old → ((p : Parameters) → queue_actions p old.queue ≡ []) → mid.bytes ≡ old.bytes → GoesOn old (loaded mid (queue_of (lone.ControlSequence control h.len)))
+sequence_waits old mid control h u q b =
+    goes_on old old old (loaded mid (queue_of (lone.ControlSequence control h.len))) [] 0 (stays old u) (nothing_changes old) (q old.parser.now.parameters) (waiting_sequence old mid control h) b refl
+
+pub sequence_gives : (old mid new : Pieces) (control : ℕ) (next : Option Action) → IsUnderWay old → ((p : Parameters) → queue_actions p old.queue ≡ []) → HasReadSequence old control mid → mid.bytes ≡ old.bytes → SameBut mid new
+    → Gives (sequence_values mid.parser.now.parameters control) next (queue_actions mid.parser.now.parameters new.queue) → (a : Action) → next ≡ Some a → HasGiven old (Some (code.Action a)) new
+sequence_gives old mid new control next u q h b s g a e =
+    let p = mid.parser.now.parameters in
+    let l = lone.ControlSequence control h.len in
+    let k : Gives (sequence_values p control) (Some a) (queue_actions p new.queue) = subst (λ (x : Option Action). Gives (sequence_values p control) x (queue_actions p new.queue)) e g in
+    gives_action old (loaded mid (queue_of l)) new a (sequence_waits old mid control h u q b) (record { parser = s.parser; bytes = s.bytes; count = s.count }) (sequence_queued p control h.len ∙ k)
+
+pub sequence_goes : (old mid new : Pieces) (control : ℕ) (next : Option Action) → IsUnderWay old → ((p : Parameters) → queue_actions p old.queue ≡ []) → HasReadSequence old control mid → mid.bytes ≡ old.bytes → SameBut mid new
+    → Gives (sequence_values mid.parser.now.parameters control) next (queue_actions mid.parser.now.parameters new.queue) → next ≡ None → queue_actions mid.parser.now.parameters new.queue ≡ [] → GoesOn old new
+sequence_goes old mid new control next u q h b s g e z =
+    let p = mid.parser.now.parameters in
+    let l = lone.ControlSequence control h.len in
+    let k : sequence_values p control ≡ [] = subst (λ (x : Option Action). Gives (sequence_values p control) x (queue_actions p new.queue)) e g in
+    let w = sequence_waits old mid control h u q b in
+    let r : queue_actions p (queue_of l) ≡ queue_actions p new.queue = sequence_queued p control h.len ∙ k ∙ sym z in
+    record {
+      same = λ start. rw (s.parser, s.bytes, s.count, ← r) (w.same start);
+      ready = ready_too mid new s (record { within = w.ready.within; reached = w.ready.reached; carried = w.ready.carried });
+      ends = ends_too mid new s ∙ w.ends;
+    }
+
+-- only the parameters that are lent have changed
+pub forgets : (old new : Pieces) → IsUnderWay old → ((p : Parameters) → queue_actions p old.queue ≡ []) → new.parser.now.held ≡ old.parser.now.held → new.bytes ≡ old.bytes → new.count ≡ old.count → new.queue ≡ old.queue → GoesOn old new
+forgets old new u q h b n w = record {
+  same = λ start. rw (h, b, n, w, q new.parser.now.parameters, q old.parser.now.parameters) refl;
+  ready = record { within = rw (n, b) u.within; reached = rw h u.reached; carried = rw (h, n, b) u.carried };
+  ends = rw (h, b, n) refl;
+}
+
+-- ---- what is handed out behind the same
+
+given_behind : (old mid new : Pieces) (piece : Option PieceCode) → GoesOn old mid → HasGiven mid piece new → HasGiven old piece new
+given_behind old mid new piece g h = record {
+  gives = λ start. subst (λ (x : List Piece). GivesPiece x piece (open_pieces start new)) (g.same start) (h.gives start);
+  ready = h.ready;
+  ends = h.ends ∙ g.ends;
+  done = λ z. h.done z ∙ g.ends;
+}
+
+pub goes_behind : (old mid new : Pieces) (answer : Option (Result PieceCode ParseError)) → GoesOn old mid → IsOpen old → lender_of mid ≡ lender_of old → mid.stage ≡ old.stage → PiecesGo mid answer new → PiecesGo old answer new
+goes_behind old mid new (Some (Ok piece)) g o l s p = record { same = p.same ∙ l; items = (o, p.items.1, given_behind old mid new (Some piece) g p.items.2); parser = p.parser }
+goes_behind old mid new (Some (Err refusal.Memory)) g o l s p = record { same = p.same ∙ l; items = (o, p.items.1); parser = p.parser }
+goes_behind old mid new (Some (Err refusal.Failed)) g o l s p = absurd (let e : stage.Open ≡ stage.Failed = sym o ∙ sym s ∙ p.items.0 in cc)
+goes_behind old mid new None g o l s p = record {
+  same = p.same ∙ l;
+  items = (p.items.0, λ x. given_behind old mid new None g (p.items.1 (s ∙ x)));
+  parser = ((λ x. p.parser.0 (s ∙ x)), λ x. absurd (let e : stage.Open ≡ stage.Over = sym o ∙ x in cc));
+}

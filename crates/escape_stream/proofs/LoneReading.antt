@@ -24,10 +24,10 @@ first_of (lone.Escape final) = Some (dispatch.Escape None final)
 first_of (lone.ControlSequence final n) = Some (dispatch.ControlSequence final)
 
 -- a queue that holds what was read
-queue_of : Read → Queue
+pub queue_of : Read → Queue
 queue_of l = record { sequence = None; waiting = record { first = first_of l; second = None; third = None; fourth = None } }
 
-queued : (p : Parameters) (l : Read) → queue_actions p (queue_of l) ≡ actions_of (dispatches_in p (lone_step l).dispatches)
+pub queued : (p : Parameters) (l : Read) → queue_actions p (queue_of l) ≡ actions_of (dispatches_in p (lone_step l).dispatches)
 unfolding queue_of first_of
 queued p lone.Nothing = refl
 queued p (lone.Part n) = refl
@@ -36,20 +36,25 @@ queued p (lone.Escape final) = refl
 queued p (lone.ControlSequence final n) = refl
 
 -- what waits then
-abbrev pub sequence_values : Parameters → Read → List StreamAction
-sequence_values p (lone.ControlSequence final n) = actions_of_dispatch (stream.ControlSequence p.tokens p.truncated final)
-sequence_values p lone.Nothing = []
-sequence_values p (lone.Part n) = []
-sequence_values p (lone.Control b) = []
-sequence_values p (lone.Escape final) = []
+abbrev pub values_behind : Parameters → Read → List StreamAction
+values_behind p (lone.ControlSequence final n) = actions_of_dispatch (stream.ControlSequence p.tokens p.truncated final)
+values_behind p lone.Nothing = []
+values_behind p (lone.Part n) = []
+values_behind p (lone.Control b) = []
+values_behind p (lone.Escape final) = []
 
-split : (p : Parameters) (l : Read) → queue_actions p (queue_of l) ≡ lone_values l ++ sequence_values p l
+split : (p : Parameters) (l : Read) → queue_actions p (queue_of l) ≡ lone_values l ++ values_behind p l
 unfolding queue_of first_of
 split p lone.Nothing = refl
 split p (lone.Part n) = refl
 split p (lone.Control b) = refl
 split p (lone.Escape final) = refl
 split p (lone.ControlSequence final n) = append-nil _
+
+-- the actions of a control sequence that waits
+pub sequence_queued : (p : Parameters) (control n : ℕ) → queue_actions p (queue_of (lone.ControlSequence control n)) ≡ actions_of_dispatch (stream.ControlSequence p.tokens p.truncated control)
+unfolding queue_of first_of
+sequence_queued p control n = append-nil _
 
 no_text : (l : Read) → (lone_step l).text ≡ 0
 no_text lone.Nothing = refl
@@ -59,7 +64,7 @@ no_text (lone.Escape final) = refl
 no_text (lone.ControlSequence final n) = refl
 
 pub lone_read : (old new : Pieces) (bytes : List ℕ) (l : Read) → bytes ≡ drop old.count old.bytes.now → Reads new.parser.now.parameters old.parser.now.held bytes (lone_step l) new.parser.now.held → new.count ≡ old.count + (lone_step l).count
-    → ((p : Parameters) → queue_actions p new.queue ≡ sequence_values p l) → HasReadLone old l new
+    → ((p : Parameters) → queue_actions p new.queue ≡ values_behind p l) → HasReadLone old l new
 lone_read old new bytes l e r n q = record {
   queue = queue_of l;
   read = record {

@@ -68,3 +68,11 @@ right_none (x ∷ xs) ys e = cc
 
 pub empty_waiting : (p : Parameters) (q : Queue) → queue_actions p q ≡ [] → actions_of (waiting_dispatches p q.waiting) ≡ []
 empty_waiting p q e = right_none (sequence_actions p q.sequence) (actions_of (waiting_dispatches p q.waiting)) e
+
+-- the first action of what has begun
+pub begun_gives : (before all after now waiting : List StreamAction) (next : Option Action) → Gives all next after → all ≡ before → now ≡ after → waiting ≡ [] → Gives before next (now ++ waiting)
+begun_gives before all after now waiting None g e n w = sym e ∙ g
+begun_gives before all after now waiting (Some a) g e n w = sym e ∙ g ∙ ap (λ (l : List StreamAction). value_of a ∷ l) (sym n ∙ sym (append-nil now) ∙ ap (λ (l : List StreamAction). now ++ l) (sym w))
+
+pub both_none : (now after waiting : List StreamAction) → after ≡ [] → now ≡ after → waiting ≡ [] → now ++ waiting ≡ []
+both_none now after waiting z n w = (λ i. (n ∙ z) i ++ w i)

@@ -9,6 +9,8 @@ use Rattle.escape_framing.specs.Framing.{Framing}
 use Rattle.escape_framing.specs.Framed.{framed_behind, IsReached, IsCarried}
 use Rattle.escape_framing.specs.Dispatched.{dispatches_in}
 use Rattle.escape_framing.specs.Stepped.{Reads}
+use Rattle.escape_framing.specs.Quick.{lone_step}
+use Rattle.escape_stream.specs.declared.control.ControlCode.{ControlCode}
 use Rattle.escape_framing.specs.declared.step.Step.{Step}
 use Rattle.escape_stream.specs.StreamActions.{actions_of, named_control}
 use Rattle.escape_stream.specs.Pieces.{Piece, Text, Lone, pieces_of}
@@ -106,6 +108,18 @@ pub record HasReadLone (old : Pieces) (l : Read) (new : Pieces) : Type 0 where
   pub read : HasRead old 0 (record new { queue = queue })
   pub actions : (p : Parameters) → queue_actions p queue ≡ lone_values l ++ queue_actions p new.queue
 
+-- A control sequence with this final byte was read at once; its actions don't wait yet.
+pub record HasReadSequence (old : Pieces) (control : ℕ) (new : Pieces) : Type 0 where
+  pub len : ℕ
+  pub reads : Reads new.parser.now.parameters old.parser.now.held (drop old.count old.bytes.now) (lone_step (lone.ControlSequence control len)) new.parser.now.held
+  pub count : new.count ≡ old.count + len
+
+-- a control stands at the front of the bytes that are left
+pub record IsControlAt (it : Pieces) (control : ControlCode) : Type 0 where
+  pub byte : ℕ
+  pub named : control_named byte ≡ Some control
+  pub reads : Reads it.parser.now.parameters it.parser.now.held (drop it.count it.bytes.now) (lone_step (lone.Control byte)) it.parser.now.held
+
 -- what one call has handed out, and how it goes on
 pub record HasGiven (old : Pieces) (piece : Option PieceCode) (new : Pieces) : Type 0 where
   pub gives : (start : ℕ) → GivesPiece (open_pieces start old) piece (open_pieces start new)
@@ -118,6 +132,11 @@ pub record GoesOn (old new : Pieces) : Type 0 where
   pub same : (start : ℕ) → open_pieces start new ≡ open_pieces start old
   pub ready : IsUnderWay new
   pub ends : held_at_end new ≡ held_at_end old
+
+-- a piece was handed out, or the same is left
+abbrev pub Tries : Pieces → Option PieceCode → Pieces → Type 0
+Tries old (Some piece) new = HasGiven old (Some piece) new
+Tries old None new = GoesOn old new
 
 -- where it stands: its parser had failed before, it is open, or it is over
 abbrev pub HadFailed : Pieces → Type 0

@@ -1,5 +1,5 @@
 -- What a queue of dispatches has yet to hand out.
-use Rattle.std.specs.Prelude.{◌≡◌, List, [], ◌++◌, map, Option, Some, None}
+use Rattle.std.specs.Prelude.{◌≡◌, ℕ, List, [], ◌++◌, map, Option, Some, None}
 use Rattle.csi_codec.specs.Parsing.{actions_from}
 use Rattle.escape_framing.specs.Dispatch as stream
 use Rattle.escape_framing.specs.Dispatched.{optional, dispatch_of}
@@ -23,6 +23,10 @@ sequence_actions p (Some s) = map csi (actions_from s.place p.tokens p.truncated
 
 abbrev pub queue_actions : Parameters → Queue → List StreamAction
 queue_actions p q = sequence_actions p q.sequence ++ actions_of (waiting_dispatches p q.waiting)
+
+-- the actions of a control sequence with this final byte and these parameters
+abbrev pub sequence_values : Parameters → ℕ → List StreamAction
+sequence_values p control = actions_of_dispatch (stream.ControlSequence p.tokens p.truncated control)
 
 -- the action of a dispatch, unless it is a control sequence
 abbrev pub lone_actions : Parameters → Dispatch → List StreamAction

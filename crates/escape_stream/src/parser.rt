@@ -1,5 +1,5 @@
 //! The parser: from bytes to actions.
-ghost use Rattle.std.specs.Prelude.{◌≡◌, ◌≢◌, ◌↔◌, IsTrue, ℕ, ◌≤◌, ◌<◌, Bool, true, false, IsErrOf, IfOk, OnOk, Option, Some, None, List, [], ◌∷◌, ◌++◌, map, fold, take, length, is_err};
+ghost use Rattle.std.specs.Prelude.{◌≡◌, ◌≢◌, ◌↔◌, IsTrue, ℕ, ◌≤◌, ◌<◌, Bool, true, false, IsErrOf, IfOk, OnOk, Option, Some, None, IfSome, List, [], ◌∷◌, ◌++◌, map, fold, take, length, is_err};
 ghost use Rattle.escape_framing.specs.Decides.{Decides};
 ghost use Rattle.escape_framing.specs.Dispatched.{optional, dispatches_in};
 ghost use Rattle.escape_framing.specs.Held.{Held, held_step, hand_out, held_of, nothing_held};
@@ -12,10 +12,10 @@ ghost use Rattle.escape_stream.specs.Pending.{Begins, Gives};
 ghost use Rattle.escape_framing.specs.Framed.{IsReached};
 ghost use Rattle.escape_framing.specs.Stepped.{Reads};
 ghost use Rattle.escape_framing.specs.Quick.{text_step, lone_step};
-ghost use Rattle.escape_framing.specs.declared.lone.Lone.TheVariants.{Nothing};
+ghost use Rattle.escape_framing.specs.declared.lone.Lone.TheVariants.{Nothing, Control, ControlSequence};
 ghost use Rattle.escape_stream.specs.PiecesView.{lender_of, parser_of, open_pieces, held_at_end, IsUnderWay, IsOpen, HadFailed, IsReady};
 ghost use Rattle.escape_stream.specs.Pieces.{pieces};
-ghost use Rattle.escape_stream.specs.Queue.{queue_actions, IsEmpty};
+ghost use Rattle.escape_stream.specs.Queue.{queue_actions, sequence_values, IsEmpty};
 ghost use Rattle.std.specs.Option.{option_map};
 
 use crate::action::Action;
@@ -129,7 +129,44 @@ impl Parser {
         self.framer.next_lone(bytes)
     }
 
+    // The control at the front, where nothing is unfinished.
+    #[inline(always)]
+    pub(crate) fn read_control(&self, bytes: &[u8]) -> Option<u8>
+        ensures { IfSome result (λ byte. Reads self.now.parameters self.now.held bytes.now (lone_step (Control byte)) self.now.held) }
+    {
+        self.framer.next_control(bytes)
+    }
+
+    // Reads the control sequence at the front, where nothing is unfinished and all its bytes stand there, for pieces.
+    #[inline(always)]
+    pub(crate) fn read_sequence(&mut self, bytes: &[u8]) -> Option<(u8, usize)>
+        requires { self.old.failed ≡ true }
+        ensures some { IfSome result (λ s. Reads self.new.parameters self.old.held bytes.now (lone_step (ControlSequence s.0 s.1)) self.new.held) }
+        ensures held { self.new.held ≡ self.old.held }
+        ensures failed { self.new.failed ≡ true }
+    {
+        self.framer.next_sequence(bytes)
+    }
+
+    // The first action of the control sequence that was read last; the others wait in an empty queue.
+    #[inline(always)]
+    pub(crate) fn first_action(
+        &self,
+        queue: &mut Queue,
+        control: u8,
+    ) -> Result<Option<Action>, AllocError>
+        requires { IsEmpty queue.old }
+        ensures gives { IfOk result (λ next. Gives (sequence_values self.now.parameters control) next (queue_actions self.now.parameters queue.new)) }
+        ensures none { IfOk result (λ next. next ≡ None → queue_actions self.now.parameters queue.new ≡ []) }
+    {
+        let parameters = self.framer.parameters();
+        let truncated = self.framer.parameters_truncated();
+        let next = queue.begin_sequence(self.alloc, parameters, truncated, control)?;
+        Ok(next)
+    }
+
     // The next action of a queue.
+    #[inline(always)]
     pub(crate) fn next_action(&self, queue: &mut Queue) -> Result<Option<Action>, AllocError>
         ensures gives { IfOk result (λ next. Gives (queue_actions self.now.parameters queue.old) next (queue_actions self.now.parameters queue.new)) }
         ensures empty { IfOk result (λ next. next ≡ None → IsEmpty queue.new) }

@@ -1,12 +1,15 @@
 //! The pieces of a stream: texts, which are lent from the bytes that are fed, and actions.
-ghost use Rattle.std.specs.Prelude.{◌≡◌, ◌≢◌, ◌↔◌, ◌+◌, ◌≤◌, ℕ, true, None, IsTrue, IfOk, length, drop, take};
+ghost use Rattle.std.specs.Prelude.{◌≡◌, ◌≢◌, ◌↔◌, ◌+◌, ◌<◌, ◌≤◌, ℕ, [], Some, true, None, IsTrue, IfOk, IfSome, length, drop, take};
 ghost use Rattle.escape_framing.specs.Framed.{IsText};
-ghost use Rattle.escape_stream.specs.PiecesView.{IsUnderWay, IsOpen, lender_of, parser_of, lone_values, IsUnread, HasGiven, HasRead, HasReadLone, PiecesGo};
+ghost use Rattle.escape_framing.specs.Stepped.{Reads};
+ghost use Rattle.escape_framing.specs.Quick.{text_step};
+ghost use Rattle.escape_stream.specs.PiecesView.{IsUnderWay, IsOpen, lender_of, parser_of, lone_values, IsUnread, HasGiven, HasRead, HasReadLone, HasReadSequence, IsControlAt, GoesOn, Tries, PiecesGo};
 ghost use Rattle.escape_stream.specs.Pending.{Gives, pending_values};
-ghost use Rattle.escape_stream.specs.Queue.{queue_actions, IsEmpty};
+ghost use Rattle.escape_stream.specs.Queue.{queue_actions, sequence_values, IsEmpty};
 ghost use Rattle.escape_framing.specs.declared.lone.Lone.TheVariants.{Nothing};
 
 use crate::action::Action;
+use crate::control::ControlCode;
 use crate::parser::Parser;
 use crate::pending::control_action;
 use crate::queue::Queue;
@@ -132,7 +135,7 @@ impl<'a> Pieces<'a> {
     }
 
     // The next action of those that wait.
-    #[inline(never)]
+    #[inline(always)]
     fn queued_action(&mut self) -> Result<Option<Action>, AllocError>
         ensures same { lender_of self.new ≡ lender_of self.old }
         ensures parser { self.new.parser.now ≡ self.old.parser.now }
@@ -164,24 +167,58 @@ impl<'a> Pieces<'a> {
         self.queued_action()
     }
 
-    // Reads a text of the bytes that are left, where nothing is unfinished, and answers how many bytes that is.
+    // The control at the front of the bytes that are left, where nothing is unfinished.
     #[inline(always)]
-    fn read_text(&mut self) -> usize
+    fn control(&self) -> Option<ControlCode>
+        requires within { self.now.count ≤ length self.now.bytes.now }
+        ensures { IfSome result (λ control. IsControlAt self.now control) }
+    {
+        let bytes = self.bytes;
+        let byte = self.parser.read_control(behind(bytes, self.count))?;
+        ControlCode::from_u8(byte)
+    }
+
+    // Hands out a control.
+    #[inline(always)]
+    fn take_control(&mut self, control: ControlCode) -> Piece<'a>
         requires within { self.old.count ≤ length self.old.bytes.now }
         requires empty { IsEmpty self.old.queue }
+        requires stands { IsControlAt self.old control }
         ensures same { lender_of self.new ≡ lender_of self.old }
-        ensures bytes { self.new.bytes ≡ self.old.bytes }
         ensures stage { self.new.stage ≡ self.old.stage }
         ensures parser { self.new.parser.now ≡ self.old.parser.now }
-        ensures queue { self.new.queue ≡ self.old.queue }
-        ensures reads { result ≢ 0 → HasRead self.old result self.new }
-        ensures none { result ≡ 0 → self.new.count ≡ self.old.count }
+        ensures gives { IsUnderWay self.old → HasGiven self.old (Some result) self.new }
+    {
+        self.count += 1;
+        Piece::Action(Action::Control(control))
+    }
+
+    // How many bytes of text stand at the front of the bytes that are left, where nothing is unfinished.
+    #[inline(always)]
+    fn text_len(&self) -> usize
+        requires within { self.now.count ≤ length self.now.bytes.now }
+        ensures { 0 < result → Reads self.now.parser.now.parameters self.now.parser.now.held (drop self.now.count self.now.bytes.now) (text_step result) self.now.parser.now.held }
+    {
+        let bytes = self.bytes;
+        self.parser.read_text(behind(bytes, self.count))
+    }
+
+    // Hands out so many bytes of text.
+    #[inline(always)]
+    fn take_text(&mut self, len: usize) -> Piece<'a>
+        requires within { self.old.count ≤ length self.old.bytes.now }
+        requires some { 0 < len }
+        requires empty { IsEmpty self.old.queue }
+        requires reads { Reads self.old.parser.now.parameters self.old.parser.now.held (drop self.old.count self.old.bytes.now) (text_step len) self.old.parser.now.held }
+        ensures same { lender_of self.new ≡ lender_of self.old }
+        ensures stage { self.new.stage ≡ self.old.stage }
+        ensures parser { self.new.parser.now ≡ self.old.parser.now }
+        ensures gives { IsUnderWay self.old → HasGiven self.old (Some result) self.new }
     {
         let bytes = self.bytes;
         let before = self.count;
-        let text = self.parser.read_text(behind(bytes, before));
-        self.count = before + text;
-        text
+        self.count = before + len;
+        Piece::Text(text_of(part(bytes, before, len)))
     }
 
     // Reads a control or a sequence of the bytes that are left, where nothing is unfinished.
@@ -211,6 +248,66 @@ impl<'a> Pieces<'a> {
             }
         }
         lone
+    }
+
+    // Reads the control sequence at the front of the bytes that are left, where nothing is unfinished and all its bytes
+    // stand there, and answers its final byte.
+    #[inline(always)]
+    fn read_sequence(&mut self) -> Option<u8>
+        requires within { self.old.count ≤ length self.old.bytes.now }
+        requires failed { self.old.parser.now.failed ≡ true }
+        requires empty { IsEmpty self.old.queue }
+        ensures same { lender_of self.new ≡ lender_of self.old }
+        ensures bytes { self.new.bytes ≡ self.old.bytes }
+        ensures stage { self.new.stage ≡ self.old.stage }
+        ensures failed { self.new.parser.now.failed ≡ true }
+        ensures queue { self.new.queue ≡ self.old.queue }
+        ensures some { IfSome result (λ control. HasReadSequence self.old control self.new) }
+        ensures none { result ≡ None → IsUnderWay self.old → GoesOn self.old self.new }
+    {
+        let bytes = self.bytes;
+        let before = self.count;
+        let (control, count) = self.parser.read_sequence(behind(bytes, before))?;
+        self.count = before + count;
+        Some(control)
+    }
+
+    // The first action of the control sequence that was read last; the others wait.
+    #[inline(always)]
+    fn first_action(&mut self, control: u8) -> Result<Option<Action>, AllocError>
+        requires { IsEmpty self.old.queue }
+        ensures same { lender_of self.new ≡ lender_of self.old }
+        ensures parser { self.new.parser.now ≡ self.old.parser.now }
+        ensures bytes { self.new.bytes ≡ self.old.bytes }
+        ensures count { self.new.count ≡ self.old.count }
+        ensures stage { self.new.stage ≡ self.old.stage }
+        ensures gives { IfOk result (λ next. Gives (sequence_values self.old.parser.now.parameters control) next (queue_actions self.old.parser.now.parameters self.new.queue)) }
+        ensures none { IfOk result (λ next. next ≡ None → queue_actions self.old.parser.now.parameters self.new.queue ≡ []) }
+    {
+        let parser = &*self.parser;
+        let next = parser.first_action(&mut self.queue, control)?;
+        Ok(next)
+    }
+
+    // Hands out the first action of the control sequence at the front of the bytes that are left, where nothing is
+    // unfinished and all its bytes stand there.
+    #[inline(always)]
+    fn sequence(&mut self) -> Result<Option<Piece<'a>>, AllocError>
+        requires ready { IsUnderWay self.old }
+        requires failed { self.old.parser.now.failed ≡ true }
+        requires empty { IsEmpty self.old.queue }
+        ensures same { lender_of self.new ≡ lender_of self.old }
+        ensures stage { self.new.stage ≡ self.old.stage }
+        ensures failed { self.new.parser.now.failed ≡ true }
+        ensures tries { IfOk result (λ piece. Tries self.old piece self.new) }
+    {
+        let Some(control) = self.read_sequence() else {
+            return Ok(None);
+        };
+        match self.first_action(control)? {
+            Some(action) => Ok(Some(Piece::Action(action))),
+            None => Ok(None),
+        }
     }
 
     // The bytes of a text that was read of those behind so many.
@@ -243,10 +340,6 @@ impl<'a> Pieces<'a> {
             if count == self.bytes.len() {
                 return Ok(None);
             }
-            let text = self.read_text();
-            if text != 0 {
-                return Ok(Some(Piece::Text(self.text_at(count, text))));
-            }
             let lone = self.read_lone();
             if let Some(action) = lone_action(lone) {
                 return Ok(Some(Piece::Action(action)));
@@ -261,9 +354,9 @@ impl<'a> Pieces<'a> {
         }
     }
 
-    // The next item of pieces that are open.
-    #[inline(always)]
-    fn next_open(&mut self) -> Option<Result<Piece<'a>, ParseError>>
+    // The next item of pieces that are open, byte by byte where nothing is read at once.
+    #[inline(never)]
+    fn next_by_loop(&mut self) -> Option<Result<Piece<'a>, ParseError>>
         requires open { IsOpen self.old }
         requires ready { IsUnderWay self.old }
         requires failed { self.old.parser.now.failed ≡ true }
@@ -281,6 +374,48 @@ impl<'a> Pieces<'a> {
                 Some(Err(ParseError::Memory))
             }
         }
+    }
+
+    // The next item of pieces that are open, where it is no text and no control at the front.
+    #[inline(never)]
+    fn next_by_step(&mut self) -> Option<Result<Piece<'a>, ParseError>>
+        requires open { IsOpen self.old }
+        requires ready { IsUnderWay self.old }
+        requires failed { self.old.parser.now.failed ≡ true }
+        ensures { PiecesGo self.old result self.new }
+    {
+        if self.queue.is_waiting() {
+            return self.next_by_loop();
+        }
+        match self.sequence() {
+            Ok(Some(piece)) => Some(Ok(piece)),
+            Ok(None) => self.next_by_loop(),
+            Err(_) => {
+                self.stage = Stage::Over;
+                Some(Err(ParseError::Memory))
+            }
+        }
+    }
+
+    // The next item of pieces that are open: a control or a text at once.
+    #[inline(always)]
+    fn next_open(&mut self) -> Option<Result<Piece<'a>, ParseError>>
+        requires open { IsOpen self.old }
+        requires ready { IsUnderWay self.old }
+        requires failed { self.old.parser.now.failed ≡ true }
+        ensures { PiecesGo self.old result self.new }
+    {
+        if self.queue.is_waiting() {
+            return self.next_by_step();
+        }
+        if let Some(control) = self.control() {
+            return Some(Ok(self.take_control(control)));
+        }
+        let len = self.text_len();
+        if len == 0 {
+            return self.next_by_step();
+        }
+        Some(Ok(self.take_text(len)))
     }
 }
 

@@ -4,7 +4,7 @@ ghost use Rattle.escape_framing.specs.Dispatched.{optional, dispatch_of, dispatc
 ghost use Rattle.escape_stream.specs.StreamActions.{actions_of, actions_of_dispatch};
 ghost use Rattle.escape_framing.specs.Parameters.{Parameters};
 ghost use Rattle.escape_stream.specs.Pending.{Gives, pending_values};
-ghost use Rattle.escape_stream.specs.Queue.{waiting_dispatches, sequence_actions, queue_actions, lone_actions, later_actions, IsEmpty};
+ghost use Rattle.escape_stream.specs.Queue.{waiting_dispatches, sequence_actions, sequence_values, queue_actions, lone_actions, later_actions, IsEmpty};
 ghost use Rattle.escape_framing.specs.Dispatch.{ControlSequence};
 
 use crate::action::Action;
@@ -87,14 +87,28 @@ impl Sequence {
         }
     }
 
+    // The sequence, unless all its actions were handed out.
+    #[inline(always)]
+    fn unless_done(self, parameters: &[CsiParam]) -> Option<Sequence>
+        ensures { (p : Parameters) → p.tokens ≡ parameters.now → sequence_actions p result ≡ sequence_actions p (Some self) }
+    {
+        if self.place.is_end(parameters) {
+            None
+        } else {
+            Some(self)
+        }
+    }
+
     // The next action, if there is one.
+    #[inline(always)]
     fn next(
         &mut self,
         alloc: Global,
         parameters: &[CsiParam],
         truncated: bool,
     ) -> Result<Option<Action>, AllocError>
-        ensures { (p : Parameters) → p.tokens ≡ parameters.now → p.truncated ≡ truncated → IfOk result (λ next. Gives (sequence_actions p (Some self.old)) next (sequence_actions p (Some self.new))) }
+        ensures gives { (p : Parameters) → p.tokens ≡ parameters.now → p.truncated ≡ truncated → IfOk result (λ next. Gives (sequence_actions p (Some self.old)) next (sequence_actions p (Some self.new))) }
+        ensures none { (p : Parameters) → p.tokens ≡ parameters.now → p.truncated ≡ truncated → IfOk result (λ next. next ≡ None → sequence_actions p (Some self.new) ≡ []) }
     {
         let control = char::from(self.control);
         match self.place.next(alloc, parameters, truncated, control) {
@@ -192,7 +206,28 @@ impl Queue {
         self.sequence = Some(Sequence::start(control));
     }
 
-    // The next action of the control sequence that is read, if there is one.
+    /// The first action of a control sequence with this final byte and these parameters, where none wait; the others
+    /// wait then.
+    #[inline(always)]
+    pub fn begin_sequence(
+        &mut self,
+        alloc: Global,
+        parameters: &[CsiParam],
+        truncated: bool,
+        control: u8,
+    ) -> Result<Option<Action>, AllocError>
+        requires { IsEmpty self.old }
+        ensures gives { (p : Parameters) → p.tokens ≡ parameters.now → p.truncated ≡ truncated → IfOk result (λ next. Gives (sequence_values p control) next (queue_actions p self.new)) }
+        ensures none { (p : Parameters) → p.tokens ≡ parameters.now → p.truncated ≡ truncated → IfOk result (λ next. next ≡ None → queue_actions p self.new ≡ []) }
+    {
+        let mut sequence = Sequence::start(control);
+        let next = sequence.next(alloc, parameters, truncated)?;
+        self.sequence = sequence.unless_done(parameters);
+        Ok(next)
+    }
+
+    // The next action of the control sequence that is read, if there is one. One whose actions are all handed out goes.
+    #[inline(always)]
     fn next_of_sequence(
         &mut self,
         alloc: Global,
@@ -206,7 +241,7 @@ impl Queue {
             return Ok(None);
         };
         let next = sequence.next(alloc, parameters, truncated)?;
-        self.sequence = Some(sequence);
+        self.sequence = sequence.unless_done(parameters);
         Ok(next)
     }
 
@@ -221,8 +256,9 @@ impl Queue {
         Ok(action)
     }
 
-    /// The next action, if there is one, with the parameters of the last control sequence.
-    pub fn next(
+    // The next action of the dispatches, where no control sequence is read.
+    #[inline(never)]
+    fn next_of_waiting(
         &mut self,
         alloc: Global,
         parameters: &[CsiParam],
@@ -248,5 +284,25 @@ impl Queue {
                 return Ok(action);
             }
         }
+    }
+
+    /// The next action, if there is one, with the parameters of the last control sequence.
+    #[inline(always)]
+    pub fn next(
+        &mut self,
+        alloc: Global,
+        parameters: &[CsiParam],
+        truncated: bool,
+    ) -> Result<Option<Action>, AllocError>
+        ensures gives { (p : Parameters) → p.tokens ≡ parameters.now → p.truncated ≡ truncated → IfOk result (λ next. Gives (queue_actions p self.old) next (queue_actions p self.new)) }
+        ensures empty { IfOk result (λ next. next ≡ None → IsEmpty self.new) }
+    {
+        let next = self.next_of_sequence(alloc, parameters, truncated)?;
+        if next.is_some() {
+            return Ok(next);
+        }
+        self.sequence = None;
+        let next = self.next_of_waiting(alloc, parameters, truncated)?;
+        Ok(next)
     }
 }

@@ -24,17 +24,6 @@ returns-then-count-self-clause-gives c =
     let g = subst (λ (x : Option Action). Gives (queue_actions p c.loop-action.self.queue) x (queue_actions p c.next_action.new.self.queue)) e n.gives in
     gives_none c.args.self.now c.loop-action.self c.next_action.new.self (queue_actions p c.next_action.new.self.queue) c.loop-action.invariant.goes s g c.if-count-self.true
 
-pub returns-then-text-ne0-clause-gives : goal.returns-then-text-ne0-clause-gives
-returns-then-text-ne0-clause-gives c =
-    let n = c.in_ok-action.ensures in
-    let s : SameBut c.loop-action.self c.next_action.new.self = record { parser = n.parser; bytes = n.bytes; count = n.count } in
-    let p = c.loop-action.self.parser.now.parameters in
-    let e : c.in_ok-action.action ≡ None = search rules in
-    let g = subst (λ (x : Option Action). Gives (queue_actions p c.loop-action.self.queue) x (queue_actions p c.next_action.new.self.queue)) e n.gives in
-    let t = c.read_text-text.ensures in
-    gives_text c.args.self.now c.loop-action.self c.next_action.new.self c.read_text-text.new.self (queue_actions p c.next_action.new.self.queue) c.read_text-text.result c.text_at.result c.loop-action.invariant.goes s g (t.reads c.if-text-ne0.true) t.bytes c.if-text-ne0.true
-    (rw (← t.bytes) c.text_at.ensures)
-
 pub returns-in-Some-lone_action-clause-gives : goal.returns-in-Some-lone_action-clause-gives
 returns-in-Some-lone_action-clause-gives c =
     let n = c.in_ok-action.ensures in
@@ -42,12 +31,9 @@ returns-in-Some-lone_action-clause-gives c =
     let p = c.loop-action.self.parser.now.parameters in
     let e : c.in_ok-action.action ≡ None = search rules in
     let g = subst (λ (x : Option Action). Gives (queue_actions p c.loop-action.self.queue) x (queue_actions p c.next_action.new.self.queue)) e n.gives in
-    let t = c.read_text-text.ensures in
-    let u : SameBut c.next_action.new.self c.read_text-text.new.self = record { parser = t.parser; bytes = t.bytes; count = t.none (search rules) } in
-    let v = same_then c.loop-action.self c.next_action.new.self c.read_text-text.new.self s u in
     let q = c.read_lone-lone.ensures in
     let a = subst (λ (x : Option Action). pending_values x None ≡ lone_values c.read_lone-lone.result) c.in-Some-lone_action.is c.lone_action.ensures in
-    lone_gives c.args.self.now c.loop-action.self c.read_text-text.new.self c.read_lone-lone.new.self (queue_actions p c.next_action.new.self.queue) c.read_lone-lone.result c.in-Some-lone_action.action c.loop-action.invariant.goes v g (q.reads (some_lone c.read_lone-lone.result c.in-Some-lone_action.action a)) q.bytes a
+    lone_gives c.args.self.now c.loop-action.self c.next_action.new.self c.read_lone-lone.new.self (queue_actions p c.next_action.new.self.queue) c.read_lone-lone.result c.in-Some-lone_action.action c.loop-action.invariant.goes s g (q.reads (some_lone c.read_lone-lone.result c.in-Some-lone_action.action a)) q.bytes a
 
 pub loop-action-smaller-then-not-is_nothing : goal.loop-action-smaller-then-not-is_nothing
 loop-action-smaller-then-not-is_nothing c =
@@ -56,14 +42,11 @@ loop-action-smaller-then-not-is_nothing c =
     let p = c.loop-action.self.parser.now.parameters in
     let e : c.in_ok-action.action ≡ None = search rules in
     let g = subst (λ (x : Option Action). Gives (queue_actions p c.loop-action.self.queue) x (queue_actions p c.next_action.new.self.queue)) e n.gives in
-    let t = c.read_text-text.ensures in
-    let u : SameBut c.next_action.new.self c.read_text-text.new.self = record { parser = t.parser; bytes = t.bytes; count = t.none (search rules) } in
-    let v = same_then c.loop-action.self c.next_action.new.self c.read_text-text.new.self s u in
     let q = c.read_lone-lone.ensures in
     let r : c.read_lone-lone.result ≢ Nothing = search rules in
     let a : [] ≡ lone_values c.read_lone-lone.result = search rules in
-    let k : c.read_text-text.new.self.count ≢ length c.read_text-text.new.self.bytes.now = rw (u.count, u.bytes) c.if-count-self.false in
-    lone_closer c.args.self.now c.loop-action.self c.read_text-text.new.self c.read_lone-lone.new.self (queue_actions p c.next_action.new.self.queue) c.read_lone-lone.result c.loop-action.invariant.goes.ready.within v g (q.reads r) q.bytes a k
+    let k : c.next_action.new.self.count ≢ length c.next_action.new.self.bytes.now = c.if-count-self.false in
+    lone_closer c.args.self.now c.loop-action.self c.next_action.new.self c.read_lone-lone.new.self (queue_actions p c.next_action.new.self.queue) c.read_lone-lone.result c.loop-action.invariant.goes.ready.within s g (q.reads r) q.bytes a k
 
 pub loop-action-preserved-then-not-is_nothing : goal.loop-action-preserved-then-not-is_nothing
 loop-action-preserved-then-not-is_nothing c =
@@ -72,35 +55,29 @@ loop-action-preserved-then-not-is_nothing c =
     let p = c.loop-action.self.parser.now.parameters in
     let e : c.in_ok-action.action ≡ None = search rules in
     let g = subst (λ (x : Option Action). Gives (queue_actions p c.loop-action.self.queue) x (queue_actions p c.next_action.new.self.queue)) e n.gives in
-    let t = c.read_text-text.ensures in
-    let u : SameBut c.next_action.new.self c.read_text-text.new.self = record { parser = t.parser; bytes = t.bytes; count = t.none (search rules) } in
-    let v = same_then c.loop-action.self c.next_action.new.self c.read_text-text.new.self s u in
     let q = c.read_lone-lone.ensures in
     let r : c.read_lone-lone.result ≢ Nothing = search rules in
     let a : [] ≡ lone_values c.read_lone-lone.result = search rules in
     record {
-      same = q.same ∙ t.same ∙ n.same ∙ c.loop-action.invariant.same;
-      stage = q.stage ∙ t.stage ∙ n.stage ∙ c.loop-action.invariant.stage;
+      same = q.same ∙ n.same ∙ c.loop-action.invariant.same;
+      stage = q.stage ∙ n.stage ∙ c.loop-action.invariant.stage;
       failed = q.failed;
-      goes = lone_goes c.args.self.now c.loop-action.self c.read_text-text.new.self c.read_lone-lone.new.self (queue_actions p c.next_action.new.self.queue) c.read_lone-lone.result c.loop-action.invariant.goes v g (q.reads r) q.bytes a;
+      goes = lone_goes c.args.self.now c.loop-action.self c.next_action.new.self c.read_lone-lone.new.self (queue_actions p c.next_action.new.self.queue) c.read_lone-lone.result c.loop-action.invariant.goes s g (q.reads r) q.bytes a;
     }
 
-pub returns-then-text-ne0-2-clause-gives : goal.returns-then-text-ne0-2-clause-gives
-returns-then-text-ne0-2-clause-gives c =
+pub returns-then-text-ne0-clause-gives : goal.returns-then-text-ne0-clause-gives
+returns-then-text-ne0-clause-gives c =
     let n = c.in_ok-action.ensures in
     let s : SameBut c.loop-action.self c.next_action.new.self = record { parser = n.parser; bytes = n.bytes; count = n.count } in
     let p = c.loop-action.self.parser.now.parameters in
     let e : c.in_ok-action.action ≡ None = search rules in
     let g = subst (λ (x : Option Action). Gives (queue_actions p c.loop-action.self.queue) x (queue_actions p c.next_action.new.self.queue)) e n.gives in
-    let t = c.read_text-text.ensures in
-    let u : SameBut c.next_action.new.self c.read_text-text.new.self = record { parser = t.parser; bytes = t.bytes; count = t.none (search rules) } in
-    let v = same_then c.loop-action.self c.next_action.new.self c.read_text-text.new.self s u in
     let q = c.read_lone-lone.ensures in
     let m = q.nothing (search rules) in
-    let w : SameBut c.read_text-text.new.self c.read_lone-lone.new.self = record { parser = m.parser; bytes = q.bytes; count = m.count } in
-    let x = same_then c.loop-action.self c.read_text-text.new.self c.read_lone-lone.new.self v w in
-    gives_text c.args.self.now c.loop-action.self c.read_lone-lone.new.self c.read.new.self (queue_actions p c.next_action.new.self.queue) c.in_ok-text.text c.text_at-then-text-ne0-2.result c.loop-action.invariant.goes x g c.in_ok-text.ensures.reads c.in_ok-text.ensures.bytes c.if-text-ne0-2.true
-    (rw (← c.in_ok-text.ensures.bytes, w.count, u.count) c.text_at-then-text-ne0-2.ensures)
+    let w : SameBut c.next_action.new.self c.read_lone-lone.new.self = record { parser = m.parser; bytes = q.bytes; count = m.count } in
+    let x = same_then c.loop-action.self c.next_action.new.self c.read_lone-lone.new.self s w in
+    gives_text c.args.self.now c.loop-action.self c.read_lone-lone.new.self c.read.new.self (queue_actions p c.next_action.new.self.queue) c.in_ok-text.text c.text_at.result c.loop-action.invariant.goes x g c.in_ok-text.ensures.reads c.in_ok-text.ensures.bytes c.if-text-ne0.true
+    (rw (← c.in_ok-text.ensures.bytes, w.count) c.text_at.ensures)
 
 pub loop-action-smaller : goal.loop-action-smaller
 loop-action-smaller c =
@@ -109,14 +86,11 @@ loop-action-smaller c =
     let p = c.loop-action.self.parser.now.parameters in
     let e : c.in_ok-action.action ≡ None = search rules in
     let g = subst (λ (x : Option Action). Gives (queue_actions p c.loop-action.self.queue) x (queue_actions p c.next_action.new.self.queue)) e n.gives in
-    let t = c.read_text-text.ensures in
-    let u : SameBut c.next_action.new.self c.read_text-text.new.self = record { parser = t.parser; bytes = t.bytes; count = t.none (search rules) } in
-    let v = same_then c.loop-action.self c.next_action.new.self c.read_text-text.new.self s u in
     let q = c.read_lone-lone.ensures in
     let m = q.nothing (search rules) in
-    let w : SameBut c.read_text-text.new.self c.read_lone-lone.new.self = record { parser = m.parser; bytes = q.bytes; count = m.count } in
-    let x = same_then c.loop-action.self c.read_text-text.new.self c.read_lone-lone.new.self v w in
-    let k : c.read_lone-lone.new.self.count ≢ length c.read_lone-lone.new.self.bytes.now = rw (w.count, w.bytes, u.count, u.bytes) c.if-count-self.false in
+    let w : SameBut c.next_action.new.self c.read_lone-lone.new.self = record { parser = m.parser; bytes = q.bytes; count = m.count } in
+    let x = same_then c.loop-action.self c.next_action.new.self c.read_lone-lone.new.self s w in
+    let k : c.read_lone-lone.new.self.count ≢ length c.read_lone-lone.new.self.bytes.now = rw (w.count, w.bytes) c.if-count-self.false in
     closer c.args.self.now c.loop-action.self c.read_lone-lone.new.self c.read.new.self (queue_actions p c.next_action.new.self.queue) c.in_ok-text.text c.loop-action.invariant.goes.ready.within x g c.in_ok-text.ensures.reads c.in_ok-text.ensures.bytes (search rules) k
 
 pub loop-action-preserved : goal.loop-action-preserved
@@ -126,16 +100,13 @@ loop-action-preserved c =
     let p = c.loop-action.self.parser.now.parameters in
     let e : c.in_ok-action.action ≡ None = search rules in
     let g = subst (λ (x : Option Action). Gives (queue_actions p c.loop-action.self.queue) x (queue_actions p c.next_action.new.self.queue)) e n.gives in
-    let t = c.read_text-text.ensures in
-    let u : SameBut c.next_action.new.self c.read_text-text.new.self = record { parser = t.parser; bytes = t.bytes; count = t.none (search rules) } in
-    let v = same_then c.loop-action.self c.next_action.new.self c.read_text-text.new.self s u in
     let q = c.read_lone-lone.ensures in
     let m = q.nothing (search rules) in
-    let w : SameBut c.read_text-text.new.self c.read_lone-lone.new.self = record { parser = m.parser; bytes = q.bytes; count = m.count } in
-    let x = same_then c.loop-action.self c.read_text-text.new.self c.read_lone-lone.new.self v w in
+    let w : SameBut c.next_action.new.self c.read_lone-lone.new.self = record { parser = m.parser; bytes = q.bytes; count = m.count } in
+    let x = same_then c.loop-action.self c.next_action.new.self c.read_lone-lone.new.self s w in
     record {
-      same = c.in_ok-text.ensures.same ∙ q.same ∙ t.same ∙ n.same ∙ c.loop-action.invariant.same;
-      stage = c.in_ok-text.ensures.stage ∙ q.stage ∙ t.stage ∙ n.stage ∙ c.loop-action.invariant.stage;
+      same = c.in_ok-text.ensures.same ∙ q.same ∙ n.same ∙ c.loop-action.invariant.same;
+      stage = c.in_ok-text.ensures.stage ∙ q.stage ∙ n.stage ∙ c.loop-action.invariant.stage;
       failed = c.in_ok-text.ensures.failed;
       goes = goes_on c.args.self.now c.loop-action.self c.read_lone-lone.new.self c.read.new.self (queue_actions p c.next_action.new.self.queue) c.in_ok-text.text c.loop-action.invariant.goes x g c.in_ok-text.ensures.reads c.in_ok-text.ensures.bytes (search rules);
     }
