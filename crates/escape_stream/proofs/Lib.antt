@@ -1,6 +1,3 @@
-pub mod ReadLemmas
-pub mod UniqueLemmas
-pub mod PlacedLemmas
 mod StreamLemmas
 mod ReadFormLemmas
 pub mod PendingLemmas

@@ -1,10 +1,3 @@
-pub mod SevenBit
-pub mod Segment
-pub mod Decode
-pub mod Action
-pub mod Existence
-pub mod Cut
-pub mod Placed
 pub mod Controls
 pub mod StreamAction
 pub mod StreamActionView

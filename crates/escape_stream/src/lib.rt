@@ -7,7 +7,6 @@ mod control;
 mod device;
 mod encoding;
 pub mod encoding_laws;
-pub mod laws;
 mod parse;
 mod parser;
 mod pending;

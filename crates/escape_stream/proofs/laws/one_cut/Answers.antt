@@ -1,5 +1,0 @@
-use Rattle.escape_stream.proofs.UniqueLemmas.{same_cut}
-use Rattle.escape_stream.proofs.laws.one_cut.Goals as goal
-
-pub returns-clause-only : goal.returns-clause-only
-returns-clause-only c = same_cut
