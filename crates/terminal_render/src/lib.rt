@@ -10,6 +10,8 @@ mod lists;
 mod pen;
 mod places;
 mod rendering;
+#[cfg(test)]
+mod tests;
 mod texts;
 
 pub use error::RenderError;
