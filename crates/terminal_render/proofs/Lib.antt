@@ -8,3 +8,4 @@ pub mod ClearLemmas
 pub mod WholeLemmas
 pub mod CharacterLemmas
 pub mod WritableLemmas
+pub mod FedLemmas

@@ -64,11 +64,11 @@ use Rattle.terminal_render.proofs.LinkLemmas.{reads_back_is}
 -- ---- lists without device control strings
 
 -- each action is writable by itself
-abbrev AreAlone : List StreamAction → Type 0
+abbrev pub AreAlone : List StreamAction → Type 0
 AreAlone [] = ⊤
 AreAlone (a ∷ others) = IsWritableAction a × AreAlone others
 
-writable_alone : (actions : List StreamAction) → AreAlone actions → IsWritable actions
+pub writable_alone : (actions : List StreamAction) → AreAlone actions → IsWritable actions
 writable_alone [] h = tt
 writable_alone (print c ∷ others) h = (h.0, writable_alone others h.1)
 writable_alone (print_string text ∷ others) h = (h.0, writable_alone others h.1)
@@ -463,6 +463,8 @@ module _ (back : WritableActionsReadBack) (fronts : WritableTextsAreFronts) wher
   all_alone (CursorShape shape) width height h a b c d = tt
   all_alone (LineAttribute size) width height h a b c d = tt
 
+  pub rendering_alone : (change : ChangeValue) (width height : ℕ) (actions : List StreamAction) → IsChange change → 0 < width → width < 2 ^ 32 → 0 < height → height < 2 ^ 32 → rendering change width height ≡ Some actions → AreAlone actions
+  rendering_alone change width height actions h a b c d stands = subst (λ (found : Option (List StreamAction)). IfSome found AreAlone) stands (all_alone change width height h a b c d)
+
   pub are_writable : RenderingsAreWritable
-  are_writable change width height actions h a b c d stands =
-      writable_alone actions (subst (λ (found : Option (List StreamAction)). IfSome found AreAlone) stands (all_alone change width height h a b c d))
+  are_writable change width height actions h a b c d stands = writable_alone actions (rendering_alone change width height actions h a b c d stands)

@@ -1,13 +1,16 @@
 -- What the laws say of actions that are sent: they do to the screen what the change does, and nothing is held behind them.
-use Rattle.std.specs.Prelude.{◌≡◌, ℕ, ◌<◌, ◌^◌, List, [], map, fold, Some}
+use Rattle.std.specs.Prelude.{◌≡◌, ℕ, ◌<◌, ◌^◌, List, [], ◌∷◌, ◌++◌, map, fold, Some}
 use Rattle.cell_base.specs.Screen.{height}
 use Rattle.cell_change.specs.ChangeValue.{ChangeValue}
 use Rattle.escape_stream.specs.StreamAction.{StreamAction}
+use Rattle.escape_stream.specs.StreamText.{stream_text}
+use Rattle.escape_stream.specs.StreamWritable.{IsWritable}
 use Rattle.screen_effects.specs.Display.{Display}
 use Rattle.screen_effects.specs.Effect.{effect}
 use Rattle.terminal_table.specs.State.{IsState}
-use Rattle.terminal_table.specs.History.{Act}
-use Rattle.terminal_table.specs.Meaning.{View, event_done}
+use Rattle.terminal_table.specs.Alone.{IsIdle}
+use Rattle.terminal_table.specs.History.{Act, Piece}
+use Rattle.terminal_table.specs.Meaning.{View, event_done, after}
 use Rattle.terminal_render.specs.Rendering.{rendering}
 
 -- the actions in turn, by the terminal's table
@@ -30,3 +33,16 @@ pub record IsReady (view : View) : Type 0 where
 abbrev pub RenderingsHaveTheEffect : Type 0
 RenderingsHaveTheEffect = (width_of : List ℕ → ℕ) (view : View) (display : Display) (change : ChangeValue) (actions : List StreamAction) → IsReady view → display.screen ≡ view.state.screen
     → rendering change view.state.screen.width (height view.state.screen) ≡ Some actions → actions_done width_of view actions ≡ with_change width_of view display change
+
+-- and so have their bytes, where they read back: fed to such a terminal at which nothing is unfinished they have the effect, and
+-- nothing is unfinished behind them
+abbrev pub with_text : View → List ℕ → View
+with_text view text = record view { stream = view.stream ++ text }
+
+abbrev pub RenderedTextsHaveTheEffect : Type 0
+RenderedTextsHaveTheEffect = (width_of : List ℕ → ℕ) (view : View) (display : Display) (change : ChangeValue) (actions : List StreamAction) → IsReady view → IsIdle view → IsWritable actions → display.screen ≡ view.state.screen
+    → rendering change view.state.screen.width (height view.state.screen) ≡ Some actions → after width_of view (Piece (stream_text actions) ∷ []) ≡ with_text (with_change width_of view display change) (stream_text actions)
+
+abbrev pub RenderedTextsLeaveIdle : Type 0
+RenderedTextsLeaveIdle = (width_of : List ℕ → ℕ) (view : View) (change : ChangeValue) (actions : List StreamAction) → IsReady view → IsIdle view → IsWritable actions
+    → rendering change view.state.screen.width (height view.state.screen) ≡ Some actions → IsIdle (after width_of view (Piece (stream_text actions) ∷ []))

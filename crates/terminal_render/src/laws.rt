@@ -1,8 +1,10 @@
 //! Laws of what is sent: each is the contract of a function that does nothing but name the laws below.
 ghost use Rattle.terminal_render.specs.Carried.{RenderingsAreWritable};
-ghost use Rattle.terminal_render.specs.Effects.{RenderingsHaveTheEffect};
+ghost use Rattle.terminal_render.specs.Effects.{RenderedTextsHaveTheEffect, RenderedTextsLeaveIdle, RenderingsHaveTheEffect};
 
 use csi_codec::laws::writable_actions_read_back;
+use escape_framing::laws::idle_streams;
+use escape_stream::encoding_laws::writable_lists_read_on;
 
 /// What is sent for a change has its effect: the terminal's table makes of a screen what the change
 /// makes of it, and nothing is held behind. The saved cursor and the replies stay.
@@ -16,4 +18,15 @@ pub fn renderings_are_writable()
     ensures { RenderingsAreWritable }
 {
     writable_actions_read_back();
+}
+
+/// The bytes of what is sent for a change, which read back as `render` ensures, have the change's effect
+/// on the screen of a terminal of that size to which they are fed while nothing is unfinished and no run
+/// is held, and leave nothing unfinished or held.
+pub fn rendered_texts_have_the_effect()
+    ensures effect { RenderedTextsHaveTheEffect }
+    ensures idle { RenderedTextsLeaveIdle }
+{
+    idle_streams();
+    writable_lists_read_on();
 }

@@ -13,6 +13,7 @@ mod rendering;
 #[cfg(test)]
 mod tests;
 mod texts;
+mod values;
 
 pub use error::RenderError;
 pub use rendering::render;

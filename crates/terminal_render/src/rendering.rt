@@ -9,12 +9,14 @@ ghost use Rattle.csi_codec.specs.declared.edits.EraseInDisplay.TheVariants as di
 ghost use Rattle.csi_codec.specs.declared.edits.Edit.TheVariants as edit;
 ghost use Rattle.escape_stream.specs.StreamAction.{csi};
 ghost use Rattle.escape_stream.specs.StreamActionView.{value_of};
+ghost use Rattle.escape_stream.specs.StreamWritable.{IsWritable};
 ghost use Rattle.terminal_render.specs.Pen.{attribute_action, clear_rendering, linked, pen_rendering, rendition};
 ghost use Rattle.terminal_render.specs.Places.{position_moves};
 ghost use Rattle.terminal_render.specs.Rendering.{edited, is_whole, moved, rendering, scroll_rendering, visibility_mode};
 ghost use Rattle.terminal_render.specs.Texts.{text_rendering, title_rendering};
 
 use crate::error::RenderError;
+use crate::laws::renderings_are_writable;
 use crate::links::{holds_c1, is_carried, is_plain_text};
 use crate::lists::{edit_actions, link_actions, mode_actions, setting_actions, unless_memory};
 use crate::pen::{
@@ -23,6 +25,7 @@ use crate::pen::{
 };
 use crate::places::{move_actions, position_moves};
 use crate::texts::{text_actions, title_actions};
+use crate::values::change_is;
 use cell_base::{
     AttributeChange, CellAttributes, ColorAttribute, CursorVisibility, Hyperlink, Position,
 };
@@ -209,17 +212,8 @@ fn visibility_mode(visibility: CursorVisibility) -> Mode
     }
 }
 
-/// The actions that are sent for a change to a terminal of `width` columns and `height` rows, 1 to
-/// 2^32 - 1 each, as ECMA-48 and xterm's control sequences spell it: they do to the terminal's screen
-/// what the change does. A text is cut at its C0 controls and DEL, and each part that is printed ends
-/// in NUL, so that nothing is held.
-///
-/// `NoSpelling` where nothing that can be sent does so, whatever the memory: a column at or past the
-/// width, a way back in the row, a position that moves nothing; scrolls of a part of the rows; a colour
-/// that falls back to the palette, `wrapped`, a semantic type other than output; a link that is
-/// implicit, doesn't read back from its text or holds a control; U+0080 to U+009F in a text, and any
-/// control in a title; the cursor's colour and shape, and the size of a row.
-pub fn render(
+// The actions of a change.
+fn render_change(
     alloc: Global,
     change: &Change,
     width: usize,
@@ -266,4 +260,33 @@ pub fn render(
             Err(RenderError::NoSpelling)
         }
     }
+}
+
+/// The actions that are sent for a change to a terminal of `width` columns and `height` rows, 1 to
+/// 2^32 - 1 each, as ECMA-48 and xterm's control sequences spell it: they do to the terminal's screen
+/// what the change does. A text is cut at its C0 controls and DEL, and each part that is printed ends
+/// in NUL, so that nothing is held. The actions read back from the bytes that `encode` writes of them.
+///
+/// `NoSpelling` where nothing that can be sent does so, whatever the memory: a column at or past the
+/// width, a way back in the row, a position that moves nothing; scrolls of a part of the rows; a colour
+/// that falls back to the palette, `wrapped`, a semantic type other than output; a link that is
+/// implicit, doesn't read back from its text or holds a control; U+0080 to U+009F in a text, and any
+/// control in a title; the cursor's colour and shape, and the size of a row.
+pub fn render(
+    alloc: Global,
+    change: &Change,
+    width: usize,
+    height: usize,
+) -> Result<Vec<Action>, RenderError>
+    requires columns { 0 < width }
+    requires width { width < 2 ^ 32 }
+    requires rows { 0 < height }
+    requires height { height < 2 ^ 32 }
+    ensures some { IfOk result (λ actions. rendering (change_value change.now) width height ≡ Some (map value_of actions.items)) }
+    ensures none { IsErrOf result RenderError.NoSpelling ↔ (rendering (change_value change.now) width height ≡ None) }
+    ensures writable { IfOk result (λ actions. IsWritable (map value_of actions.items)) }
+{
+    change_is(change);
+    renderings_are_writable();
+    render_change(alloc, change, width, height)
 }

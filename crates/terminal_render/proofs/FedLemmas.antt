@@ -1,0 +1,123 @@
+-- The bytes of what is sent are fed: they are read as its actions, with prints split and string terminators added.
+use Rattle.std.proofs.Common.{◌≡◌, ℕ, ◌<◌, Bool, true, false, List, [], ◌∷◌, ◌++◌, map, fold, refl, sym, ap, ◌∙◌, arith}
+use Rattle.std.specs.Prelude.{⊤, Some, None}
+use Rattle.std.specs.Str.{IsUtf8, chars}
+use Rattle.std.proofs.lemmas.List.{map-append}
+use Rattle.std.proofs.lemmas.List.Sums.{fold-append}
+use Rattle.std.proofs.lemmas.Str.{encodes-chars}
+use Rattle.cell_base.specs.Screen.{height}
+use Rattle.cell_change.specs.ChangeValue.{ChangeValue}
+use Rattle.escape_framing.specs.Cut.{tail_of}
+use Rattle.escape_framing.specs.Held.{held_of, nothing_held}
+use Rattle.escape_framing.specs.Segment.{Begun}
+use Rattle.escape_stream.specs.StreamAction.{StreamAction, print, print_string, control, enter, data_byte, exit, command, csi, esc}
+use Rattle.escape_stream.specs.StreamActions.{newly_decided_actions}
+use Rattle.escape_stream.specs.StreamText.{closes_string, is_string_terminator, stream_text}
+use Rattle.escape_stream.specs.StreamWritable.{IsWritableBehind, IsWritable, HasTexts, string_terminator, terminator_before, characters_of, read_form_behind, read_form, WritableListsReadOn, WritableListsEndOn}
+use Rattle.screen_effects.specs.Display.{Display}
+use Rattle.terminal_table.specs.Alone.{IsIdle}
+use Rattle.terminal_table.specs.Functions.{function_of}
+use Rattle.terminal_table.specs.History.{Act, Piece, events}
+use Rattle.terminal_table.specs.Meaning.{View, event_done, after}
+use Rattle.terminal_table.proofs.JoinLemmas.{nothing_behind}
+use Rattle.terminal_table.proofs.ListLemmas.{append_nil}
+use Rattle.terminal_table.proofs.TextLemmas.{with_text}
+use Rattle.terminal_render.specs.Effects.{actions_done, IsReady, RenderedTextsHaveTheEffect, RenderedTextsLeaveIdle}
+use Rattle.terminal_render.specs.Rendering.{rendering}
+use Rattle.terminal_render.proofs.WholeLemmas.{have_the_effect}
+
+-- ---- what is read does what was sent
+
+module _ (f : List ℕ → ℕ) where
+  joined : (xs ys : List StreamAction) (v : View) → actions_done f v (xs ++ ys) ≡ actions_done f (actions_done f v xs) ys
+  joined xs ys v = ap (fold (event_done f) v) (map-append Act xs ys) ∙ fold-append (event_done f) v (map Act xs) (map Act ys)
+
+  -- a string terminator does nothing where no run is held
+  terminator_done : (v : View) → v.held ≡ [] → actions_done f v (string_terminator ∷ []) ≡ v
+  unfolding function_of
+  terminator_done v e = ap (λ run. actions_done f (record v { held = run }) (string_terminator ∷ [])) e ∙ (λ i. record v { held = sym e i })
+
+  added_done : (closed stands : Bool) (v : View) → (closed ≡ true → v.held ≡ []) → actions_done f v (terminator_before closed stands) ≡ v
+  added_done true true v h = refl
+  added_done true false v h = terminator_done v (h refl)
+  added_done false true v h = refl
+  added_done false false v h = refl
+
+  text_done : (text : List ℕ) (v : View) → IsUtf8 text → actions_done f v (map print (chars text)) ≡ actions_done f v (print_string text ∷ [])
+  text_done text v u = with_text f v (chars text) ∙ (λ i. record v { held = v.held ++ encodes-chars text u i })
+
+  -- behind what closes a string no run is held
+  closed_run : (a : StreamAction) (v : View) → closes_string a ≡ true → (event_done f v (Act a)).held ≡ []
+  closed_run (command c) v e = refl
+  closed_run exit v e = refl
+  closed_run (print c) v e = cc
+  closed_run (print_string text) v e = cc
+  closed_run (control n) v e = cc
+  closed_run (enter header byte) v e = cc
+  closed_run (data_byte b) v e = cc
+  closed_run (csi a) v e = cc
+  closed_run (esc p) v e = cc
+
+  abbrev HasText : StreamAction → Type 0
+  HasText a = HasTexts (a ∷ [])
+
+  one_done : (a : StreamAction) (v : View) → HasText a → actions_done f v (characters_of a) ≡ event_done f v (Act a)
+  one_done (print_string text) v h = text_done text v h.0
+  one_done (print c) v h = refl
+  one_done (control n) v h = refl
+  one_done (enter header byte) v h = refl
+  one_done (data_byte b) v h = refl
+  one_done exit v h = refl
+  one_done (command c) v h = refl
+  one_done (csi a) v h = refl
+  one_done (esc p) v h = refl
+
+  abbrev HaveTexts : List StreamAction → Type 0
+  HaveTexts [] = ⊤
+  HaveTexts (a ∷ others) = HasText a × HaveTexts others
+
+  form_done : (closed : Bool) (actions : List StreamAction) (v : View) → HaveTexts actions → (closed ≡ true → v.held ≡ []) → actions_done f v (read_form_behind closed actions) ≡ actions_done f v actions
+  form_done closed [] v t h = added_done closed false v h
+  form_done closed (a ∷ others) v t h =
+      joined (terminator_before closed (is_string_terminator a) ++ characters_of a) (read_form_behind (closes_string a) others) v
+      ∙ ap (λ w. actions_done f w (read_form_behind (closes_string a) others))
+          (joined (terminator_before closed (is_string_terminator a)) (characters_of a) v ∙ ap (λ w. actions_done f w (characters_of a)) (added_done closed (is_string_terminator a) v h) ∙ one_done a v t.0)
+      ∙ form_done (closes_string a) others (event_done f v (Act a)) t.1 (closed_run a v)
+
+  -- writable lists have texts that are UTF-8, outside of a device control string and within one
+  texts_in : (actions : List StreamAction) → (IsWritableBehind None actions → HaveTexts actions) × ((before : ℕ) → IsWritableBehind (Some before) actions → HaveTexts actions)
+  texts_in [] = (λ w. tt, λ before w. tt)
+  texts_in (print c ∷ others) = let r = texts_in others in (λ w. (tt, r.0 w.1), λ before w. absurd w)
+  texts_in (print_string text ∷ others) = let r = texts_in others in (λ w. ((w.0.utf8, tt), r.0 w.1), λ before w. absurd w)
+  texts_in (control n ∷ others) = let r = texts_in others in (λ w. (tt, r.0 w.1), λ before w. absurd w)
+  texts_in (enter header byte ∷ others) = let r = texts_in others in (λ w. (tt, r.1 byte w.1), λ before w. absurd w)
+  texts_in (data_byte b ∷ others) = let r = texts_in others in (λ w. absurd w.0, λ before w. (tt, r.1 b w.1))
+  texts_in (exit ∷ others) = let r = texts_in others in (λ w. absurd w.0, λ before w. (tt, r.0 w))
+  texts_in (command c ∷ others) = let r = texts_in others in (λ w. (tt, r.0 w.1), λ before w. absurd w)
+  texts_in (csi a ∷ others) = let r = texts_in others in (λ w. (tt, r.0 w.1), λ before w. absurd w)
+  texts_in (esc p ∷ others) = let r = texts_in others in (λ w. (tt, r.0 w.1), λ before w. absurd w)
+
+-- ---- fed
+
+module _ (idle : (stream : List ℕ) → held_of stream ≡ nothing_held → tail_of stream ≡ Begun []) (whole : (stream : List ℕ) → tail_of stream ≡ Begun [] → held_of stream ≡ nothing_held) (reads : WritableListsReadOn) (ends : WritableListsEndOn) where
+  -- the bytes do what the actions do
+  fed : (f : List ℕ → ℕ) (view : View) (actions : List StreamAction) → IsIdle view → IsWritable actions → after f view (Piece (stream_text actions) ∷ []) ≡ record (actions_done f view actions) { stream = view.stream ++ stream_text actions }
+  fed f view actions i h = λ j. record (done j) { stream = view.stream ++ nothing_behind (stream_text actions) j }
+    where
+      read : events view.stream (Piece (stream_text actions) ∷ []) ≡ map Act (read_form actions)
+      read = append_nil (map Act (newly_decided_actions view.stream (stream_text actions))) ∙ ap (map Act) (reads view.stream actions (idle view.stream i.stream) h)
+
+      done : fold (event_done f) view (events view.stream (Piece (stream_text actions) ∷ [])) ≡ actions_done f view actions
+      done = ap (fold (event_done f) view) read ∙ form_done f false actions view ((texts_in f actions).0 h) (λ e. cc)
+
+  pub texts_have_the_effect : RenderedTextsHaveTheEffect
+  texts_have_the_effect f view d change actions ready i w same stands =
+      fed f view actions i w ∙ ap (λ (v : View). record v { stream = view.stream ++ stream_text actions }) (have_the_effect f view d change actions ready same stands)
+
+  pub texts_leave_idle : RenderedTextsLeaveIdle
+  texts_leave_idle f view change actions ready i w stands =
+      let d : Display = record { screen = view.state.screen; sizes = []; shape = None } in
+      record {
+        run = ap (λ (v : View). v.held) (texts_have_the_effect f view d change actions ready i w refl stands) ∙ ready.run;
+        stream = ap (λ bytes. held_of (view.stream ++ bytes)) (nothing_behind (stream_text actions)) ∙ whole (view.stream ++ stream_text actions) (ends view.stream actions (idle view.stream i.stream) w);
+      }
