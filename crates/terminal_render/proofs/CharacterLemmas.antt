@@ -40,7 +40,7 @@ more_before b c front (Control byte ∷ parts) = refl
 plain_byte : (b : ℕ) → not (is_control b) ≡ true → is_control b ≡ false
 plain_byte b h = grind (arith, nat_tests)
 
-parts_behind : (b : ℕ) (front rest : List ℕ) → IsPrinted (b ∷ front) → text_parts ((b ∷ front) ++ rest) ≡ before_parts (b ∷ front) (text_parts rest)
+pub parts_behind : (b : ℕ) (front rest : List ℕ) → IsPrinted (b ∷ front) → text_parts ((b ∷ front) ++ rest) ≡ before_parts (b ∷ front) (text_parts rest)
 parts_behind b [] rest h =
     let p = both (not (is_control b)) true h in
     ap (λ t. if t then Control b ∷ text_parts rest else with_byte b (text_parts rest)) (plain_byte b p.0) ∙ one_before b (text_parts rest)

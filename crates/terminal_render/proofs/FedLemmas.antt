@@ -1,12 +1,10 @@
 -- The bytes of what is sent are fed: they are read as its actions, with prints split and string terminators added.
-use Rattle.std.proofs.Common.{◌≡◌, ℕ, ◌<◌, Bool, true, false, List, [], ◌∷◌, ◌++◌, map, fold, refl, sym, ap, ◌∙◌, arith}
+use Rattle.std.proofs.Common.{◌≡◌, ℕ, Bool, true, false, List, [], ◌∷◌, ◌++◌, map, fold, refl, sym, ap, ◌∙◌}
 use Rattle.std.specs.Prelude.{⊤, Some, None}
 use Rattle.std.specs.Str.{IsUtf8, chars}
 use Rattle.std.proofs.lemmas.List.{map-append}
 use Rattle.std.proofs.lemmas.List.Sums.{fold-append}
 use Rattle.std.proofs.lemmas.Str.{encodes-chars}
-use Rattle.cell_base.specs.Screen.{height}
-use Rattle.cell_change.specs.ChangeValue.{ChangeValue}
 use Rattle.escape_framing.specs.Cut.{tail_of}
 use Rattle.escape_framing.specs.Held.{held_of, nothing_held}
 use Rattle.escape_framing.specs.Segment.{Begun}
@@ -22,8 +20,7 @@ use Rattle.terminal_table.specs.Meaning.{View, event_done, after}
 use Rattle.terminal_table.proofs.JoinLemmas.{nothing_behind}
 use Rattle.terminal_table.proofs.ListLemmas.{append_nil}
 use Rattle.terminal_table.proofs.TextLemmas.{with_text}
-use Rattle.terminal_render.specs.Effects.{actions_done, IsReady, RenderedTextsHaveTheEffect, RenderedTextsLeaveIdle}
-use Rattle.terminal_render.specs.Rendering.{rendering}
+use Rattle.terminal_render.specs.Effects.{actions_done, RenderedTextsHaveTheEffect, RenderedTextsLeaveIdle}
 use Rattle.terminal_render.proofs.WholeLemmas.{have_the_effect}
 
 -- ---- what is read does what was sent
@@ -81,7 +78,7 @@ module _ (f : List ℕ → ℕ) where
   form_done closed (a ∷ others) v t h =
       joined (terminator_before closed (is_string_terminator a) ++ characters_of a) (read_form_behind (closes_string a) others) v
       ∙ ap (λ w. actions_done f w (read_form_behind (closes_string a) others))
-          (joined (terminator_before closed (is_string_terminator a)) (characters_of a) v ∙ ap (λ w. actions_done f w (characters_of a)) (added_done closed (is_string_terminator a) v h) ∙ one_done a v t.0)
+      (joined (terminator_before closed (is_string_terminator a)) (characters_of a) v ∙ ap (λ w. actions_done f w (characters_of a)) (added_done closed (is_string_terminator a) v h) ∙ one_done a v t.0)
       ∙ form_done (closes_string a) others (event_done f v (Act a)) t.1 (closed_run a v)
 
   -- writable lists have texts that are UTF-8, outside of a device control string and within one

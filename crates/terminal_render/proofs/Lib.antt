@@ -7,5 +7,7 @@ pub mod ScrollLemmas
 pub mod ClearLemmas
 pub mod WholeLemmas
 pub mod CharacterLemmas
+pub mod ValueLemmas
 pub mod WritableLemmas
 pub mod FedLemmas
+pub mod SizeLemmas

@@ -1,6 +1,6 @@
 -- What is sent for a change is a writable list.
 use Rattle.std.proofs.Common.{◌≡◌, ℕ, ◌^◌, ◌<◌, inl, Bool, true, false, List, [], ◌∷◌, ◌++◌, map, refl, subst, ◌∙◌, arith}
-use Rattle.std.specs.Prelude.{⊤, ◌==◌, ◌&&◌, ◌||◌, not, min, Option, None, Some, IfSome, option_map, option_and_then, pos, negsuc}
+use Rattle.std.specs.Prelude.{⊤, ◌==◌, ◌||◌, not, min, Option, None, Some, IfSome, option_map, option_and_then}
 use Rattle.std.specs.List.{flat_map, list_all, list_any}
 use Rattle.std.specs.Str.{IsUtf8}
 use Rattle.std.proofs.lemmas.Bool.{and_parts, or_parts, false≢true}
@@ -10,20 +10,9 @@ use Rattle.std.proofs.lemmas.List.Folds.{list_any-append}
 use lib.Utf8.{encode}
 use Rattle.cell_base.specs.declared.attributes.CursorVisibility.{CursorVisibility as Visibility}
 use Rattle.cell_base.specs.declared.attributes.CursorVisibility.TheVariants.{Hidden, Visible}
-use Rattle.cell_base.specs.declared.attributes.Intensity.{Intensity}
-use Rattle.cell_base.specs.declared.attributes.Intensity.TheVariants as intensity
-use Rattle.cell_base.specs.declared.attributes.Underline.{Underline}
-use Rattle.cell_base.specs.declared.attributes.Underline.TheVariants as underline
-use Rattle.cell_base.specs.declared.attributes.Blink.{Blink}
-use Rattle.cell_base.specs.declared.attributes.Blink.TheVariants as blink
-use Rattle.cell_base.specs.declared.attributes.VerticalAlign.{VerticalAlign}
-use Rattle.cell_base.specs.declared.attributes.VerticalAlign.TheVariants as align
 use Rattle.cell_base.specs.declared.attributes.Position.{Position}
-use Rattle.cell_base.specs.declared.attributes.Position.TheVariants.{Relative, Absolute, EndRelative}
 use Rattle.cell_base.specs.declared.color.ColorAttribute.{ColorAttribute}
-use Rattle.cell_base.specs.declared.color.ColorAttribute.TheVariants as attribute
 use Rattle.cell_base.specs.declared.color.ColorSpec.{ColorSpec}
-use Rattle.cell_base.specs.declared.color.ColorSpec.TheVariants as spec
 use Rattle.cell_base.specs.Attributes.{Attributes}
 use Rattle.cell_base.specs.AttributeValue as one
 use Rattle.cell_base.specs.AttributeValue.{AttributeValue}
@@ -34,7 +23,6 @@ use Rattle.cell_change.specs.ChangeValue.{ChangeValue, Attribute, AllAttributes,
 use Rattle.csi_codec.specs.Actions as codec
 use Rattle.csi_codec.specs.Actions.{spelling_of}
 use Rattle.csi_codec.specs.Fronts.{whole_front}
-use Rattle.csi_codec.specs.Parameters.{word_max}
 use Rattle.csi_codec.specs.Writable as codec_writable
 use Rattle.csi_codec.specs.Writable.{IsColour, IsPlace, IsWritableCursor, IsWritableSgr, WritableActionsReadBack, WritableTextsAreFronts}
 use Rattle.csi_codec.specs.declared.cursors.Cursor.{Cursor}
@@ -54,12 +42,13 @@ use Rattle.escape_stream.specs.StreamWritable.{IsReadBack, IsPrintableText, IsWr
 use Rattle.screen_effects.specs.Strokes.{TextPart, Control, Plain, text_parts}
 use Rattle.terminal_render.specs.Carried.{IsColor, HaveColors, HasColor, IsChange, RenderingsAreWritable}
 use Rattle.terminal_render.specs.Links.{is_plain_text, is_plain_param, has_plain_texts, reads_back, is_carried}
-use Rattle.terminal_render.specs.Pen.{colour_setting, rendition, link_action, attribute_action, unless_normal, unless_none, unless_steady, unless_off, unless_base_line, unless_default, settings, set, pen_actions, is_output, is_unsaid, pen_rendering, plain_pen, clear_rendering}
-use Rattle.terminal_render.specs.Places.{Way, At, Back, On, way_of, is_past, move_by, moves, position_moves}
+use Rattle.terminal_render.specs.Pen.{colour_setting, rendition, link_action, attribute_action, unless_default, settings, set, pen_actions, is_output, is_unsaid, pen_rendering, plain_pen, clear_rendering}
+use Rattle.terminal_render.specs.Places.{way_of, is_past, moves, position_moves}
 use Rattle.terminal_render.specs.Rendering.{edited, moved, is_whole, scroll_rendering, visibility_mode, rendering}
 use Rattle.terminal_render.specs.Texts.{run_actions, part_actions, text_rendering, title_rendering}
 use Rattle.terminal_render.proofs.CharacterLemmas.{IsGood, AreGood, parts_good, printable_text}
 use Rattle.terminal_render.proofs.LinkLemmas.{reads_back_is}
+use Rattle.terminal_render.proofs.ValueLemmas.{IsSet, AreSet, default_set, settings_set, color_is, AreMoves, way_is, moves_are}
 
 -- ---- lists without device control strings
 
@@ -205,15 +194,6 @@ module _ (back : WritableActionsReadBack) (fronts : WritableTextsAreFronts) wher
 
   -- ---- attributes
 
-  -- a setting, if there is one
-  abbrev IsSet : Option Sgr → Type 0
-  IsSet None = ⊤
-  IsSet (Some value) = IsWritableSgr value
-
-  abbrev AreSet : List (Option Sgr) → Type 0
-  AreSet [] = ⊤
-  AreSet (value ∷ values) = IsSet value × AreSet values
-
   set_alone : (value : Option Sgr) → IsSet value → AreAlone (set value)
   set_alone None h = tt
   set_alone (Some value) h = (sequence (codec.sgr value) h, tt)
@@ -221,75 +201,6 @@ module _ (back : WritableActionsReadBack) (fronts : WritableTextsAreFronts) wher
   sets_alone : (values : List (Option Sgr)) → AreSet values → AreAlone (flat_map set values)
   sets_alone [] h = tt
   sets_alone (value ∷ values) h = alone_append (set value) (flat_map set values) (set_alone value h.0) (sets_alone values h.1)
-
-  normal_set : (v : Intensity) → IsSet (unless_normal v)
-  normal_set intensity.Normal = tt
-  normal_set intensity.Bold = tt
-  normal_set intensity.Half = tt
-
-  none_set : (v : Underline) → IsSet (unless_none v)
-  none_set underline.None = tt
-  none_set underline.Single = tt
-  none_set underline.Double = tt
-  none_set underline.Curly = tt
-  none_set underline.Dotted = tt
-  none_set underline.Dashed = tt
-
-  steady_set : (v : Blink) → IsSet (unless_steady v)
-  steady_set blink.None = tt
-  steady_set blink.Slow = tt
-  steady_set blink.Rapid = tt
-
-  off_set : (setting : Bool → Sgr) (on : Bool) → IsWritableSgr (setting true) → IsSet (unless_off setting on)
-  off_set setting true h = h
-  off_set setting false h = tt
-
-  base_line_set : (v : VerticalAlign) → IsSet (unless_base_line v)
-  base_line_set align.BaseLine = tt
-  base_line_set align.SuperScript = tt
-  base_line_set align.SubScript = tt
-
-  default_set : (setting : ColorSpec → Sgr) (c : ColorSpec) → (IsColour c → IsWritableSgr (setting c)) → IsColour c → IsSet (unless_default setting c)
-  default_set setting spec.Default w h = tt
-  default_set setting (spec.PaletteIndex n) w h = w h
-  default_set setting (spec.TrueColor c) w h = w h
-
-  settings_set : (a : Attributes) (front rear line : ColorSpec) → IsColour front → IsColour rear → IsColour line → AreSet (settings a front rear line)
-  settings_set a front rear line f r l = (
-    normal_set a.intensity,
-    (
-      none_set a.underline,
-      (
-        steady_set a.blink,
-        (
-          off_set sgr.Italic a.italic tt,
-          (
-            off_set sgr.Inverse a.reverse tt,
-            (
-              off_set sgr.StrikeThrough a.strikethrough tt,
-              (
-                off_set sgr.Invisible a.invisible tt,
-                (
-                  off_set sgr.Overline a.overline tt,
-                  (
-                    base_line_set a.vertical_align,
-                    (default_set sgr.Foreground front (λ h. h) f, (default_set sgr.Background rear (λ h. h) r, (default_set sgr.UnderlineColor line (λ h. h) l, tt))),
-                  ),
-                ),
-              ),
-            ),
-          ),
-        ),
-      ),
-    ),
-  )
-
-  -- a colour that can be told
-  color_is : (color : ColorAttribute) → IsColor color → IfSome (colour_setting color) IsColour
-  color_is (attribute.TrueColorWithPaletteFallback c index) h = tt
-  color_is (attribute.TrueColorWithDefaultFallback c) h = h
-  color_is (attribute.PaletteIndex index) h = h
-  color_is attribute.Default h = tt
 
   link_alone : (link : Option Link) → is_carried link ≡ true → AreAlone (link_action link ∷ [])
   link_alone link e = (link_writable link e, tt)
@@ -369,50 +280,9 @@ module _ (back : WritableActionsReadBack) (fronts : WritableTextsAreFronts) wher
 
   -- ---- positions
 
-  abbrev AreMoves : List Cursor → Type 0
-  AreMoves [] = ⊤
-  AreMoves (move ∷ others) = IsWritableCursor move × AreMoves others
-
   moves_alone : (cursors : List Cursor) → AreMoves cursors → AreAlone (map moved cursors)
   moves_alone [] h = tt
   moves_alone (move ∷ others) h = (sequence (codec.cursor move) h.0, moves_alone others h.1)
-
-  moves_append : (xs ys : List Cursor) → AreMoves xs → AreMoves ys → AreMoves (xs ++ ys)
-  moves_append [] ys h k = k
-  moves_append (x ∷ xs) ys h k = (h.0, moves_append xs ys h.1 k)
-
-  by_is : (move : ℕ → Cursor) (count : ℕ) → ((n : ℕ) → IsPlace n → IsWritableCursor (move n)) → AreMoves (move_by move count)
-  by_is move count w = by_test (count == 0) refl
-    where
-      by_test : (b : Bool) → (count == 0) ≡ b → AreMoves (move_by move count)
-      by_test true e = rw e tt
-      by_test false e = let some : 0 < count = grind (arith, nat_tests) in rw e (w (min count word_max) (omega arith, omega arith), tt)
-
-  -- a way to a place that a parameter can hold
-  abbrev IsNamed : Way → Type 0
-  IsNamed (At place) = IsPlace place
-  IsNamed (Back count) = ⊤
-  IsNamed (On count) = ⊤
-
-  way_is : (size : ℕ) (position : Position) → 0 < size → size < 2 ^ 32 → IsNamed (way_of size position)
-  way_is size (Absolute at) h k = (omega arith, omega arith)
-  way_is size (EndRelative back) h k = (omega arith, omega arith)
-  way_is size (Relative (pos n)) h k = tt
-  way_is size (Relative (negsuc n)) h k = tt
-
-  moves_are : (column row : Way) → IsNamed column → IsNamed row → IfSome (moves column row) AreMoves
-  unfolding moves
-  moves_are (At column) (At row) h k = ((k, h), tt)
-  moves_are (At column) (Back rows) h k = moves_append (move_by cursor.Up rows) (cursor.CharacterAbsolute column ∷ []) (by_is cursor.Up rows (λ n w. w)) (h, tt)
-  moves_are (At column) (On rows) h k = moves_append (move_by cursor.Down rows) (cursor.CharacterAbsolute column ∷ []) (by_is cursor.Down rows (λ n w. w)) (h, tt)
-  moves_are (On columns) (At row) h k = moves_append (move_by cursor.Right columns) (cursor.LinePositionAbsolute row ∷ []) (by_is cursor.Right columns (λ n w. w)) (k, tt)
-  moves_are (On columns) (Back rows) h k = moves_append (move_by cursor.Right columns) (move_by cursor.Up rows) (by_is cursor.Right columns (λ n w. w)) (by_is cursor.Up rows (λ n w. w))
-  moves_are (On columns) (On rows) h k = by_test (columns == 0 && rows == 0) refl
-    where
-      by_test : (b : Bool) → (columns == 0 && rows == 0) ≡ b → IfSome (moves (On columns) (On rows)) AreMoves
-      by_test true e = rw e tt
-      by_test false e = rw e (moves_append (move_by cursor.Right columns) (move_by cursor.Down rows) (by_is cursor.Right columns (λ n w. w)) (by_is cursor.Down rows (λ n w. w)))
-  moves_are (Back columns) row h k = tt
 
   found_moves : (found : Option (List Cursor)) → IfSome found AreMoves → Alone (option_map (map moved) found)
   found_moves None h = tt

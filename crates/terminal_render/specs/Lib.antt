@@ -7,3 +7,4 @@ pub mod Rendering
 pub mod Samples
 pub mod Effects
 pub mod Carried
+pub mod Sizes

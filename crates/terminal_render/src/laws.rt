@@ -1,9 +1,11 @@
 //! Laws of what is sent: each is the contract of a function that does nothing but name the laws below.
 ghost use Rattle.terminal_render.specs.Carried.{RenderingsAreWritable};
+ghost use Rattle.terminal_render.specs.Sizes.{RenderingsAreShort, RunsAreShort, TextsAreShort};
 ghost use Rattle.terminal_render.specs.Effects.{RenderedTextsHaveTheEffect, RenderedTextsLeaveIdle, RenderingsHaveTheEffect};
 
-use csi_codec::laws::writable_actions_read_back;
+use csi_codec::laws::{writable_actions_read_back, writable_texts_are_short};
 use escape_framing::laws::idle_streams;
+use escape_osc::laws::text_lengths;
 use escape_stream::encoding_laws::writable_lists_read_on;
 
 /// What is sent for a change has its effect: the terminal's table makes of a screen what the change
@@ -29,4 +31,15 @@ pub fn rendered_texts_have_the_effect()
 {
     idle_streams();
     writable_lists_read_on();
+}
+
+/// At most 320 bytes are sent for a change beside its text, its title and its link's parameters and URI. For
+/// a text they are at most twice its bytes, and one more than it has where it holds no C0 control or DEL.
+pub fn renderings_are_short()
+    ensures others { RenderingsAreShort }
+    ensures texts { TextsAreShort }
+    ensures runs { RunsAreShort }
+{
+    writable_texts_are_short();
+    text_lengths();
 }
