@@ -26,7 +26,7 @@ use Rattle.terminal_render.proofs.WholeLemmas.{have_the_effect}
 -- ---- what is read does what was sent
 
 module _ (f : List ℕ → ℕ) where
-  joined : (xs ys : List StreamAction) (v : View) → actions_done f v (xs ++ ys) ≡ actions_done f (actions_done f v xs) ys
+  pub joined : (xs ys : List StreamAction) (v : View) → actions_done f v (xs ++ ys) ≡ actions_done f (actions_done f v xs) ys
   joined xs ys v = ap (fold (event_done f) v) (map-append Act xs ys) ∙ fold-append (event_done f) v (map Act xs) (map Act ys)
 
   -- a string terminator does nothing where no run is held
@@ -98,7 +98,7 @@ module _ (f : List ℕ → ℕ) where
 
 module _ (idle : (stream : List ℕ) → held_of stream ≡ nothing_held → tail_of stream ≡ Begun []) (whole : (stream : List ℕ) → tail_of stream ≡ Begun [] → held_of stream ≡ nothing_held) (reads : WritableListsReadOn) (ends : WritableListsEndOn) where
   -- the bytes do what the actions do
-  fed : (f : List ℕ → ℕ) (view : View) (actions : List StreamAction) → IsIdle view → IsWritable actions → after f view (Piece (stream_text actions) ∷ []) ≡ record (actions_done f view actions) { stream = view.stream ++ stream_text actions }
+  pub fed : (f : List ℕ → ℕ) (view : View) (actions : List StreamAction) → IsIdle view → IsWritable actions → after f view (Piece (stream_text actions) ∷ []) ≡ record (actions_done f view actions) { stream = view.stream ++ stream_text actions }
   fed f view actions i h = λ j. record (done j) { stream = view.stream ++ nothing_behind (stream_text actions) j }
     where
       read : events view.stream (Piece (stream_text actions) ∷ []) ≡ map Act (read_form actions)
@@ -111,10 +111,14 @@ module _ (idle : (stream : List ℕ) → held_of stream ≡ nothing_held → tai
   texts_have_the_effect f view d change actions ready i w same stands =
       fed f view actions i w ∙ ap (λ (v : View). record v { stream = view.stream ++ stream_text actions }) (have_the_effect f view d change actions ready same stands)
 
+  -- and leave nothing unfinished or held, where the actions leave no run
+  pub fed_idle : (f : List ℕ → ℕ) (view : View) (actions : List StreamAction) → IsIdle view → IsWritable actions → (actions_done f view actions).held ≡ [] → IsIdle (after f view (Piece (stream_text actions) ∷ []))
+  fed_idle f view actions i w run = record {
+    run = ap (λ (v : View). v.held) (fed f view actions i w) ∙ run;
+    stream = ap (λ bytes. held_of (view.stream ++ bytes)) (nothing_behind (stream_text actions)) ∙ whole (view.stream ++ stream_text actions) (ends view.stream actions (idle view.stream i.stream) w);
+  }
+
   pub texts_leave_idle : RenderedTextsLeaveIdle
   texts_leave_idle f view change actions ready i w stands =
       let d : Display = record { screen = view.state.screen; sizes = []; shape = None } in
-      record {
-        run = ap (λ (v : View). v.held) (texts_have_the_effect f view d change actions ready i w refl stands) ∙ ready.run;
-        stream = ap (λ bytes. held_of (view.stream ++ bytes)) (nothing_behind (stream_text actions)) ∙ whole (view.stream ++ stream_text actions) (ends view.stream actions (idle view.stream i.stream) w);
-      }
+      fed_idle f view actions i w (ap (λ (v : View). v.held) (have_the_effect f view d change actions ready refl stands) ∙ ready.run)

@@ -11,3 +11,4 @@ pub mod ValueLemmas
 pub mod WritableLemmas
 pub mod FedLemmas
 pub mod SizeLemmas
+pub mod ListLemmas

@@ -8,3 +8,4 @@ pub mod Samples
 pub mod Effects
 pub mod Carried
 pub mod Sizes
+pub mod Lists

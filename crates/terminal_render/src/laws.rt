@@ -1,5 +1,6 @@
 //! Laws of what is sent: each is the contract of a function that does nothing but name the laws below.
 ghost use Rattle.terminal_render.specs.Carried.{RenderingsAreWritable};
+ghost use Rattle.terminal_render.specs.Lists.{ListTextsHaveTheEffect, ListTextsLeaveIdle, ListsHaveTheEffect, RenderingsJoin, WritableListsJoin};
 ghost use Rattle.terminal_render.specs.Sizes.{RenderingsAreShort, RunsAreShort, TextsAreShort};
 ghost use Rattle.terminal_render.specs.Effects.{RenderedTextsHaveTheEffect, RenderedTextsLeaveIdle, RenderingsHaveTheEffect};
 
@@ -43,3 +44,21 @@ pub fn renderings_are_short()
     writable_texts_are_short();
     text_lengths();
 }
+
+/// What is sent for changes in turn has the effect of the changes replayed, and so have its bytes, which
+/// leave nothing unfinished or held.
+pub fn lists_have_the_effect()
+    ensures actions { ListsHaveTheEffect }
+    ensures texts { ListTextsHaveTheEffect }
+    ensures idle { ListTextsLeaveIdle }
+{
+    idle_streams();
+    writable_lists_read_on();
+}
+
+/// What is sent for one change more comes behind what is sent for those before it; and lists that read
+/// back do so one behind the other.
+pub fn lists_join()
+    ensures renderings { RenderingsJoin }
+    ensures writable { WritableListsJoin }
+{}
