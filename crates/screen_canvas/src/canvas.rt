@@ -19,7 +19,7 @@ use crate::rows::{
     blank_lines, blank_rows, resize, scroll, scroll_down, scroll_up, set_blanks, set_cell,
     set_size, set_text,
 };
-use crate::text::{split_at_control, split_control};
+use crate::text::{next_cluster, split_at_control, split_control};
 use cell_base::{
     AttributeChange, CellAttributes, ColorAttribute, CursorShape, CursorVisibility, LineAttribute,
     Position, Widths,
@@ -28,7 +28,6 @@ use cell_change::Change;
 use cell_line::Line;
 use std::alloc::{AllocError, Global};
 use std::marker::Model;
-use text_clusters::split_first_cluster;
 
 /// Lines with a cursor, a pen and a title. Columns and rows count from 0; at the column of the width
 /// a wrap is pending.
@@ -244,7 +243,7 @@ impl<W: Widths + Drop> Canvas<W> {
         ensures { OnOk result (Shows self.old self.new (clusters_done (W.width_of self.old.widths) (display_of self.old) (clusters text.now))) }
     {
         let mut left = self.put_in_row(text)?;
-        while let Some((cluster, behind)) = split_first_cluster(left) {
+        while let Some((cluster, behind)) = next_cluster(left) {
             self.put(cluster)?;
             left = self.put_in_row(behind)?;
         }

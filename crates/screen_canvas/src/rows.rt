@@ -31,8 +31,7 @@ fn clear_line(line: &mut Line) -> Result<(), AllocError>
     ensures { OnOk result (line.new ≡ record line.old { bits = LineAttribute.SingleWidthLine; columns = plain_row (length line.old.columns) }) }
 {
     let width = line.len();
-    line.set_blanks(0..width, &CellAttributes::blank())?;
-    line.set_single_width(SEQ_ZERO);
+    line.resize_and_clear(width, SEQ_ZERO, CellAttributes::blank())?;
     Ok(())
 }
 

@@ -1,11 +1,14 @@
 //! Texts cut at their controls.
-ghost use Rattle.std.specs.Prelude.{◌≡◌, ◌≤◌, ◌∷◌, ◌++◌, [], true, length, not, IfNone, IsUtf8, IfSome};
+ghost use Rattle.std.specs.Prelude.{◌≡◌, ◌≤◌, ◌↔◌, ◌∷◌, ◌++◌, [], true, length, not, IfNone, IsNone, IsUtf8, IfSome};
 ghost use Rattle.std.specs.List.{prefix_len};
 ghost use Rattle.cell_base.specs.CellContent.{is_control};
 ghost use Rattle.cell_base.specs.Cluster.{clusters};
 ghost use Rattle.screen_canvas.specs.Canvas.{stand};
 ghost use Rattle.screen_canvas.specs.Parts.{IsAtControl, plain_part};
 ghost use Rattle.screen_effects.specs.Strokes.{Control, text_parts};
+ghost use Rattle.unicode_segmentation.specs.Grapheme.{graphemes};
+
+use text_clusters::split_first_cluster;
 
 // Whether the byte is a C0 control or DEL.
 fn is_control(byte: u8) -> bool
@@ -45,4 +48,17 @@ pub fn split_control(text: &str) -> Option<(u8, &str)>
     let control = *text.as_bytes().first()?;
     let (_, behind) = text.split_at(1);
     Some((control, behind))
+}
+
+// Cuts off the first cluster of a text; of the empty text without a walk.
+pub(crate) fn next_cluster(text: &str) -> Option<(&str, &str)>
+    ensures none { IsNone result ↔ (text.now ≡ []) }
+    ensures whole { IfSome result (λ parts. text.now ≡ parts.0.now ++ parts.1.now) }
+    ensures clusters { IfSome result (λ parts. graphemes true text.now ≡ parts.0.now ∷ graphemes true parts.1.now) }
+    ensures alone { IfSome result (λ parts. graphemes true parts.0.now ≡ parts.0.now ∷ []) }
+{
+    if text.is_empty() {
+        return None;
+    }
+    split_first_cluster(text)
 }
