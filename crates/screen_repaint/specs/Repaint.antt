@@ -36,7 +36,7 @@ pen_left pen changes = fold pen_after pen changes
 abbrev pub row_cells : Row → List CellContent
 row_cells row = contents (visible_cells row)
 
--- whether a row has blanks of a colour and nothing else
+-- whether a row has blanks of a colour and nothing else: a blank of one colour is a cell whose text is one space, and whose attributes are plain but for that background
 abbrev pub is_blank_row : ColorAttribute → Row → Bool
 is_blank_row color row = list_all (is_blank_of color) (row_cells row)
 
