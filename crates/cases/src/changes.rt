@@ -1,5 +1,6 @@
 //! Changes, as rows write them: a text in quotes, all attributes by their words, a place as `to X Y`, where `3` is counted from the
-//! start, `<1` from the end, and `+1` and `-1` from the cursor; a colour as `Default` or its number in the palette.
+//! start, `<1` from the end, and `+1` and `-1` from the cursor; a colour as `Default` or its number in the palette; a row's size and the
+//! cursor's shape by their names.
 use crate::attributes;
 use crate::fault::Fault;
 use crate::sheet::Sheet;
@@ -42,6 +43,14 @@ fn say_visibility(visibility: CursorVisibility, sheet: &mut Sheet) {
     });
 }
 
+// A region of rows and how far they move.
+fn say_scroll(name: &str, first_row: usize, size: usize, count: usize, sheet: &mut Sheet) {
+    sheet.word(name);
+    sheet.show(&first_row);
+    sheet.show(&size);
+    sheet.show(&count);
+}
+
 fn say_change(change: &Change, sheet: &mut Sheet) {
     match change {
         Change::Text(text) => sheet.quoted(text.as_str()),
@@ -57,7 +66,24 @@ fn say_change(change: &Change, sheet: &mut Sheet) {
         Change::CursorPosition { x, y } => say_place(x, y, sheet),
         Change::CursorVisibility(visibility) => say_visibility(*visibility, sheet),
         Change::CursorShape(shape) => sheet.debug(shape),
-        _ => sheet.word("another"),
+        Change::CursorColor(color) => say_color("cursor_color", color, sheet),
+        Change::LineAttribute(size) => sheet.debug(size),
+        Change::ScrollRegionUp {
+            first_row,
+            region_size,
+            scroll_count,
+        } => say_scroll("scroll_up", *first_row, *region_size, *scroll_count, sheet),
+        Change::ScrollRegionDown {
+            first_row,
+            region_size,
+            scroll_count,
+        } => say_scroll(
+            "scroll_down",
+            *first_row,
+            *region_size,
+            *scroll_count,
+            sheet,
+        ),
     }
 }
 

@@ -63,6 +63,17 @@ fn attribute_of(word: &str) -> Result<AttributeChange, Fault> {
     }
 }
 
+// The size of a row.
+fn size_of(word: &str) -> Result<LineAttribute, Fault> {
+    match word {
+        "single_width" => Ok(LineAttribute::SingleWidthLine),
+        "double_width" => Ok(LineAttribute::DoubleWidthLine),
+        "top_half" => Ok(LineAttribute::DoubleHeightTopHalfLine),
+        "bottom_half" => Ok(LineAttribute::DoubleHeightBottomHalfLine),
+        _ => Err(Fault::Word),
+    }
+}
+
 // A change of the cursor or of its row.
 fn cursor_change(call: &Call<'_>) -> Result<Change, Fault> {
     match call.word(0) {
@@ -73,8 +84,8 @@ fn cursor_change(call: &Call<'_>) -> Result<Change, Fault> {
         "hide" => Ok(Change::CursorVisibility(CursorVisibility::Hidden)),
         "show" => Ok(Change::CursorVisibility(CursorVisibility::Visible)),
         "bar" => Ok(Change::CursorShape(CursorShape::SteadyBar)),
-        "double_width" => Ok(Change::LineAttribute(LineAttribute::DoubleWidthLine)),
-        _ => Err(Fault::Word),
+        "cursor_color" => Ok(Change::CursorColor(color_of(call.word(1))?)),
+        word => Ok(Change::LineAttribute(size_of(word)?)),
     }
 }
 

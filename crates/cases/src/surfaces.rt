@@ -13,6 +13,9 @@ use std::mem;
 
 type Plain = Surface<ProgramWidth>;
 
+// The most columns and rows of a case.
+const MOST: usize = 100_000;
+
 // The surface that steps work on, another one, and what the last change answered.
 #[derive(Drop)]
 struct Stage {
@@ -23,8 +26,8 @@ struct Stage {
 
 // A surface of the width and height in two words.
 fn surface_of(alloc: Global, width: &str, height: &str) -> Result<Plain, Fault> {
-    let width = number_up_to(4096, width)?;
-    let height = number_up_to(4096, height)?;
+    let width = number_up_to(MOST, width)?;
+    let height = number_up_to(MOST, height)?;
     Ok(Surface::new(alloc, width, height, ProgramWidth)?)
 }
 
@@ -43,8 +46,8 @@ fn change(stage: &mut Stage, call: &Call<'_>, sheet: &mut Sheet) -> Result<(), F
         "swap" => mem::swap(&mut stage.surface, &mut stage.other),
         "other" => stage.other = surface_of(call.alloc(), call.word(1), call.word(2))?,
         "resize" => {
-            let width = number_up_to(4096, call.word(1))?;
-            let height = number_up_to(4096, call.word(2))?;
+            let width = number_up_to(MOST, call.word(1))?;
+            let height = number_up_to(MOST, call.word(2))?;
             stage.surface.resize(width, height)?;
         }
         "flush" => stage
@@ -126,6 +129,16 @@ fn say_cells(surface: &Plain, sheet: &mut Sheet) -> Result<(), Fault> {
     Ok(())
 }
 
+// The size of each row.
+fn say_sizes(surface: &Plain, sheet: &mut Sheet) {
+    for line in surface.screen_lines() {
+        sheet.word_if(line.is_single_width(), "single_width");
+        sheet.word_if(line.is_double_height_top(), "top_half");
+        sheet.word_if(line.is_double_height_bottom(), "bottom_half");
+        sheet.word_if(line.is_double_width(), "double_width");
+    }
+}
+
 /// What is asked of a surface by itself; whether the step asks.
 pub fn ask_surface(surface: &Plain, call: &Call<'_>, sheet: &mut Sheet) -> Result<bool, Fault> {
     match call.word(0) {
@@ -143,6 +156,7 @@ pub fn ask_surface(surface: &Plain, call: &Call<'_>, sheet: &mut Sheet) -> Resul
         "title?" => sheet.quoted(surface.title()),
         "number" => sheet.show(&surface.current_seqno()),
         "cells" => say_cells(surface, sheet)?,
+        "sizes" => say_sizes(surface, sheet),
         "changes" => say_changes(surface, call.number(1, sheet), sheet)?,
         _ => return Ok(false),
     }
