@@ -7,7 +7,7 @@ use Rattle.std.proofs.lemmas.Bool.Decides.{nat_tests}
 use Rattle.std.proofs.lemmas.List.Sums.{take_while-cons, prefix_len-le-length}
 use Rattle.std.proofs.lemmas.Str.{encode_ascii}
 use lib.Utf8.{encode}
-use Rattle.escape_framing.specs.Framed.{IsLendable, IsText, no_text, text_of, BeginsNoText, IsCharacterLen}
+use Rattle.escape_framing.specs.Framed.{IsLendable, IsText, no_text, text_of, BeginsNoText, IsCharacterLen, IsTextLen}
 use Rattle.escape_framing.specs.Wide.{is_plain, least_second, most_second, is_second, is_behind, IsRunLen}
 use Rattle.escape_framing.specs.Existence.Utf8Lemmas.{Spelled, in_one, in_two, in_three, in_four, spelled, scalar_low, two_bytes, three_bytes, four_bytes}
 
@@ -356,3 +356,15 @@ some_plain bytes x xs e h = let k : prefix_len is_plain bytes ≡ 1 + prefix_len
 
 pub no_plain : (bytes : List ℕ) (x : ℕ) (xs : List ℕ) → bytes ≡ x ∷ xs → is_plain x ≡ false → prefix_len is_plain bytes ≡ 0
 no_plain bytes x xs e h = ap (prefix_len is_plain) e ∙ rw h refl
+
+-- ---- no text
+
+pub no_text_here : (bytes : List ℕ) → IsCharacterLen bytes 0 → IsTextLen bytes 0
+no_text_here bytes c = record { within = omega arith; text = no_text; rest = c.none refl }
+
+below_plain : (x : ℕ) → x < 0x20 → is_plain x ≡ false
+unfolding is_plain
+below_plain x h = grind (arith, nat_tests)
+
+pub no_text_below : (bytes : List ℕ) (x : ℕ) (xs : List ℕ) → bytes ≡ x ∷ xs → x < 0x20 → IsTextLen bytes 0
+no_text_below bytes x xs e h = no_text_here bytes (none_of_first bytes x xs e (no_plain bytes x xs e (below_plain x h)) (omega arith))

@@ -100,6 +100,7 @@ impl Parameters {
     }
 
     // One token more, where there is room.
+    #[inline(always)]
     fn add(&mut self, token: CsiParam, number: Option<u64>)
         ensures { self.new ≡ with_token self.old token number }
     {
@@ -113,6 +114,7 @@ impl Parameters {
     }
 
     // The last token is another number, if it was kept.
+    #[inline(always)]
     fn renumber(&mut self, number: u64)
         requires begun { IsSome self.old.number }
         requires fits { number ≤ LARGEST_NUMBER }
@@ -125,6 +127,7 @@ impl Parameters {
     }
 
     /// Reads one parameter byte.
+    #[inline(always)]
     #[tactic(auto, unfolding(crate::specs::Parameters::with_byte))]
     pub fn push(&mut self, byte: u8)
         ensures { self.new ≡ with_byte self.old byte }
@@ -142,6 +145,7 @@ impl Parameters {
     }
 
     /// Reads the parameter bytes at the front, and answers how many there are.
+    #[inline(always)]
     pub fn push_all(&mut self, bytes: &[u8]) -> usize
         ensures count { result ≡ prefix_len in_parameters bytes.now }
         ensures tokens { self.new ≡ fold with_byte self.old (take result bytes.now) }

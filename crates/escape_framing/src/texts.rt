@@ -174,7 +174,21 @@ fn behind(bytes: &[u8], count: usize) -> &[u8]
 }
 
 /// How many bytes the text at the front has, of as many characters as can be lent.
+#[inline(always)]
 pub(crate) fn text_len(bytes: &[u8]) -> usize
+    ensures { IsTextLen bytes.now result }
+{
+    let Some((byte, _)) = bytes.split_first() else {
+        return 0;
+    };
+    if *byte < 0x20 {
+        return 0;
+    }
+    runs_len(bytes)
+}
+
+// The same, run by run.
+fn runs_len(bytes: &[u8]) -> usize
     ensures { IsTextLen bytes.now result }
 {
     let mut rest = bytes;

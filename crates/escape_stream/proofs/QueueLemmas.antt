@@ -66,6 +66,13 @@ pub right_none : (xs ys : List StreamAction) → xs ++ ys ≡ [] → ys ≡ []
 right_none [] ys e = e
 right_none (x ∷ xs) ys e = cc
 
+left_none : (xs ys : List StreamAction) → xs ++ ys ≡ [] → xs ≡ []
+left_none [] ys e = refl
+left_none (x ∷ xs) ys e = cc
+
+pub empty_sequence : (p : Parameters) (q : Queue) → queue_actions p q ≡ [] → sequence_actions p q.sequence ≡ []
+empty_sequence p q e = left_none (sequence_actions p q.sequence) (actions_of (waiting_dispatches p q.waiting)) e
+
 pub empty_waiting : (p : Parameters) (q : Queue) → queue_actions p q ≡ [] → actions_of (waiting_dispatches p q.waiting) ≡ []
 empty_waiting p q e = right_none (sequence_actions p q.sequence) (actions_of (waiting_dispatches p q.waiting)) e
 

@@ -133,11 +133,6 @@ pub record GoesOn (old new : Pieces) : Type 0 where
   pub ready : IsUnderWay new
   pub ends : held_at_end new ≡ held_at_end old
 
--- a piece was handed out, or the same is left
-abbrev pub Tries : Pieces → Option PieceCode → Pieces → Type 0
-Tries old (Some piece) new = HasGiven old (Some piece) new
-Tries old None new = GoesOn old new
-
 -- where it stands: its parser had failed before, it is open, or it is over
 abbrev pub HadFailed : Pieces → Type 0
 HadFailed it = it.stage ≡ stage.Failed

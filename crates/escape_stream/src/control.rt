@@ -42,6 +42,7 @@ pub enum ControlCode {
 
 impl ControlCode {
     /// The control character of this byte, if there is one.
+    #[inline(always)]
     pub fn from_u8(byte: u8) -> Option<Self>
         ensures { result ≡ control_named byte }
     {

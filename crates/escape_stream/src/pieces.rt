@@ -3,7 +3,7 @@ ghost use Rattle.std.specs.Prelude.{◌≡◌, ◌≢◌, ◌↔◌, ◌+◌, �
 ghost use Rattle.escape_framing.specs.Framed.{IsText};
 ghost use Rattle.escape_framing.specs.Stepped.{Reads};
 ghost use Rattle.escape_framing.specs.Quick.{text_step};
-ghost use Rattle.escape_stream.specs.PiecesView.{IsUnderWay, IsOpen, lender_of, parser_of, lone_values, IsUnread, HasGiven, HasRead, HasReadLone, HasReadSequence, IsControlAt, GoesOn, Tries, PiecesGo};
+ghost use Rattle.escape_stream.specs.PiecesView.{IsUnderWay, IsOpen, lender_of, parser_of, lone_values, IsUnread, HasGiven, HasRead, HasReadLone, HasReadSequence, IsControlAt, GoesOn, PiecesGo};
 ghost use Rattle.escape_stream.specs.Pending.{Gives, pending_values};
 ghost use Rattle.escape_stream.specs.Queue.{queue_actions, sequence_values, IsEmpty};
 ghost use Rattle.escape_framing.specs.declared.lone.Lone.TheVariants.{Nothing};
@@ -289,27 +289,6 @@ impl<'a> Pieces<'a> {
         Ok(next)
     }
 
-    // Hands out the first action of the control sequence at the front of the bytes that are left, where nothing is
-    // unfinished and all its bytes stand there.
-    #[inline(always)]
-    fn sequence(&mut self) -> Result<Option<Piece<'a>>, AllocError>
-        requires ready { IsUnderWay self.old }
-        requires failed { self.old.parser.now.failed ≡ true }
-        requires empty { IsEmpty self.old.queue }
-        ensures same { lender_of self.new ≡ lender_of self.old }
-        ensures stage { self.new.stage ≡ self.old.stage }
-        ensures failed { self.new.parser.now.failed ≡ true }
-        ensures tries { IfOk result (λ piece. Tries self.old piece self.new) }
-    {
-        let Some(control) = self.read_sequence() else {
-            return Ok(None);
-        };
-        match self.first_action(control)? {
-            Some(action) => Ok(Some(Piece::Action(action))),
-            None => Ok(None),
-        }
-    }
-
     // The bytes of a text that was read of those behind so many.
     #[inline(always)]
     fn text_at(&self, count: usize, len: usize) -> &'a str
@@ -376,24 +355,40 @@ impl<'a> Pieces<'a> {
         }
     }
 
-    // The next item of pieces that are open, where it is no text and no control at the front.
+    // The next item of pieces that are open, where nothing waits and no text and no control stands at the front.
     #[inline(never)]
     fn next_by_step(&mut self) -> Option<Result<Piece<'a>, ParseError>>
+        requires open { IsOpen self.old }
+        requires ready { IsUnderWay self.old }
+        requires failed { self.old.parser.now.failed ≡ true }
+        requires empty { IsEmpty self.old.queue }
+        ensures { PiecesGo self.old result self.new }
+    {
+        let Some(control) = self.read_sequence() else {
+            return self.next_by_loop();
+        };
+        match self.first_action(control) {
+            Ok(Some(action)) => Some(Ok(Piece::Action(action))),
+            Ok(None) => self.next_by_loop(),
+            Err(_) => {
+                self.stage = Stage::Over;
+                Some(Err(ParseError::Memory))
+            }
+        }
+    }
+
+    // The next item where it is neither, called where it is wanted: the room for its answer is only cleared there.
+    #[inline(always)]
+    fn next_other(&mut self) -> Option<Result<Piece<'a>, ParseError>>
         requires open { IsOpen self.old }
         requires ready { IsUnderWay self.old }
         requires failed { self.old.parser.now.failed ≡ true }
         ensures { PiecesGo self.old result self.new }
     {
         if self.queue.is_waiting() {
-            return self.next_by_loop();
-        }
-        match self.sequence() {
-            Ok(Some(piece)) => Some(Ok(piece)),
-            Ok(None) => self.next_by_loop(),
-            Err(_) => {
-                self.stage = Stage::Over;
-                Some(Err(ParseError::Memory))
-            }
+            self.next_by_loop()
+        } else {
+            self.next_by_step()
         }
     }
 
@@ -406,14 +401,14 @@ impl<'a> Pieces<'a> {
         ensures { PiecesGo self.old result self.new }
     {
         if self.queue.is_waiting() {
-            return self.next_by_step();
+            return self.next_other();
         }
         if let Some(control) = self.control() {
             return Some(Ok(self.take_control(control)));
         }
         let len = self.text_len();
         if len == 0 {
-            return self.next_by_step();
+            return self.next_other();
         }
         Some(Ok(self.take_text(len)))
     }

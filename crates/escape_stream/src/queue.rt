@@ -87,18 +87,6 @@ impl Sequence {
         }
     }
 
-    // The sequence, unless all its actions were handed out.
-    #[inline(always)]
-    fn unless_done(self, parameters: &[CsiParam]) -> Option<Sequence>
-        ensures { (p : Parameters) → p.tokens ≡ parameters.now → sequence_actions p result ≡ sequence_actions p (Some self) }
-    {
-        if self.place.is_end(parameters) {
-            None
-        } else {
-            Some(self)
-        }
-    }
-
     // The next action, if there is one.
     #[inline(always)]
     fn next(
@@ -206,6 +194,18 @@ impl Queue {
         self.sequence = Some(Sequence::start(control));
     }
 
+    // The actions of a control sequence that are to come wait, where no other's do.
+    #[inline(always)]
+    fn wait_for(&mut self, sequence: Sequence, parameters: &[CsiParam])
+        ensures same { (p : Parameters) → p.tokens ≡ parameters.now → sequence_actions p self.old.sequence ≡ [] → sequence_actions p self.new.sequence ≡ sequence_actions p (Some sequence) }
+        ensures waiting { self.new.waiting ≡ self.old.waiting }
+    {
+        if sequence.place.is_end(parameters) {
+            return;
+        }
+        self.sequence = Some(sequence);
+    }
+
     /// The first action of a control sequence with this final byte and these parameters, where none wait; the others
     /// wait then.
     #[inline(always)]
@@ -222,7 +222,7 @@ impl Queue {
     {
         let mut sequence = Sequence::start(control);
         let next = sequence.next(alloc, parameters, truncated)?;
-        self.sequence = sequence.unless_done(parameters);
+        self.wait_for(sequence, parameters);
         Ok(next)
     }
 
@@ -241,7 +241,8 @@ impl Queue {
             return Ok(None);
         };
         let next = sequence.next(alloc, parameters, truncated)?;
-        self.sequence = sequence.unless_done(parameters);
+        self.sequence = None;
+        self.wait_for(sequence, parameters);
         Ok(next)
     }
 
