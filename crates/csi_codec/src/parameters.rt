@@ -70,6 +70,7 @@ pub enum CrackError {
 }
 
 /// The number if it is from 0 to `top`.
+#[inline(always)]
 pub(crate) fn number_within(top: u32, value: i64) -> Option<u32>
     ensures { result ≡ number_within top value }
 {
@@ -88,6 +89,7 @@ pub(crate) fn slot_number(slot: Option<i64>) -> i64
 }
 
 /// The place in a slot where absent and 0 stand for `default`, if a parameter can hold it.
+#[inline(always)]
 pub(crate) fn place(default: u32, slot: Option<i64>) -> Option<OneBased>
     requires { 1 ≤ default }
     ensures { result ≡ place default slot }
@@ -113,6 +115,7 @@ pub(crate) fn one_slot(params: &[CsiParam]) -> Option<Option<i64>>
 }
 
 /// The two slots of a list with at most one number on each side of a `;`.
+#[inline(always)]
 pub(crate) fn two_slots(params: &[CsiParam]) -> Option<(Option<i64>, Option<i64>)>
     ensures { result ≡ two_slots params.now }
 {
@@ -158,6 +161,7 @@ pub(crate) fn count(params: &[CsiParam]) -> Option<u32>
 }
 
 /// The two places that a list spells, where absent and 0 are 1, or `default` for the second.
+#[inline(always)]
 pub(crate) fn place_pair(default: u32, params: &[CsiParam]) -> Option<(OneBased, OneBased)>
     requires { 1 ≤ default }
     ensures { result ≡ place_pair default params.now }

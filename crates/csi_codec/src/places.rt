@@ -97,22 +97,13 @@ fn first_known(params: &[CsiParam], control: char) -> Option<(CSI, usize)>
     ensures { IfSome result (λ found. IsNext 0 params.now control (action_of found.0) found.1) }
 {
     if control == 'm' {
-        first_rendition_known(params)
-    } else {
-        first_other(params, control)
+        if params.is_empty() {
+            return Some((CSI::Sgr(Sgr::Reset), 1));
+        }
+        let (value, len) = first_sgr(params)?;
+        return Some((CSI::Sgr(value), len));
     }
-}
-
-/// The same before `m`.
-#[inline(never)]
-fn first_rendition_known(params: &[CsiParam]) -> Option<(CSI, usize)>
-    ensures { IfSome result (λ found. IsNext 0 params.now 109 (action_of found.0) found.1) }
-{
-    if params.is_empty() {
-        return Some((CSI::Sgr(Sgr::Reset), 1));
-    }
-    let (value, len) = first_sgr(params)?;
-    Some((CSI::Sgr(value), len))
+    first_other(params, control)
 }
 
 /// The same before any other final byte.
