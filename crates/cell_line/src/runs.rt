@@ -7,10 +7,25 @@ ghost use Rattle.cell_base.specs.Row.{set_columns, blank};
 ghost use Rattle.cell_line.specs.RowEdits.{overlaid};
 ghost use Rattle.cell_line.specs.TextRuns.{place_behind, plain_cells, text_on, text_left, Leads, Stops};
 
-use crate::row::{column_count, open, put, write_cell};
+use crate::row::{column_count, open, write_cell};
 use cell_base::{Cell, CellAttributes, Widths};
 use std::alloc::{AllocError, Global};
 use text_clusters::{split_first_cluster, split_plain};
+
+// The cell at a place becomes that of a printable character.
+fn put_ascii(
+    cells: &mut Vec<Cell>,
+    at: usize,
+    character: u8,
+    attrs: &CellAttributes,
+) -> Result<(), AllocError>
+    requires printable { is_printable character ≡ true }
+    requires within { at < vec_len cells.old }
+    ensures len { vec_len cells.new ≡ vec_len cells.old }
+    ensures items { OnOk result (cells.new.items ≡ slice_set cells.old.items at (cell_of (character ∷ []) 1 attrs.now)) }
+{
+    cells[at].set_ascii(character, attrs)
+}
 
 // Blanks stand in the places of a range.
 fn write_blanks(
@@ -25,7 +40,7 @@ fn write_blanks(
     ensures items { OnOk result (cells.new.items ≡ take start cells.old.items ++ replicate (end - start) (blank_cell attrs.now) ++ drop end cells.old.items) }
 {
     for at in start..end {
-        put(cells, at, Cell::blank_with_attrs(attrs.try_clone()?));
+        put_ascii(cells, at, b' ', attrs)?;
     }
     Ok(())
 }
@@ -44,21 +59,6 @@ pub(crate) fn set_blanks(
     open(cells, start, end)?;
     write_blanks(cells, start, end, attrs)?;
     Ok(())
-}
-
-// The cell at a place becomes that of a printable character.
-fn put_ascii(
-    cells: &mut Vec<Cell>,
-    at: usize,
-    character: u8,
-    attrs: &CellAttributes,
-) -> Result<(), AllocError>
-    requires printable { is_printable character ≡ true }
-    requires within { at < vec_len cells.old }
-    ensures len { vec_len cells.new ≡ vec_len cells.old }
-    ensures items { OnOk result (cells.new.items ≡ slice_set cells.old.items at (cell_of (character ∷ []) 1 attrs.now)) }
-{
-    cells[at].set_ascii(character, attrs)
 }
 
 // Cells of one printable character each stand from a place on.

@@ -1,6 +1,6 @@
-use Rattle.std.proofs.Common.{◌∙◌, ap, length, set, arith}
+use Rattle.std.proofs.Common.{◌∙◌, ap, length, arith}
 use Rattle.std.proofs.lemmas.List.{length-set}
-use Rattle.cell_base.specs.CellContent.{CellContent, blank_cell}
+use Rattle.cell_base.specs.CellContent.{blank_cell}
 use Rattle.cell_line.proofs.RunLemmas.{blanks_more}
 use Rattle.cell_line.proofs.runs.write_blanks.Goals as goal
 
@@ -9,7 +9,7 @@ loop-at-preserved c =
     let first = c.args.cells.now.items in
     let now = c.loop-at.cells.items in
     let at = c.loop-at.at in
-    let made = c.put.ensures ∙ ap (λ (x : CellContent). set now at x) (c.blank_with_attrs.ensures ∙ ap blank_cell c.in_ok-try_clone.ensures) in
+    let made = c.in_ok-put_ascii.ensures.items in
     let n = length-set now at (blank_cell c.args.attrs.now) in
     let k = c.loop-at.invariant.len in
     let v = c.args.cells.now.ok.0 in
