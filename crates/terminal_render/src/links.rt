@@ -59,6 +59,7 @@ fn have_plain_texts(params: &BTreeMap<String, String>) -> bool
     true
 }
 
+// Whether a key and a value hold none.
 fn is_plain_param(key: &str, value: &str) -> bool
     ensures { result ≡ is_plain_param (key.now, value.now) }
 {

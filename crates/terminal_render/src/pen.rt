@@ -34,6 +34,7 @@ pub(crate) fn color_setting(color: ColorAttribute) -> Option<ColorSpec>
     }
 }
 
+// Each of these answers none where the attribute is plain.
 fn unless_normal(value: Intensity) -> Option<Sgr>
     ensures { result ≡ unless_normal value }
 {
@@ -70,6 +71,7 @@ fn unless_base_line(value: VerticalAlign) -> Option<Sgr>
     }
 }
 
+// The colour of the text, unless it is the default one.
 fn foreground(color: ColorSpec) -> Option<Sgr>
     ensures { result ≡ unless_default sgr.Foreground color }
 {
@@ -89,6 +91,7 @@ pub(crate) fn background(color: ColorSpec) -> Option<Sgr>
     }
 }
 
+// The colour of underlines, unless it is the default one.
 fn underline_color(color: ColorSpec) -> Option<Sgr>
     ensures { result ≡ unless_default sgr.UnderlineColor color }
 {
@@ -98,6 +101,7 @@ fn underline_color(color: ColorSpec) -> Option<Sgr>
     }
 }
 
+// The setting, where it is on.
 fn when(on: bool, setting: Sgr) -> Option<Sgr>
     ensures { result ≡ (if on then Some setting else None) }
 {

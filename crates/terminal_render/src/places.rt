@@ -62,6 +62,7 @@ fn count_of(count: usize) -> u32
     count.min(u32::MAX as usize) as u32
 }
 
+// CUP.
 fn place_at(line: u32, col: u32) -> Cursor
     requires line { 1 ≤ line }
     requires column { 1 ≤ col }
@@ -73,6 +74,7 @@ fn place_at(line: u32, col: u32) -> Cursor
     }
 }
 
+// CHA.
 fn column_at(col: u32) -> Cursor
     requires { 1 ≤ col }
     ensures { result ≡ cursor.CharacterAbsolute col }
@@ -80,6 +82,7 @@ fn column_at(col: u32) -> Cursor
     Cursor::CharacterAbsolute(OneBased::new(col))
 }
 
+// CUU; none by 0.
 fn up(rows: usize) -> Option<Cursor>
     ensures { listed result ≡ move_by cursor.Up rows }
 {
@@ -90,6 +93,7 @@ fn up(rows: usize) -> Option<Cursor>
     }
 }
 
+// CUD.
 fn down(rows: usize) -> Option<Cursor>
     ensures { listed result ≡ move_by cursor.Down rows }
 {
@@ -100,6 +104,7 @@ fn down(rows: usize) -> Option<Cursor>
     }
 }
 
+// CUF.
 fn right(columns: usize) -> Option<Cursor>
     ensures { listed result ≡ move_by cursor.Right columns }
 {
@@ -165,6 +170,7 @@ pub(crate) fn move_actions(
     Ok(actions.into_vec())
 }
 
+// A move, if there is one.
 fn push_optional(actions: &mut Actions, cursor: Option<Cursor>) -> Result<(), AllocError>
     ensures { OnOk result (actions.new ≡ actions.old ++ map moved (listed cursor)) }
 {

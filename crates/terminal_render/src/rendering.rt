@@ -35,6 +35,7 @@ use escape_stream::Action;
 use std::alloc::Global;
 use std::rc::Rc;
 
+// A text: none that holds U+0080 to U+009F.
 #[tactic(auto, unfolding(crate::specs::Texts::text_rendering))]
 fn render_text(alloc: Global, text: &str) -> Result<Vec<Action>, RenderError>
     ensures some { IfOk result (λ actions. text_rendering text.now ≡ Some (map value_of actions.items)) }
@@ -46,6 +47,7 @@ fn render_text(alloc: Global, text: &str) -> Result<Vec<Action>, RenderError>
     unless_memory(text_actions(alloc, text))
 }
 
+// A title without controls.
 #[tactic(auto, unfolding(crate::specs::Texts::title_rendering))]
 fn render_title(alloc: Global, title: &String) -> Result<Vec<Action>, RenderError>
     ensures some { IfOk result (λ actions. title_rendering (string_bytes title.now) ≡ Some (map value_of actions.items)) }
@@ -57,6 +59,7 @@ fn render_title(alloc: Global, title: &String) -> Result<Vec<Action>, RenderErro
     unless_memory(title_actions(alloc, title))
 }
 
+// A link that OSC 8 carries, or its end.
 fn render_link(alloc: Global, link: Option<&Rc<Hyperlink>>) -> Result<Vec<Action>, RenderError>
     ensures some { IfOk result (λ actions. option_map (λ action. action ∷ []) (linked (option_map (λ l. l.now.value) link.entry)) ≡ Some (map value_of actions.items)) }
     ensures none { IsErrOf result RenderError.NoSpelling ↔ (option_map (λ action. action ∷ []) (linked (option_map (λ l. l.now.value) link.entry)) ≡ None) }
@@ -67,6 +70,7 @@ fn render_link(alloc: Global, link: Option<&Rc<Hyperlink>>) -> Result<Vec<Action
     unless_memory(link_actions(alloc, link))
 }
 
+// One attribute.
 #[tactic(auto, unfolding(crate::specs::Pen::attribute_action))]
 fn render_attribute(alloc: Global, change: &AttributeChange) -> Result<Vec<Action>, RenderError>
     ensures some { IfOk result (λ actions. option_map (λ action. action ∷ []) (attribute_action (attribute_value change.now)) ≡ Some (map value_of actions.items)) }
@@ -81,6 +85,7 @@ fn render_attribute(alloc: Global, change: &AttributeChange) -> Result<Vec<Actio
     }
 }
 
+// All attributes.
 #[tactic(auto, unfolding(crate::specs::Pen::pen_rendering))]
 fn render_pen(alloc: Global, pen: &CellAttributes) -> Result<Vec<Action>, RenderError>
     ensures some { IfOk result (λ actions. pen_rendering pen.now ≡ Some (map value_of actions.items)) }
@@ -95,6 +100,7 @@ fn render_pen(alloc: Global, pen: &CellAttributes) -> Result<Vec<Action>, Render
     }
 }
 
+// An erasure that leaves blanks of a colour.
 #[tactic(auto, unfolding(crate::specs::Pen::clear_rendering))]
 fn render_clear(
     alloc: Global,
@@ -110,6 +116,7 @@ fn render_clear(
     }
 }
 
+// ED 2, and the cursor goes home.
 #[tactic(auto, unfolding(crate::specs::Pen::clear_rendering))]
 fn render_clear_screen(alloc: Global, color: ColorAttribute) -> Result<Vec<Action>, RenderError>
     ensures some { IfOk result (λ actions. clear_rendering color (edited (edit.EraseInDisplay display.EraseDisplay) ∷ moved (cursor.Position 1 1) ∷ []) ≡ Some (map value_of actions.items)) }
@@ -121,6 +128,7 @@ fn render_clear_screen(alloc: Global, color: ColorAttribute) -> Result<Vec<Actio
     }
 }
 
+// A position on a screen of a size.
 fn render_position(
     alloc: Global,
     width: usize,
@@ -156,6 +164,7 @@ fn row_count(height: usize, count: usize) -> u32
     count.min(height) as u32
 }
 
+// SU, of all rows.
 #[tactic(auto, unfolding(crate::specs::Rendering::scroll_rendering))]
 fn render_scroll_up(
     alloc: Global,
@@ -177,6 +186,7 @@ fn render_scroll_up(
     unless_memory(edit_actions(alloc, Edit::ScrollUp(row_count(height, scroll_count))))
 }
 
+// SD, of all rows.
 #[tactic(auto, unfolding(crate::specs::Rendering::scroll_rendering))]
 fn render_scroll_down(
     alloc: Global,

@@ -7,6 +7,7 @@ ghost use Rattle.terminal_render.specs.Carried.{HasColor, HaveColors, IsChange, 
 use cell_base::{AttributeChange, CellAttributes, ColorAttribute, SrgbaTuple};
 use cell_change::Change;
 
+// Each channel.
 fn are_bytes(color: SrgbaTuple)
     ensures { (color.0 ≤ 255) × (color.1 ≤ 255) × (color.2 ≤ 255) × (color.3 ≤ 255) }
 {
@@ -34,6 +35,7 @@ fn pen_is(pen: &CellAttributes)
     color_is(pen.underline_color());
 }
 
+// The colour of one attribute, if it has one.
 fn attribute_is(change: &AttributeChange)
     ensures { HasColor (attribute_value change.now) }
 {
