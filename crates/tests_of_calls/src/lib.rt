@@ -15,17 +15,23 @@ mod colors;
 #[cfg(test)]
 mod commands;
 #[cfg(test)]
+mod fronts;
+#[cfg(test)]
 mod lines;
 #[cfg(test)]
 mod pieces;
 #[cfg(test)]
 mod places;
 #[cfg(test)]
+mod scripts;
+#[cfg(test)]
 mod sequences;
 #[cfg(test)]
 mod service;
 #[cfg(test)]
 mod streams;
+#[cfg(test)]
+mod surfaces;
 #[cfg(test)]
 mod texts;
 #[cfg(test)]
