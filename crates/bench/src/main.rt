@@ -3,6 +3,7 @@
 
 mod lists;
 mod parts;
+mod surfaces;
 
 use parts::{NAMES, Part};
 use std::io::Read;

@@ -1,12 +1,12 @@
 //! The parts of the stack that can be measured.
-use crate::lists;
+use crate::{lists, surfaces};
 use escape_framing::Framer;
 use escape_stream::{Parser, encode};
 use std::alloc::Global;
 use terminal::{ProgramWidth, Terminal};
 
 pub const NAMES: &str =
-    "bench frame | parse | pieces | collect | encode | show | read_list | write_list, and how often";
+    "bench frame | parse | pieces | collect | encode | show | read_list | write_list | lines | words | due | due_large | large, and how often";
 
 /// A part of the stack.
 #[derive(Clone, Copy)]
@@ -27,6 +27,16 @@ pub enum Part {
     ReadList,
     /// The actions of the control sequence at the front, written.
     WriteList,
+    /// Lines that are added to a surface.
+    Lines,
+    /// Words and attributes in turn that are added to a surface.
+    Words,
+    /// Lines that are added to a surface, and the changes behind each.
+    Due,
+    /// The same on a surface of 1600 columns and 480 rows.
+    DueLarge,
+    /// A surface of 2000 columns and 500 rows, its difference and its repaint.
+    Large,
 }
 
 impl Part {
@@ -41,6 +51,18 @@ impl Part {
             "show" => Some(Part::Show),
             "read_list" => Some(Part::ReadList),
             "write_list" => Some(Part::WriteList),
+            _ => Part::of_surfaces(name),
+        }
+    }
+
+    // The part of that name that changes surfaces.
+    fn of_surfaces(name: &str) -> Option<Part> {
+        match name {
+            "lines" => Some(Part::Lines),
+            "words" => Some(Part::Words),
+            "due" => Some(Part::Due),
+            "due_large" => Some(Part::DueLarge),
+            "large" => Some(Part::Large),
             _ => None,
         }
     }
@@ -69,7 +91,18 @@ impl Part {
             Part::Pieces => pieces(alloc, input),
             Part::Collect => collect(alloc, input),
             Part::Encode => write(alloc, input),
-            _ => show(alloc, input),
+            Part::Show => show(alloc, input),
+            _ => self.run_on_surface(alloc, input),
+        }
+    }
+
+    fn run_on_surface(self, alloc: Global, input: &[u8]) -> Option<u64> {
+        match self {
+            Part::Lines => surfaces::lines(alloc, input),
+            Part::Words => surfaces::words(alloc, input),
+            Part::Due => surfaces::due(alloc, input, 80, 24),
+            Part::DueLarge => surfaces::due(alloc, input, 1600, 480),
+            _ => surfaces::large(alloc, input),
         }
     }
 }
