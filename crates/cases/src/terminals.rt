@@ -1,10 +1,9 @@
 //! Terminals behind pieces and calls.
 use crate::call::Call;
-use crate::escapes;
 use crate::fault::Fault;
 use crate::row::{Row, number_up_to};
 use crate::sheet::Sheet;
-use crate::surfaces;
+use crate::{escapes, surfaces};
 use std::alloc::Global;
 use terminal::{ProgramWidth, Terminal};
 
@@ -122,13 +121,15 @@ impl Seen {
     pub fn is_same(&self, other: &Seen) -> Result<bool, Fault> {
         let (one, two) = (self.terminal.surface(), other.terminal.surface());
         let changes = one.diff_screens(two)?;
-        Ok(changes.is_empty()
-            && one.cursor_position() == two.cursor_position()
-            && one.cursor_visibility() == two.cursor_visibility()
-            && one.pen() == two.pen()
-            && one.title() == two.title()
-            && one.current_seqno() == two.current_seqno()
-            && self.replies.as_slice() == other.replies.as_slice())
+        Ok(
+            changes.is_empty()
+                && one.cursor_position() == two.cursor_position()
+                && one.cursor_visibility() == two.cursor_visibility()
+                && one.pen() == two.pen()
+                && one.title() == two.title()
+                && one.current_seqno() == two.current_seqno()
+                && self.replies.as_slice() == other.replies.as_slice(),
+        )
     }
 }
 

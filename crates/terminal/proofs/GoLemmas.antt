@@ -109,9 +109,9 @@ module _ {W : Type 0} (width_of : W → List ℕ → ℕ) where
       → NeedsNumber width_of (with_parts s u) history
   past s u history events are number = λ view st.
       subst (λ (l : Sized). 2 ^ 64 ≤ l.log.number)
-          (ap (fold step_of_kept s.surface.log)
-              (ap (λ v. events_logged (width_of s.surface.canvas.widths) v (events view)) (same_view s u view st) ∙ logged_with (width_of s.surface.canvas.widths) view [] (events view) ∙ (are view).logged))
-          (number view st.unfinished)
+      (ap (fold step_of_kept s.surface.log)
+      (ap (λ v. events_logged (width_of s.surface.canvas.widths) v (events view)) (same_view s u view st) ∙ logged_with (width_of s.surface.canvas.widths) view [] (events view) ∙ (are view).logged))
+      (number view st.unfinished)
 
   -- ---- a piece
 
@@ -128,8 +128,8 @@ module _ {W : Type 0} (width_of : W → List ℕ → ℕ) where
       → GoesBy width_of now (with_parts r w) (Piece bytes ∷ [])
   fed s r u w now bytes reached ready same takes ends =
       subst (λ t. GoesBy width_of t (with_parts r w) (Piece bytes ∷ [])) same
-          (went s r u w (Piece bytes ∷ []) (λ view. piece_events (pieces view.stream bytes)) reached (pieced bytes (width_of s.surface.canvas.widths)) (piece_ends u w bytes ends)
-              (λ view e. takes view.stream e ready (events_are view.stream bytes)))
+      (went s r u w (Piece bytes ∷ []) (λ view. piece_events (pieces view.stream bytes)) reached (pieced bytes (width_of s.surface.canvas.widths)) (piece_ends u w bytes ends)
+      (λ view e. takes view.stream e ready (events_are view.stream bytes)))
 
   pub fed_ready : (s r : TerminalState W) (u : Held) (bytes : List ℕ) → IsReached u → IsReady s
       → ((stream : List ℕ) → u ≡ held_of stream → Leads width_of s r (pieces stream bytes)) → IsReady r
@@ -142,8 +142,8 @@ module _ {W : Type 0} (width_of : W → List ℕ → ℕ) where
       → ((stream : List ℕ) → u ≡ held_of stream → steps.NeedsNumber width_of s (piece_events (pieces stream bytes))) → NeedsNumber width_of now (Piece bytes ∷ [])
   fed_past s u now bytes ready same numbers =
       subst (λ t. NeedsNumber width_of t (Piece bytes ∷ [])) same
-          (past s u (Piece bytes ∷ []) (λ view. piece_events (pieces view.stream bytes)) (pieced bytes (width_of s.surface.canvas.widths))
-              (λ view e. numbers view.stream e ready (events_are view.stream bytes)))
+      (past s u (Piece bytes ∷ []) (λ view. piece_events (pieces view.stream bytes)) (pieced bytes (width_of s.surface.canvas.widths))
+      (λ view e. numbers view.stream e ready (events_are view.stream bytes)))
 
   pub fed_sound : (s : TerminalState W) (u : Held) (bytes : List ℕ) → IsReached u → IsReady s
       → ((stream : List ℕ) → u ≡ held_of stream → IsReady s → AreEvents (piece_events (pieces stream bytes)) → ⊥) → ⊥
@@ -176,13 +176,13 @@ module _ {W : Type 0} (width_of : W → List ℕ → ℕ) where
   pub past_front : (x : Terminal W) (a b : History) → NeedsNumber width_of x a → NeedsNumber width_of x (a ++ b)
   past_front x a b n = λ view st.
       subst (λ (l : Sized). 2 ^ 64 ≤ l.log.number) (sym (log_joins (of x) view x.surface.log a b))
-          (past_behind (log_behind width_of x view a) (logged (of x) (after (of x) view a) b) (n view st))
+      (past_behind (log_behind width_of x view a) (logged (of x) (after (of x) view a) b) (n view st))
 
   pub past_later : (x y : Terminal W) (a b : History) → GoesBy width_of x y a → NeedsNumber width_of y b → NeedsNumber width_of x (a ++ b)
   past_later x y a b g n = λ view st.
       subst (λ (l : Sized). 2 ^ 64 ≤ l.log.number)
-          ((λ i. log_after (width_of (g.widths i)) (after (of x) view a) (g.log view st i) b) ∙ sym (log_joins (of x) view x.surface.log a b))
-          (n (after (of x) view a) (g.stands view st))
+      ((λ i. log_after (width_of (g.widths i)) (after (of x) view a) (g.log view st i) b) ∙ sym (log_joins (of x) view x.surface.log a b))
+      (n (after (of x) view a) (g.stands view st))
 
   pub past_joined : (x : Terminal W) (a b : List ℕ) → NeedsNumber width_of x (Piece a ∷ Piece b ∷ []) → NeedsNumber width_of x (Piece (a ++ b) ∷ [])
   past_joined x a b n = λ view st.

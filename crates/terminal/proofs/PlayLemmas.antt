@@ -59,8 +59,8 @@ module _ {W : Type 0} (width_of : W → List ℕ → ℕ) (w : W) (width height 
   pub played_past : (all left : History) (x : history.Step) (t : Terminal W) → IsPlayed width_of w width height all (x ∷ left) t → NeedsNumber width_of t (x ∷ []) → 2 ^ 64 ≤ (log_of f width height all).log.number
   played_past all left x t p n =
       subst (λ (l : Sized). 2 ^ 64 ≤ l.log.number) (ap (log_of f width height) (sym whole))
-          (subst (λ (l : Sized). 2 ^ 64 ≤ l.log.number) (sym (log_joins width_of f (new_view width height) first (p.done ++ x ∷ []) left))
-              (past_behind (log_of f width height (p.done ++ x ∷ [])) (logged f (meaning f width height (p.done ++ x ∷ [])) left) so_far))
+      (subst (λ (l : Sized). 2 ^ 64 ≤ l.log.number) (sym (log_joins width_of f (new_view width height) first (p.done ++ x ∷ []) left))
+      (past_behind (log_of f width height (p.done ++ x ∷ [])) (logged f (meaning f width height (p.done ++ x ∷ [])) left) so_far))
     where
       whole : all ≡ (p.done ++ x ∷ []) ++ left
       whole = p.whole ∙ sym (append_assoc p.done (x ∷ []) left)
@@ -76,13 +76,13 @@ module _ {W : Type 0} (width_of : W → List ℕ → ℕ) (w : W) (width height 
       → GoesBy width_of t u (played (get_or steps i d) ∷ []) → IsPlayed width_of w width height (history_of steps) (history_of (drop (i + 1) steps)) u
   step_played steps i d t u h p g =
       played_next (history_of steps) (history_of (drop (i + 1) steps)) (played (get_or steps i d)) t u
-          (subst (λ l. IsPlayed width_of w width height (history_of steps) l t) (at_drop_more history_of steps i d h) p) g
+      (subst (λ l. IsPlayed width_of w width height (history_of steps) l t) (at_drop_more history_of steps i d h) p) g
 
   pub step_past : (steps : List Step) (i : ℕ) (d : Step) (t : Terminal W) → i < length steps → IsPlayed width_of w width height (history_of steps) (history_of (drop i steps)) t
       → NeedsNumber width_of t (played (get_or steps i d) ∷ []) → 2 ^ 64 ≤ (log_of f width height (history_of steps)).log.number
   step_past steps i d t h p n =
       played_past (history_of steps) (history_of (drop (i + 1) steps)) (played (get_or steps i d)) t
-          (subst (λ l. IsPlayed width_of w width height (history_of steps) l t) (at_drop_more history_of steps i d h) p) n
+      (subst (λ l. IsPlayed width_of w width height (history_of steps) l t) (at_drop_more history_of steps i d h) p) n
 
 sizes_behind : (step : Step) (steps : List Step) → AreStepSizes (step ∷ steps) → AreStepSizes steps
 sizes_behind (code.Feed bytes) steps h = h

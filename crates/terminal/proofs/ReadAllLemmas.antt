@@ -43,9 +43,9 @@ module _ {W : Type 0} (width_of : W → List ℕ → ℕ) where
   number_fed (Some input) (Some rest) None t now bytes h c n = absurd c
   number_fed (Some input) (Some rest) (Some next) t now bytes h c n =
       subst (λ l. NeedsNumber width_of t (Piece l ∷ [])) (append_assoc h.fed bytes next ∙ ap (λ l. h.fed ++ l) (sym c) ∙ sym h.whole)
-          (past_joined width_of t (h.fed ++ bytes) next
-              (past_front width_of t (Piece (h.fed ++ bytes) ∷ []) (Piece next ∷ [])
-                  (past_joined width_of t h.fed bytes (past_later width_of t now (Piece h.fed ∷ []) (Piece bytes ∷ []) h.goes n))))
+      (past_joined width_of t (h.fed ++ bytes) next
+      (past_front width_of t (Piece (h.fed ++ bytes) ∷ []) (Piece next ∷ [])
+      (past_joined width_of t h.fed bytes (past_later width_of t now (Piece h.fed ∷ []) (Piece bytes ∷ []) h.goes n))))
 
   -- ---- a new terminal that is fed all of an input, and settles
 

@@ -4,7 +4,6 @@
 mod driver;
 mod error;
 pub mod laws;
-
 mod steps;
 mod terminal;
 mod watched;

@@ -94,7 +94,7 @@ module _ {W : Type 0} (width_of : W → List ℕ → ℕ) where
       let all = all_number (changes_of (function_of action) (view_of u).state) u.surface.log in
       let past : Past (fold step_of_kept u.surface.log (map Logged (changes_of (function_of action) (view_of u).state))) = omega arith in
       let same : fold step_of_kept u.surface.log (map Logged (changes_of (function_of action) (view_of u).state)) ≡ fold step_of_kept (log_behind width_of t (Looked ∷ [])) (map Logged (changes_of (function_of action) (settled (of t) (view_of t)).state))
-          = λ i. fold step_of_kept (h.log i) (map Logged (changes_of (function_of action) (h.view i).state)) in
+      = λ i. fold step_of_kept (h.log i) (map Logged (changes_of (function_of action) (h.view i).state)) in
       subst Past (same ∙ sym (acted_behind t action p)) past
 
   -- ---- other sizes
@@ -147,7 +147,7 @@ module _ {W : Type 0} (width_of : W → List ℕ → ℕ) where
       let first = event_logged (of t) (view_of t) x in
       let rest = events_logged (of t) (event_done (of t) (view_of t) x) ys in
       subst Past (sym (fold-append step_of_kept t.surface.log first rest))
-          (past_behind (fold step_of_kept t.surface.log first) rest (subst (λ xs. Past (fold step_of_kept t.surface.log xs)) (append_nil first) h))
+      (past_behind (fold step_of_kept t.surface.log first) rest (subst (λ xs. Past (fold step_of_kept t.surface.log xs)) (append_nil first) h))
 
   -- ---- pieces in turn
 
@@ -169,7 +169,7 @@ module _ {W : Type 0} (width_of : W → List ℕ → ℕ) where
       let had = (h.goes start).had ready (are_front done (code_event piece ∷ rest) es) in
       let one : AreEvents (code_event piece ∷ []) = ((are_behind done (code_event piece ∷ rest) es).0, tt) in
       subst (λ xs. Past (log_behind width_of t xs)) (sym all)
-          (subst Past (sym (behind_had t now done (code_event piece ∷ rest) had)) (past_first now (code_event piece) rest (n had.ready one)))
+      (subst Past (sym (behind_had t now done (code_event piece ∷ rest) had)) (past_first now (code_event piece) rest (n had.ready one)))
 
   pub taking_ready : (t now : TerminalState W) (first it new : Pieces) (piece : PieceCode) → IsTaking width_of t now first it → HasGiven it (Some piece) new
       → (IsReady now → ⊥) → (start : ℕ) → IsReady t → AreEvents (piece_events (open_pieces start first)) → ⊥

@@ -11,10 +11,12 @@ returns-in_err-take_bytes-clause-failed g c =
     let p = err_from_is_err_and c.from_residual.result c.from_residual.ensures.1 in
     let can = c.self.invariant c.if-self.false in
     let whole = sym (ap (λ (t : Terminal g.row.W.Denot). t.is_failed) c.self.view_is) ∙ c.if-self.false in
-    rw (p.1, p.2) ((λ e.
-    let refused : ◌≡◌ {A = Result (Unit {0}) TerminalError} (Err c.in_err-take_bytes.field-0.0) (Err Failed) = cc in
-    absurd (fed_sound (λ w. g.W.Widths.width_of w) c.self.inside.state c.self.inside.parser.held c.args.piece.now can.reached can.ready (c.in_err-take_bytes.ensures.failed refused))),
-    (λ e. absurd cc))
+    rw (p.1, p.2) (
+      (λ e.
+          let refused : ◌≡◌ {A = Result (Unit {0}) TerminalError} (Err c.in_err-take_bytes.field-0.0) (Err Failed) = cc in
+          absurd (fed_sound (λ w. g.W.Widths.width_of w) c.self.inside.state c.self.inside.parser.held c.args.piece.now can.reached can.ready (c.in_err-take_bytes.ensures.failed refused))),
+      (λ e. absurd cc),
+    )
 
 pub returns-in_err-take_bytes-clause-number : goal.returns-in_err-take_bytes-clause-number
 returns-in_err-take_bytes-clause-number g c =
