@@ -1,0 +1,4 @@
+pub mod TextLemmas
+pub mod DisplayLemmas
+pub mod ChangeLemmas
+pub mod ViewLemmas

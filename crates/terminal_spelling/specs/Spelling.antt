@@ -1,0 +1,117 @@
+-- What a terminal keeps so that each of its changes has a spelling.
+use Rattle.std.specs.Prelude.{◌≡◌, ◌≢◌, ⊤, ℕ, All, true, false, List, [], ◌∷◌, Option, Some, None}
+use Rattle.std.specs.Str.{IsUtf8}
+use Rattle.cell_base.specs.declared.attributes.SemanticType.TheVariants.{Output}
+use Rattle.cell_base.specs.declared.color.ColorAttribute.{ColorAttribute}
+use Rattle.cell_base.specs.declared.color.ColorAttribute.TheVariants as attribute
+use Rattle.cell_base.specs.Attributes.{Attributes}
+use Rattle.cell_base.specs.AttributeValue as one
+use Rattle.cell_base.specs.AttributeValue.{AttributeValue}
+use Rattle.cell_base.specs.Row.{Row, Narrow, LeftHalf, RightHalf}
+use Rattle.cell_base.specs.Screen.{Screen}
+use Rattle.cell_change.specs.ChangeValue.{ChangeValue, Attribute, AllAttributes, Text, ClearScreen, ClearToEndOfLine, ClearToEndOfScreen, Title}
+use Rattle.escape_osc.specs.Parts.{holds_c1}
+use Rattle.escape_stream.specs.StreamAction.{printed}
+use Rattle.terminal_render.specs.Links.{is_carried, is_plain_text}
+use Rattle.terminal_render.specs.Rendering.{rendering}
+use Rattle.terminal_table.specs.State.{SavedCursor, State}
+use Rattle.terminal_table.specs.Functions as table
+use Rattle.terminal_table.specs.Functions.{ControlFunction, function_of}
+use Rattle.terminal_table.specs.History.{Event, Act}
+use Rattle.terminal_table.specs.Meaning.{View}
+
+-- a colour that SGR sets: any but one that falls back to the palette
+abbrev pub IsToldColor : ColorAttribute → Type 0
+IsToldColor (attribute.TrueColorWithPaletteFallback color index) = ⊥
+IsToldColor (attribute.TrueColorWithDefaultFallback color) = ⊤
+IsToldColor (attribute.PaletteIndex index) = ⊤
+IsToldColor attribute.Default = ⊤
+
+-- attributes that SGR and OSC 8 set: of no row that goes on, of semantic type output, with a link that is carried and such colours
+pub record IsSpelledPen (pen : Attributes) : Type 0 where
+  pub unwrapped : pen.wrapped ≡ false
+  pub output : pen.semantic_type ≡ Output
+  pub link : is_carried pen.hyperlink ≡ true
+  pub foreground : IsToldColor pen.foreground
+  pub background : IsToldColor pen.background
+  pub underline : IsToldColor pen.underline_color
+
+-- a text in UTF-8 without U+0080 to U+009F
+pub record IsSpelledText (text : List ℕ) : Type 0 where
+  pub utf8 : IsUtf8 text
+  pub no_c1 : holds_c1 text ≡ false
+
+-- each column has such a text and such attributes
+abbrev pub IsSpelledRow : Row → Type 0
+IsSpelledRow [] = ⊤
+IsSpelledRow (Narrow text attributes ∷ row) = IsSpelledText text × IsSpelledPen attributes × IsSpelledRow row
+IsSpelledRow (LeftHalf text attributes ∷ row) = IsSpelledText text × IsSpelledPen attributes × IsSpelledRow row
+IsSpelledRow (RightHalf attributes ∷ row) = IsSpelledPen attributes × IsSpelledRow row
+
+-- each row, the pen, and a title without controls
+pub record IsSpelledScreen (screen : Screen) : Type 0 where
+  pub rows : All IsSpelledRow screen.rows
+  pub pen : IsSpelledPen screen.pen
+  pub title : is_plain_text screen.title ≡ true
+
+-- the pen of a saved cursor, if one was saved
+abbrev pub IsSpelledSaved : Option SavedCursor → Type 0
+IsSpelledSaved None = ⊤
+IsSpelledSaved (Some cursor) = IsSpelledPen cursor.pen
+
+pub record IsSpelledState (state : State) : Type 0 where
+  pub screen : IsSpelledScreen state.screen
+  pub saved : IsSpelledSaved state.saved
+
+pub record IsSpelledView (view : View) : Type 0 where
+  pub state : IsSpelledState view.state
+  pub held : IsSpelledText view.held
+
+-- ---- what comes
+
+-- a link that is carried, a title without controls; of every other control function nothing
+abbrev pub IsSpelledFunction : ControlFunction → Type 0
+IsSpelledFunction (table.Hyperlink link) = is_carried link ≡ true
+IsSpelledFunction (table.Title text) = is_plain_text text ≡ true
+IsSpelledFunction _ = ⊤
+
+-- the control function that an action asks for, if it asks for one
+abbrev pub IsSpelledRequest : Option ControlFunction → Type 0
+IsSpelledRequest None = ⊤
+IsSpelledRequest (Some function) = IsSpelledFunction function
+
+-- an action prints such a text, and asks for such a control function
+abbrev pub IsSpelledEvent : Event → Type 0
+IsSpelledEvent (Act action) = IsSpelledText (printed action) × IsSpelledRequest (function_of action)
+IsSpelledEvent _ = ⊤
+
+abbrev pub AreSpelledEvents : List Event → Type 0
+AreSpelledEvents [] = ⊤
+AreSpelledEvents (event ∷ events) = IsSpelledEvent event × AreSpelledEvents events
+
+-- ---- changes
+
+abbrev pub IsSpelledValue : AttributeValue → Type 0
+IsSpelledValue (one.Foreground color) = IsToldColor color
+IsSpelledValue (one.Background color) = IsToldColor color
+IsSpelledValue (one.Hyperlink link) = is_carried link ≡ true
+IsSpelledValue _ = ⊤
+
+-- what a change brings to a display: its text, attributes, colour or title
+abbrev pub IsSpelledChange : ChangeValue → Type 0
+IsSpelledChange (Attribute value) = IsSpelledValue value
+IsSpelledChange (AllAttributes attributes) = IsSpelledPen attributes
+IsSpelledChange (Text text) = IsSpelledText text
+IsSpelledChange (ClearScreen color) = IsToldColor color
+IsSpelledChange (ClearToEndOfLine color) = IsToldColor color
+IsSpelledChange (ClearToEndOfScreen color) = IsToldColor color
+IsSpelledChange (Title title) = is_plain_text title ≡ true
+IsSpelledChange _ = ⊤
+
+-- something can be sent for a change to a terminal of a width and a height
+abbrev pub HasSpelling : ℕ → ℕ → ChangeValue → Type 0
+HasSpelling width height change = rendering change width height ≢ None
+
+abbrev pub HaveSpellings : ℕ → ℕ → List ChangeValue → Type 0
+HaveSpellings width height [] = ⊤
+HaveSpellings width height (change ∷ changes) = HasSpelling width height change × HaveSpellings width height changes
