@@ -1,5 +1,5 @@
 -- Terminals that go on by histories.
-use Rattle.std.proofs.Common.{◌≡◌, ℕ, ◌≤◌, ◌^◌, false, List, [], ◌∷◌, ◌++◌, map, fold, refl, sym, ap, subst, ◌∙◌, arith}
+use Rattle.std.proofs.Common.{◌≡◌, ℕ, ◌≤◌, ◌^◌, false, List, [], ◌∷◌, ◌++◌, map, fold, refl, sym, ap, subst, ◌∙◌}
 use Rattle.std.specs.String.{string_bytes}
 use Rattle.std.proofs.lemmas.Grind.{flat_map-append}
 use Rattle.std.proofs.lemmas.List.Sums.{fold-append}
@@ -11,12 +11,12 @@ use Rattle.escape_framing.proofs.PlacedLemmas.{newly_join}
 use Rattle.escape_stream.specs.Pieces.{pieces}
 use Rattle.escape_stream.specs.StreamActions.{actions_of_dispatch, actions_of}
 use Rattle.escape_stream.proofs.SpellLemmas.{pieces_spell}
-use Rattle.terminal.specs.Terminal.{Terminal, StandsAt, GoesBy, NeedsNumber, state_in, log_behind}
+use Rattle.terminal.specs.Terminal.{Terminal, StandsAt, GoesBy, NeedsNumber, log_behind}
 use Rattle.terminal_steps.specs.Events as steps
 use Rattle.terminal_steps.specs.Events.{IsReady, Had, view_of}
 use Rattle.terminal_steps.specs.Taking.{piece_events, Leads}
 use Rattle.terminal_steps.specs.declared.state.TerminalState.{TerminalState}
-use Rattle.terminal_steps.proofs.NumberLemmas.{fold_number, past_behind}
+use Rattle.terminal_steps.proofs.NumberLemmas.{past_behind}
 use Rattle.terminal_steps.proofs.SpellLemmas.{call_state, call_held, call_logged, call_events, none_newly}
 use Rattle.terminal_table.specs.History.{History, Piece, Look, Resize, Forget, Event, Act, Looked, Resized, Forgot}
 use Rattle.terminal_table.specs.History as table

@@ -1,5 +1,5 @@
 -- What histories make of terminals.
-use Rattle.std.proofs.Common.{◌≡◌, ℕ, List, [], ◌∷◌, ◌++◌, fold, refl, sym, ap, ◌∙◌}
+use Rattle.std.proofs.Common.{◌≡◌, ℕ, List, [], ◌∷◌, ◌++◌, fold, sym, ap, ◌∙◌}
 use Rattle.change_log.specs.LogSteps.{step_of_kept}
 use Rattle.escape_stream.specs.StreamAction.{StreamAction}
 use Rattle.escape_stream.specs.StreamWritable.{IsWritable}
@@ -10,7 +10,6 @@ use Rattle.terminal_table.specs.Alone.{row_done, row_logged}
 use Rattle.terminal_table.specs.History.{History, Piece}
 use Rattle.terminal_table.specs.Logged.{logged}
 use Rattle.terminal_table.specs.Meaning.{View, after}
-use Rattle.terminal_table.specs.State.{State}
 
 module _ {W : Type 0} (width_of : W → List ℕ → ℕ) where
   pub pieces_in_turn : (first between last : Terminal W) (x y : List ℕ) → GoesBy width_of first between (Piece x ∷ []) → GoesBy width_of between last (Piece y ∷ []) → GoesBy width_of first last (Piece (x ++ y) ∷ [])

@@ -12,7 +12,7 @@ use Rattle.terminal_steps.proofs.NumberLemmas.{past_behind}
 use Rattle.terminal_table.specs.History as history
 use Rattle.terminal_table.specs.History.{History}
 use Rattle.terminal_table.specs.Logged.{logged, log_after, log_of}
-use Rattle.terminal_table.specs.Meaning.{View, new_view, after, meaning}
+use Rattle.terminal_table.specs.Meaning.{new_view, after, meaning}
 use Rattle.terminal_table.proofs.JoinLemmas.{after_joins}
 
 -- of all steps some were played on a new terminal, and others are left

@@ -7,11 +7,11 @@ use Rattle.change_log.specs.Log.{most_due, new_log}
 use Rattle.change_log.specs.LogSteps.{Sized}
 use Rattle.terminal.specs.Terminal.{Terminal, StandsAt, GoesBy, NeedsNumber, state_in}
 use Rattle.terminal.specs.Shown.{rows_shown}
-use Rattle.terminal.specs.Fed.{HasFed, FeedsOn, Feeds, FeedingNeedsNumber}
-use Rattle.terminal.proofs.GoLemmas.{in_turn, joined, stays, past_front, past_later, past_joined, log_joins}
+use Rattle.terminal.specs.Fed.{FeedsOn, Feeds, FeedingNeedsNumber}
+use Rattle.terminal.proofs.GoLemmas.{in_turn, joined, stays, past_front, past_later, past_joined}
 use Rattle.terminal_table.specs.History.{Piece, Look}
 use Rattle.terminal_table.specs.Logged.{log_after, log_of}
-use Rattle.terminal_table.specs.Meaning.{View, new_view, after, meaning}
+use Rattle.terminal_table.specs.Meaning.{new_view, after, meaning}
 use Rattle.terminal_table.proofs.JoinLemmas.{nothing_behind}
 
 module _ {W : Type 0} (width_of : W → List ℕ → ℕ) where

@@ -1,5 +1,5 @@
 -- A reader or a writer that is watched.
-use Rattle.std.specs.Prelude.{◌≡◌, ℕ, ◌+◌, ◌^◌, ◌-◌, min, Bool, true, false, ◌||◌, ◌&&◌, ◌==◌, not, List, length, Result, Ok, Err, is_err}
+use Rattle.std.specs.Prelude.{ℕ, ◌+◌, ◌^◌, ◌-◌, min, Bool, true, ◌&&◌, ◌==◌, not, List, length, Result, Ok, Err}
 
 -- what is watched, whether it has failed, and how often it was read
 pub record Watched (T : Type 0) : Type 0 where
