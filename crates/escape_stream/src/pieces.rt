@@ -335,7 +335,7 @@ impl<'a> Pieces<'a> {
 
     // The next item of pieces that are open, byte by byte where nothing is read at once.
     #[inline(never)]
-    fn next_by_loop(&mut self) -> Option<Result<Piece<'a>, ParseError>>
+    fn next_of_loop(&mut self) -> Option<Result<Piece<'a>, ParseError>>
         requires open { IsOpen self.old }
         requires ready { IsUnderWay self.old }
         requires failed { self.old.parser.now.failed ≡ true }
@@ -355,7 +355,18 @@ impl<'a> Pieces<'a> {
         }
     }
 
-    // The next item of pieces that are open, where nothing waits and no text and no control stands at the front.
+    // The same, called where it is wanted: the room for its answer is only cleared there.
+    #[inline(always)]
+    fn next_by_loop(&mut self) -> Option<Result<Piece<'a>, ParseError>>
+        requires open { IsOpen self.old }
+        requires ready { IsUnderWay self.old }
+        requires failed { self.old.parser.now.failed ≡ true }
+        ensures { PiecesGo self.old result self.new }
+    {
+        self.next_of_loop()
+    }
+
+    // The next item of pieces that are open, where nothing waits: of a control sequence at once.
     #[inline(never)]
     fn next_by_step(&mut self) -> Option<Result<Piece<'a>, ParseError>>
         requires open { IsOpen self.old }
@@ -377,7 +388,16 @@ impl<'a> Pieces<'a> {
         }
     }
 
-    // The next item where it is neither, called where it is wanted: the room for its answer is only cleared there.
+    // Whether ESC [ stands at the front of the bytes that are left.
+    #[inline(always)]
+    fn is_at_sequence(&self) -> bool
+        requires { self.now.count ≤ length self.now.bytes.now }
+    {
+        let bytes = self.bytes;
+        matches!(behind(bytes, self.count), [0x1b, b'[', ..])
+    }
+
+    // The next item where it is neither: a control sequence at once, if one begins there and nothing waits.
     #[inline(always)]
     fn next_other(&mut self) -> Option<Result<Piece<'a>, ParseError>>
         requires open { IsOpen self.old }
@@ -386,9 +406,12 @@ impl<'a> Pieces<'a> {
         ensures { PiecesGo self.old result self.new }
     {
         if self.queue.is_waiting() {
-            self.next_by_loop()
-        } else {
+            return self.next_by_loop();
+        }
+        if self.is_at_sequence() {
             self.next_by_step()
+        } else {
+            self.next_by_loop()
         }
     }
 
