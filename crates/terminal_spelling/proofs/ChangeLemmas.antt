@@ -1,10 +1,11 @@
 -- Changes that have a spelling, and those of control functions.
-use Rattle.std.proofs.Common.{◌≡◌, ◌≢◌, ℕ, ◌-◌, ◌<◌, inl, Bool, true, false, List, [], ◌∷◌, ◌++◌, map, refl, sym, ap, subst, arith}
+use Rattle.std.proofs.Common.{◌≡◌, ◌≢◌, ℕ, ◌+◌, ◌-◌, ◌<◌, inl, Bool, true, false, List, [], ◌∷◌, ◌++◌, map, refl, sym, ap, subst, arith}
 use Rattle.std.specs.Prelude.{⊤, ◌↔◌, ◌==◌, ◌||◌, not, min, nat_le, Option, Some, None, option_map, option_and_then, if◌then◌else◌}
 use Rattle.std.specs.List.{flat_map}
 use Rattle.std.proofs.lemmas.Bool.{or_parts}
 use Rattle.std.proofs.lemmas.Bool.Decides.{nat_tests}
 use lib.Utf8.{encode}
+use Rattle.cell_base.specs.declared.attributes.Position.{Position}
 use Rattle.cell_base.specs.declared.attributes.Position.TheVariants.{Absolute}
 use Rattle.cell_base.specs.declared.attributes.SemanticType.{SemanticType}
 use Rattle.cell_base.specs.declared.attributes.SemanticType.TheVariants as type
@@ -33,7 +34,7 @@ use Rattle.terminal_table.specs.Steps.{cursor_to_restore}
 use Rattle.terminal_table.specs.Changes.{position, move_change, rendition_changes, changes}
 use Rattle.terminal_render.specs.Links.{is_carried, is_plain_text}
 use Rattle.terminal_render.specs.Pen.{colour_setting, rendition, link_action, attribute_action, settings, pen_actions, is_output, is_unsaid, pen_settings, pen_rendering, plain_pen, clear_rendering}
-use Rattle.terminal_render.specs.Places.{moves, way_of, position_moves}
+use Rattle.terminal_render.specs.Places.{Way, At, Back, On, moves, way_of, position_moves}
 use Rattle.terminal_render.specs.Rendering.{edited, moved, is_whole, scroll_rendering}
 use Rattle.terminal_render.specs.Texts.{part_actions, text_rendering, title_rendering}
 use Rattle.terminal_spelling.specs.Spelling.{IsToldColor, IsSpelledPen, IsSpelledText, IsSpelledScreen, IsSpelledSaved, IsSpelledFunction, IsSpelledValue, IsSpelledChange, HasSpelling, HaveSpellings}
@@ -42,10 +43,10 @@ use Rattle.terminal_spelling.proofs.DisplayLemmas.{AreSpelledChanges, plain_spel
 
 -- ---- options
 
-some_is : {A : Type 0} (x : A) → Some x ≢ None
+pub some_is : {A : Type 0} (x : A) → Some x ≢ None
 some_is x e = cc
 
-equal_some : {A : Type 0} (o : Option A) (x : A) → o ≡ Some x → o ≢ None
+pub equal_some : {A : Type 0} (o : Option A) (x : A) → o ≡ Some x → o ≢ None
 equal_some o x e k = cc
 
 map_some : {A B : Type 0} (f : A → B) (o : Option A) → o ≢ None → option_map f o ≢ None
@@ -206,14 +207,20 @@ spellings_append width height (x ∷ xs) ys p q = (p.0, spellings_append width h
 
 -- ---- the changes of control functions go where moves reach
 
-pub place_some : (width height column row : ℕ) → column < width → position_moves width height (Absolute column) (Absolute row) ≢ None
-unfolding position_moves moves
-place_some width height column row h =
+at_some : (place : ℕ) (way : Way) → moves (At place) way ≢ None
+unfolding moves
+at_some place (At row) = some_is _
+at_some place (Back rows) = some_is _
+at_some place (On rows) = some_is _
+
+pub place_some : (width height column : ℕ) (y : Position) → column < width → position_moves width height (Absolute column) y ≢ None
+unfolding position_moves
+place_some width height column y h =
     let within : nat_le width column ≡ false = grind (arith, nat_tests) in
-    equal_some _ _ (ap (λ b. if b then None else moves (way_of width (Absolute column)) (way_of height (Absolute row))) within)
+    subst (λ b. (if b then None else moves (way_of width (Absolute column)) (way_of height y)) ≢ None) (sym within) (at_some (min column (width - 1) + 1) (way_of height y))
 
 position_placed : (at : ℕ × ℕ) (s : Screen) → 0 < s.width → IsPlaced s.width (height s) (position at s)
-position_placed at s h = place_some s.width (height s) (min at.0 (s.width - 1)) (min at.1 (height s - 1)) (omega arith)
+position_placed at s h = place_some s.width (height s) (min at.0 (s.width - 1)) (Absolute (min at.1 (height s - 1))) (omega arith)
 
 all_rows : (n : ℕ) → is_whole n 0 n ≡ true
 all_rows n = grind (arith, nat_tests)

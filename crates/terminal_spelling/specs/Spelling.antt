@@ -1,6 +1,8 @@
 -- What a terminal keeps so that each of its changes has a spelling.
-use Rattle.std.specs.Prelude.{◌≡◌, ◌≢◌, ⊤, ℕ, All, true, false, List, [], ◌∷◌, Option, Some, None}
+use Rattle.std.specs.Prelude.{◌≡◌, ◌≢◌, ◌⊎◌, ⊤, ℕ, All, true, false, List, [], ◌∷◌, Option, Some, None}
 use Rattle.std.specs.Str.{IsUtf8}
+use Rattle.cell_base.specs.declared.attributes.CursorShape.{CursorShape as Shape}
+use Rattle.cell_base.specs.declared.attributes.Position.TheVariants.{Absolute}
 use Rattle.cell_base.specs.declared.attributes.SemanticType.TheVariants.{Output}
 use Rattle.cell_base.specs.declared.color.ColorAttribute.{ColorAttribute}
 use Rattle.cell_base.specs.declared.color.ColorAttribute.TheVariants as attribute
@@ -8,8 +10,8 @@ use Rattle.cell_base.specs.Attributes.{Attributes}
 use Rattle.cell_base.specs.AttributeValue as one
 use Rattle.cell_base.specs.AttributeValue.{AttributeValue}
 use Rattle.cell_base.specs.Row.{Row, Narrow, LeftHalf, RightHalf}
-use Rattle.cell_base.specs.Screen.{Screen}
-use Rattle.cell_change.specs.ChangeValue.{ChangeValue, Attribute, AllAttributes, Text, ClearScreen, ClearToEndOfLine, ClearToEndOfScreen, Title}
+use Rattle.cell_base.specs.Screen.{Screen, height}
+use Rattle.cell_change.specs.ChangeValue.{ChangeValue, Attribute, AllAttributes, Text, ClearScreen, ClearToEndOfLine, ClearToEndOfScreen, CursorPosition, CursorShape, Title}
 use Rattle.escape_osc.specs.Parts.{holds_c1}
 use Rattle.escape_stream.specs.StreamAction.{printed}
 use Rattle.terminal_render.specs.Links.{is_carried, is_plain_text}
@@ -115,3 +117,13 @@ HasSpelling width height change = rendering change width height ≢ None
 abbrev pub HaveSpellings : ℕ → ℕ → List ChangeValue → Type 0
 HaveSpellings width height [] = ⊤
 HaveSpellings width height (change ∷ changes) = HasSpelling width height change × HaveSpellings width height changes
+
+-- the place of a wrap that is pending, or a shape of the cursor
+abbrev pub IsLeftOut : Screen → ChangeValue → Type 0
+IsLeftOut screen change =
+    ((screen.column ≡ screen.width) × (change ≡ CursorPosition (Absolute screen.column) (Absolute screen.row))) ⊎ ((shape : Shape) × (change ≡ CursorShape shape))
+
+-- each of the other changes has a spelling at the screen's size
+abbrev pub HaveOtherSpellings : Screen → List ChangeValue → Type 0
+HaveOtherSpellings screen [] = ⊤
+HaveOtherSpellings screen (change ∷ changes) = (HasSpelling screen.width (height screen) change ⊎ IsLeftOut screen change) × HaveOtherSpellings screen changes

@@ -1,17 +1,20 @@
 //! Laws of spellings: each is the contract of a function that does nothing.
-ghost use Rattle.std.specs.Prelude.{◌≢◌, ◌↔◌, ℕ, List, None};
+ghost use Rattle.std.specs.Prelude.{◌≡◌, ◌≢◌, ◌↔◌, ◌<◌, ℕ, List, None};
 ghost use Rattle.cell_base.specs.Attributes.{Attributes};
 ghost use Rattle.cell_base.specs.Screen.{height};
 ghost use Rattle.cell_change.specs.ChangeValue.{ChangeValue};
 ghost use Rattle.screen_effects.specs.Display.{Display, IsDisplay, new_display};
 ghost use Rattle.screen_effects.specs.Effect.{effect};
 ghost use Rattle.screen_effects.specs.Resize.{resized};
+ghost use Rattle.screen_repaint.specs.Repaint.{repaint};
 ghost use Rattle.terminal_render.specs.Pen.{pen_rendering};
-ghost use Rattle.terminal_table.specs.History.{Event};
+ghost use Rattle.terminal_table.specs.History.{Event, History, events};
 ghost use Rattle.terminal_table.specs.Logged.{event_logged};
-ghost use Rattle.terminal_table.specs.Meaning.{View, new_view, event_done};
-ghost use Rattle.terminal_table.specs.Turns.{IsView, IsEvent, changes_in};
-ghost use Rattle.terminal_spelling.specs.Spelling.{HaveSpellings, IsSpelledChange, IsSpelledEvent, IsSpelledPen, IsSpelledScreen, IsSpelledView};
+ghost use Rattle.terminal_table.specs.Meaning.{View, new_view, after, event_done};
+ghost use Rattle.terminal_table.specs.Turns.{AreSizes, IsView, IsEvent, changes_in};
+ghost use Rattle.terminal_spelling.specs.Spelling.{AreSpelledEvents, HaveOtherSpellings, HaveSpellings, IsSpelledChange, IsSpelledEvent, IsSpelledPen, IsSpelledScreen, IsSpelledView};
+
+use escape_framing::laws::one_cut;
 
 /// Attributes have a spelling exactly where SGR and OSC 8 set them: of no row that goes on, of semantic
 /// type output, with a link that is carried, and with colours that don't fall back to the palette.
@@ -37,4 +40,25 @@ pub fn views_stay_spelled()
 /// Each change that is logged for such an event has a spelling at the size of the screen before it.
 pub fn logged_changes_have_spellings()
     ensures { (width_of : List ℕ → ℕ) (view : View) (event : Event) → IsView view → IsSpelledView view → IsSpelledEvent event → HaveSpellings view.state.screen.width (height view.state.screen) (changes_in (event_logged width_of view event)) }
+{}
+
+/// What a stream prints holds no U+0080 to U+009F, and the links and titles that it asks for can be sent.
+pub fn events_are_spelled()
+    ensures { (stream : List ℕ) (history : History) → AreSpelledEvents (events stream history) }
+{
+    one_cut();
+}
+
+/// So the cells, pens and titles of a terminal, and the run that it holds, keep a spelling whatever comes.
+pub fn histories_stay_spelled()
+    ensures { (width_of : List ℕ → ℕ) (view : View) (history : History) → IsView view → AreSizes history → IsSpelledView view → IsSpelledView (after width_of view history) }
+{
+    one_cut();
+}
+
+/// Each change of a repaint of such a display has a spelling at its size, but for the place of a pending
+/// wrap and a shape of the cursor: so all of them where no wrap is pending and no shape was set.
+pub fn repaints_have_spellings()
+    ensures others { (display : Display) → IsDisplay display → IsSpelledScreen display.screen → HaveOtherSpellings display.screen (repaint display) }
+    ensures all { (display : Display) → IsDisplay display → IsSpelledScreen display.screen → display.screen.column < display.screen.width → display.shape ≡ None → HaveSpellings display.screen.width (height display.screen) (repaint display) }
 {}
