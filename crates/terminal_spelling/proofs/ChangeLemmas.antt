@@ -49,11 +49,11 @@ some_is x e = cc
 pub equal_some : {A : Type 0} (o : Option A) (x : A) → o ≡ Some x → o ≢ None
 equal_some o x e k = cc
 
-map_some : {A B : Type 0} (f : A → B) (o : Option A) → o ≢ None → option_map f o ≢ None
+pub map_some : {A B : Type 0} (f : A → B) (o : Option A) → o ≢ None → option_map f o ≢ None
 map_some f None h = absurd (h refl)
 map_some f (Some x) h = some_is (f x)
 
-then_some : {A B : Type 0} (f : A → Option B) (o : Option A) → o ≢ None → ((x : A) → f x ≢ None) → option_and_then f o ≢ None
+pub then_some : {A B : Type 0} (f : A → Option B) (o : Option A) → o ≢ None → ((x : A) → f x ≢ None) → option_and_then f o ≢ None
 then_some f None h k = absurd (h refl)
 then_some f (Some x) h k = k x
 

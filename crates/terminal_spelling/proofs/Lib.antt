@@ -5,3 +5,4 @@ pub mod ViewLemmas
 pub mod CommandLemmas
 pub mod StreamLemmas
 pub mod RepaintLemmas
+pub mod LogLemmas

@@ -31,10 +31,10 @@ use Rattle.terminal_spelling.proofs.ChangeLemmas.{changes_spelled, changes_place
 -- ---- steps and runs
 
 -- a display that shows a screen
-abbrev display_on : Screen → Display
+abbrev pub display_on : Screen → Display
 display_on screen = record { screen = screen; sizes = replicate (height screen) SingleWidthLine; shape = None }
 
-display_on_is : (state : State) → IsState state → IsDisplay (display_on state.screen)
+pub display_on_is : (state : State) → IsState state → IsDisplay (display_on state.screen)
 display_on_is state h = record { lawful = h.lawful; whole = h.whole; sized = length-replicate (height state.screen) SingleWidthLine }
 
 saved_spelled : (function : ControlFunction) (saved : Option SavedCursor) (s : Screen) → IsSpelledSaved saved → IsSpelledScreen s → IsSpelledSaved (saved_step function saved s)
@@ -78,14 +78,14 @@ run_spelled width_of text state h n t p =
 pub new_spelled : (width height : ℕ) → IsSpelledView (new_view width height)
 new_spelled width height = record { state = record { screen = screen_spelled width height; saved = tt }; held = spelled_nil }
 
-settled_spelled : (width_of : List ℕ → ℕ) (v : View) → IsView v → IsSpelledView v → IsSpelledView (settled width_of v)
+pub settled_spelled : (width_of : List ℕ → ℕ) (v : View) → IsView v → IsSpelledView v → IsSpelledView (settled width_of v)
 settled_spelled width_of v h p = by_test (length v.held == 0) refl
   where
     by_test : (b : Bool) → (length v.held == 0) ≡ b → IsSpelledView (settled width_of v)
     by_test true e = rw e (record { state = p.state; held = spelled_nil })
     by_test false e = rw e (record { state = record { screen = run_spelled width_of v.held v.state h.lawful h.plain p.held p.state.screen; saved = p.state.saved }; held = spelled_nil })
 
-settled_is : (width_of : List ℕ → ℕ) (v : View) → IsView v → IsView (settled width_of v)
+pub settled_is : (width_of : List ℕ → ℕ) (v : View) → IsView v → IsView (settled width_of v)
 settled_is width_of v h = event_is width_of v Looked h tt
 
 pub event_spelled : (width_of : List ℕ → ℕ) (v : View) (event : Event) → IsView v → IsEvent event → IsSpelledView v → IsSpelledEvent event → IsSpelledView (event_done width_of v event)
@@ -103,9 +103,9 @@ event_spelled width_of v (Forgot number) h k p q = p
 -- ---- what is logged
 
 -- as wide and as high
-record HasSize (s t : Screen) : Type 0 where
-  wide : s.width ≡ t.width
-  tall : height s ≡ height t
+pub record HasSize (s t : Screen) : Type 0 where
+  pub wide : s.width ≡ t.width
+  pub tall : height s ≡ height t
 
 run_size : (width_of : List ℕ → ℕ) (text : List ℕ) (state : State) → IsState state → IsPrinted text → HasSize (run_step width_of text state).screen state.screen
 run_size width_of text state h n =
@@ -113,7 +113,7 @@ run_size width_of text state h n =
     let size = effect_size width_of (display_on state.screen) (run_change text) (display_on_is state h) in
     record { wide = ap (λ (s : Screen). s.width) (sym turned) ∙ size.width; tall = ap (λ (s : Screen). height s) (sym turned) ∙ size.tall }
 
-settled_size : (width_of : List ℕ → ℕ) (v : View) → IsView v → HasSize (settled width_of v).state.screen v.state.screen
+pub settled_size : (width_of : List ℕ → ℕ) (v : View) → IsView v → HasSize (settled width_of v).state.screen v.state.screen
 settled_size width_of v h = by_test (length v.held == 0) refl
   where
     by_test : (b : Bool) → (length v.held == 0) ≡ b → HasSize (settled width_of v).state.screen v.state.screen
@@ -141,7 +141,7 @@ changes-logged (c ∷ cs) = ap (λ xs. c ∷ xs) (changes-logged cs)
 behind_run : (width height : ℕ) (v : View) (steps : List LogStep) → IsSpelledView v → HaveSpellings width height (changes_in steps) → HaveSpellings width height (changes_in (run_logged v ++ steps))
 behind_run width height v steps p q = subst (HaveSpellings width height) (sym (changes-append (run_logged v) steps)) (spellings_append width height (changes_in (run_logged v)) (changes_in steps) (run_has width height v p) q)
 
-request_has : (request : Option ControlFunction) (state : State) → IsState state → IsSpelledRequest request → IsSpelledState state → HaveSpellings state.screen.width (height state.screen) (changes_of request state)
+pub request_has : (request : Option ControlFunction) (state : State) → IsState state → IsSpelledRequest request → IsSpelledState state → HaveSpellings state.screen.width (height state.screen) (changes_of request state)
 request_has None state h f p = tt
 request_has (Some function) state h f p =
     have_spellings state.screen.width (height state.screen) (changes function state.saved state.screen)

@@ -1,15 +1,18 @@
 //! Laws of spellings: each is the contract of a function that does nothing.
-ghost use Rattle.std.specs.Prelude.{◌≡◌, ◌≢◌, ◌↔◌, ◌<◌, ℕ, List, None};
+ghost use Rattle.std.specs.Prelude.{◌≡◌, ◌≢◌, ◌↔◌, ◌<◌, ℕ, List, None, IfSome, fold};
 ghost use Rattle.cell_base.specs.Attributes.{Attributes};
 ghost use Rattle.cell_base.specs.Screen.{height};
 ghost use Rattle.cell_change.specs.ChangeValue.{ChangeValue};
+ghost use Rattle.change_log.specs.Log.{Log, due};
+ghost use Rattle.change_log.specs.LogSteps.{Sized, step_of_kept};
 ghost use Rattle.screen_effects.specs.Display.{Display, IsDisplay, new_display};
 ghost use Rattle.screen_effects.specs.Effect.{effect};
 ghost use Rattle.screen_effects.specs.Resize.{resized};
 ghost use Rattle.screen_repaint.specs.Repaint.{repaint};
+ghost use Rattle.terminal_render.specs.Lists.{all_rendered};
 ghost use Rattle.terminal_render.specs.Pen.{pen_rendering};
 ghost use Rattle.terminal_table.specs.History.{Event, History, events};
-ghost use Rattle.terminal_table.specs.Logged.{event_logged};
+ghost use Rattle.terminal_table.specs.Logged.{event_logged, log_after};
 ghost use Rattle.terminal_table.specs.Meaning.{View, new_view, after, event_done};
 ghost use Rattle.terminal_table.specs.Turns.{AreSizes, IsView, IsEvent, changes_in};
 ghost use Rattle.terminal_spelling.specs.Spelling.{AreSpelledEvents, HaveOtherSpellings, HaveSpellings, IsSpelledChange, IsSpelledEvent, IsSpelledPen, IsSpelledScreen, IsSpelledView};
@@ -55,6 +58,21 @@ pub fn histories_stay_spelled()
 {
     one_cut();
 }
+
+/// Each change that a log keeps has a spelling at the present size of the screen, whatever comes, and so
+/// has each that is due.
+pub fn kept_changes_have_spellings()
+    ensures event { (width_of : List ℕ → ℕ) (view : View) (event : Event) (log : Sized) → IsView view → IsSpelledView view → IsSpelledEvent event → HaveSpellings view.state.screen.width (height view.state.screen) log.log.entries → HaveSpellings (event_done width_of view event).state.screen.width (height (event_done width_of view event).state.screen) (fold step_of_kept log (event_logged width_of view event)).log.entries }
+    ensures history { (width_of : List ℕ → ℕ) (view : View) (history : History) (log : Sized) → IsView view → AreSizes history → IsSpelledView view → HaveSpellings view.state.screen.width (height view.state.screen) log.log.entries → HaveSpellings (after width_of view history).state.screen.width (height (after width_of view history).state.screen) (log_after width_of view log history).log.entries }
+    ensures due { (width : ℕ) (height : ℕ) (most : ℕ) (log : Log) (number : ℕ) → HaveSpellings width height log.entries → IfSome (due most log number) (HaveSpellings width height) }
+{
+    one_cut();
+}
+
+/// So there is something that is sent for such changes in turn.
+pub fn spelled_changes_are_rendered()
+    ensures { (width : ℕ) (height : ℕ) (changes : List ChangeValue) → HaveSpellings width height changes → all_rendered changes width height ≢ None }
+{}
 
 /// Each change of a repaint of such a display has a spelling at its size, but for the place of a pending
 /// wrap and a shape of the cursor: so all of them where no wrap is pending and no shape was set.
