@@ -1,5 +1,6 @@
 -- The command line of the program: its options, and what words give for them, as the kit's `clap` reads words.
-use Rattle.std.specs.Prelude.{ℕ, pos, ◌&&◌, nat_lt, nat_le, true, List, [], ◌∷◌, Option, Some, None, codes, if◌then◌else◌}
+use Rattle.std.specs.Prelude.{ℕ, pos, Bool, ◌&&◌, nat_lt, nat_le, true, false, List, [], ◌∷◌, Option, Some, None, codes, if◌then◌else◌}
+use Rattle.std.specs.Str.{bytes_eq}
 use Rattle.std.specs.Str.Parse.{digits_value, without_leading_plus}
 use Rattle.clap.specs.Simple.{on_top}
 use Rattle.clap.specs.ValueTests.{is_unsigned_in}
@@ -60,3 +61,11 @@ height_in words = number_or 24 4096 (text_in words (codes "height"))
 
 abbrev pub every_in : List Text → ℕ
 every_in words = number_or 4096 4294967295 (text_in words (codes "every"))
+
+-- whether an option's text says so; one without a text doesn't
+unfoldable pub is_true : Option Text → Bool
+is_true None = false
+is_true (Some text) = bytes_eq text (codes "true")
+
+abbrev pub show_in : List Text → Bool
+show_in words = is_true (text_in words (codes "show"))

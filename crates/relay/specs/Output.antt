@@ -1,10 +1,16 @@
 -- What the program writes.
-use Rattle.std.specs.Prelude.{ℕ, List}
+use Rattle.std.specs.Prelude.{ℕ, Bool, List, if◌then◌else◌}
 use Rattle.clap.specs.Words.{Text}
 use Rattle.cell_base.specs.Cluster.{program_width}
 use Rattle.terminal.specs.Shown.{rows_shown}
-use Rattle.relay.specs.CommandLine.{width_in, height_in}
+use Rattle.terminal_update.specs.Updates.{updates}
+use Rattle.relay.specs.CommandLine.{width_in, height_in, every_in, show_in}
 
--- the rows of an input, on a screen of the size that the words give, each with a line feed behind it
-abbrev pub rows_in : List Text → List ℕ → List ℕ
-rows_in words input = rows_shown program_width (width_in words) (height_in words) input
+-- of an input the rows, each with a line feed behind it, where these are to be shown, and else the updates
+abbrev pub written : Bool → ℕ → ℕ → ℕ → List ℕ → List ℕ
+written is_show width height every input =
+    if is_show then rows_shown program_width width height input else updates program_width width height every input
+
+-- as the words ask for it
+abbrev pub written_in : List Text → List ℕ → List ℕ
+written_in words input = written (show_in words) (width_in words) (height_in words) (every_in words) input

@@ -1,6 +1,6 @@
 ghost use Rattle.std.specs.Prelude.{◌≡◌, ◌<◌, ◌≤◌, false, IfOk, map};
 ghost use Rattle.clap.specs.Words.{FailsBy, app_of, found_of, one_text, rule_of};
-ghost use Rattle.relay.specs.CommandLine.{chosen, command_line, named, number_rule, flag_rule, faults_in, number_or, width_in, height_in, every_in};
+ghost use Rattle.relay.specs.CommandLine.{chosen, command_line, named, number_rule, flag_rule, faults_in, number_or, width_in, height_in, every_in, is_true, show_in};
 
 use clap::{Arg, ArgAction, ArgMatches, Command, Error, value_parser};
 use std::alloc::{AllocError, Global};
@@ -15,7 +15,7 @@ pub struct Options {
     pub height: usize,
     /// After how many bytes an update is written, 1 to 2^32 - 1.
     pub every: usize,
-    /// Whether the rows are written once, at the end.
+    /// Whether the rows are written once, at the end, in place of updates.
     pub is_show: bool,
     ghost width_in: { (0 < width) × (width ≤ 4096) },
     ghost height_in: { (0 < height) × (height ≤ 4096) },
@@ -113,11 +113,19 @@ fn number(matches: &ArgMatches<'_>, name: &str, default: u32, most: u32) -> usiz
     chosen(matches.get_one::<u32>(name), default, most) as usize
 }
 
+// Whether a flag was given.
+fn flag(matches: &ArgMatches<'_>, name: &str) -> bool
+    ensures { result ≡ is_true (one_text (found_of matches.now) name.now) }
+{
+    matches.get_one::<bool>(name).unwrap_or(false)
+}
+
 /// Reads a command line, of which the first word is the program's name.
 pub fn read<'a, S: AsStr>(alloc: Global, words: &'a [S]) -> Result<Options, Error>
     ensures width { IfOk result (λ options. options.width ≡ width_in (map S.text words.entry.now)) }
     ensures height { IfOk result (λ options. options.height ≡ height_in (map S.text words.entry.now)) }
     ensures every { IfOk result (λ options. options.every ≡ every_in (map S.text words.entry.now)) }
+    ensures show { IfOk result (λ options. options.is_show ≡ show_in (map S.text words.entry.now)) }
     ensures faults { FailsBy (faults_in (map S.text words.entry.now)) result }
 {
     let matches = command(alloc)?.try_get_matches_from(words)?;
@@ -125,6 +133,6 @@ pub fn read<'a, S: AsStr>(alloc: Global, words: &'a [S]) -> Result<Options, Erro
         width: number(&matches, "width", 80, MOST),
         height: number(&matches, "height", 24, MOST),
         every: number(&matches, "every", 4096, u32::MAX),
-        is_show: matches.get_flag("show"),
+        is_show: flag(&matches, "show"),
     })
 }

@@ -1,10 +1,9 @@
-ghost use Rattle.std.specs.Prelude.{◌≡◌, ◌≢◌, ◌⊎◌, ◌≤◌, [], map, IfSome, OnOk, OnErr};
+ghost use Rattle.std.specs.Prelude.{false, ◌≡◌, ◌≢◌, ◌⊎◌, ◌≤◌, [], map, IfSome, OnOk, OnErr};
 ghost use Rattle.std.specs.Io.KnownBytes.{Appends, Keeps};
-ghost use Rattle.cell_base.specs.Cluster.{program_width};
-ghost use Rattle.terminal.specs.Shown.{AppendsPrefix, rows_shown};
+ghost use Rattle.terminal.specs.Shown.{AppendsPrefix};
 ghost use Rattle.clap.specs.Words.{IsAmong, kind_of};
 ghost use Rattle.relay.specs.CommandLine.{faults_in};
-ghost use Rattle.relay.specs.Output.{rows_in};
+ghost use Rattle.relay.specs.Output.{written, written_in};
 
 use crate::lent::Lent;
 use crate::options;
@@ -15,7 +14,7 @@ use std::alloc::Global;
 use std::convert::AsStr;
 use std::io;
 use std::io::{Read, Write};
-use terminal::{ProgramWidth, RunError, TerminalError, Watched, show};
+use terminal::{ProgramWidth, RunError, TerminalError, Watched, run, show};
 
 const FAULT: u8 = 1;
 
@@ -79,28 +78,49 @@ fn explain<T: Write, F: Write>(alloc: Global, error: &Error, writer: &mut T, fau
     0
 }
 
-// Runs what the options ask for.
-fn run<R: Read, T: Write>(
+// Writes what the options ask for of what the reader gives.
+fn answer<R: Read, T: Write>(
+    alloc: Global,
+    options: Options,
+    reader: &mut Watched<R>,
+    writer: &mut Watched<T>,
+) -> Result<(), RunError>
+    requires reader { reader.old.has_failed ≡ false }
+    requires unread { reader.old.reads ≡ 0 }
+    requires writer { writer.old.has_failed ≡ false }
+    ensures ok { OnOk result (IfSome (R.remaining reader.old.inner) (λ input.
+        Appends (T.contents writer.old.inner) (T.contents writer.new.inner) (written options.is_show options.width options.height options.every input))) }
+    ensures err { OnErr result (IfSome (R.remaining reader.old.inner) (λ input.
+        AppendsPrefix (T.contents writer.old.inner) (T.contents writer.new.inner) (written options.is_show options.width options.height options.every input))) }
+{
+    let Options {
+        width,
+        height,
+        every,
+        is_show,
+    } = options;
+    if is_show {
+        show(alloc, reader, writer, width, height, ProgramWidth)
+    } else {
+        run(alloc, reader, writer, width, height, every, ProgramWidth)
+    }
+}
+
+// Writes what the options ask for.
+fn relay<R: Read, T: Write>(
     alloc: Global,
     options: Options,
     reader: &mut R,
     writer: &mut T,
 ) -> Result<(), RunError>
     ensures ok { OnOk result (IfSome (R.remaining reader.old) (λ input.
-        Appends (T.contents writer.old) (T.contents writer.new) (rows_shown program_width options.width options.height input))) }
+        Appends (T.contents writer.old) (T.contents writer.new) (written options.is_show options.width options.height options.every input))) }
     ensures err { OnErr result (IfSome (R.remaining reader.old) (λ input.
-        AppendsPrefix (T.contents writer.old) (T.contents writer.new) (rows_shown program_width options.width options.height input))) }
+        AppendsPrefix (T.contents writer.old) (T.contents writer.new) (written options.is_show options.width options.height options.every input))) }
 {
     let mut reader = Watched::new(reader);
     let mut writer = Watched::new(Lent { inner: writer });
-    let result = show(
-        alloc,
-        &mut reader,
-        &mut writer,
-        options.width,
-        options.height,
-        ProgramWidth,
-    );
+    let result = answer(alloc, options, &mut reader, &mut writer);
     let Lent { inner } = writer.into_inner();
     let _ = &*inner;
     result
@@ -124,18 +144,18 @@ pub fn serve<S: AsStr, R: Read, T: Write, F: Write>(
     ensures asked { result ≡ 0 → faults_in (map S.text words.now) ≢ []
         → IsAmong ErrorKind.DisplayHelp (faults_in (map S.text words.now)) ⊎ IsAmong ErrorKind.DisplayVersion (faults_in (map S.text words.now)) }
     ensures quiet { result ≡ 0 → Keeps (F.contents faults.old) (F.contents faults.new) }
-    // A command line that can be run writes the rows of the input, of its size, where the status is 0, and else the first
-    // bytes of them.
+    // A command line that can be run writes the updates of the input, or with `--show` its rows, of its size, where the
+    // status is 0, and else the first bytes of them.
     ensures shows { faults_in (map S.text words.now) ≡ [] → result ≡ 0 → IfSome (R.remaining reader.old) (λ input.
-        Appends (T.contents writer.old) (T.contents writer.new) (rows_in (map S.text words.now) input)) }
+        Appends (T.contents writer.old) (T.contents writer.new) (written_in (map S.text words.now) input)) }
     ensures part { faults_in (map S.text words.now) ≡ [] → result ≢ 0 → IfSome (R.remaining reader.old) (λ input.
-        AppendsPrefix (T.contents writer.old) (T.contents writer.new) (rows_in (map S.text words.now) input)) }
+        AppendsPrefix (T.contents writer.old) (T.contents writer.new) (written_in (map S.text words.now) input)) }
 {
     let options = match options::read(alloc, words) {
         Ok(options) => options,
         Err(error) => return explain(alloc, &error, writer, faults),
     };
-    match run(alloc, options, reader, writer) {
+    match relay(alloc, options, reader, writer) {
         Ok(()) => 0,
         Err(error) => tell(faults, fault_of(error)),
     }

@@ -115,7 +115,7 @@ module _ {W : Type 0} (width_of : W → List ℕ → ℕ) where
 
   -- ---- a piece
 
-  events_are : (stream bytes : List ℕ) → AreEvents (piece_events (pieces stream bytes))
+  pub events_are : (stream bytes : List ℕ) → AreEvents (piece_events (pieces stream bytes))
   events_are stream bytes = call_events (λ s. (the_cut s).is_cut) newly_join pieces_spell stream bytes
 
   -- what is unfinished behind it

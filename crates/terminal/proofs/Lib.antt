@@ -3,3 +3,4 @@ pub mod PlayLemmas
 pub mod AppendLemmas
 pub mod ReadAllLemmas
 pub mod LawLemmas
+pub mod SpellLemmas

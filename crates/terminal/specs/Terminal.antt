@@ -3,11 +3,13 @@ use Rattle.std.specs.Prelude.{◌≡◌, ◌≤◌, ◌^◌, ℕ, Bool, false, L
 use Rattle.cell_surface.specs.Surface.{Surface}
 use Rattle.change_log.specs.LogSteps.{Sized}
 use Rattle.escape_framing.specs.Held.{Held, held_of, nothing_held}
+use Rattle.terminal_spelling.specs.Spelling.{IsSpelledSaved, IsSpelledText}
 use Rattle.terminal_steps.specs.Applying.{state_of}
 use Rattle.terminal_table.specs.History.{History}
 use Rattle.terminal_table.specs.Logged.{log_after}
 use Rattle.terminal_table.specs.Meaning.{View, after}
 use Rattle.terminal_table.specs.State.{SavedCursor, State}
+use Rattle.terminal_update.specs.Sendable.{CanBeSent}
 
 -- its surface, the saved cursor, the replies that were not yet taken, the run that nothing has ended, what is unfinished of the
 -- stream, and whether a call was refused
@@ -43,6 +45,12 @@ pub record GoesBy {W : Type 0} (width_of : W → List ℕ → ℕ) (before now :
 -- the history leads past the numbers of 64 bits
 abbrev pub NeedsNumber : {W : Type 0} → (W → List ℕ → ℕ) → Terminal W → History → Type 0
 NeedsNumber width_of t history = (view : View) → StandsAt t view → 2 ^ 64 ≤ (log_behind width_of t view history).log.number
+
+-- Each of its changes can be sent: its screen, the pen that was saved, the run and the changes that its log keeps have a spelling.
+pub record IsSpelled {W : Type 0} (t : Terminal W) : Type 0 where
+  pub surface : CanBeSent t.surface
+  pub saved : IsSpelledSaved t.saved
+  pub run : IsSpelledText t.run
 
 -- nothing of the stream is unfinished, and no run is held
 pub record IsIdle {W : Type 0} (t : Terminal W) : Type 0 where

@@ -2,7 +2,7 @@
 use Rattle.std.specs.Prelude.{◌≡◌, false}
 use Rattle.std.specs.String.{string_bytes}
 use Rattle.escape_framing.specs.Framed.{IsReached}
-use Rattle.terminal.specs.Terminal.{Terminal}
+use Rattle.terminal.specs.Terminal.{Terminal, IsSpelled}
 use Rattle.terminal.specs.declared.terminal.Terminal.TheInside.{Inside}
 use Rattle.terminal_steps.specs.Events.{IsReady}
 
@@ -16,11 +16,12 @@ terminal_of i = record {
   is_failed = i.is_failed;
 }
 
--- while no call was refused, its parts go on, and what is unfinished is that of some stream
+-- while no call was refused, its parts go on, what is unfinished is that of some stream, and each change can be sent
 pub record CanGoOn {W : Type 0} (i : Inside W) : Type 0 where
   pub ready : IsReady i.state
   pub parser : i.parser.failed ≡ false
   pub reached : IsReached i.parser.held
+  pub spelled : IsSpelled (terminal_of i)
 
 abbrev pub IsSound : {W : Type 0} → Inside W → Type 0
 IsSound i = i.is_failed ≡ false → CanGoOn i

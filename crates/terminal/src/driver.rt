@@ -17,7 +17,7 @@ use std::io::{Read, Write};
 use terminal_steps::TerminalError;
 
 // Writes the bytes, of which each write may take a part, and flushes.
-fn write_all<T: Write>(writer: &mut Watched<T>, bytes: &[u8]) -> Result<(), RunError>
+pub(crate) fn write_all<T: Write>(writer: &mut Watched<T>, bytes: &[u8]) -> Result<(), RunError>
     requires { writer.old.has_failed ≡ false }
     ensures ok { OnOk result (Appends (T.contents writer.old.inner) (T.contents writer.new.inner) bytes.now) }
     ensures err { OnErr result (AppendsPrefix (T.contents writer.old.inner) (T.contents writer.new.inner) bytes.now) }
@@ -39,7 +39,7 @@ fn write_all<T: Write>(writer: &mut Watched<T>, bytes: &[u8]) -> Result<(), RunE
 }
 
 /// How many reads an input may take.
-const READS: u64 = 1 << 48;
+pub(crate) const READS: u64 = 1 << 48;
 
 // Feeds the whole input.
 fn feed_all<R: Read, W: Widths + Drop>(

@@ -6,7 +6,7 @@ use std::alloc::AllocError;
 use terminal_steps::TerminalError;
 use thiserror::Error;
 
-/// Why `show` ended early.
+/// Why `show` or `run` ended early.
 #[derive(Clone, Copy, Debug, PartialEq, Eq, Error)]
 pub enum RunError {
     /// A read was a fault.

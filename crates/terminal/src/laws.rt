@@ -3,7 +3,7 @@ ghost use Rattle.std.specs.Prelude.{◌≡◌, ℕ, false, List, [], ◌∷◌, 
 ghost use Rattle.change_log.specs.LogSteps.{step_of_kept};
 ghost use Rattle.escape_stream.specs.StreamAction.{StreamAction};
 ghost use Rattle.escape_stream.specs.StreamWritable.{IsWritable};
-ghost use Rattle.terminal.specs.Terminal.{Terminal, StandsAt, GoesBy, IsIdle, IsAlike, state_in};
+ghost use Rattle.terminal.specs.Terminal.{Terminal, StandsAt, GoesBy, IsIdle, IsAlike, IsSpelled, state_in};
 ghost use Rattle.terminal_table.specs.Alone.{alone, row_done, row_logged};
 ghost use Rattle.terminal_table.specs.History.{History, Piece};
 ghost use Rattle.terminal_table.specs.Meaning.{View};
@@ -13,9 +13,12 @@ use crate::terminal::Terminal;
 use cell_base::Widths;
 use terminal_table::laws::lone_actions_are_their_rows;
 
-/// Each terminal that hasn't failed stands at a view, with a lawful state and a run without controls.
+/// Each terminal that hasn't failed stands at a view, with a lawful state and a run without controls; and
+/// its screen, the pen that was saved, the run and each change that its log keeps have a spelling, so that
+/// they can be sent.
 pub fn terminals_stand<W: Widths + Drop>(terminal: &Terminal<W>)
-    ensures { terminal.now.is_failed ≡ false → (view : View) × StandsAt terminal.now view × IsView view }
+    ensures stands { terminal.now.is_failed ≡ false → (view : View) × StandsAt terminal.now view × IsView view }
+    ensures spelled { terminal.now.is_failed ≡ false → IsSpelled terminal.now }
 {
     terminal.stands();
 }

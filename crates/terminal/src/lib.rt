@@ -6,6 +6,7 @@ mod error;
 pub mod laws;
 mod steps;
 mod terminal;
+mod updates;
 mod watched;
 
 pub use cell_base::{ProgramWidth, SequenceNo, Widths};
@@ -14,5 +15,7 @@ pub use driver::show;
 pub use error::RunError;
 pub use steps::{Step, play};
 pub use terminal::Terminal;
+pub use terminal_render::{RenderError, render};
 pub use terminal_steps::TerminalError;
+pub use updates::run;
 pub use watched::Watched;

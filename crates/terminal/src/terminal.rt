@@ -1,10 +1,11 @@
 ghost use Rattle.std.specs.Prelude.{◌≡◌, ◌↔◌, ◌<◌, ◌^◌, true, false, [], ◌∷◌, IsTrue, IsOk, IfOk, OnOk, OnErr, IsErrOf};
 ghost use Rattle.change_log.specs.Log.{most_due, new_log};
 ghost use Rattle.cell_surface.specs.Surface.{number_of};
-ghost use Rattle.terminal.specs.Terminal.{StandsAt, GoesBy, NeedsNumber};
+ghost use Rattle.terminal.specs.Terminal.{StandsAt, GoesBy, IsSpelled, NeedsNumber, state_in};
 ghost use Rattle.terminal_table.specs.History.{Piece, Look, Resize, Forget};
 ghost use Rattle.terminal_table.specs.Meaning.{View, new_view};
 ghost use Rattle.terminal_table.specs.Turns.{IsView};
+ghost use Rattle.terminal_update.specs.Update.{update_of};
 
 use cell_base::{SequenceNo, Widths};
 use cell_surface::Surface;
@@ -12,12 +13,14 @@ use escape_stream::Parser;
 use std::alloc::{AllocError, Global};
 use std::marker::Model;
 use terminal_steps::{TerminalError, TerminalState, take_bytes};
+use terminal_update::update;
 
 /// A terminal that keeps the screen which an application's bytes lead to, and the replies that they ask for.
 ///
 /// A call that is refused leaves one that has failed.
 #[derive(Drop)]
 pub struct Terminal<W: Widths> {
+    alloc: Global,
     parser: Parser,
     state: TerminalState<W>,
     is_failed: bool,
@@ -53,6 +56,7 @@ impl<W: Widths + Drop> Terminal<W> {
     {
         let state = TerminalState::new(alloc, width, height, widths)?;
         Ok(Terminal {
+            alloc,
             parser: Parser::new(alloc),
             state,
             is_failed: false,
@@ -120,6 +124,41 @@ impl<W: Widths + Drop> Terminal<W> {
         Ok(())
     }
 
+    // What a viewer is sent that has seen the changes before a number.
+    fn update_for(&self, number: SequenceNo) -> Result<Vec<u8>, AllocError>
+        requires { self.now.is_failed ≡ false }
+        ensures { IfOk result (λ bytes. bytes.items ≡ update_of (state_in self.now).screen self.now.surface.log number) }
+    {
+        update(self.alloc, self.state.surface(), number)
+    }
+
+    /// Settles, and answers the number of changes so far and the bytes that a viewer is sent which has seen
+    /// the changes before a number: the changes since then, spelled by ECMA-48 and xterm's control
+    /// sequences, or the whole screen painted anew, with its title, where the log doesn't keep them all, at
+    /// number 0, and above the current number. At the current number these are no bytes. Fed to an idle terminal
+    /// of this size and these widths that showed this one's screen at that number, they leave it idle with this
+    /// one's screen. The place of a pending wrap is sent as the last cell of its row once more.
+    ///
+    /// Refuses as `feed` does. Where the bytes are refused memory the terminal hasn't failed: it is as behind
+    /// `settle`, and the same call, asked again, gives what it would have given.
+    pub fn update(
+        &mut self,
+        number: SequenceNo,
+    ) -> Result<(SequenceNo, Vec<u8>), TerminalError>
+        ensures settled { OnOk result (GoesBy (λ w. W.width_of w) self.old self.new (Look ∷ [])) }
+        ensures number { IfOk result (λ r. r.0 ≡ number_of self.new.surface) }
+        ensures bytes { IfOk result (λ r. r.1.items ≡ update_of (state_in self.new).screen self.new.surface.log number) }
+        ensures failed { IsErrOf result TerminalError.Failed ↔ IsTrue self.old.is_failed }
+        ensures numbers { IsErrOf result TerminalError.Number → NeedsNumber (λ w. W.width_of w) self.old (Look ∷ []) }
+        ensures err { OnErr result (self.new.is_failed ≡ false → GoesBy (λ w. W.width_of w) self.old self.new (Look ∷ [])) }
+        ensures fails { IsErrOf result TerminalError.Number → IsTrue self.new.is_failed }
+        ensures nothing { self.old.run ≡ [] → self.old.is_failed ≡ false → self.new.is_failed ≡ false }
+    {
+        self.settle()?;
+        let bytes = self.update_for(number)?;
+        Ok((self.current_number(), bytes))
+    }
+
     /// Hands out the replies that were not yet taken, and leaves none.
     pub fn take_replies(&mut self) -> Vec<u8>
         ensures replies { result.items ≡ self.old.replies }
@@ -153,9 +192,10 @@ impl<W: Widths + Drop> Terminal<W> {
         self.state.surface().current_seqno()
     }
 
-    // A terminal that hasn't failed stands at a view.
+    // A terminal that hasn't failed stands at a view, and each of its changes can be sent.
     pub(crate) fn stands(&self)
-        ensures { self.now.is_failed ≡ false → (view : View) × StandsAt self.now view × IsView view }
+        ensures stands { self.now.is_failed ≡ false → (view : View) × StandsAt self.now view × IsView view }
+        ensures spelled { self.now.is_failed ≡ false → IsSpelled self.now }
     {
         let _ = &self.parser;
     }

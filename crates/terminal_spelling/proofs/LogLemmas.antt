@@ -100,7 +100,7 @@ replay_size width_of (change ∷ cs) d h =
     let rest = replay_size width_of cs (effect width_of d change) (effect_is width_of d change h) in
     record { wide = rest.wide ∙ one.width; tall = rest.tall ∙ one.tall }
 
-step_size : (request : Option ControlFunction) (state : State) → IsState state → HasSize (step_of request state).screen state.screen
+pub step_size : (request : Option ControlFunction) (state : State) → IsState state → HasSize (step_of request state).screen state.screen
 step_size None state h = record { wide = refl; tall = refl }
 step_size (Some function) state h =
     let d = display_on_is state h in

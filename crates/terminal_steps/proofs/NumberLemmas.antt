@@ -124,6 +124,7 @@ module _ {W : Type 0} (width_of : W → List ℕ → ℕ) where
     view = (λ i. record { state = states i; stream = []; held = n i }) ∙ ap {B = View} (λ (x : View). record x { state = with_size width height x.state }) h.view;
     log = ap (λ x. x.log) e ∙ a.log ∙ ap (λ l. step_of_kept l (log.Resized (most_due width height))) h.log ∙ sym (resized_behind t width height);
     widths = ap (λ x. x.canvas.widths) e ∙ a.widths ∙ h.widths;
+    shape = ap (λ x. (shown_by x).shape) e ∙ ap (λ d. d.shape) a.shown ∙ h.shape;
     ready = record {
       stays = ap (λ x. x.is_failed) e ∙ a.stays;
       shown = subst (λ x. IsDisplay (shown_by x)) (sym e) (subst IsDisplay (sym a.shown) (resized_is width height (shown_by u.surface) w k h.ready.shown));

@@ -36,6 +36,7 @@ module _ {W : Type 0} (width_of : W → List ℕ → ℕ) where
     view = (λ i. record { state = states i; stream = []; held = n i }) ∙ sym (ap ended e);
     log = ap (λ x. x.log) k ∙ a.log ∙ sym (ap (λ b. fold step_of_kept t.surface.log (logged b)) e);
     widths = ap (λ x. x.canvas.widths) k ∙ a.widths;
+    shape = ap (λ x. (shown_by x).shape) k ∙ ap (λ d. d.shape) a.shown ∙ (run_step_turns (of t) text (state_of t.surface t.saved t.replies.items) (shown_by t.surface) h.plain refl).shape;
     ready = record {
       stays = ap (λ x. x.is_failed) k ∙ a.stays;
       shown = subst (λ x. IsDisplay (shown_by x)) (sym k) (subst IsDisplay (sym a.shown) (effect_is (of t) (shown_by t.surface) (run_change text) h.shown));
@@ -72,6 +73,7 @@ module _ {W : Type 0} (width_of : W → List ℕ → ℕ) where
         ∙ sym (fold-append step_of_kept t.surface.log (run_logged (view_of t) ++ []) (map Logged changes))
         ∙ ap (λ xs. fold step_of_kept t.surface.log xs) (ap (λ xs. xs ++ map Logged changes) (append_nil (run_logged (view_of t))) ∙ ap (λ x. run_logged (view_of t) ++ map Logged (changes_of function x.state)) h.view ∙ sym (append_nil (run_logged (view_of t) ++ map Logged (changes_of function (settled (of t) (view_of t)).state))) ∙ sym (ap logged p));
     widths = ap (λ x. x.canvas.widths) e ∙ a.widths ∙ h.widths;
+    shape = ap (λ x. (shown_by x).shape) e ∙ ap (λ d. d.shape) a.shown ∙ (action_turns (of u) function (view_of u).state (shown_by u.surface) h.ready.shown refl).shape ∙ h.shape;
     ready = record {
       stays = ap (λ x. x.is_failed) e ∙ a.stays;
       shown = subst (λ x. IsDisplay (shown_by x)) (sym e) (subst IsDisplay (sym a.shown) (replay_is (of u) changes (shown_by u.surface) h.ready.shown));

@@ -58,6 +58,7 @@ module _ {W : Type 0} (width_of : W → List ℕ → ℕ) where
         ∙ sym (fold-append step_of_kept a.surface.log (events_logged (of a) (view_of a) es) (events_logged (of a) (fold (event_done (of a)) (view_of a) es) fs))
         ∙ ap (λ xs. fold step_of_kept a.surface.log xs) (sym (events_logged-append (of a) (view_of a) es fs));
     widths = k.widths ∙ h.widths;
+    shape = k.shape ∙ h.shape;
     ready = k.ready;
   }
 
@@ -68,7 +69,7 @@ module _ {W : Type 0} (width_of : W → List ℕ → ℕ) where
     under = u;
     fails = f;
     ends = refl;
-    goes = λ start. record { done = []; whole = refl; had = λ ready events. record { view = refl; log = refl; widths = refl; ready = ready } };
+    goes = λ start. record { done = []; whole = refl; had = λ ready events. record { view = refl; log = refl; widths = refl; shape = refl; ready = ready } };
   }
 
   pub takes_next : (t now next : TerminalState W) (first it new : Pieces) (piece : PieceCode) → IsTaking width_of t now first it → lender_of new ≡ lender_of it → IsOpen new → (parser_of new).failed ≡ true → HasGiven it (Some piece) new → Does width_of now next (code_event piece ∷ []) → IsTaking width_of t next first new

@@ -33,11 +33,12 @@ pub record IsReady {W : Type 0} (t : TerminalState W) : Type 0 where
 abbrev pub log_behind : {W : Type 0} → (W → List ℕ → ℕ) → TerminalState W → List Event → Sized
 log_behind width_of t events = fold step_of_kept t.surface.log (events_logged (width_of t.surface.canvas.widths) (view_of t) events)
 
--- the events had their meaning, and were logged
+-- the events had their meaning, and were logged; none sets the cursor's shape
 pub record Had {W : Type 0} (width_of : W → List ℕ → ℕ) (before after : TerminalState W) (events : List Event) : Type 0 where
   pub view : view_of after ≡ fold (event_done (width_of before.surface.canvas.widths)) (view_of before) events
   pub log : after.surface.log ≡ log_behind width_of before events
   pub widths : after.surface.canvas.widths ≡ before.surface.canvas.widths
+  pub shape : (shown_by after.surface).shape ≡ (shown_by before.surface).shape
   pub ready : IsReady after
 
 -- so it is where it was ready for them

@@ -1,7 +1,8 @@
 //! What a terminal keeps beside its parser, and what events make of it.
-ghost use Rattle.std.specs.Prelude.{◌≡◌, ◌<◌, ◌^◌, false, IsOk, IfOk, OnOk, IsErrOf, [], ◌∷◌};
+ghost use Rattle.std.specs.Prelude.{◌≡◌, ◌<◌, ◌^◌, false, IsOk, IfOk, OnOk, IsErrOf, None, [], ◌∷◌};
 ghost use Rattle.escape_stream.specs.StreamAction.{is_print, print_string};
 ghost use Rattle.escape_stream.specs.StreamActionView.{value_of};
+ghost use Rattle.cell_surface.specs.Surface.{shown_by};
 ghost use Rattle.change_log.specs.Log.{new_log};
 ghost use Rattle.terminal_table.specs.Meaning.{new_view};
 ghost use Rattle.terminal_table.specs.History.{Act, Forgot, Looked, Resized};
@@ -39,6 +40,7 @@ impl<W: Widths + Drop> TerminalState<W> {
         requires width { (0 < width) × (width < 2 ^ 32) }
         requires height { (0 < height) × (height < 2 ^ 32) }
         ensures view { IfOk result (λ t. view_of t ≡ new_view width height) }
+        ensures shape { IfOk result (λ t. (shown_by (surface_in t)).shape ≡ None) }
         ensures log { IfOk result (λ t. (surface_in t).log.log ≡ new_log) }
         ensures widths { IfOk result (λ t. (surface_in t).canvas.widths ≡ widths) }
         ensures ready { IfOk result (λ t. IsReady t) }

@@ -1,7 +1,8 @@
-use Rattle.std.proofs.Common.{Result, Err, ◌≡◌, sym, ap, ◌∙◌}
+use Rattle.std.proofs.Common.{Result, Err, ◌≡◌, sym, ap, subst, ◌∙◌}
 use Rattle.std.proofs.lemmas.Result.{err_from_is_err_and}
-use Rattle.terminal.specs.Terminal.{Terminal}
+use Rattle.terminal.specs.Terminal.{Terminal, IsSpelled}
 use Rattle.terminal.proofs.GoLemmas.{fed, fed_ready, fed_reached, fed_past, fed_sound, with_parts}
+use Rattle.terminal.proofs.SpellLemmas.{fed_spelled}
 use Rattle.terminal_steps.specs.declared.error.TerminalError.{TerminalError}
 use Rattle.terminal_steps.specs.declared.error.TerminalError.TheVariants.{Failed, Number}
 use Rattle.terminal.proofs.terminal.Terminal.feed.Goals as goal
@@ -35,6 +36,9 @@ invariant_of-self-2 g c =
       ready = fed_ready (λ w. g.W.Widths.width_of w) c.self.inside.state c.take_bytes.new.state c.self.inside.parser.held c.args.piece.now can.reached can.ready c.in_ok-take_bytes.ensures.takes;
       parser = c.in_ok-take_bytes.ensures.parser;
       reached = fed_reached (λ w. g.W.Widths.width_of w) c.self.inside.parser.held c.take_bytes.new.parser.held c.args.piece.now can.reached c.in_ok-take_bytes.ensures.held;
+      spelled = fed_spelled (λ w. g.W.Widths.width_of w) c.self.inside.state c.take_bytes.new.state c.self.inside.parser.held c.take_bytes.new.parser.held c.args.piece.now can.reached can.ready
+          (subst IsSpelled (λ i. record (with_parts c.self.inside.state c.self.inside.parser.held) { is_failed = c.if-self.false i }) can.spelled)
+          c.in_ok-take_bytes.ensures.takes c.in_ok-take_bytes.ensures.held;
     }
 
 pub returns-clause-done : goal.returns-clause-done

@@ -1,0 +1,16 @@
+use Rattle.std.proofs.Common.{ap, []}
+use Rattle.terminal.proofs.GoLemmas.{with_parts}
+use Rattle.terminal.proofs.SpellLemmas.{spelled_first}
+use Rattle.terminal.proofs.terminal.Terminal.new.Goals as goal
+
+pub invariant_of-result : goal.invariant_of-result
+invariant_of-result g c = λ e.
+    let view = c.in_ok-state.ensures.view in
+    record {
+      ready = c.in_ok-state.ensures.ready;
+      parser = c.new-2.ensures.failed;
+      reached = ([], c.new-2.ensures.held);
+      spelled = spelled_first (λ w. g.W.Widths.width_of w) (with_parts c.in_ok-state.state c.new-2.result.held) c.args.width c.args.height c.requires.width.1 c.requires.height.1
+          (record { state = ap (λ v. v.state) view; run = ap (λ v. v.held) view; unfinished = c.new-2.ensures.held })
+          (ap (λ l. l.entries) c.in_ok-state.ensures.log) c.in_ok-state.ensures.shape c.in_ok-state.ensures.ready.stays;
+    }

@@ -1,0 +1,4 @@
+pub mod Update
+pub mod Sendable
+pub mod Shows
+pub mod Updates

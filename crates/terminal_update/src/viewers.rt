@@ -1,0 +1,1 @@
+//! Laws of viewers: each is the contract of a function that does nothing.
