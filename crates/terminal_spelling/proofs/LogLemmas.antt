@@ -93,7 +93,7 @@ emptied number (change ∷ changes) = refl
 
 -- ---- the size of a view
 
-replay_size : (width_of : List ℕ → ℕ) (cs : List ChangeValue) (d : Display) → IsDisplay d → HasSize (replay width_of d cs).screen d.screen
+pub replay_size : (width_of : List ℕ → ℕ) (cs : List ChangeValue) (d : Display) → IsDisplay d → HasSize (replay width_of d cs).screen d.screen
 replay_size width_of [] d h = record { wide = refl; tall = refl }
 replay_size width_of (change ∷ cs) d h =
     let one = effect_size width_of d change h in

@@ -1,1 +1,3 @@
 pub mod SoundLemmas
+pub mod DueLemmas
+pub mod ShowLemmas

@@ -1,5 +1,5 @@
 //! Laws of viewers: each is the contract of a function that does nothing.
-ghost use Rattle.terminal_update.specs.Viewers.{EventsKeepSound, HistoriesKeepSound, NewViewsAreSound};
+ghost use Rattle.terminal_update.specs.Viewers.{EventsKeepSound, HistoriesKeepSound, NewViewsAreSound, ScreensShowThemselves, ViewersGoOnShowing};
 
 use escape_framing::laws::one_cut;
 
@@ -10,6 +10,16 @@ pub fn views_stay_sound()
     ensures new { NewViewsAreSound }
     ensures event { EventsKeepSound }
     ensures history { HistoriesKeepSound }
+{
+    one_cut();
+}
+
+/// A viewer that shows a terminal at a number of changes goes on to show it at that number, whatever the
+/// terminal is fed, looked at or forgets, and where both take on the same sizes: what is due from that
+/// number on leads from the one screen to the other. And each screen shows itself at the number of its log.
+pub fn viewers_go_on_showing()
+    ensures history { ViewersGoOnShowing }
+    ensures seen { ScreensShowThemselves }
 {
     one_cut();
 }
