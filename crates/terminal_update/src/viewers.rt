@@ -1,7 +1,10 @@
 //! Laws of viewers: each is the contract of a function that does nothing.
-ghost use Rattle.terminal_update.specs.Viewers.{EventsKeepSound, HistoriesKeepSound, NewViewsAreSound, ScreensShowThemselves, ViewersGoOnShowing};
+ghost use Rattle.terminal_update.specs.Viewers.{EventsKeepSound, HistoriesKeepSound, NewViewsAreSound, ScreensShowThemselves, UpdatesAreShown, UpdatesLeaveIdle, ViewersGoOnShowing};
 
+use crate::laws::{updates_have_spellings, updates_paint_the_screen};
 use escape_framing::laws::one_cut;
+use terminal_render::laws::lists_have_the_effect;
+use terminal_spelling::laws::spelled_changes_are_writable;
 
 /// Each cell of a terminal's screen has a text that is by itself one cluster (UAX 29), without C0
 /// controls and DEL, and the columns that it takes: so it is on a new screen, and so it stays whatever
@@ -23,4 +26,18 @@ pub fn viewers_go_on_showing()
     ensures seen { ScreensShowThemselves }
 {
     one_cut();
+}
+
+/// A viewer of a screen's size that shows the screen at a number, can be sent changes and has nothing
+/// unfinished, shows the screen once it is fed the update for that number: its saved cursor and its
+/// replies stay, and nothing is unfinished or held behind. The screen's cells are sound, and they and the
+/// changes that its log keeps have a spelling.
+pub fn viewers_read_updates()
+    ensures shown { UpdatesAreShown }
+    ensures idle { UpdatesLeaveIdle }
+{
+    lists_have_the_effect();
+    spelled_changes_are_writable();
+    updates_have_spellings();
+    updates_paint_the_screen();
 }
