@@ -1,8 +1,9 @@
 //! Laws of viewers: each is the contract of a function that does nothing.
-ghost use Rattle.terminal_update.specs.Viewers.{EventsKeepSound, HistoriesKeepSound, NewViewsAreSound, ScreensShowThemselves, UpdatesAreShown, UpdatesLeaveIdle, ViewersGoOnShowing};
+ghost use Rattle.terminal_update.specs.Viewers.{EventsKeepSound, HistoriesKeepSound, NewViewsAreSound, ScreensShowThemselves, UpdatesAreShown, UpdatesLeaveIdle, UpdatesShowTheInput, ViewersGoOnShowing};
 
 use crate::laws::{updates_have_spellings, updates_paint_the_screen};
 use escape_framing::laws::one_cut;
+use escape_stream::action_laws::actions_of_pieces_join;
 use terminal_render::laws::lists_have_the_effect;
 use terminal_spelling::laws::spelled_changes_are_writable;
 
@@ -40,4 +41,13 @@ pub fn viewers_read_updates()
     spelled_changes_are_writable();
     updates_have_spellings();
     updates_paint_the_screen();
+}
+
+/// A new viewer that is fed all updates of an input shows in the end what the terminal shows.
+pub fn updates_show_the_input()
+    ensures { UpdatesShowTheInput }
+{
+    one_cut();
+    actions_of_pieces_join();
+    viewers_read_updates();
 }
