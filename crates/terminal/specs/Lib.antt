@@ -5,3 +5,4 @@ pub mod Watched
 pub mod WatchedView
 pub mod Shown
 pub mod Fed
+pub mod Sent

@@ -1,4 +1,11 @@
 //! The updates of an input, written behind each of so many bytes.
+ghost use Rattle.std.specs.Prelude.{◌≡◌, ◌↔◌, ◌<◌, ◌≤◌, ◌^◌, false, IsTrue, IsErr, IfOk, IfSome, OnOk, OnErr, IsErrOf, [], ◌∷◌};
+ghost use Rattle.std.specs.Io.KnownBytes.{Appends};
+ghost use Rattle.terminal.specs.Sent.{LooksNeedNumber, Sends, SendsAll, SendsFirst, SendsPart, SendsSome, number_behind};
+ghost use Rattle.terminal.specs.Terminal.{NeedsNumber};
+ghost use Rattle.terminal_table.specs.History.{Look};
+ghost use Rattle.terminal_update.specs.Updates.{new_standing, updates};
+
 use crate::driver::{READS, write_all};
 use crate::error::RunError;
 use crate::terminal::Terminal;
@@ -6,6 +13,7 @@ use crate::watched::Watched;
 use cell_base::{SequenceNo, Widths};
 use std::alloc::Global;
 use std::io::{Read, Write};
+use terminal_steps::TerminalError;
 
 // Writes what a viewer is sent that has seen the changes before a number, and forgets the changes and the
 // replies that nobody is sent any more; answers the number that the viewer has seen then.
@@ -13,12 +21,24 @@ fn write_update<T: Write, W: Widths + Drop>(
     terminal: &mut Terminal<W>,
     writer: &mut Watched<T>,
     number: SequenceNo,
-) -> Result<SequenceNo, RunError> {
-    let (number, bytes) = terminal.update(number)?;
+) -> Result<SequenceNo, RunError>
+    requires sound { terminal.old.is_failed ≡ false }
+    requires not_failed { writer.old.has_failed ≡ false }
+    ensures ok { IfOk result (λ next. Sends (λ w. W.width_of w) terminal.old terminal.new number next (T.contents writer.old.inner) (T.contents writer.new.inner)) }
+    ensures sound { OnOk result (terminal.new.is_failed ≡ false) }
+    ensures widths { OnOk result (terminal.new.surface.canvas.widths ≡ terminal.old.surface.canvas.widths) }
+    ensures err { OnErr result (SendsSome (λ w. W.width_of w) terminal.old number (T.contents writer.old.inner) (T.contents writer.new.inner)) }
+    ensures write { IsErrOf result RunError.Write ↔ IsTrue writer.new.has_failed }
+    ensures read { IsErrOf result RunError.Read → ⊥ }
+    ensures too_long { IsErrOf result RunError.TooLong → ⊥ }
+    ensures failed { IsErrOf result (RunError.Terminal TerminalError.Failed) → ⊥ }
+    ensures number { IsErrOf result (RunError.Terminal TerminalError.Number) → NeedsNumber (λ w. W.width_of w) terminal.old (Look ∷ []) }
+{
+    let (next, bytes) = terminal.update(number)?;
     write_all(writer, &bytes)?;
-    terminal.forget_before(number);
-    let _ = terminal.take_replies();
-    Ok(number)
+    terminal.forget_before(next);
+    let _replies = terminal.take_replies();
+    Ok(next)
 }
 
 // Feeds the whole input, and writes an update behind each of so many bytes and at the end.
@@ -27,12 +47,25 @@ fn write_updates<R: Read, T: Write, W: Widths + Drop>(
     writer: &mut Watched<T>,
     terminal: &mut Terminal<W>,
     every: usize,
-) -> Result<(), RunError> {
+) -> Result<(), RunError>
+    requires every { 0 < every }
+    requires reader { reader.old.has_failed ≡ false }
+    requires unread { reader.old.reads ≡ 0 }
+    requires writer { writer.old.has_failed ≡ false }
+    requires sound { terminal.old.is_failed ≡ false }
+    ensures ok { OnOk result (SendsAll (λ w. W.width_of w) every terminal.old (R.remaining reader.old.inner) (T.contents writer.old.inner) (T.contents writer.new.inner)) }
+    ensures err { OnErr result (SendsFirst (λ w. W.width_of w) every terminal.old (R.remaining reader.old.inner) (R.remaining reader.new.inner) (T.contents writer.old.inner) (T.contents writer.new.inner)) }
+    ensures read { IsErrOf result RunError.Read ↔ IsTrue reader.new.has_failed }
+    ensures write { IsErrOf result RunError.Write ↔ IsTrue writer.new.has_failed }
+    ensures too_long { IsErrOf result RunError.TooLong → reader.new.reads ≡ 2 ^ 48 }
+    ensures failed { IsErrOf result (RunError.Terminal TerminalError.Failed) → ⊥ }
+    ensures number { IsErrOf result (RunError.Terminal TerminalError.Number) → LooksNeedNumber (λ w. W.width_of w) every terminal.old (R.remaining reader.old.inner) }
+{
     let mut buffer = [0u8; 4096];
     let mut number = 0;
     let mut left = every;
     for _ in 0..READS {
-        let most = left.min(buffer.len());
+        let most = left.min(4096);
         let count = match reader.read(&mut buffer[..most]) {
             Ok(count) => count,
             Err(_) => return Err(RunError::Read),
@@ -58,7 +91,7 @@ fn write_updates<R: Read, T: Write, W: Widths + Drop>(
 /// A read asks for at most 4,096 bytes, and at most for what is left to the next look. It ends at the first
 /// fault, also one of a read that was interrupted, with `Read` or `Write`; with `Terminal` where the
 /// terminal refuses; and with `TooLong` where the input hasn't ended after 2^48 reads. What it wrote is then
-/// the first bytes of the updates.
+/// the first bytes of the updates of what was read.
 pub fn run<R: Read, T: Write, W: Widths + Drop>(
     alloc: Global,
     reader: &mut Watched<R>,
@@ -67,7 +100,24 @@ pub fn run<R: Read, T: Write, W: Widths + Drop>(
     height: usize,
     every: usize,
     widths: W,
-) -> Result<(), RunError> {
+) -> Result<(), RunError>
+    requires width { (0 < width) × (width < 2 ^ 32) }
+    requires height { (0 < height) × (height < 2 ^ 32) }
+    requires every { 0 < every }
+    requires reader { reader.old.has_failed ≡ false }
+    requires unread { reader.old.reads ≡ 0 }
+    requires writer { writer.old.has_failed ≡ false }
+    ensures ok { OnOk result (IfSome (R.remaining reader.old.inner) (λ input.
+        Appends (T.contents writer.old.inner) (T.contents writer.new.inner) (updates (W.width_of widths) width height every input))) }
+    ensures err { OnErr result (IfSome (R.remaining reader.old.inner) (λ input.
+        SendsPart (W.width_of widths) every (new_standing width height) input (R.remaining reader.new.inner) (T.contents writer.old.inner) (T.contents writer.new.inner))) }
+    ensures read { IsErrOf result RunError.Read ↔ IsTrue reader.new.has_failed }
+    ensures write { IsErrOf result RunError.Write ↔ IsTrue writer.new.has_failed }
+    ensures too_long { IsErrOf result RunError.TooLong → reader.new.reads ≡ 2 ^ 48 }
+    ensures failed { IsErrOf result (RunError.Terminal TerminalError.Failed) → ⊥ }
+    ensures number { IsErrOf result (RunError.Terminal TerminalError.Number) → IfSome (R.remaining reader.old.inner) (λ input.
+        2 ^ 64 ≤ number_behind (W.width_of widths) every (new_standing width height) input) }
+{
     let mut terminal = Terminal::new(alloc, width, height, widths)?;
     write_updates(reader, writer, &mut terminal, every)
 }
