@@ -5,3 +5,5 @@ pub mod ViewerLemmas
 pub mod InputLemmas
 pub mod PieceLemmas
 pub mod KeptLemmas
+pub mod PlaceLemmas
+pub mod PaintLemmas
