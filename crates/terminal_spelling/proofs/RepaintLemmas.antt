@@ -105,7 +105,7 @@ module _ (width tall : ℕ) (some : 0 < width) where
   abbrev Sent : List ChangeValue → Type 0
   Sent changes = HaveSpellings width tall changes
 
-  due_sent : (pen a : Attributes) → IsSpelledPen a → Sent (attributes_due pen a)
+  pub due_sent : (pen a : Attributes) → IsSpelledPen a → Sent (attributes_due pen a)
   due_sent pen a p = by_answer (same_attributes a pen)
     where
       by_answer : (b : Bool) → Sent (if b then [] else AllAttributes a ∷ [])
@@ -145,7 +145,7 @@ module _ (width tall : ℕ) (some : 0 < width) where
   next_sent [] p = tt
   next_sent (change ∷ changes) p = (has_spelling width tall (CursorPosition (Absolute 0) (Relative (pos 1))) tt (place_some width tall 0 (Relative (pos 1)) some), p)
 
-  rows_sent : (pen : Attributes) (rows : List Row) → All IsSpelledRow rows → Sent (rows_painted pen rows)
+  pub rows_sent : (pen : Attributes) (rows : List Row) → All IsSpelledRow rows → Sent (rows_painted pen rows)
   rows_sent pen [] p = tt
   rows_sent pen (row ∷ below) p =
       let below_too = go_with_blanks (background_at_end (row_cells row)) below in
@@ -187,14 +187,14 @@ front_sent d h p =
     (title_sent w n h.lawful.wide_enough d.screen.title (has_spelling w n (Title d.screen.title) p.title tt, tt)))
     (rows_sent w n h.lawful.wide_enough plain d.screen.rows p.rows)
 
-placed_sent : (width tall : ℕ) (painted : Bool) (column row : ℕ) → column < width → HaveSpellings width tall (cursor_placed painted column row)
+pub placed_sent : (width tall : ℕ) (painted : Bool) (column row : ℕ) → column < width → HaveSpellings width tall (cursor_placed painted column row)
 placed_sent width tall painted column row h = by_answer (not painted && (column == 0 && row == 0))
   where
     by_answer : (b : Bool) → HaveSpellings width tall (if b then [] else CursorPosition (Absolute column) (Absolute row) ∷ [])
     by_answer true = tt
     by_answer false = (has_spelling width tall (CursorPosition (Absolute column) (Absolute row)) tt (place_some width tall column (Absolute row) h), tt)
 
-shown_sent : (width tall : ℕ) (visible : Bool) → HaveSpellings width tall (cursor_shown visible None)
+pub shown_sent : (width tall : ℕ) (visible : Bool) → HaveSpellings width tall (cursor_shown visible None)
 shown_sent width tall true = (has_spelling width tall (CursorVisibility Visible) tt tt, tt)
 shown_sent width tall false = tt
 

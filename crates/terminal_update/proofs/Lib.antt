@@ -7,3 +7,5 @@ pub mod PieceLemmas
 pub mod KeptLemmas
 pub mod PlaceLemmas
 pub mod PaintLemmas
+pub mod SpellLemmas
+pub mod CountLemmas

@@ -156,7 +156,7 @@ told_is s wide =
 
 -- ---- no wrap is pending
 
-told_here : (s : Screen) → (s.column == s.width) ≡ false → flat_map (told s) (place_of s) ≡ place_of s
+pub told_here : (s : Screen) → (s.column == s.width) ≡ false → flat_map (told s) (place_of s) ≡ place_of s
 told_here s e = by_answer (not (are_some (painted_rows s)) && (s.column == 0 && s.row == 0))
   where
     by_answer : (b : Bool) → flat_map (told s) (if b then [] else CursorPosition (Absolute s.column) (Absolute s.row) ∷ []) ≡ (if b then [] else CursorPosition (Absolute s.column) (Absolute s.row) ∷ [])
@@ -175,7 +175,7 @@ placed_there s wide e =
     let test : (not (are_some (painted_rows s)) && (s.column == 0 && s.row == 0)) ≡ false = ap (λ b. not (are_some (painted_rows s)) && (b && s.row == 0)) not_home ∙ and_false (not (are_some (painted_rows s))) in
     ap (λ b. if b then [] else CursorPosition (Absolute s.column) (Absolute s.row) ∷ []) test
 
-told_there : (s : Screen) → 0 < s.width → (s.column == s.width) ≡ true → flat_map (told s) (place_of s) ≡ written_again s (last_cell (cursor_row s))
+pub told_there : (s : Screen) → 0 < s.width → (s.column == s.width) ≡ true → flat_map (told s) (place_of s) ≡ written_again s (last_cell (cursor_row s))
 told_there s wide e =
     ap (flat_map (told s)) (placed_there s wide e)
     ∙ ap (λ b. (if b then written_again s (last_cell (cursor_row s)) else CursorPosition (Absolute s.column) (Absolute s.row) ∷ []) ++ []) e

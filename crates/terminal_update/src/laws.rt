@@ -18,3 +18,18 @@ ghost use Rattle.terminal_update.specs.Update.{display_on, painted_anew, update_
 pub fn updates_paint_the_screen()
     ensures { (width_of : List ℕ → ℕ) (other : Display) (screen : Screen) → width_of space ≡ 1 → IsDisplay (display_on screen) → IsSoundDisplay width_of (display_on screen) → IsDisplay other → other.screen.width ≡ screen.width → length other.screen.rows ≡ length screen.rows → (replay width_of other (painted_anew screen)).screen ≡ screen }
 {}
+
+/// Each change that paints such a screen anew has a spelling at its size, and so has each of an update
+/// where those have one that the log keeps.
+pub fn updates_have_spellings()
+    ensures painted { (screen : Screen) → IsDisplay (display_on screen) → IsSpelledScreen screen → HaveSpellings screen.width (height screen) (painted_anew screen) }
+    ensures update { (screen : Screen) (log : Sized) (number : ℕ) → IsDisplay (display_on screen) → IsSpelledScreen screen → HaveSpellings screen.width (height screen) log.log.entries → HaveSpellings screen.width (height screen) (update_changes screen log number) }
+{}
+
+/// At most 2wh + 2h + 11 changes paint a screen of w columns and h rows anew, and an update has no more,
+/// where the log answers with as many changes as may be due at that size. Each change that the log
+/// keeps is taken to have a number, as in all logs.
+pub fn updates_are_counted()
+    ensures painted { (screen : Screen) → IsScreen screen → length (painted_anew screen) ≤ 2 * screen.width * height screen + 2 * height screen + 11 }
+    ensures update { (screen : Screen) (log : Sized) (number : ℕ) → IsScreen screen → length log.log.entries ≤ log.log.number → log.most ≡ most_due screen.width (height screen) → length (update_changes screen log number) ≤ 2 * screen.width * height screen + 2 * height screen + 11 }
+{}
