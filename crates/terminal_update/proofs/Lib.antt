@@ -9,3 +9,6 @@ pub mod PlaceLemmas
 pub mod PaintLemmas
 pub mod SpellLemmas
 pub mod CountLemmas
+pub mod SentLemmas
+pub mod WalkLemmas
+pub mod UpdateLemmas

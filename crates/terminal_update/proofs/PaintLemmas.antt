@@ -112,7 +112,7 @@ told_of_row s wide (CursorPosition (Absolute column) y) p =
     ap (λ b. if b then written_again s (last_cell (cursor_row s)) else CursorPosition (Absolute column) y ∷ []) not_there
 told_of_row s wide change p = refl
 
-all_alone : (changes : List ChangeValue) → flat_map (λ change. change ∷ []) changes ≡ changes
+pub all_alone : (changes : List ChangeValue) → flat_map (λ change. change ∷ []) changes ≡ changes
 all_alone [] = refl
 all_alone (change ∷ changes) = ap (λ (cs : List ChangeValue). change ∷ cs) (all_alone changes)
 

@@ -1,17 +1,284 @@
-ghost use Rattle.std.specs.Prelude.{◌≡◌, IfOk};
-ghost use Rattle.cell_surface.specs.Surface.{shown_by};
+//! The update.
+ghost use Rattle.std.specs.Prelude.{◌≡◌, ◌<◌, ◌^◌, ◌++◌, ◌∷◌, [], false, length, map, IfOk, OnOk, Some};
+ghost use Rattle.std.specs.List.{flat_map};
+ghost use Rattle.std.specs.Option.{option_map};
+ghost use Rattle.cell_base.specs.declared.attributes.Position.TheVariants as place;
+ghost use Rattle.cell_base.specs.Screen.{height};
+ghost use Rattle.cell_change.specs.ChangeValue.{AllAttributes, CursorPosition as Position_of, Text, Title};
+ghost use Rattle.cell_change.specs.ValueOf.{value_of};
+ghost use Rattle.cell_line.specs.CellRefView.{shown_by as cell_shown};
+ghost use Rattle.cell_surface.specs.Surface.{Answers, shown_by};
+ghost use Rattle.change_log.specs.Log.{due};
+ghost use Rattle.escape_stream.specs.StreamActionView.{value_of as action_value};
+ghost use Rattle.screen_effects.specs.Display.{IsDisplay};
+ghost use Rattle.screen_effects.specs.Effect.{cursor_row};
+ghost use Rattle.screen_repaint.specs.Repaint.{repaint};
+ghost use Rattle.terminal_spelling.specs.Spelling.{HasSpelling, HaveSpellings};
 ghost use Rattle.terminal_update.specs.Sendable.{CanBeSent};
-ghost use Rattle.terminal_update.specs.Update.{update_of};
-use cell_base::{SequenceNo, Widths};
-use cell_surface::Surface;
-use std::alloc::{AllocError, Global};
+ghost use Rattle.terminal_update.specs.Sending.{all_sent, is_pending, retold, sent_for};
+ghost use Rattle.terminal_update.specs.Update.{last_cell, painted_anew, update_changes, update_of, written_again};
 
-/// Stub.
-pub fn update<W: Widths + Drop>(alloc: Global, surface: &Surface<W>, number: SequenceNo) -> Result<Vec<u8>, AllocError>
+use crate::laws::updates_have_spellings;
+use cell_base::{CellAttributes, Position, SequenceNo, Widths};
+use cell_change::Change;
+use cell_line::{CellRef, Line};
+use cell_surface::laws::surfaces_stay_lawful;
+use cell_surface::{Surface, SurfaceError};
+use escape_stream::{Action, encode};
+use std::alloc::{AllocError, Global};
+use std::borrow::CowSlice;
+use terminal_render::{RenderError, render};
+
+// The last visible cell of a line, if there is one.
+fn last_cell(line: &Line) -> Option<CellRef<'_>>
+    ensures { option_map cell_shown result ≡ last_cell line.now.columns }
+{
+    let mut last = None;
+    for cell in line.visible_cells() {
+        last = Some(cell);
+    }
+    last
+}
+
+// The cursor's line.
+fn cursor_line<W: Widths + Drop>(surface: &Surface<W>) -> &Line
+    requires { surface.now.is_failed ≡ false }
+    ensures { result.now.columns ≡ cursor_row (shown_by surface.now).screen }
+{
+    surfaces_stay_lawful(surface);
+    let (_, row) = surface.cursor_position();
+    &surface.screen_lines()[row]
+}
+
+// Whether a change leads to the place of a wrap that is pending.
+fn is_pending(change: &Change, width: usize) -> bool
+    ensures { result ≡ is_pending width (value_of change.now) }
+{
+    match change {
+        Change::CursorPosition {
+            x: Position::Absolute(column),
+            ..
+        } => *column == width,
+        _ => false,
+    }
+}
+
+// The changes that are due, or the repaint.
+fn due_changes<W: Widths + Drop>(
+    surface: &Surface<W>,
+    number: SequenceNo,
+) -> Result<CowSlice<'_, Change>, AllocError>
+    requires { surface.now.is_failed ≡ false }
+    ensures { IfOk result (λ changes. Answers (due surface.now.log.most surface.now.log.log number) (repaint (shown_by surface.now)) changes) }
+{
+    match surface.get_changes(number) {
+        Ok((_, changes)) => Ok(changes),
+        Err(SurfaceError::Memory) => Err(AllocError),
+        Err(_) => unreachable!(),
+    }
+}
+
+/// A terminal of so many columns and rows, to which changes are sent.
+#[derive(Clone, Copy)]
+struct Receiver {
+    alloc: Global,
+    width: usize,
+    height: usize,
+    ghost columns: { 0 < width },
+    ghost width_fits: { width < 2 ^ 32 },
+    ghost rows: { 0 < height },
+    ghost height_fits: { height < 2 ^ 32 },
+}
+
+impl Receiver {
+    // The actions of a change.
+    fn rendered(&self, change: &Change) -> Result<Vec<Action>, AllocError>
+        requires { HasSpelling self.now.width self.now.height (value_of change.now) }
+        ensures { IfOk result (λ actions. map action_value actions.items ≡ sent_for self.now.width self.now.height (value_of change.now)) }
+    {
+        match render(self.alloc, change, self.width, self.height) {
+            Ok(actions) => Ok(actions),
+            Err(RenderError::Memory) => Err(AllocError),
+            Err(RenderError::NoSpelling) => unreachable!(),
+        }
+    }
+
+    // Sends a change.
+    fn send(&self, actions: &mut Vec<Action>, change: &Change) -> Result<(), AllocError>
+        requires { HasSpelling self.now.width self.now.height (value_of change.now) }
+        ensures { OnOk result (map action_value actions.new.items ≡ map action_value actions.old.items ++ sent_for self.now.width self.now.height (value_of change.now)) }
+    {
+        let mut rendered = self.rendered(change)?;
+        actions.append(&mut rendered)?;
+        Ok(())
+    }
+
+    // Sends changes in turn.
+    fn send_all(&self, actions: &mut Vec<Action>, changes: &[Change]) -> Result<(), AllocError>
+        requires { HaveSpellings self.now.width self.now.height (map value_of changes.now) }
+        ensures { OnOk result (map action_value actions.new.items ≡ map action_value actions.old.items ++ all_sent self.now.width self.now.height (map value_of changes.now)) }
+    {
+        for change in changes {
+            self.send(actions, change)?;
+        }
+        Ok(())
+    }
+
+    // Sends a title.
+    fn send_title(&self, actions: &mut Vec<Action>, title: &str) -> Result<(), AllocError>
+        requires { HasSpelling self.now.width self.now.height (Title title.now) }
+        ensures { OnOk result (map action_value actions.new.items ≡ map action_value actions.old.items ++ sent_for self.now.width self.now.height (Title title.now)) }
+    {
+        let title = String::from_str(self.alloc, title)?;
+        self.send(actions, &Change::Title(title))
+    }
+
+    // Sends a text.
+    fn send_text(&self, actions: &mut Vec<Action>, text: &str) -> Result<(), AllocError>
+        requires { HasSpelling self.now.width self.now.height (Text text.now) }
+        ensures { OnOk result (map action_value actions.new.items ≡ map action_value actions.old.items ++ sent_for self.now.width self.now.height (Text text.now)) }
+    {
+        let text = String::from_str(self.alloc, text)?;
+        self.send(actions, &Change::Text(text))
+    }
+
+    // Sends attributes.
+    fn send_pen(&self, actions: &mut Vec<Action>, pen: &CellAttributes) -> Result<(), AllocError>
+        requires { HasSpelling self.now.width self.now.height (AllAttributes pen.now) }
+        ensures { OnOk result (map action_value actions.new.items ≡ map action_value actions.old.items ++ sent_for self.now.width self.now.height (AllAttributes pen.now)) }
+    {
+        let pen = pen.try_clone()?;
+        self.send(actions, &Change::AllAttributes(pen))
+    }
+
+    // Sends a place.
+    fn send_place(
+        &self,
+        actions: &mut Vec<Action>,
+        column: usize,
+        row: usize,
+    ) -> Result<(), AllocError>
+        requires { HasSpelling self.now.width self.now.height (Position_of (place.Absolute column) (place.Absolute row)) }
+        ensures { OnOk result (map action_value actions.new.items ≡ map action_value actions.old.items ++ sent_for self.now.width self.now.height (Position_of (place.Absolute column) (place.Absolute row))) }
+    {
+        let place = Change::CursorPosition {
+            x: Position::Absolute(column),
+            y: Position::Absolute(row),
+        };
+        self.send(actions, &place)
+    }
+
+    // Sends the last cell of the cursor's row once more, and the pen.
+    fn send_again<W: Widths + Drop>(
+        &self,
+        actions: &mut Vec<Action>,
+        surface: &Surface<W>,
+    ) -> Result<(), AllocError>
+        requires stays { surface.now.is_failed ≡ false }
+        requires spelled { HaveSpellings self.now.width self.now.height (written_again (shown_by surface.now).screen (last_cell (cursor_row (shown_by surface.now).screen))) }
+        ensures { OnOk result (map action_value actions.new.items ≡ map action_value actions.old.items ++ all_sent self.now.width self.now.height (written_again (shown_by surface.now).screen (last_cell (cursor_row (shown_by surface.now).screen)))) }
+    {
+        let Some(cell) = last_cell(cursor_line(surface)) else {
+            return Ok(());
+        };
+        let (_, row) = surface.cursor_position();
+        self.send_place(actions, cell.cell_index(), row)?;
+        self.send_pen(actions, cell.attrs())?;
+        self.send_text(actions, cell.str())?;
+        self.send_pen(actions, surface.pen())?;
+        Ok(())
+    }
+
+    // Sends a change of a repaint.
+    fn send_painted<W: Widths + Drop>(
+        &self,
+        actions: &mut Vec<Action>,
+        surface: &Surface<W>,
+        change: &Change,
+    ) -> Result<(), AllocError>
+        requires stays { surface.now.is_failed ≡ false }
+        requires width { self.now.width ≡ (shown_by surface.now).screen.width }
+        requires spelled { HaveSpellings self.now.width self.now.height (retold (shown_by surface.now).screen (value_of change.now)) }
+        ensures { OnOk result (map action_value actions.new.items ≡ map action_value actions.old.items ++ all_sent self.now.width self.now.height (retold (shown_by surface.now).screen (value_of change.now))) }
+    {
+        if is_pending(change, self.width) {
+            return self.send_again(actions, surface);
+        }
+        match change {
+            Change::Title(_) => {}
+            Change::ClearScreen(_) => {
+                self.send(actions, change)?;
+                self.send_title(actions, surface.title())?;
+            }
+            _ => self.send(actions, change)?,
+        }
+        Ok(())
+    }
+
+    // Sends the changes of a repaint in turn.
+    fn send_repaint<W: Widths + Drop>(
+        &self,
+        actions: &mut Vec<Action>,
+        surface: &Surface<W>,
+        changes: &[Change],
+    ) -> Result<(), AllocError>
+        requires stays { surface.now.is_failed ≡ false }
+        requires width { self.now.width ≡ (shown_by surface.now).screen.width }
+        requires spelled { HaveSpellings self.now.width self.now.height (flat_map (retold (shown_by surface.now).screen) (map value_of changes.now)) }
+        ensures { OnOk result (map action_value actions.new.items ≡ map action_value actions.old.items ++ all_sent self.now.width self.now.height (flat_map (retold (shown_by surface.now).screen) (map value_of changes.now))) }
+    {
+        for change in changes {
+            self.send_painted(actions, surface, change)?;
+        }
+        Ok(())
+    }
+
+    // Sends an update.
+    fn send_update<W: Widths + Drop>(
+        &self,
+        actions: &mut Vec<Action>,
+        surface: &Surface<W>,
+        number: SequenceNo,
+    ) -> Result<(), AllocError>
+        requires lawful { IsDisplay (shown_by surface.now) }
+        requires sendable { CanBeSent surface.now }
+        requires width { self.now.width ≡ (shown_by surface.now).screen.width }
+        requires height { self.now.height ≡ height (shown_by surface.now).screen }
+        ensures { OnOk result (map action_value actions.new.items ≡ map action_value actions.old.items ++ all_sent self.now.width self.now.height (update_changes (shown_by surface.now).screen surface.now.log number)) }
+    {
+        match due_changes(surface, number)? {
+            CowSlice::Borrowed(changes) => self.send_all(actions, changes)?,
+            CowSlice::Owned(changes) => self.send_repaint(actions, surface, changes.as_slice())?,
+        }
+        Ok(())
+    }
+}
+
+/// The bytes that are sent to a terminal of the surface's size which shows what the surface showed at a
+/// number of changes, so that it shows what the surface shows: those of the changes that are due from
+/// that number on; or, where none are, of those that paint the screen anew on any terminal of its size,
+/// from a clear on, with the title, also an empty one, and with a wrap that is pending, by the last cell
+/// of the cursor's row, which is written once more.
+///
+/// Want of memory is the only refusal. Changes are lent from the log and rendered one by one.
+pub fn update<W: Widths + Drop>(
+    alloc: Global,
+    surface: &Surface<W>,
+    number: SequenceNo,
+) -> Result<Vec<u8>, AllocError>
     requires { CanBeSent surface.now }
     ensures { IfOk result (λ bytes. bytes.items ≡ update_of (shown_by surface.now).screen surface.now.log number) }
 {
-    let _ = alloc;
-    let _ = surface.has_changes(number);
-    Err(AllocError)
+    surfaces_stay_lawful(surface);
+    updates_have_spellings();
+    let (width, height) = surface.dimensions();
+    let receiver = Receiver {
+        alloc,
+        width,
+        height,
+    };
+    let mut actions = Vec::new(alloc);
+    receiver.send_update(&mut actions, surface, number)?;
+    let bytes = encode(alloc, &actions)?;
+    Ok(bytes)
 }

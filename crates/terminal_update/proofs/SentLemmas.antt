@@ -1,0 +1,83 @@
+-- What is sent for changes in turn.
+use Rattle.std.proofs.Common.{◌≡◌, ◌≢◌, ℕ, zero, suc, ◌+◌, ◌<◌, List, [], ◌∷◌, ◌++◌, length, get_or, take, map, refl, sym, ap, ◌∙◌, subst, arith, append_assoc, append-nil}
+use Rattle.std.specs.Prelude.{Option, Some, None, option_map, option_and_then}
+use Rattle.std.specs.List.{flat_map}
+use Rattle.std.proofs.lemmas.List.{map-append, take_more}
+use Rattle.std.proofs.lemmas.List.Concat.{flat_map-append}
+use Rattle.cell_change.specs.ChangeValue.{ChangeValue}
+use Rattle.escape_stream.specs.StreamAction.{StreamAction}
+use Rattle.terminal_render.specs.Lists.{all_rendered}
+use Rattle.terminal_render.specs.Rendering.{rendering}
+use Rattle.terminal_spelling.specs.Spelling.{HasSpelling, HaveSpellings}
+use Rattle.terminal_spelling.proofs.LogLemmas.{all_some}
+use Rattle.terminal_update.specs.Sending.{actions_or_none, all_sent, sent_for}
+
+-- ---- changes with a spelling
+
+-- something is sent for one
+pub spelled_some : (width tall : ℕ) (change : ChangeValue) → HasSpelling width tall change → rendering change width tall ≢ None
+spelled_some width tall change h none =
+    all_some width tall (change ∷ []) (h, tt) (ap (λ found. option_and_then (λ first. option_map (λ others. first ++ others) (Some [])) found) none)
+
+or_none : (found : Option (List StreamAction)) → found ≢ None → found ≡ Some (actions_or_none found)
+or_none None h = absurd (h refl)
+or_none (Some actions) h = refl
+
+one_is_sent : (width tall : ℕ) (change : ChangeValue) → HasSpelling width tall change → rendering change width tall ≡ Some (sent_for width tall change)
+unfolding sent_for
+one_is_sent width tall change h = or_none (rendering change width tall) (spelled_some width tall change h)
+
+pub all_are_sent : (width tall : ℕ) (changes : List ChangeValue) → HaveSpellings width tall changes → all_rendered changes width tall ≡ Some (all_sent width tall changes)
+all_are_sent width tall [] h = refl
+all_are_sent width tall (change ∷ changes) h =
+    λ i. option_and_then (λ first. option_map (λ others. first ++ others) (all_are_sent width tall changes h.1 i)) (one_is_sent width tall change h.0 i)
+
+-- what was rendered is sent
+pub rendered_sent : (width tall : ℕ) (change : ChangeValue) (actions : List StreamAction) → rendering change width tall ≡ Some actions → actions ≡ sent_for width tall change
+unfolding sent_for
+rendered_sent width tall change actions e = sym (ap actions_or_none e)
+
+-- ---- lists of them
+
+pub spellings_front : (width tall : ℕ) (xs ys : List ChangeValue) → HaveSpellings width tall (xs ++ ys) → HaveSpellings width tall xs
+spellings_front width tall [] ys h = tt
+spellings_front width tall (x ∷ xs) ys h = (h.0, spellings_front width tall xs ys h.1)
+
+spellings_behind : (width tall : ℕ) (xs ys : List ChangeValue) → HaveSpellings width tall (xs ++ ys) → HaveSpellings width tall ys
+spellings_behind width tall [] ys h = h
+spellings_behind width tall (x ∷ xs) ys h = spellings_behind width tall xs ys h.1
+
+module _ {X : Type 0} (width tall : ℕ) (value : X → ChangeValue) where
+  pub spelled_at : (xs : List X) (i : ℕ) (x : X) → i < length xs → x ≡ get_or xs i x → HaveSpellings width tall (map value xs) → HasSpelling width tall (value x)
+  spelled_at [] i x lt e h = absurd (omega (arith, lt))
+  spelled_at (y ∷ xs) zero x lt e h = subst (λ (z : X). HasSpelling width tall (value z)) (sym e) h.0
+  spelled_at (y ∷ xs) (suc i) x lt e h = spelled_at xs i x (omega (arith, lt)) e h.1
+
+  pub spelled_in : (told : ChangeValue → List ChangeValue) (xs : List X) (i : ℕ) (x : X) → i < length xs → x ≡ get_or xs i x → HaveSpellings width tall (flat_map told (map value xs)) → HaveSpellings width tall (told (value x))
+  spelled_in told [] i x lt e h = absurd (omega (arith, lt))
+  spelled_in told (y ∷ xs) zero x lt e h = subst (λ (z : X). HaveSpellings width tall (told (value z))) (sym e) (spellings_front width tall (told (value y)) (flat_map told (map value xs)) h)
+  spelled_in told (y ∷ xs) (suc i) x lt e h = spelled_in told xs i x (omega (arith, lt)) e (spellings_behind width tall (told (value y)) (flat_map told (map value xs)) h)
+
+  -- one more
+  pub one_more : (told : ChangeValue → List ChangeValue) (xs : List X) (i : ℕ) (x : X) → i < length xs → x ≡ get_or xs i x
+      → flat_map told (map value (take (i + 1) xs)) ≡ flat_map told (map value (take i xs)) ++ told (value x)
+  one_more told xs i x lt e =
+      ap (λ (ys : List X). flat_map told (map value ys)) (take_more xs i x lt ∙ ap (λ (z : X). take i xs ++ z ∷ []) (sym e))
+      ∙ ap (flat_map told) (map-append value (take i xs) (x ∷ []))
+      ∙ flat_map-append told (map value (take i xs)) (value x ∷ [])
+      ∙ ap (λ (cs : List ChangeValue). flat_map told (map value (take i xs)) ++ cs) (append-nil (told (value x)))
+
+  pub sends_more : (told : ChangeValue → List ChangeValue) (xs : List X) (i : ℕ) (x : X) (start now next : List StreamAction) → i < length xs → x ≡ get_or xs i x
+      → now ≡ start ++ all_sent width tall (flat_map told (map value (take i xs))) → next ≡ now ++ all_sent width tall (told (value x))
+      → next ≡ start ++ all_sent width tall (flat_map told (map value (take (i + 1) xs)))
+  sends_more told xs i x start now next lt e before more =
+      let done : List ChangeValue = flat_map told (map value (take i xs)) in
+      more
+      ∙ ap (λ (actions : List StreamAction). actions ++ all_sent width tall (told (value x))) before
+      ∙ append_assoc start (all_sent width tall done) (all_sent width tall (told (value x)))
+      ∙ ap (λ (actions : List StreamAction). start ++ actions) (sym (flat_map-append (sent_for width tall) done (told (value x))) ∙ ap (all_sent width tall) (sym (one_more told xs i x lt e)))
+
+-- two in turn
+pub sends_both : (width tall : ℕ) (xs ys : List ChangeValue) (first second third : List StreamAction) → second ≡ first ++ all_sent width tall xs → third ≡ second ++ all_sent width tall ys → third ≡ first ++ all_sent width tall (xs ++ ys)
+sends_both width tall xs ys first second third a b =
+    b ∙ ap (λ (actions : List StreamAction). actions ++ all_sent width tall ys) a ∙ append_assoc first (all_sent width tall xs) (all_sent width tall ys) ∙ ap (λ (actions : List StreamAction). first ++ actions) (sym (flat_map-append (sent_for width tall) xs ys))

@@ -1,0 +1,32 @@
+-- The actions that are sent for changes, one after another.
+use Rattle.std.specs.Prelude.{ℕ, ◌==◌, Bool, false, List, [], ◌∷◌, Option, Some, None}
+use Rattle.std.specs.List.{flat_map}
+use Rattle.cell_base.specs.declared.attributes.Position.TheVariants.{Absolute}
+use Rattle.cell_base.specs.Screen.{Screen}
+use Rattle.cell_change.specs.ChangeValue.{ChangeValue, ClearScreen, CursorPosition, Title}
+use Rattle.escape_stream.specs.StreamAction.{StreamAction}
+use Rattle.terminal_render.specs.Rendering.{rendering}
+use Rattle.terminal_update.specs.Update.{told}
+
+-- actions, if there are any
+abbrev pub actions_or_none : Option (List StreamAction) → List StreamAction
+actions_or_none None = []
+actions_or_none (Some actions) = actions
+
+-- the actions that are sent for a change to a terminal of a width and a height, and for changes in turn
+unfoldable pub sent_for : ℕ → ℕ → ChangeValue → List StreamAction
+sent_for width height change = actions_or_none (rendering change width height)
+
+abbrev pub all_sent : ℕ → ℕ → List ChangeValue → List StreamAction
+all_sent width height changes = flat_map (sent_for width height) changes
+
+-- whether a change leads to the place of a wrap that is pending
+abbrev pub is_pending : ℕ → ChangeValue → Bool
+is_pending width (CursorPosition (Absolute column) y) = column == width
+is_pending width _ = false
+
+-- a change of a repaint as it is sent: the title comes behind the clear, also an empty one, and the place of a wrap that is pending as `told` has it
+abbrev pub retold : Screen → ChangeValue → List ChangeValue
+retold screen (ClearScreen color) = ClearScreen color ∷ Title screen.title ∷ []
+retold screen (Title title) = []
+retold screen change = told screen change
