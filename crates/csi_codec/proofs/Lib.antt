@@ -7,7 +7,7 @@ mod PlaceLemmas
 mod ReadingLemmas
 mod JoinLemmas
 mod BackLemmas
-mod ReadWritable
+pub mod ReadWritable
 mod TableBack
 mod SgrBack
 mod ModeBack

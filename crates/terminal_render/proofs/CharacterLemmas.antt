@@ -105,12 +105,12 @@ parts_of_front (b ∷ front) rest l h = parts_behind b front rest h
 
 -- ---- U+0080 to U+009F
 
-no_c1_tail : (b : ℕ) (bytes : List ℕ) → holds_c1 (b ∷ bytes) ≡ false → holds_c1 bytes ≡ false
+pub no_c1_tail : (b : ℕ) (bytes : List ℕ) → holds_c1 (b ∷ bytes) ≡ false → holds_c1 bytes ≡ false
 unfolding holds_c1
 no_c1_tail b [] h = refl
 no_c1_tail b (c ∷ bytes) h = (or_parts (is_c1 b c) (holds_c1 (c ∷ bytes)) h).1
 
-no_c1_behind : (front rest : List ℕ) → holds_c1 (front ++ rest) ≡ false → holds_c1 rest ≡ false
+pub no_c1_behind : (front rest : List ℕ) → holds_c1 (front ++ rest) ≡ false → holds_c1 rest ≡ false
 no_c1_behind [] rest h = h
 no_c1_behind (b ∷ front) rest h = no_c1_behind front rest (no_c1_tail b (front ++ rest) h)
 
@@ -118,7 +118,7 @@ is_pair : (x y : ℕ) → x ≡ 194 → 128 ≤ y → y < 160 → is_c1 x y ≡ 
 is_pair x y e l h = grind (arith, nat_tests)
 
 -- a character above ASCII is none of them
-above : (c : ℕ) (rest : List ℕ) → IsScalar c → 128 ≤ c → holds_c1 (encode_utf8 c ++ rest) ≡ false → 0x9F < c
+pub above : (c : ℕ) (rest : List ℕ) → IsScalar c → 128 ≤ c → holds_c1 (encode_utf8 c ++ rest) ≡ false → 0x9F < c
 unfolding holds_c1
 above c rest s l h = by_order (order c 160)
   where

@@ -32,14 +32,14 @@ ready_behind f view d change ready h same =
     record { lawful = record { lawful = lawful.lawful; whole = lawful.whole }; width = subst (λ n. n < 2 ^ 32) (sym width) ready.width; height = subst (λ n. n < 2 ^ 32) (sym tall) ready.height; run = ready.run }
 
 -- the parts of such a list
-record Parts (found rest : Option (List StreamAction)) (actions : List StreamAction) : Type 0 where
-  first : List StreamAction
-  others : List StreamAction
-  found_is : found ≡ Some first
-  rest_is : rest ≡ Some others
-  are : actions ≡ first ++ others
+pub record Parts (found rest : Option (List StreamAction)) (actions : List StreamAction) : Type 0 where
+  pub first : List StreamAction
+  pub others : List StreamAction
+  pub found_is : found ≡ Some first
+  pub rest_is : rest ≡ Some others
+  pub are : actions ≡ first ++ others
 
-parts : (found rest : Option (List StreamAction)) (actions : List StreamAction) → option_and_then (λ first. option_map (λ others. first ++ others) rest) found ≡ Some actions → Parts found rest actions
+pub parts : (found rest : Option (List StreamAction)) (actions : List StreamAction) → option_and_then (λ first. option_map (λ others. first ++ others) rest) found ≡ Some actions → Parts found rest actions
 parts None rest actions e = cc
 parts (Some first) None actions e = cc
 parts (Some first) (Some others) actions e = let k : first ++ others ≡ actions = cc in record { first = first; others = others; found_is = refl; rest_is = refl; are = sym k }

@@ -48,7 +48,7 @@ abbrev total : List StreamAction → ℕ
 total [] = 0
 total (a ∷ others) = length (action_text a) + total others
 
-behind_short : (closed : Bool) (a : StreamAction) → length (text_behind closed a) ≤ length (action_text a)
+pub behind_short : (closed : Bool) (a : StreamAction) → length (text_behind closed a) ≤ length (action_text a)
 behind_short closed a = by_test (closed && is_string_terminator a) refl
   where
     by_test : (b : Bool) → (closed && is_string_terminator a) ≡ b → length (text_behind closed a) ≤ length (action_text a)

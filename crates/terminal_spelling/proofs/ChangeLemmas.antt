@@ -20,6 +20,7 @@ use Rattle.cell_base.specs.Color.{attribute_of}
 use Rattle.cell_base.specs.Screen.{Screen, height}
 use Rattle.cell_change.specs.ChangeValue.{ChangeValue, Attribute, AllAttributes, Text, ClearScreen, ClearToEndOfLine, ClearToEndOfScreen, CursorPosition, CursorColor, CursorShape, CursorVisibility, LineAttribute, ScrollRegionUp, ScrollRegionDown, Title}
 use Rattle.cell_change.proofs.TextLemmas.{by_test}
+use Rattle.csi_codec.specs.Writable.{IsColour, IsWritableSgr}
 use Rattle.csi_codec.specs.declared.edits.Edit.{Edit}
 use Rattle.csi_codec.specs.declared.edits.Edit.TheVariants as edit
 use Rattle.csi_codec.specs.declared.rendition.Sgr.{Sgr}
@@ -32,12 +33,13 @@ use Rattle.terminal_table.specs.Functions as table
 use Rattle.terminal_table.specs.Functions.{Move, ControlFunction}
 use Rattle.terminal_table.specs.Steps.{cursor_to_restore}
 use Rattle.terminal_table.specs.Changes.{position, move_change, rendition_changes, changes}
-use Rattle.terminal_render.specs.Links.{is_carried, is_plain_text}
+use Rattle.terminal_render.specs.Carried.{IsColor, HaveColors, HasColor, IsChange}
+use Rattle.terminal_render.specs.Links.{is_carried}
 use Rattle.terminal_render.specs.Pen.{colour_setting, rendition, link_action, attribute_action, settings, pen_actions, is_output, is_unsaid, pen_settings, pen_rendering, plain_pen, clear_rendering}
 use Rattle.terminal_render.specs.Places.{Way, At, Back, On, moves, way_of, position_moves}
-use Rattle.terminal_render.specs.Rendering.{edited, moved, is_whole, scroll_rendering}
+use Rattle.terminal_render.specs.Rendering.{edited, moved, is_whole, scroll_rendering, rendering}
 use Rattle.terminal_render.specs.Texts.{part_actions, text_rendering, title_rendering}
-use Rattle.terminal_spelling.specs.Spelling.{IsToldColor, IsSpelledPen, IsSpelledText, IsSpelledScreen, IsSpelledSaved, IsSpelledFunction, IsSpelledValue, IsSpelledChange, HasSpelling, HaveSpellings}
+use Rattle.terminal_spelling.specs.Spelling.{IsToldColor, IsSpelledPen, IsSpelledText, IsSpelledTitle, IsSpelledScreen, IsSpelledSaved, IsSpelledFunction, IsSpelledValue, IsSpelledChange, HasSpelling, HaveSpellings}
 use Rattle.terminal_spelling.proofs.TextLemmas.{spelled_characters}
 use Rattle.terminal_spelling.proofs.DisplayLemmas.{AreSpelledChanges, plain_spelled}
 
@@ -65,11 +67,17 @@ told_some (attribute.TrueColorWithDefaultFallback color) h = some_is _
 told_some (attribute.PaletteIndex index) h = some_is _
 told_some attribute.Default h = some_is _
 
-some_told : (color : ColorAttribute) → colour_setting color ≢ None → IsToldColor color
-some_told (attribute.TrueColorWithPaletteFallback color index) h = absurd (h refl)
-some_told (attribute.TrueColorWithDefaultFallback color) h = tt
-some_told (attribute.PaletteIndex index) h = tt
-some_told attribute.Default h = tt
+some_told : (color : ColorAttribute) → IsColor color → colour_setting color ≢ None → IsToldColor color
+some_told (attribute.TrueColorWithPaletteFallback color index) k h = absurd (h refl)
+some_told (attribute.TrueColorWithDefaultFallback color) k h = k
+some_told (attribute.PaletteIndex index) k h = k
+some_told attribute.Default k h = tt
+
+told_color : (color : ColorAttribute) → IsToldColor color → IsColor color
+told_color (attribute.TrueColorWithPaletteFallback color index) h = absurd h
+told_color (attribute.TrueColorWithDefaultFallback color) h = h
+told_color (attribute.PaletteIndex index) h = h
+told_color attribute.Default h = tt
 
 settings_some : (a : Attributes) → IsSpelledPen a → pen_settings a ≢ None
 settings_some a p =
@@ -108,15 +116,15 @@ mapped_some : {A B : Type 0} (f : A → B) (o : Option A) → option_map f o ≢
 mapped_some f None k = absurd (k refl)
 mapped_some f (Some x) k = some_is x
 
-pub some_pen : (a : Attributes) → pen_rendering a ≢ None → IsSpelledPen a
+pub some_pen : (a : Attributes) → HaveColors a → pen_rendering a ≢ None → IsSpelledPen a
 unfolding pen_rendering
-some_pen a h =
+some_pen a k h =
     by_test (is_unsaid a)
     (λ e. absurd (h (ap (λ b. if b then None else option_map (λ values. pen_actions values a.hyperlink) (pen_settings a)) e)))
     (λ e.
     let found = subst (λ b. (if b then None else option_map (λ values. pen_actions values a.hyperlink) (pen_settings a)) ≢ None) e h in
     let colors = three_some (settings a) (colour_setting a.foreground) (colour_setting a.background) (colour_setting a.underline_color) (mapped_some (λ values. pen_actions values a.hyperlink) (pen_settings a) found) in
-    said a e (some_told a.foreground colors.first) (some_told a.background colors.second) (some_told a.underline_color colors.third))
+    said a e (some_told a.foreground k.0 colors.first) (some_told a.background k.1 colors.second) (some_told a.underline_color k.2 colors.third))
   where
     said : (a : Attributes) → is_unsaid a ≡ false → IsToldColor a.foreground → IsToldColor a.background → IsToldColor a.underline_color → IsSpelledPen a
     said a e front back line =
@@ -124,8 +132,8 @@ some_pen a h =
         let first = or_parts a.wrapped (not (is_output a.semantic_type)) both.0 in
         record { unwrapped = first.0; output = output_is a.semantic_type first.1; link = carried_is (is_carried a.hyperlink) both.1; foreground = front; background = back; underline = line }
 
-pub pens_are_rendered : (a : Attributes) → IsSpelledPen a ↔ (pen_rendering a ≢ None)
-pens_are_rendered a = (pen_some a, some_pen a)
+pub pens_are_rendered : (a : Attributes) → HaveColors a → (IsSpelledPen a ↔ (pen_rendering a ≢ None))
+pens_are_rendered a k = (pen_some a, some_pen a k)
 
 -- ---- single changes
 
@@ -146,9 +154,9 @@ text_some : (text : List ℕ) → IsSpelledText text → text_rendering text ≢
 unfolding text_rendering
 text_some text p = equal_some _ (flat_map part_actions (text_parts text)) (ap (λ b. if b then None else Some (flat_map part_actions (text_parts text))) p.no_c1)
 
-title_some : (text : List ℕ) → is_plain_text text ≡ true → title_rendering text ≢ None
+title_some : (text : List ℕ) → IsSpelledTitle text → title_rendering text ≢ None
 unfolding title_rendering
-title_some text p = equal_some _ (command (set_window_title text) ∷ []) (ap (λ b. if b then Some (command (set_window_title text) ∷ []) else None) p)
+title_some text p = equal_some _ (command (set_window_title text) ∷ []) (ap (λ b. if b then Some (command (set_window_title text) ∷ []) else None) p.plain)
 
 clear_some : (color : ColorAttribute) (erasure : List StreamAction) → IsToldColor color → clear_rendering color erasure ≢ None
 unfolding clear_rendering
@@ -181,21 +189,39 @@ abbrev pub ArePlaced : ℕ → ℕ → List ChangeValue → Type 0
 ArePlaced width height [] = ⊤
 ArePlaced width height (change ∷ changes) = IsPlaced width height change × ArePlaced width height changes
 
+change_some : (width height : ℕ) (change : ChangeValue) → IsSpelledChange change → IsPlaced width height change → rendering change width height ≢ None
+change_some width height (Attribute value) u g = map_some (λ action. action ∷ []) (attribute_action value) (value_some value u)
+change_some width height (AllAttributes attributes) u g = pen_some attributes u
+change_some width height (Text text) u g = text_some text u
+change_some width height (ClearScreen color) u g = clear_some color _ u
+change_some width height (ClearToEndOfLine color) u g = clear_some color _ u
+change_some width height (ClearToEndOfScreen color) u g = clear_some color _ u
+change_some width height (CursorPosition x y) u g = map_some (map moved) (position_moves width height x y) g
+change_some width height (CursorColor color) u g = absurd g
+change_some width height (CursorShape shape) u g = absurd g
+change_some width height (CursorVisibility visibility) u g = some_is _
+change_some width height (LineAttribute size) u g = absurd g
+change_some width height (ScrollRegionUp first size count) u g = scroll_some edit.ScrollUp height first size count g
+change_some width height (ScrollRegionDown first size count) u g = scroll_some edit.ScrollDown height first size count g
+change_some width height (Title title) u g = title_some title u
+
+value_color : (value : AttributeValue) → IsSpelledValue value → HasColor value
+value_color (one.Foreground color) u = told_color color u
+value_color (one.Background color) u = told_color color u
+value_color _ u = tt
+
+change_of_code : (change : ChangeValue) → IsSpelledChange change → IsChange change
+change_of_code (Attribute value) u = value_color value u
+change_of_code (AllAttributes a) u = (told_color a.foreground u.foreground, told_color a.background u.background, told_color a.underline_color u.underline)
+change_of_code (Text text) u = u.utf8
+change_of_code (ClearScreen color) u = told_color color u
+change_of_code (ClearToEndOfLine color) u = told_color color u
+change_of_code (ClearToEndOfScreen color) u = told_color color u
+change_of_code (Title title) u = u.utf8
+change_of_code _ u = tt
+
 pub has_spelling : (width height : ℕ) (change : ChangeValue) → IsSpelledChange change → IsPlaced width height change → HasSpelling width height change
-has_spelling width height (Attribute value) u g = map_some (λ action. action ∷ []) (attribute_action value) (value_some value u)
-has_spelling width height (AllAttributes attributes) u g = pen_some attributes u
-has_spelling width height (Text text) u g = text_some text u
-has_spelling width height (ClearScreen color) u g = clear_some color _ u
-has_spelling width height (ClearToEndOfLine color) u g = clear_some color _ u
-has_spelling width height (ClearToEndOfScreen color) u g = clear_some color _ u
-has_spelling width height (CursorPosition x y) u g = map_some (map moved) (position_moves width height x y) g
-has_spelling width height (CursorColor color) u g = absurd g
-has_spelling width height (CursorShape shape) u g = absurd g
-has_spelling width height (CursorVisibility visibility) u g = some_is _
-has_spelling width height (LineAttribute size) u g = absurd g
-has_spelling width height (ScrollRegionUp first size count) u g = scroll_some edit.ScrollUp height first size count g
-has_spelling width height (ScrollRegionDown first size count) u g = scroll_some edit.ScrollDown height first size count g
-has_spelling width height (Title title) u g = title_some title u
+has_spelling width height change u g = record { of_code = change_of_code change u; sent = change_some width height change u g }
 
 pub have_spellings : (width height : ℕ) (cs : List ChangeValue) → AreSpelledChanges cs → ArePlaced width height cs → HaveSpellings width height cs
 have_spellings width height [] u g = tt
@@ -271,26 +297,26 @@ changes_placed table.ReportPosition saved s h = tt
 
 -- ---- and bring nothing that has no spelling
 
-attribute_told : (color : ColorSpec) → IsToldColor (attribute_of color)
-attribute_told spec.Default = tt
-attribute_told (spec.PaletteIndex n) = tt
-attribute_told (spec.TrueColor c) = tt
+attribute_told : (color : ColorSpec) → IsColour color → IsToldColor (attribute_of color)
+attribute_told spec.Default h = tt
+attribute_told (spec.PaletteIndex n) h = h
+attribute_told (spec.TrueColor c) h = h
 
-rendition_spelled : (value : Sgr) (pen : Attributes) → IsSpelledPen pen → AreSpelledChanges (rendition_changes value pen)
-rendition_spelled (sgr.Intensity value) pen p = (tt, tt)
-rendition_spelled (sgr.Underline value) pen p = (tt, tt)
-rendition_spelled (sgr.Blink value) pen p = (tt, tt)
-rendition_spelled (sgr.Italic value) pen p = (tt, tt)
-rendition_spelled (sgr.Inverse value) pen p = (tt, tt)
-rendition_spelled (sgr.Invisible value) pen p = (tt, tt)
-rendition_spelled (sgr.StrikeThrough value) pen p = (tt, tt)
-rendition_spelled (sgr.Foreground value) pen p = (attribute_told value, tt)
-rendition_spelled (sgr.Background value) pen p = (attribute_told value, tt)
-rendition_spelled (sgr.Font value) pen p = tt
-rendition_spelled sgr.Reset pen p = (record { unwrapped = refl; output = refl; link = p.link; foreground = tt; background = tt; underline = tt }, tt)
-rendition_spelled (sgr.UnderlineColor value) pen p = (record { unwrapped = p.unwrapped; output = p.output; link = p.link; foreground = p.foreground; background = p.background; underline = attribute_told value }, tt)
-rendition_spelled (sgr.Overline value) pen p = (record { unwrapped = p.unwrapped; output = p.output; link = p.link; foreground = p.foreground; background = p.background; underline = p.underline }, tt)
-rendition_spelled (sgr.VerticalAlign value) pen p = (record { unwrapped = p.unwrapped; output = p.output; link = p.link; foreground = p.foreground; background = p.background; underline = p.underline }, tt)
+rendition_spelled : (value : Sgr) (pen : Attributes) → IsWritableSgr value → IsSpelledPen pen → AreSpelledChanges (rendition_changes value pen)
+rendition_spelled (sgr.Intensity value) pen h p = (tt, tt)
+rendition_spelled (sgr.Underline value) pen h p = (tt, tt)
+rendition_spelled (sgr.Blink value) pen h p = (tt, tt)
+rendition_spelled (sgr.Italic value) pen h p = (tt, tt)
+rendition_spelled (sgr.Inverse value) pen h p = (tt, tt)
+rendition_spelled (sgr.Invisible value) pen h p = (tt, tt)
+rendition_spelled (sgr.StrikeThrough value) pen h p = (tt, tt)
+rendition_spelled (sgr.Foreground value) pen h p = (attribute_told value h, tt)
+rendition_spelled (sgr.Background value) pen h p = (attribute_told value h, tt)
+rendition_spelled (sgr.Font value) pen h p = tt
+rendition_spelled sgr.Reset pen h p = (record { unwrapped = refl; output = refl; link = p.link; foreground = tt; background = tt; underline = tt }, tt)
+rendition_spelled (sgr.UnderlineColor value) pen h p = (record { unwrapped = p.unwrapped; output = p.output; link = p.link; foreground = p.foreground; background = p.background; underline = attribute_told value h }, tt)
+rendition_spelled (sgr.Overline value) pen h p = (record { unwrapped = p.unwrapped; output = p.output; link = p.link; foreground = p.foreground; background = p.background; underline = p.underline }, tt)
+rendition_spelled (sgr.VerticalAlign value) pen h p = (record { unwrapped = p.unwrapped; output = p.output; link = p.link; foreground = p.foreground; background = p.background; underline = p.underline }, tt)
 
 restored_spelled : (saved : Option SavedCursor) → IsSpelledSaved saved → IsSpelledPen (cursor_to_restore saved).pen
 restored_spelled None g = plain_spelled
@@ -324,7 +350,7 @@ changes_spelled table.EraseToEndOfLine saved s f g p = (p.pen.background, (p.pen
 changes_spelled table.EraseLine saved s f g p = (tt, (p.pen.background, (tt, (p.pen, tt))))
 changes_spelled (table.ScrollUp n) saved s f g p = (tt, tt)
 changes_spelled (table.ScrollDown n) saved s f g p = (tt, tt)
-changes_spelled (table.Rendition value) saved s f g p = rendition_spelled value s.pen p.pen
+changes_spelled (table.Rendition value) saved s f g p = rendition_spelled value s.pen f p.pen
 changes_spelled (table.Hyperlink link) saved s f g p = (f, tt)
 changes_spelled (table.Title text) saved s f g p = (f, tt)
 changes_spelled (table.ShowCursor shown) saved s f g p = (tt, tt)

@@ -2,10 +2,11 @@
 use Rattle.std.proofs.Common.{◌≡◌, ℕ, Bool, true, false, ◌&&◌, List, [], ◌∷◌, ◌++◌, map, codes, refl, sym, subst, ◌∙◌, inl, inr, Option, Some, None, option_map, Ok, arith}
 use Rattle.std.specs.Prelude.{⊤, not, unwrap_or, if◌then◌else◌}
 use Rattle.std.specs.List.{AllByRecursion, list_all}
-use Rattle.std.specs.Str.{bytes_eq}
+use Rattle.std.specs.Str.{IsUtf8, bytes_eq, is_utf8}
 use Rattle.std.specs.Result.{result_ok}
 use Rattle.std.proofs.lemmas.Bool.{cases_Bool}
 use Rattle.std.proofs.lemmas.Option.{same_Some}
+use Rattle.std.proofs.lemmas.Str.{IsUtf8-from_is_utf8}
 use Rattle.cell_base.specs.Link.{Link, Param}
 use Rattle.cell_base.specs.LinkText.{param_text, params_text, link_text, link_reading, IsReadBack}
 use Rattle.cell_base.proofs.LinkLaws.{body_back}
@@ -25,7 +26,7 @@ use Rattle.escape_osc.proofs.SplitLemmas.{parts_each}
 use Rattle.terminal_render.specs.Links.{is_plain_text, is_plain_param, has_plain_texts, is_carried}
 use Rattle.terminal_render.proofs.LinkLemmas.{is_read_back}
 use Rattle.terminal_table.specs.Functions.{command_function}
-use Rattle.terminal_spelling.specs.Spelling.{IsSpelledRequest}
+use Rattle.terminal_spelling.specs.Spelling.{IsSpelledTitle, IsSpelledRequest}
 
 -- ---- texts
 
@@ -78,8 +79,8 @@ link_carried parts (Some link) back c0 c1 e =
 -- ---- commands
 
 abbrev pub IsSpelledCommand : Command → Type 0
-IsSpelledCommand (set_icon_name_and_window_title text) = is_plain_text text ≡ true
-IsSpelledCommand (set_window_title text) = is_plain_text text ≡ true
+IsSpelledCommand (set_icon_name_and_window_title text) = IsSpelledTitle text
+IsSpelledCommand (set_window_title text) = IsSpelledTitle text
 IsSpelledCommand (set_hyperlink link) = is_carried link ≡ true
 IsSpelledCommand (set_icon_name text) = ⊤
 IsSpelledCommand (current_working_directory text) = ⊤
@@ -99,7 +100,14 @@ command_request (query_selection bits) h = tt
 command_request (clear_selection bits) h = tt
 command_request (unspecified parts) h = tt
 
-text_made : (make : List ℕ → Command) (rest : List (List ℕ)) (command : Command) → ((text : List ℕ) → is_plain_text text ≡ true → IsSpelledCommand (make text))
+utf8_found : (bytes text : List ℕ) → utf8_reading bytes ≡ Some text → IsUtf8 text
+unfolding utf8_reading
+utf8_found bytes text h = elim (cases_Bool (is_utf8 bytes)) [
+  | inl is ↦ subst IsUtf8 (same_Some _ _ (rw is at h)) (IsUtf8-from_is_utf8 bytes is)
+  | inr other ↦ cc (rw other at h)
+]
+
+text_made : (make : List ℕ → Command) (rest : List (List ℕ)) (command : Command) → ((text : List ℕ) → IsSpelledTitle text → IsSpelledCommand (make text))
     → AllByRecursion ArePlain rest → any_holds_c1 rest ≡ false → option_map make (text_reading rest) ≡ Some command → IsSpelledCommand command
 unfolding text_reading
 text_made make [] command k c0 c1 h = cc
@@ -107,7 +115,8 @@ text_made make (part ∷ rest) command k c0 c1 h = elim (option_cases (utf8_read
   | inl none ↦ cc (rw none at h)
   | inr (text, some) ↦
       let e : make text ≡ command = same_Some _ _ (rw some at h) in
-      subst IsSpelledCommand e (k text (subst (λ (t : List ℕ). is_plain_text t ≡ true) (utf8_same (joined (part ∷ rest)) text some) (joined_plain (part ∷ rest) c0 c1)))
+      let plain = subst (λ (t : List ℕ). is_plain_text t ≡ true) (utf8_same (joined (part ∷ rest)) text some) (joined_plain (part ∷ rest) c0 c1) in
+      subst IsSpelledCommand e (k text (record { utf8 = utf8_found (joined (part ∷ rest)) text some; plain = plain }))
 ]
 
 link_made : (parts : List (List ℕ)) (command : Command) → ReadBack parts → AllByRecursion ArePlain parts → any_holds_c1 parts ≡ false → option_map set_hyperlink (result_ok (link_reading parts)) ≡ Some command → IsSpelledCommand command

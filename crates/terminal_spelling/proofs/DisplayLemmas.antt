@@ -20,8 +20,8 @@ use Rattle.screen_effects.specs.Strokes.{Stroke, CarriageReturn, LineFeed, Clust
 use Rattle.screen_effects.proofs.EffectLaws.{effect_is}
 use Rattle.screen_effects.proofs.StrokeLaws.{stroke_is}
 use Rattle.escape_osc.specs.Parts.{holds_c1}
-use Rattle.terminal_render.specs.Links.{is_carried, is_plain_text}
-use Rattle.terminal_spelling.specs.Spelling.{IsToldColor, IsSpelledPen, IsSpelledText, IsSpelledRow, IsSpelledScreen, IsSpelledValue, IsSpelledChange}
+use Rattle.terminal_render.specs.Links.{is_carried}
+use Rattle.terminal_spelling.specs.Spelling.{IsToldColor, IsSpelledPen, IsSpelledText, IsSpelledTitle, IsSpelledRow, IsSpelledScreen, IsSpelledValue, IsSpelledChange}
 use Rattle.terminal_spelling.proofs.TextLemmas.{AreSpelledStrokes, spelled_space, strokes_spelled}
 
 -- ---- pens
@@ -229,9 +229,9 @@ size_spelled width rows s p =
 pub resized_spelled : (width rows : ℕ) (d : Display) → IsSpelledScreen d.screen → IsSpelledScreen (resized width rows d).screen
 resized_spelled width rows d p = size_spelled width rows d.screen p
 
-no_title : is_plain_text [] ≡ true
+no_title : IsSpelledTitle []
 unfolding holds_c1
-no_title = refl
+no_title = record { utf8 = ([], (refl, refl)); plain = refl }
 
 pub screen_spelled : (width rows : ℕ) → IsSpelledScreen (new_screen width rows)
 screen_spelled width rows = record { rows = All-replicate IsSpelledRow rows (plain_row width) (plain_row_spelled width); pen = plain_spelled; title = no_title }

@@ -2,7 +2,9 @@ pub mod TextLemmas
 pub mod DisplayLemmas
 pub mod ChangeLemmas
 pub mod ViewLemmas
+pub mod SequenceLemmas
 pub mod CommandLemmas
 pub mod StreamLemmas
 pub mod RepaintLemmas
 pub mod LogLemmas
+pub mod WritableLemmas

@@ -41,7 +41,7 @@ spellings_drop width tall (suc n) (x ∷ xs) h = spellings_drop width tall n xs 
 pub all_some : (width tall : ℕ) (changes : List ChangeValue) → HaveSpellings width tall changes → all_rendered changes width tall ≢ None
 all_some width tall [] h = λ e. cc
 all_some width tall (change ∷ changes) h =
-    then_some (λ first. option_map (λ others. first ++ others) (all_rendered changes width tall)) (rendering change width tall) h.0
+    then_some (λ first. option_map (λ others. first ++ others) (all_rendered changes width tall)) (rendering change width tall) h.0.sent
     (λ first. map_some (λ others. first ++ others) (all_rendered changes width tall) (all_some width tall changes h.1))
 
 pub due_has : (width tall most : ℕ) (l : Log) (number : ℕ) → HaveSpellings width tall l.entries → IfSome (due most l number) (HaveSpellings width tall)
@@ -100,7 +100,7 @@ replay_size width_of (change ∷ cs) d h =
     let rest = replay_size width_of cs (effect width_of d change) (effect_is width_of d change h) in
     record { wide = rest.wide ∙ one.width; tall = rest.tall ∙ one.tall }
 
-pub step_size : (request : Option ControlFunction) (state : State) → IsState state → HasSize (step_of request state).screen state.screen
+step_size : (request : Option ControlFunction) (state : State) → IsState state → HasSize (step_of request state).screen state.screen
 step_size None state h = record { wide = refl; tall = refl }
 step_size (Some function) state h =
     let d = display_on_is state h in

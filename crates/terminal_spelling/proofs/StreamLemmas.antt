@@ -6,6 +6,7 @@ use Rattle.std.specs.List.{flat_map}
 use Rattle.csi_codec.specs.Actions as codec
 use Rattle.csi_codec.specs.Actions.{csi_reading}
 use Rattle.csi_codec.specs.Escapes.{esc_reading}
+use Rattle.csi_codec.specs.Writable.{IsWritableSgr}
 use Rattle.csi_codec.specs.declared.cursors.Cursor.{Cursor}
 use Rattle.csi_codec.specs.declared.cursors.Cursor.TheVariants as cursor
 use Rattle.csi_codec.specs.declared.devices.Device.{Device}
@@ -43,6 +44,7 @@ use Rattle.terminal_table.proofs.EventLemmas.{event_is}
 use Rattle.terminal_table.proofs.PrintLemmas.{AllCut, events_are}
 use Rattle.terminal_spelling.specs.Spelling.{IsSpelledText, IsSpelledRequest, IsSpelledView, AreSpelledEvents}
 use Rattle.terminal_spelling.proofs.TextLemmas.{spelled_nil, spelled_character}
+use Rattle.terminal_spelling.proofs.SequenceLemmas.{IsSpelledSequence, AreSpelledSequences, reading_spelled}
 use Rattle.terminal_spelling.proofs.CommandLemmas.{ArePlain, command_request, read_spelled, taken_plain}
 use Rattle.terminal_spelling.proofs.ViewLemmas.{event_spelled}
 
@@ -201,25 +203,25 @@ device_request : (d : Device) → IsSpelledRequest (device_function d)
 device_request device.StatusReport = tt
 device_request _ = tt
 
-rendition_request : (v : Sgr) → IsSpelledRequest (rendition_function v)
-rendition_request (sgr.Font font) = tt
-rendition_request _ = tt
+rendition_request : (v : Sgr) → IsWritableSgr v → IsSpelledRequest (rendition_function v)
+rendition_request (sgr.Font font) h = tt
+rendition_request _ h = h
 
-sequence_request : (a : codec.Action) → IsSpelledRequest (sequence_function a)
-sequence_request (codec.sgr value) = rendition_request value
-sequence_request (codec.cursor value) = cursor_request value
-sequence_request (codec.edit value) = edit_request value
-sequence_request (codec.mode value) = mode_request value
-sequence_request (codec.device value) = device_request value
-sequence_request (codec.unspecified params truncated final) = tt
+sequence_request : (a : codec.Action) → IsSpelledSequence a → IsSpelledRequest (sequence_function a)
+sequence_request (codec.sgr value) h = rendition_request value h
+sequence_request (codec.cursor value) h = cursor_request value
+sequence_request (codec.edit value) h = edit_request value
+sequence_request (codec.mode value) h = mode_request value
+sequence_request (codec.device value) h = device_request value
+sequence_request (codec.unspecified params truncated final) h = tt
 
-sequence_spelled : (a : codec.Action) → IsSpelledAction (csi a)
+sequence_spelled : (a : codec.Action) → IsSpelledSequence a → IsSpelledAction (csi a)
 unfolding function_of
-sequence_spelled a = (spelled_nil, sequence_request a)
+sequence_spelled a h = (spelled_nil, sequence_request a h)
 
-sequences_spelled : (actions : List codec.Action) → AreSpelledActions (map csi actions)
-sequences_spelled [] = tt
-sequences_spelled (a ∷ actions) = (sequence_spelled a, sequences_spelled actions)
+sequences_spelled : (actions : List codec.Action) → AreSpelledSequences actions → AreSpelledActions (map csi actions)
+sequences_spelled [] h = tt
+sequences_spelled (a ∷ actions) h = (sequence_spelled a h.0, sequences_spelled actions h.1)
 
 control_spelled : (n : ℕ) → IsSpelledAction (control n)
 unfolding function_of
@@ -234,7 +236,7 @@ unfolding function_of
 dispatch_spelled (Print c) h = ((spelled_character c h.0 h.1, tt), tt)
 dispatch_spelled (Control b) h = named_spelled (control_named b)
 dispatch_spelled (Escape intermediate final) h = ((spelled_nil, pair_request (esc_reading intermediate final)), tt)
-dispatch_spelled (ControlSequence tokens truncated final) h = sequences_spelled (csi_reading tokens truncated final)
+dispatch_spelled (ControlSequence tokens truncated final) h = sequences_spelled (csi_reading tokens truncated final) (reading_spelled tokens truncated final)
 dispatch_spelled (OperatingSystemCommand body) h = ((spelled_nil, command_request (osc_reading (parts_of body)) (read_spelled body h)), tt)
 dispatch_spelled (Enter header final) h = ((spelled_nil, tt), tt)
 dispatch_spelled (Data b) h = ((spelled_nil, tt), tt)

@@ -1,5 +1,5 @@
 -- What a terminal keeps so that each of its changes has a spelling.
-use Rattle.std.specs.Prelude.{◌≡◌, ◌≢◌, ◌⊎◌, ⊤, ℕ, All, true, false, List, [], ◌∷◌, Option, Some, None}
+use Rattle.std.specs.Prelude.{◌≡◌, ◌≢◌, ◌≤◌, ◌⊎◌, ⊤, ℕ, All, true, false, List, [], ◌∷◌, Option, Some, None}
 use Rattle.std.specs.Str.{IsUtf8}
 use Rattle.cell_base.specs.declared.attributes.CursorShape.{CursorShape as Shape}
 use Rattle.cell_base.specs.declared.attributes.Position.TheVariants.{Absolute}
@@ -12,8 +12,10 @@ use Rattle.cell_base.specs.AttributeValue.{AttributeValue}
 use Rattle.cell_base.specs.Row.{Row, Narrow, LeftHalf, RightHalf}
 use Rattle.cell_base.specs.Screen.{Screen, height}
 use Rattle.cell_change.specs.ChangeValue.{ChangeValue, Attribute, AllAttributes, Text, ClearScreen, ClearToEndOfLine, ClearToEndOfScreen, CursorPosition, CursorShape, Title}
+use Rattle.csi_codec.specs.Writable.{IsWritableSgr}
 use Rattle.escape_osc.specs.Parts.{holds_c1}
 use Rattle.escape_stream.specs.StreamAction.{printed}
+use Rattle.terminal_render.specs.Carried.{IsChange}
 use Rattle.terminal_render.specs.Links.{is_carried, is_plain_text}
 use Rattle.terminal_render.specs.Rendering.{rendering}
 use Rattle.terminal_table.specs.State.{SavedCursor, State}
@@ -22,11 +24,11 @@ use Rattle.terminal_table.specs.Functions.{ControlFunction, function_of}
 use Rattle.terminal_table.specs.History.{Event, Act}
 use Rattle.terminal_table.specs.Meaning.{View}
 
--- a colour that SGR sets: any but one that falls back to the palette
+-- a colour of bytes that SGR sets: any but one that falls back to the palette
 abbrev pub IsToldColor : ColorAttribute → Type 0
 IsToldColor (attribute.TrueColorWithPaletteFallback color index) = ⊥
-IsToldColor (attribute.TrueColorWithDefaultFallback color) = ⊤
-IsToldColor (attribute.PaletteIndex index) = ⊤
+IsToldColor (attribute.TrueColorWithDefaultFallback c) = (c.0 ≤ 255) × (c.1 ≤ 255) × (c.2 ≤ 255) × (c.3 ≤ 255)
+IsToldColor (attribute.PaletteIndex index) = index ≤ 255
 IsToldColor attribute.Default = ⊤
 
 -- attributes that SGR and OSC 8 set: of no row that goes on, of semantic type output, with a link that is carried and such colours
@@ -43,6 +45,11 @@ pub record IsSpelledText (text : List ℕ) : Type 0 where
   pub utf8 : IsUtf8 text
   pub no_c1 : holds_c1 text ≡ false
 
+-- a title in UTF-8 without controls of any kind
+pub record IsSpelledTitle (title : List ℕ) : Type 0 where
+  pub utf8 : IsUtf8 title
+  pub plain : is_plain_text title ≡ true
+
 -- each column has such a text and such attributes
 abbrev pub IsSpelledRow : Row → Type 0
 IsSpelledRow [] = ⊤
@@ -50,11 +57,11 @@ IsSpelledRow (Narrow text attributes ∷ row) = IsSpelledText text × IsSpelledP
 IsSpelledRow (LeftHalf text attributes ∷ row) = IsSpelledText text × IsSpelledPen attributes × IsSpelledRow row
 IsSpelledRow (RightHalf attributes ∷ row) = IsSpelledPen attributes × IsSpelledRow row
 
--- each row, the pen, and a title without controls
+-- each row, the pen and the title
 pub record IsSpelledScreen (screen : Screen) : Type 0 where
   pub rows : All IsSpelledRow screen.rows
   pub pen : IsSpelledPen screen.pen
-  pub title : is_plain_text screen.title ≡ true
+  pub title : IsSpelledTitle screen.title
 
 -- the pen of a saved cursor, if one was saved
 abbrev pub IsSpelledSaved : Option SavedCursor → Type 0
@@ -71,10 +78,11 @@ pub record IsSpelledView (view : View) : Type 0 where
 
 -- ---- what comes
 
--- a link that is carried, a title without controls; of every other control function nothing
+-- an SGR that can be written, so that its colour is of bytes; a link that is carried; such a title; of every other control function nothing
 abbrev pub IsSpelledFunction : ControlFunction → Type 0
+IsSpelledFunction (table.Rendition value) = IsWritableSgr value
 IsSpelledFunction (table.Hyperlink link) = is_carried link ≡ true
-IsSpelledFunction (table.Title text) = is_plain_text text ≡ true
+IsSpelledFunction (table.Title text) = IsSpelledTitle text
 IsSpelledFunction _ = ⊤
 
 -- the control function that an action asks for, if it asks for one
@@ -107,12 +115,13 @@ IsSpelledChange (Text text) = IsSpelledText text
 IsSpelledChange (ClearScreen color) = IsToldColor color
 IsSpelledChange (ClearToEndOfLine color) = IsToldColor color
 IsSpelledChange (ClearToEndOfScreen color) = IsToldColor color
-IsSpelledChange (Title title) = is_plain_text title ≡ true
+IsSpelledChange (Title title) = IsSpelledTitle title
 IsSpelledChange _ = ⊤
 
--- something can be sent for a change to a terminal of a width and a height
-abbrev pub HasSpelling : ℕ → ℕ → ChangeValue → Type 0
-HasSpelling width height change = rendering change width height ≢ None
+-- a change of the code (colours of bytes, texts in UTF-8) for which something can be sent to a terminal of a width and a height
+pub record HasSpelling (width height : ℕ) (change : ChangeValue) : Type 0 where
+  pub of_code : IsChange change
+  pub sent : rendering change width height ≢ None
 
 abbrev pub HaveSpellings : ℕ → ℕ → List ChangeValue → Type 0
 HaveSpellings width height [] = ⊤

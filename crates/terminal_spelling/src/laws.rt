@@ -1,14 +1,17 @@
 //! Laws of spellings: each is the contract of a function that does nothing.
-ghost use Rattle.std.specs.Prelude.{◌≡◌, ◌≢◌, ◌↔◌, ◌<◌, ℕ, List, None, IfSome, fold};
+ghost use Rattle.std.specs.Prelude.{◌≡◌, ◌≢◌, ◌↔◌, ◌<◌, ◌^◌, ℕ, List, None, Some, IfSome, fold};
 ghost use Rattle.cell_base.specs.Attributes.{Attributes};
 ghost use Rattle.cell_base.specs.Screen.{height};
 ghost use Rattle.cell_change.specs.ChangeValue.{ChangeValue};
 ghost use Rattle.change_log.specs.Log.{Log, due};
 ghost use Rattle.change_log.specs.LogSteps.{Sized, step_of_kept};
+ghost use Rattle.escape_stream.specs.StreamAction.{StreamAction};
+ghost use Rattle.escape_stream.specs.StreamWritable.{IsWritable};
 ghost use Rattle.screen_effects.specs.Display.{Display, IsDisplay, new_display};
 ghost use Rattle.screen_effects.specs.Effect.{effect};
 ghost use Rattle.screen_effects.specs.Resize.{resized};
 ghost use Rattle.screen_repaint.specs.Repaint.{repaint};
+ghost use Rattle.terminal_render.specs.Carried.{HaveColors};
 ghost use Rattle.terminal_render.specs.Lists.{all_rendered};
 ghost use Rattle.terminal_render.specs.Pen.{pen_rendering};
 ghost use Rattle.terminal_table.specs.History.{Event, History, events};
@@ -18,11 +21,13 @@ ghost use Rattle.terminal_table.specs.Turns.{AreSizes, IsView, IsEvent, changes_
 ghost use Rattle.terminal_spelling.specs.Spelling.{AreSpelledEvents, HaveOtherSpellings, HaveSpellings, IsSpelledChange, IsSpelledEvent, IsSpelledPen, IsSpelledScreen, IsSpelledView};
 
 use escape_framing::laws::one_cut;
+use terminal_render::laws::{lists_join, renderings_are_writable};
 
-/// Attributes have a spelling exactly where SGR and OSC 8 set them: of no row that goes on, of semantic
-/// type output, with a link that is carried, and with colours that don't fall back to the palette.
+/// Attributes whose colours are of bytes have a spelling exactly where SGR and OSC 8 set them: of no row
+/// that goes on, of semantic type output, with a link that is carried, and with colours that don't fall
+/// back to the palette.
 pub fn spelled_pens_are_rendered()
-    ensures { (pen : Attributes) → IsSpelledPen pen ↔ (pen_rendering pen ≢ None) }
+    ensures { (pen : Attributes) → HaveColors pen → (IsSpelledPen pen ↔ (pen_rendering pen ≢ None)) }
 {}
 
 /// The cells, the pen and the title of a display have a spelling: those of a new one, and those that
@@ -45,7 +50,8 @@ pub fn logged_changes_have_spellings()
     ensures { (width_of : List ℕ → ℕ) (view : View) (event : Event) → IsView view → IsSpelledView view → IsSpelledEvent event → HaveSpellings view.state.screen.width (height view.state.screen) (changes_in (event_logged width_of view event)) }
 {}
 
-/// What a stream prints holds no U+0080 to U+009F, and the links and titles that it asks for can be sent.
+/// What a stream prints holds no U+0080 to U+009F, and the SGRs, links and titles that it asks for can be
+/// sent.
 pub fn events_are_spelled()
     ensures { (stream : List ℕ) (history : History) → AreSpelledEvents (events stream history) }
 {
@@ -73,6 +79,15 @@ pub fn kept_changes_have_spellings()
 pub fn spelled_changes_are_rendered()
     ensures { (width : ℕ) (height : ℕ) (changes : List ChangeValue) → HaveSpellings width height changes → all_rendered changes width height ≢ None }
 {}
+
+/// And what is sent for them to a terminal of some columns and rows, less than 2^32 of each, reads back from
+/// its bytes.
+pub fn spelled_changes_are_writable()
+    ensures { (width : ℕ) (height : ℕ) (changes : List ChangeValue) (actions : List StreamAction) → 0 < width → width < 2 ^ 32 → 0 < height → height < 2 ^ 32 → HaveSpellings width height changes → all_rendered changes width height ≡ Some actions → IsWritable actions }
+{
+    renderings_are_writable();
+    lists_join();
+}
 
 /// Each change of a repaint of such a display has a spelling at its size, but for the place of a pending
 /// wrap and a shape of the cursor: so all of them where no wrap is pending and no shape was set.
