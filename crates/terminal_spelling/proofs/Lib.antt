@@ -8,3 +8,5 @@ pub mod StreamLemmas
 pub mod RepaintLemmas
 pub mod LogLemmas
 pub mod WritableLemmas
+pub mod SizeLemmas
+pub mod PrintedLemmas

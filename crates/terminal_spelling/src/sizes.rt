@@ -1,0 +1,25 @@
+//! Laws of how much is sent: each is the contract of a function that does nothing.
+ghost use Rattle.std.specs.Prelude.{◌≡◌, ◌<◌, ◌≤◌, ◌^◌, ℕ, List, Some, length};
+ghost use Rattle.cell_change.specs.ChangeValue.{ChangeValue};
+ghost use Rattle.escape_stream.specs.StreamAction.{StreamAction};
+ghost use Rattle.escape_stream.specs.StreamText.{stream_text};
+ghost use Rattle.terminal_render.specs.Lists.{all_rendered};
+ghost use Rattle.terminal_spelling.specs.Sizes.{all_sent_size, prints_in, runs_in};
+ghost use Rattle.terminal_spelling.specs.Spelling.{HaveSpellings};
+
+use terminal_render::laws::renderings_are_short;
+
+/// What is sent for changes that have a spelling is no longer than what is sent for each at most: 320 bytes
+/// beside a title or a link, for a text twice its bytes, and one more than it has where it holds no C0
+/// control or DEL.
+pub fn sent_lists_are_short()
+    ensures { (width : ℕ) (height : ℕ) (changes : List ChangeValue) (actions : List StreamAction) → 0 < width → width < 2 ^ 32 → 0 < height → height < 2 ^ 32 → HaveSpellings width height changes → all_rendered changes width height ≡ Some actions → length (stream_text actions) ≤ all_sent_size changes }
+{
+    renderings_are_short();
+}
+
+/// What is sent for changes prints their texts, each once and in turn: without their C0 controls and DEL, of
+/// which each counts as a space but CR and LF.
+pub fn deltas_print_each_run_once()
+    ensures { (width : ℕ) (height : ℕ) (changes : List ChangeValue) (actions : List StreamAction) → all_rendered changes width height ≡ Some actions → prints_in actions ≡ runs_in changes }
+{}
