@@ -40,7 +40,7 @@ use Rattle.terminal_render.specs.Places.{Way, At, Back, On, moves, way_of, posit
 use Rattle.terminal_render.specs.Rendering.{edited, moved, is_whole, scroll_rendering, rendering}
 use Rattle.terminal_render.specs.Texts.{part_actions, text_rendering, title_rendering}
 use Rattle.terminal_spelling.specs.Spelling.{IsToldColor, IsSpelledPen, IsSpelledText, IsSpelledTitle, IsSpelledScreen, IsSpelledSaved, IsSpelledFunction, IsSpelledValue, IsSpelledChange, HasSpelling, HaveSpellings}
-use Rattle.terminal_spelling.proofs.TextLemmas.{spelled_characters}
+use Rattle.terminal_spelling.proofs.TextLemmas.{spelled_append, spelled_ascii}
 use Rattle.terminal_spelling.proofs.DisplayLemmas.{AreSpelledChanges, plain_spelled}
 
 -- ---- options
@@ -322,27 +322,15 @@ restored_spelled : (saved : Option SavedCursor) → IsSpelledSaved saved → IsS
 restored_spelled None g = plain_spelled
 restored_spelled (Some cursor) g = g
 
-feed_spelled : IsSpelledText (10 ∷ [])
-unfolding encode
-feed_spelled = spelled_characters (10 ∷ []) refl (inl (omega arith), tt)
-
-return_spelled : IsSpelledText (13 ∷ [])
-unfolding encode
-return_spelled = spelled_characters (13 ∷ []) refl (inl (omega arith), tt)
-
-both_spelled : IsSpelledText (13 ∷ 10 ∷ [])
-unfolding encode
-both_spelled = spelled_characters (13 ∷ 10 ∷ []) refl (inl (omega arith), (inl (omega arith), tt))
-
 reverse_spelled : (b : Bool) (s : Screen) → IsSpelledChange (if b then ScrollRegionDown 0 (height s) 1 else move_change (table.Up 1) s)
 reverse_spelled true s = tt
 reverse_spelled false s = tt
 
 pub changes_spelled : (function : ControlFunction) (saved : Option SavedCursor) (s : Screen) → IsSpelledFunction function → IsSpelledSaved saved → IsSpelledScreen s → AreSpelledChanges (changes function saved s)
 changes_spelled (table.Moves move) saved s f g p = (tt, tt)
-changes_spelled table.LineFeed saved s f g p = (feed_spelled, tt)
-changes_spelled table.CarriageReturn saved s f g p = (return_spelled, tt)
-changes_spelled table.NextRow saved s f g p = (both_spelled, tt)
+changes_spelled table.LineFeed saved s f g p = (spelled_ascii 10 (omega arith), tt)
+changes_spelled table.CarriageReturn saved s f g p = (spelled_ascii 13 (omega arith), tt)
+changes_spelled table.NextRow saved s f g p = (spelled_append (13 ∷ []) (10 ∷ []) (spelled_ascii 13 (omega arith)) (spelled_ascii 10 (omega arith)), tt)
 changes_spelled table.ReverseIndex saved s f g p = (reverse_spelled (s.row == 0) s, tt)
 changes_spelled table.EraseToEndOfDisplay saved s f g p = (p.pen.background, (p.pen, tt))
 changes_spelled table.EraseDisplay saved s f g p = (p.pen.background, (tt, (p.pen, tt)))
