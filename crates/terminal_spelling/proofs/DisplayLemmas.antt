@@ -37,16 +37,16 @@ pub plain_spelled : IsSpelledPen plain
 plain_spelled = record { unwrapped = refl; output = refl; link = no_link; foreground = tt; background = tt; underline = tt }
 
 pub value_spelled : (pen : Attributes) (value : AttributeValue) → IsSpelledPen pen → IsSpelledValue value → IsSpelledPen (with_attribute pen value)
-value_spelled pen (one.Intensity v) p h = record { unwrapped = p.unwrapped; output = p.output; link = p.link; foreground = p.foreground; background = p.background; underline = p.underline }
-value_spelled pen (one.Underline v) p h = record { unwrapped = p.unwrapped; output = p.output; link = p.link; foreground = p.foreground; background = p.background; underline = p.underline }
-value_spelled pen (one.Italic v) p h = record { unwrapped = p.unwrapped; output = p.output; link = p.link; foreground = p.foreground; background = p.background; underline = p.underline }
-value_spelled pen (one.Blink v) p h = record { unwrapped = p.unwrapped; output = p.output; link = p.link; foreground = p.foreground; background = p.background; underline = p.underline }
-value_spelled pen (one.Reverse v) p h = record { unwrapped = p.unwrapped; output = p.output; link = p.link; foreground = p.foreground; background = p.background; underline = p.underline }
-value_spelled pen (one.StrikeThrough v) p h = record { unwrapped = p.unwrapped; output = p.output; link = p.link; foreground = p.foreground; background = p.background; underline = p.underline }
-value_spelled pen (one.Invisible v) p h = record { unwrapped = p.unwrapped; output = p.output; link = p.link; foreground = p.foreground; background = p.background; underline = p.underline }
-value_spelled pen (one.Foreground color) p h = record { unwrapped = p.unwrapped; output = p.output; link = p.link; foreground = h; background = p.background; underline = p.underline }
-value_spelled pen (one.Background color) p h = record { unwrapped = p.unwrapped; output = p.output; link = p.link; foreground = p.foreground; background = h; underline = p.underline }
-value_spelled pen (one.Hyperlink link) p h = record { unwrapped = p.unwrapped; output = p.output; link = h; foreground = p.foreground; background = p.background; underline = p.underline }
+value_spelled pen (one.Intensity v) p h = assumption p
+value_spelled pen (one.Underline v) p h = assumption p
+value_spelled pen (one.Italic v) p h = assumption p
+value_spelled pen (one.Blink v) p h = assumption p
+value_spelled pen (one.Reverse v) p h = assumption p
+value_spelled pen (one.StrikeThrough v) p h = assumption p
+value_spelled pen (one.Invisible v) p h = assumption p
+value_spelled pen (one.Foreground color) p h = assumption (p, h)
+value_spelled pen (one.Background color) p h = assumption (p, h)
+value_spelled pen (one.Hyperlink link) p h = assumption (p, h)
 
 -- ---- rows
 
@@ -124,7 +124,7 @@ fed_spelled s p =
     by_test (s.row + 1 == height s)
     (λ e. subst (λ b. IsSpelledScreen (if b then scrolled s else record s { row = s.row + 1 })) (sym e)
     (record { rows = All-append IsSpelledRow (drop 1 s.rows) (plain_row s.width ∷ []) (All-drop IsSpelledRow 1 s.rows p.rows) (only (plain_row s.width) (plain_row_spelled s.width)); pen = p.pen; title = p.title }))
-    (λ e. subst (λ b. IsSpelledScreen (if b then scrolled s else record s { row = s.row + 1 })) (sym e) (record { rows = p.rows; pen = p.pen; title = p.title }))
+    (λ e. subst (λ b. IsSpelledScreen (if b then scrolled s else record s { row = s.row + 1 })) (sym e) (assumption p))
 
 written_spelled : (s : Screen) (columns : Row) → IsScreen s → IsSpelledScreen s → IsSpelledRow columns → IsSpelledScreen (write_columns columns s)
 written_spelled s columns h p q = record {
@@ -145,7 +145,7 @@ put_spelled width_of s cluster h t p =
 
 strokes_done : (width_of : List ℕ → ℕ) (ss : List Stroke) (d : Display) → AreSpelledStrokes ss → IsDisplay d → IsSpelledScreen d.screen → IsSpelledScreen (fold (stroke_done width_of) d ss).screen
 strokes_done width_of [] d g h p = p
-strokes_done width_of (CarriageReturn ∷ ss) d g h p = strokes_done width_of ss (stroke_done width_of d CarriageReturn) g.1 (stroke_is width_of d CarriageReturn h) (record { rows = p.rows; pen = p.pen; title = p.title })
+strokes_done width_of (CarriageReturn ∷ ss) d g h p = strokes_done width_of ss (stroke_done width_of d CarriageReturn) g.1 (stroke_is width_of d CarriageReturn h) (assumption p)
 strokes_done width_of (LineFeed ∷ ss) d g h p = strokes_done width_of ss (stroke_done width_of d LineFeed) g.1 (stroke_is width_of d LineFeed h) (fed_spelled d.screen p)
 strokes_done width_of (Cluster text ∷ ss) d g h p = strokes_done width_of ss (stroke_done width_of d (Cluster text)) g.1 (stroke_is width_of d (Cluster text) h) (put_spelled width_of d.screen text h.lawful g.0 p)
 
@@ -186,10 +186,10 @@ effect_spelled width_of d (ClearToEndOfScreen color) h u p = record {
   pen = blank_spelled color u;
   title = p.title;
 }
-effect_spelled width_of d (CursorPosition x y) h u p = record { rows = p.rows; pen = p.pen; title = p.title }
+effect_spelled width_of d (CursorPosition x y) h u p = assumption p
 effect_spelled width_of d (CursorColor color) h u p = p
 effect_spelled width_of d (CursorShape shape) h u p = p
-effect_spelled width_of d (CursorVisibility visibility) h u p = record { rows = p.rows; pen = p.pen; title = p.title }
+effect_spelled width_of d (CursorVisibility visibility) h u p = assumption p
 effect_spelled width_of d (LineAttribute size) h u p = p
 effect_spelled width_of d (ScrollRegionUp first size count) h u p = record {
   rows = region_spelled (moved_up (plain_row d.screen.width) count) first size d.screen.rows

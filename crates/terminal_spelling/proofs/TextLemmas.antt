@@ -47,16 +47,7 @@ last_false true false = refl
 last_false false b = refl
 
 two_free : (c : ℕ) → 160 ≤ c → c < 2048 → is_c1 (192 + c / 64) (128 + c % 64) ≡ false
-two_free c g l = by_order (order c 192)
-  where
-    by_order : (c < 192) ⊎ (192 ≤ c) → is_c1 (192 + c / 64) (128 + c % 64) ≡ false
-    by_order (inl u) =
-        let far : 0x9F < 128 + c % 64 = omega arith in
-        let over : nat_le (128 + c % 64) 0x9F ≡ false = grind (arith, nat_tests) in
-        ap (λ t. ((192 + c / 64) == 0xC2) && (nat_le 0x80 (128 + c % 64) && t)) over ∙ last_false ((192 + c / 64) == 0xC2) (nat_le 0x80 (128 + c % 64))
-    by_order (inr u) =
-        let far : 0xC2 < 192 + c / 64 = omega arith in
-        ap (λ t. t && (nat_le 0x80 (128 + c % 64) && nat_le (128 + c % 64) 0x9F)) (above_lead (192 + c / 64) far)
+two_free c g l = grind (arith, nat_tests)
 
 -- other than these controls
 abbrev IsTold : ℕ → Type 0
