@@ -1,10 +1,9 @@
--- Changes that have a spelling, and those of control functions.
-use Rattle.std.proofs.Common.{◌≡◌, ◌≢◌, ℕ, ◌+◌, ◌-◌, ◌<◌, inl, Bool, true, false, List, [], ◌∷◌, ◌++◌, map, refl, sym, ap, subst, arith}
+-- Pens and changes that have a spelling.
+use Rattle.std.proofs.Common.{◌≡◌, ◌≢◌, ℕ, ◌+◌, ◌-◌, ◌<◌, Bool, true, false, List, [], ◌∷◌, ◌++◌, map, refl, sym, ap, subst, arith}
 use Rattle.std.specs.Prelude.{⊤, ◌↔◌, ◌==◌, ◌||◌, not, min, nat_le, Option, Some, None, option_map, option_and_then, if◌then◌else◌}
-use Rattle.std.specs.List.{flat_map}
+use Rattle.std.specs.List.{AllByRecursion, flat_map}
 use Rattle.std.proofs.lemmas.Bool.{or_parts}
 use Rattle.std.proofs.lemmas.Bool.Decides.{nat_tests}
-use lib.Utf8.{encode}
 use Rattle.cell_base.specs.declared.attributes.Position.{Position}
 use Rattle.cell_base.specs.declared.attributes.Position.TheVariants.{Absolute}
 use Rattle.cell_base.specs.declared.attributes.SemanticType.{SemanticType}
@@ -12,36 +11,26 @@ use Rattle.cell_base.specs.declared.attributes.SemanticType.TheVariants as type
 use Rattle.cell_base.specs.declared.color.ColorAttribute.{ColorAttribute}
 use Rattle.cell_base.specs.declared.color.ColorAttribute.TheVariants as attribute
 use Rattle.cell_base.specs.declared.color.ColorSpec.{ColorSpec}
-use Rattle.cell_base.specs.declared.color.ColorSpec.TheVariants as spec
 use Rattle.cell_base.specs.Attributes.{Attributes}
 use Rattle.cell_base.specs.AttributeValue as one
 use Rattle.cell_base.specs.AttributeValue.{AttributeValue}
-use Rattle.cell_base.specs.Color.{attribute_of}
-use Rattle.cell_base.specs.Screen.{Screen, height}
+use Rattle.cell_base.specs.Screen.{height}
 use Rattle.cell_change.specs.ChangeValue.{ChangeValue, Attribute, AllAttributes, Text, ClearScreen, ClearToEndOfLine, ClearToEndOfScreen, CursorPosition, CursorColor, CursorShape, CursorVisibility, LineAttribute, ScrollRegionUp, ScrollRegionDown, Title}
 use Rattle.cell_change.proofs.TextLemmas.{by_test}
-use Rattle.csi_codec.specs.Writable.{IsColour, IsWritableSgr}
 use Rattle.csi_codec.specs.declared.edits.Edit.{Edit}
 use Rattle.csi_codec.specs.declared.edits.Edit.TheVariants as edit
-use Rattle.csi_codec.specs.declared.rendition.Sgr.{Sgr}
 use Rattle.csi_codec.specs.declared.rendition.Sgr.TheVariants as sgr
 use Rattle.escape_osc.specs.Command.{set_window_title}
 use Rattle.escape_stream.specs.StreamAction.{StreamAction, command}
 use Rattle.screen_effects.specs.Strokes.{text_parts}
-use Rattle.terminal_table.specs.State.{SavedCursor}
-use Rattle.terminal_table.specs.Functions as table
-use Rattle.terminal_table.specs.Functions.{Move, ControlFunction}
-use Rattle.terminal_table.specs.Steps.{cursor_to_restore}
-use Rattle.terminal_table.specs.Changes.{position, move_change, rendition_changes, changes}
 use Rattle.terminal_render.specs.Carried.{IsColor, HaveColors, HasColor, IsChange}
 use Rattle.terminal_render.specs.Links.{is_carried}
 use Rattle.terminal_render.specs.Pen.{colour_setting, rendition, link_action, attribute_action, settings, pen_actions, is_output, is_unsaid, pen_settings, pen_rendering, plain_pen, clear_rendering}
 use Rattle.terminal_render.specs.Places.{Way, At, Back, On, moves, way_of, position_moves}
 use Rattle.terminal_render.specs.Rendering.{edited, moved, is_whole, scroll_rendering, rendering}
 use Rattle.terminal_render.specs.Texts.{part_actions, text_rendering, title_rendering}
-use Rattle.terminal_spelling.specs.Spelling.{IsToldColor, IsSpelledPen, IsSpelledText, IsSpelledTitle, IsSpelledScreen, IsSpelledSaved, IsSpelledFunction, IsSpelledValue, IsSpelledChange, HasSpelling, HaveSpellings}
-use Rattle.terminal_spelling.proofs.TextLemmas.{spelled_append, spelled_ascii}
-use Rattle.terminal_spelling.proofs.DisplayLemmas.{AreSpelledChanges, plain_spelled}
+use Rattle.terminal_spelling.specs.Spelling.{IsToldColor, IsSpelledPen, IsSpelledText, IsSpelledTitle, IsSpelledValue, IsSpelledChange, HasSpelling, HaveSpellings}
+use Rattle.terminal_spelling.proofs.DisplayLemmas.{AreSpelledChanges}
 
 -- ---- options
 
@@ -139,16 +128,10 @@ pens_are_rendered a k = (pen_some a, some_pen a k)
 
 value_some : (value : AttributeValue) → IsSpelledValue value → attribute_action value ≢ None
 unfolding attribute_action
-value_some (one.Intensity v) h = some_is _
-value_some (one.Underline v) h = some_is _
-value_some (one.Italic v) h = some_is _
-value_some (one.Blink v) h = some_is _
-value_some (one.Reverse v) h = some_is _
-value_some (one.StrikeThrough v) h = some_is _
-value_some (one.Invisible v) h = some_is _
 value_some (one.Foreground color) h = map_some rendition (option_map sgr.Foreground (colour_setting color)) (map_some sgr.Foreground (colour_setting color) (told_some color h))
 value_some (one.Background color) h = map_some rendition (option_map sgr.Background (colour_setting color)) (map_some sgr.Background (colour_setting color) (told_some color h))
 value_some (one.Hyperlink link) h = equal_some _ (link_action link) (ap (λ b. if b then Some (link_action link) else None) h)
+value_some _ h = some_is _
 
 text_some : (text : List ℕ) → IsSpelledText text → text_rendering text ≢ None
 unfolding text_rendering
@@ -170,24 +153,16 @@ scroll_some scroll height first size count h =
 
 -- where a change goes: a position that moves reach, and a region of all rows; and it is none that nothing says
 abbrev pub IsPlaced : ℕ → ℕ → ChangeValue → Type 0
-IsPlaced width height (Attribute value) = ⊤
-IsPlaced width height (AllAttributes attributes) = ⊤
-IsPlaced width height (Text text) = ⊤
-IsPlaced width height (ClearScreen color) = ⊤
-IsPlaced width height (ClearToEndOfLine color) = ⊤
-IsPlaced width height (ClearToEndOfScreen color) = ⊤
 IsPlaced width height (CursorPosition x y) = position_moves width height x y ≢ None
-IsPlaced width height (CursorColor color) = ⊥
-IsPlaced width height (CursorShape shape) = ⊥
-IsPlaced width height (CursorVisibility visibility) = ⊤
-IsPlaced width height (LineAttribute size) = ⊥
 IsPlaced width height (ScrollRegionUp first size count) = is_whole height first size ≡ true
 IsPlaced width height (ScrollRegionDown first size count) = is_whole height first size ≡ true
-IsPlaced width height (Title title) = ⊤
+IsPlaced width height (CursorColor color) = ⊥
+IsPlaced width height (CursorShape shape) = ⊥
+IsPlaced width height (LineAttribute size) = ⊥
+IsPlaced width height _ = ⊤
 
 abbrev pub ArePlaced : ℕ → ℕ → List ChangeValue → Type 0
-ArePlaced width height [] = ⊤
-ArePlaced width height (change ∷ changes) = IsPlaced width height change × ArePlaced width height changes
+ArePlaced width height = AllByRecursion (IsPlaced width height)
 
 change_some : (width height : ℕ) (change : ChangeValue) → IsSpelledChange change → IsPlaced width height change → rendering change width height ≢ None
 change_some width height (Attribute value) u g = map_some (λ action. action ∷ []) (attribute_action value) (value_some value u)
@@ -231,7 +206,7 @@ pub spellings_append : (width height : ℕ) (xs ys : List ChangeValue) → HaveS
 spellings_append width height [] ys p q = q
 spellings_append width height (x ∷ xs) ys p q = (p.0, spellings_append width height xs ys p.1 q)
 
--- ---- the changes of control functions go where moves reach
+-- ---- places that moves reach
 
 at_some : (place : ℕ) (way : Way) → moves (At place) way ≢ None
 unfolding moves
@@ -244,106 +219,3 @@ unfolding position_moves
 place_some width height column y h =
     let within : nat_le width column ≡ false = grind (arith, nat_tests) in
     subst (λ b. (if b then None else moves (way_of width (Absolute column)) (way_of height y)) ≢ None) (sym within) (at_some (min column (width - 1) + 1) (way_of height y))
-
-position_placed : (at : ℕ × ℕ) (s : Screen) → 0 < s.width → IsPlaced s.width (height s) (position at s)
-position_placed at s h = place_some s.width (height s) (min at.0 (s.width - 1)) (Absolute (min at.1 (height s - 1))) (omega arith)
-
-all_rows : (n : ℕ) → is_whole n 0 n ≡ true
-all_rows n = grind (arith, nat_tests)
-
-rendition_placed : (width height : ℕ) (value : Sgr) (pen : Attributes) → ArePlaced width height (rendition_changes value pen)
-rendition_placed width height (sgr.Intensity value) pen = (tt, tt)
-rendition_placed width height (sgr.Underline value) pen = (tt, tt)
-rendition_placed width height (sgr.Blink value) pen = (tt, tt)
-rendition_placed width height (sgr.Italic value) pen = (tt, tt)
-rendition_placed width height (sgr.Inverse value) pen = (tt, tt)
-rendition_placed width height (sgr.Invisible value) pen = (tt, tt)
-rendition_placed width height (sgr.StrikeThrough value) pen = (tt, tt)
-rendition_placed width height (sgr.Foreground value) pen = (tt, tt)
-rendition_placed width height (sgr.Background value) pen = (tt, tt)
-rendition_placed width height (sgr.Font value) pen = tt
-rendition_placed width height sgr.Reset pen = (tt, tt)
-rendition_placed width height (sgr.UnderlineColor value) pen = (tt, tt)
-rendition_placed width height (sgr.Overline value) pen = (tt, tt)
-rendition_placed width height (sgr.VerticalAlign value) pen = (tt, tt)
-
-reverse_placed : (s : Screen) → 0 < s.width → IsPlaced s.width (height s) (if s.row == 0 then ScrollRegionDown 0 (height s) 1 else move_change (table.Up 1) s)
-reverse_placed s h =
-    by_test (s.row == 0)
-    (λ e. subst (λ b. IsPlaced s.width (height s) (if b then ScrollRegionDown 0 (height s) 1 else move_change (table.Up 1) s)) (sym e) (all_rows (height s)))
-    (λ e. subst (λ b. IsPlaced s.width (height s) (if b then ScrollRegionDown 0 (height s) 1 else move_change (table.Up 1) s)) (sym e) (position_placed _ s h))
-
-pub changes_placed : (function : ControlFunction) (saved : Option SavedCursor) (s : Screen) → 0 < s.width → ArePlaced s.width (height s) (changes function saved s)
-changes_placed (table.Moves move) saved s h = (position_placed _ s h, tt)
-changes_placed table.LineFeed saved s h = (tt, tt)
-changes_placed table.CarriageReturn saved s h = (tt, tt)
-changes_placed table.NextRow saved s h = (tt, tt)
-changes_placed table.ReverseIndex saved s h = (reverse_placed s h, tt)
-changes_placed table.EraseToEndOfDisplay saved s h = (tt, (tt, tt))
-changes_placed table.EraseDisplay saved s h = (tt, (position_placed _ s h, (tt, tt)))
-changes_placed table.EraseToEndOfLine saved s h = (tt, (tt, tt))
-changes_placed table.EraseLine saved s h = (position_placed _ s h, (tt, (position_placed _ s h, (tt, tt))))
-changes_placed (table.ScrollUp n) saved s h = (all_rows (height s), tt)
-changes_placed (table.ScrollDown n) saved s h = (all_rows (height s), tt)
-changes_placed (table.Rendition value) saved s h = rendition_placed s.width (height s) value s.pen
-changes_placed (table.Hyperlink link) saved s h = (tt, tt)
-changes_placed (table.Title text) saved s h = (tt, tt)
-changes_placed (table.ShowCursor shown) saved s h = (tt, tt)
-changes_placed table.SaveCursor saved s h = tt
-changes_placed table.RestoreCursor saved s h = (position_placed _ s h, (tt, tt))
-changes_placed table.FullReset saved s h = (tt, (tt, tt))
-changes_placed table.ReportStatus saved s h = tt
-changes_placed table.ReportPosition saved s h = tt
-
--- ---- and bring nothing that has no spelling
-
-attribute_told : (color : ColorSpec) → IsColour color → IsToldColor (attribute_of color)
-attribute_told spec.Default h = tt
-attribute_told (spec.PaletteIndex n) h = h
-attribute_told (spec.TrueColor c) h = h
-
-rendition_spelled : (value : Sgr) (pen : Attributes) → IsWritableSgr value → IsSpelledPen pen → AreSpelledChanges (rendition_changes value pen)
-rendition_spelled (sgr.Intensity value) pen h p = (tt, tt)
-rendition_spelled (sgr.Underline value) pen h p = (tt, tt)
-rendition_spelled (sgr.Blink value) pen h p = (tt, tt)
-rendition_spelled (sgr.Italic value) pen h p = (tt, tt)
-rendition_spelled (sgr.Inverse value) pen h p = (tt, tt)
-rendition_spelled (sgr.Invisible value) pen h p = (tt, tt)
-rendition_spelled (sgr.StrikeThrough value) pen h p = (tt, tt)
-rendition_spelled (sgr.Foreground value) pen h p = (attribute_told value h, tt)
-rendition_spelled (sgr.Background value) pen h p = (attribute_told value h, tt)
-rendition_spelled (sgr.Font value) pen h p = tt
-rendition_spelled sgr.Reset pen h p = (record { unwrapped = refl; output = refl; link = p.link; foreground = tt; background = tt; underline = tt }, tt)
-rendition_spelled (sgr.UnderlineColor value) pen h p = (record { unwrapped = p.unwrapped; output = p.output; link = p.link; foreground = p.foreground; background = p.background; underline = attribute_told value h }, tt)
-rendition_spelled (sgr.Overline value) pen h p = (record { unwrapped = p.unwrapped; output = p.output; link = p.link; foreground = p.foreground; background = p.background; underline = p.underline }, tt)
-rendition_spelled (sgr.VerticalAlign value) pen h p = (record { unwrapped = p.unwrapped; output = p.output; link = p.link; foreground = p.foreground; background = p.background; underline = p.underline }, tt)
-
-restored_spelled : (saved : Option SavedCursor) → IsSpelledSaved saved → IsSpelledPen (cursor_to_restore saved).pen
-restored_spelled None g = plain_spelled
-restored_spelled (Some cursor) g = g
-
-reverse_spelled : (b : Bool) (s : Screen) → IsSpelledChange (if b then ScrollRegionDown 0 (height s) 1 else move_change (table.Up 1) s)
-reverse_spelled true s = tt
-reverse_spelled false s = tt
-
-pub changes_spelled : (function : ControlFunction) (saved : Option SavedCursor) (s : Screen) → IsSpelledFunction function → IsSpelledSaved saved → IsSpelledScreen s → AreSpelledChanges (changes function saved s)
-changes_spelled (table.Moves move) saved s f g p = (tt, tt)
-changes_spelled table.LineFeed saved s f g p = (spelled_ascii 10 (omega arith), tt)
-changes_spelled table.CarriageReturn saved s f g p = (spelled_ascii 13 (omega arith), tt)
-changes_spelled table.NextRow saved s f g p = (spelled_append (13 ∷ []) (10 ∷ []) (spelled_ascii 13 (omega arith)) (spelled_ascii 10 (omega arith)), tt)
-changes_spelled table.ReverseIndex saved s f g p = (reverse_spelled (s.row == 0) s, tt)
-changes_spelled table.EraseToEndOfDisplay saved s f g p = (p.pen.background, (p.pen, tt))
-changes_spelled table.EraseDisplay saved s f g p = (p.pen.background, (tt, (p.pen, tt)))
-changes_spelled table.EraseToEndOfLine saved s f g p = (p.pen.background, (p.pen, tt))
-changes_spelled table.EraseLine saved s f g p = (tt, (p.pen.background, (tt, (p.pen, tt))))
-changes_spelled (table.ScrollUp n) saved s f g p = (tt, tt)
-changes_spelled (table.ScrollDown n) saved s f g p = (tt, tt)
-changes_spelled (table.Rendition value) saved s f g p = rendition_spelled value s.pen f p.pen
-changes_spelled (table.Hyperlink link) saved s f g p = (f, tt)
-changes_spelled (table.Title text) saved s f g p = (f, tt)
-changes_spelled (table.ShowCursor shown) saved s f g p = (tt, tt)
-changes_spelled table.SaveCursor saved s f g p = tt
-changes_spelled table.RestoreCursor saved s f g p = (tt, (restored_spelled saved g, tt))
-changes_spelled table.FullReset saved s f g p = (tt, (tt, tt))
-changes_spelled table.ReportStatus saved s f g p = tt
-changes_spelled table.ReportPosition saved s f g p = tt

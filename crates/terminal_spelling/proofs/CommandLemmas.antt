@@ -13,7 +13,7 @@ use Rattle.cell_base.proofs.LinkLaws.{body_back}
 use Rattle.cell_change.proofs.TextLemmas.{by_test}
 use Rattle.escape_framing.specs.Bytes as framing
 use Rattle.escape_framing.specs.Bytes.{taken}
-use Rattle.escape_osc.specs.Command.{Command, set_icon_name_and_window_title, set_icon_name, set_window_title, current_working_directory, set_hyperlink, set_selection, query_selection, clear_selection, unspecified}
+use Rattle.escape_osc.specs.Command.{Command, set_icon_name_and_window_title, set_icon_name, set_window_title, current_working_directory, set_hyperlink, set_selection, clear_selection, unspecified}
 use Rattle.escape_osc.specs.Parts.{parts_of, joined, holds_c1, any_holds_c1}
 use Rattle.escape_osc.specs.Reading.{text_reading, utf8_reading, base64_reading, data_reading, clear_reading, lettered_reading, selection_command, link_command, coded_reading, fitting_reading, osc_reading}
 use Rattle.escape_osc.specs.Selection.{selection_reading}
@@ -82,23 +82,13 @@ abbrev pub IsSpelledCommand : Command → Type 0
 IsSpelledCommand (set_icon_name_and_window_title text) = IsSpelledTitle text
 IsSpelledCommand (set_window_title text) = IsSpelledTitle text
 IsSpelledCommand (set_hyperlink link) = is_carried link ≡ true
-IsSpelledCommand (set_icon_name text) = ⊤
-IsSpelledCommand (current_working_directory text) = ⊤
-IsSpelledCommand (set_selection bits text) = ⊤
-IsSpelledCommand (query_selection bits) = ⊤
-IsSpelledCommand (clear_selection bits) = ⊤
-IsSpelledCommand (unspecified parts) = ⊤
+IsSpelledCommand _ = ⊤
 
 pub command_request : (c : Command) → IsSpelledCommand c → IsSpelledRequest (command_function c)
 command_request (set_icon_name_and_window_title text) h = h
 command_request (set_window_title text) h = h
 command_request (set_hyperlink link) h = h
-command_request (set_icon_name text) h = tt
-command_request (current_working_directory text) h = tt
-command_request (set_selection bits text) h = tt
-command_request (query_selection bits) h = tt
-command_request (clear_selection bits) h = tt
-command_request (unspecified parts) h = tt
+command_request _ h = tt
 
 utf8_found : (bytes text : List ℕ) → utf8_reading bytes ≡ Some text → IsUtf8 text
 unfolding utf8_reading

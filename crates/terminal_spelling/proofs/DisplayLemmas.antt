@@ -1,6 +1,7 @@
 -- The cells, the pen and the title of displays have a spelling.
 use Rattle.std.proofs.Common.{◌≡◌, ℕ, zero, suc, ◌+◌, ◌-◌, Bool, true, false, List, [], ◌∷◌, ◌++◌, length, get_or, take, drop, map, fold, replicate, refl, sym, subst, arith}
-use Rattle.std.specs.Prelude.{All, ⊤, None, ◌==◌, ◌&&◌, min, nat_lt, nat_le, if◌then◌else◌}
+use Rattle.std.specs.Prelude.{All, None, ◌==◌, ◌&&◌, min, nat_lt, nat_le, if◌then◌else◌}
+use Rattle.std.specs.List.{AllByRecursion}
 use Rattle.std.proofs.lemmas.List.Elements.{All-append, All-drop, All-take, All-map, All-set, All-replicate}
 use Rattle.cell_base.specs.declared.color.ColorAttribute.{ColorAttribute}
 use Rattle.cell_base.specs.Attributes.{Attributes, plain, blank_of}
@@ -37,16 +38,10 @@ pub plain_spelled : IsSpelledPen plain
 plain_spelled = record { unwrapped = refl; output = refl; link = no_link; foreground = tt; background = tt; underline = tt }
 
 pub value_spelled : (pen : Attributes) (value : AttributeValue) → IsSpelledPen pen → IsSpelledValue value → IsSpelledPen (with_attribute pen value)
-value_spelled pen (one.Intensity v) p h = assumption p
-value_spelled pen (one.Underline v) p h = assumption p
-value_spelled pen (one.Italic v) p h = assumption p
-value_spelled pen (one.Blink v) p h = assumption p
-value_spelled pen (one.Reverse v) p h = assumption p
-value_spelled pen (one.StrikeThrough v) p h = assumption p
-value_spelled pen (one.Invisible v) p h = assumption p
 value_spelled pen (one.Foreground color) p h = assumption (p, h)
 value_spelled pen (one.Background color) p h = assumption (p, h)
 value_spelled pen (one.Hyperlink link) p h = assumption (p, h)
+value_spelled pen _ p h = assumption p
 
 -- ---- rows
 
@@ -140,7 +135,7 @@ put_spelled width_of s cluster h t p =
     let fed = fed_spelled s p in
     by_test (nat_lt s.width (s.column + length columns))
     (λ e. subst (λ b. IsSpelledScreen (write_columns columns (if b then carriage_return (line_feed s) else s))) (sym e)
-    (written_spelled (carriage_return (line_feed s)) columns (carriage_return_is (line_feed s) (line_feed_is s h)) (record { rows = fed.rows; pen = fed.pen; title = fed.title }) q))
+    (written_spelled (carriage_return (line_feed s)) columns (carriage_return_is (line_feed s) (line_feed_is s h)) (assumption fed) q))
     (λ e. subst (λ b. IsSpelledScreen (write_columns columns (if b then carriage_return (line_feed s) else s))) (sym e) (written_spelled s columns h p q))
 
 strokes_done : (width_of : List ℕ → ℕ) (ss : List Stroke) (d : Display) → AreSpelledStrokes ss → IsDisplay d → IsSpelledScreen d.screen → IsSpelledScreen (fold (stroke_done width_of) d ss).screen
@@ -206,8 +201,7 @@ effect_spelled width_of d (ScrollRegionDown first size count) h u p = record {
 effect_spelled width_of d (Title title) h u p = record { rows = p.rows; pen = p.pen; title = u }
 
 abbrev pub AreSpelledChanges : List ChangeValue → Type 0
-AreSpelledChanges [] = ⊤
-AreSpelledChanges (change ∷ changes) = IsSpelledChange change × AreSpelledChanges changes
+AreSpelledChanges = AllByRecursion IsSpelledChange
 
 pub replay_spelled : (width_of : List ℕ → ℕ) (changes : List ChangeValue) (d : Display) → IsDisplay d → AreSpelledChanges changes → IsSpelledScreen d.screen → IsSpelledScreen (replay width_of d changes).screen
 replay_spelled width_of [] d h u p = p

@@ -1,6 +1,7 @@
 -- The changes that a log keeps have a spelling at the screen's present size.
 use Rattle.std.proofs.Common.{◌≡◌, ◌≢◌, ℕ, zero, suc, ◌-◌, Bool, true, false, List, [], ◌∷◌, ◌++◌, length, drop, map, fold, refl, sym, ap, subst, ◌∙◌}
 use Rattle.std.specs.Prelude.{⊤, ◌==◌, ◌||◌, nat_lt, Option, Some, None, IfSome, option_map, if◌then◌else◌}
+use Rattle.std.specs.List.{AllByRecursion}
 use Rattle.std.proofs.lemmas.List.Sums.{fold-append}
 use Rattle.cell_base.specs.Screen.{Screen, height}
 use Rattle.cell_change.specs.ChangeValue.{ChangeValue, Text}
@@ -54,17 +55,13 @@ due_has width tall most l number h = by_answer (number == 0 || nat_lt number (fi
 -- ---- steps of a log
 
 -- changes that have a spelling are logged, or some are forgotten
-abbrev AreSent : ℕ → ℕ → List LogStep → Type 0
-AreSent width tall [] = ⊤
-AreSent width tall (Logged change ∷ steps) = HasSpelling width tall change × AreSent width tall steps
-AreSent width tall (Forgotten number ∷ steps) = AreSent width tall steps
-AreSent width tall (log.Resized most ∷ steps) = ⊥
+abbrev IsSent : ℕ → ℕ → LogStep → Type 0
+IsSent width tall (Logged change) = HasSpelling width tall change
+IsSent width tall (Forgotten number) = ⊤
+IsSent width tall (log.Resized most) = ⊥
 
-sent-append : (width tall : ℕ) (xs ys : List LogStep) → AreSent width tall xs → AreSent width tall ys → AreSent width tall (xs ++ ys)
-sent-append width tall [] ys h k = k
-sent-append width tall (Logged change ∷ xs) ys h k = (h.0, sent-append width tall xs ys h.1 k)
-sent-append width tall (Forgotten number ∷ xs) ys h k = sent-append width tall xs ys h k
-sent-append width tall (log.Resized most ∷ xs) ys h k = absurd h
+abbrev AreSent : ℕ → ℕ → List LogStep → Type 0
+AreSent width tall = AllByRecursion (IsSent width tall)
 
 sent-logged : (width tall : ℕ) (changes : List ChangeValue) → HaveSpellings width tall changes → AreSent width tall (map Logged changes)
 sent-logged width tall [] h = tt
@@ -84,8 +81,8 @@ forgotten_has width tall number l h = by_answer (nat_lt l.number number)
 steps_have : (width tall : ℕ) (steps : List LogStep) (s : Sized) → AreSent width tall steps → HaveSpellings width tall s.log.entries → HaveSpellings width tall (fold step_of_kept s steps).log.entries
 steps_have width tall [] s h k = k
 steps_have width tall (Logged change ∷ steps) s h k = steps_have width tall steps (step_of_kept s (Logged change)) h.1 (kept_has width tall s.most s.log change h.0 k)
-steps_have width tall (Forgotten number ∷ steps) s h k = steps_have width tall steps (step_of_kept s (Forgotten number)) h (forgotten_has width tall number s.log k)
-steps_have width tall (log.Resized most ∷ steps) s h k = absurd h
+steps_have width tall (Forgotten number ∷ steps) s h k = steps_have width tall steps (step_of_kept s (Forgotten number)) h.1 (forgotten_has width tall number s.log k)
+steps_have width tall (log.Resized most ∷ steps) s h k = absurd h.0
 
 emptied : (number : ℕ) (entries : List ChangeValue) → (resized_log (record { number = number; entries = entries })).entries ≡ []
 emptied number [] = refl

@@ -1,14 +1,12 @@
 -- What is sent for changes prints their texts.
 use Rattle.std.proofs.Common.{◌≡◌, ℕ, Bool, true, false, List, [], ◌∷◌, ◌++◌, map, refl, sym, ap, subst, ◌∙◌}
-use Rattle.std.specs.Prelude.{⊤, ◌==◌, ◌||◌, flat_map, min, Option, Some, None, IfSome, option_map, if◌then◌else◌}
+use Rattle.std.specs.Prelude.{◌==◌, ◌||◌, flat_map, min, Option, Some, None, IfSome, option_map, if◌then◌else◌}
 use Rattle.std.proofs.lemmas.Grind.{flat_map-append}
 use Rattle.cell_base.specs.AttributeValue as one
 use Rattle.cell_base.specs.AttributeValue.{AttributeValue}
 use Rattle.cell_base.specs.CellContent.{is_control}
 use Rattle.cell_base.specs.Row.{space}
-use Rattle.cell_base.specs.declared.attributes.CursorVisibility.{CursorVisibility as Visibility}
 use Rattle.cell_base.specs.declared.color.ColorAttribute.{ColorAttribute}
-use Rattle.cell_base.specs.declared.color.ColorSpec.{ColorSpec}
 use Rattle.cell_change.specs.ChangeValue.{ChangeValue, Attribute, AllAttributes, Text, ClearScreen, ClearToEndOfLine, ClearToEndOfScreen, CursorPosition, CursorColor, CursorShape, CursorVisibility, LineAttribute, ScrollRegionUp, ScrollRegionDown, Title}
 use Rattle.csi_codec.specs.declared.cursors.Cursor.{Cursor}
 use Rattle.csi_codec.specs.declared.edits.Edit.{Edit}

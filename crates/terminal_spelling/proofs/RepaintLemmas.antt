@@ -1,7 +1,7 @@
 -- The changes of a repaint have a spelling.
 use Rattle.std.proofs.Common.{◌≡◌, ℕ, ◌+◌, ◌<◌, ◌≤◌, ◌⊎◌, inl, inr, Bool, true, false, List, [], ◌∷◌, ◌++◌, map, fold, refl, sym, subst, arith}
 use Rattle.std.specs.Prelude.{All, ⊤, not, ◌==◌, ◌&&◌, ◌||◌, pos, Option, Some, None, if◌then◌else◌}
-use Rattle.std.specs.List.{list_any, concat}
+use Rattle.std.specs.List.{AllByRecursion, list_any, concat}
 use Rattle.std.proofs.lemmas.List.Elements.{All-head, All-tail}
 use Rattle.cell_base.specs.declared.attributes.CursorShape.{CursorShape as Shape}
 use Rattle.cell_base.specs.declared.attributes.CursorVisibility.TheVariants.{Hidden, Visible}
@@ -29,8 +29,7 @@ use Rattle.terminal_spelling.proofs.ChangeLemmas.{has_spelling, spellings_append
 -- ---- cells
 
 abbrev AreSpelledCells : List CellContent → Type 0
-AreSpelledCells [] = ⊤
-AreSpelledCells (cell ∷ cells) = (IsSpelledText cell.text × IsSpelledPen cell.attributes) × AreSpelledCells cells
+AreSpelledCells = AllByRecursion (λ cell. IsSpelledText cell.text × IsSpelledPen cell.attributes)
 
 visible_spelled : (at : ℕ) (row : Row) → IsSpelledRow row → AreSpelledCells (contents (visible_from at row))
 visible_spelled at [] p = tt
@@ -84,8 +83,7 @@ texts_spelled (cell ∷ cells) p = by_answer (stay_apart (cell ∷ cells))
     by_answer false = p
 
 abbrev AreSpelledRuns : List CellRun → Type 0
-AreSpelledRuns [] = ⊤
-AreSpelledRuns (run ∷ runs) = (IsSpelledPen run.attributes × AreSpelledTexts run.cells) × AreSpelledRuns runs
+AreSpelledRuns = AllByRecursion (λ run. IsSpelledPen run.attributes × AreSpelledTexts run.cells)
 
 before_spelled : (cell : CellContent) (runs : List CellRun) → IsSpelledText cell.text → IsSpelledPen cell.attributes → AreSpelledRuns runs → AreSpelledRuns (before_runs cell runs)
 before_spelled cell [] t a p = ((a, (t, tt)), tt)

@@ -1,6 +1,7 @@
 -- The SGRs among the actions that are read from parameters can be written, so their colours are of bytes.
 use Rattle.std.proofs.Common.{◌≡◌, ℕ, zero, suc, ◌-◌, ℤ, Bool, true, false, List, [], ◌∷◌, Option, Some, None, option_map, refl}
 use Rattle.std.specs.Prelude.{⊤, ◌==◌, ◌||◌, is_some, IfSome, if◌then◌else◌}
+use Rattle.std.specs.List.{AllByRecursion}
 use Rattle.std.specs.Option.{option_or, option_map_or}
 use Rattle.csi_codec.specs.declared.cursors.Cursor.{Cursor}
 use Rattle.csi_codec.specs.declared.devices.Device.{Device}
@@ -21,15 +22,10 @@ use Rattle.csi_codec.proofs.ReadWritable.{sgr_shape-writable}
 
 abbrev pub IsSpelledSequence : Action → Type 0
 IsSpelledSequence (sgr value) = IsWritableSgr value
-IsSpelledSequence (cursor value) = ⊤
-IsSpelledSequence (edit value) = ⊤
-IsSpelledSequence (mode value) = ⊤
-IsSpelledSequence (device value) = ⊤
-IsSpelledSequence (unspecified params truncated final) = ⊤
+IsSpelledSequence _ = ⊤
 
 abbrev pub AreSpelledSequences : List Action → Type 0
-AreSpelledSequences [] = ⊤
-AreSpelledSequences (a ∷ others) = IsSpelledSequence a × AreSpelledSequences others
+AreSpelledSequences = AllByRecursion IsSpelledSequence
 
 either : (b : Bool) (xs ys : List Action) → AreSpelledSequences xs → AreSpelledSequences ys → AreSpelledSequences (if b then xs else ys)
 either true xs ys h k = h

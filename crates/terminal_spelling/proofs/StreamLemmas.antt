@@ -2,7 +2,8 @@
 use Rattle.std.proofs.Common.{ℕ, zero, suc, inr, Bool, true, false, List, [], ◌∷◌, ◌++◌, length, drop, map, fold, refl, arith}
 use Rattle.std.specs.Prelude.{⊤, ◌==◌, ◌||◌, Option, Some, None, filter, nat_lt, if◌then◌else◌}
 use Rattle.std.specs.Char.{IsScalar}
-use Rattle.std.specs.List.{flat_map}
+use Rattle.std.specs.List.{AllByRecursion, flat_map}
+use Rattle.cell_base.proofs.Pieces.{all_joined}
 use Rattle.csi_codec.specs.Actions as codec
 use Rattle.csi_codec.specs.Actions.{csi_reading}
 use Rattle.csi_codec.specs.Escapes.{esc_reading}
@@ -56,12 +57,7 @@ IsClean (OperatingSystemCommand body) = ArePlain body
 IsClean _ = ⊤
 
 abbrev AreClean : List Dispatch → Type 0
-AreClean [] = ⊤
-AreClean (d ∷ ds) = IsClean d × AreClean ds
-
-append : (xs ys : List Dispatch) → AreClean xs → AreClean ys → AreClean (xs ++ ys)
-append [] ys h k = k
-append (x ∷ xs) ys h k = (h.0, append xs ys h.1 k)
+AreClean = AllByRecursion IsClean
 
 dropped : (n : ℕ) (xs : List Dispatch) → AreClean xs → AreClean (drop n xs)
 dropped zero xs h = h
@@ -100,10 +96,10 @@ command_clean body ender = by_test (ender == 0x07 || ender == 0x1B)
 decided_clean : (tail : Tail) → AreClean (decided_of tail)
 decided_clean (Begun bytes) = tt
 decided_clean (OpenEscape body) = controls_clean body
-decided_clean (OpenControlSequence opening body) = append (controls_in opening) (controls_in body) (controls_clean opening) (controls_clean body)
+decided_clean (OpenControlSequence opening body) = all_joined IsClean (controls_in opening) (controls_in body) (controls_clean opening) (controls_clean body)
 decided_clean (OpenCommand opening body) = controls_clean opening
 decided_clean (OpenHeader opening header) = controls_clean opening
-decided_clean (OpenDevice opening header final body) = append (controls_in opening) (Enter (taken header) final ∷ map Data (settled body)) (controls_clean opening) (tt, data_clean (settled body))
+decided_clean (OpenDevice opening header final body) = all_joined IsClean (controls_in opening) (Enter (taken header) final ∷ map Data (settled body)) (controls_clean opening) (tt, data_clean (settled body))
 decided_clean (OpenString opening opener body) = controls_clean opening
 
 replacement : IsScalar 0xFFFD × IsPrintable 0xFFFD
@@ -113,22 +109,22 @@ segment_clean : (s : Segment) (following : List ℕ) → segment.IsSegment s fol
 segment_clean (segment.Character c) following h = (h, tt)
 segment_clean (segment.IllFormed bytes) following h = (replacement, tt)
 segment_clean (segment.Control b) following h = (tt, tt)
-segment_clean (segment.Escape body final) following h = append (controls_in body) (escape_dispatch (taken body) final) (controls_clean body) (escape_clean (taken body) final)
+segment_clean (segment.Escape body final) following h = all_joined IsClean (controls_in body) (escape_dispatch (taken body) final) (controls_clean body) (escape_clean (taken body) final)
 segment_clean (segment.ControlSequence opening body final) following h =
-    append (controls_in opening ++ controls_in body) _ (append (controls_in opening) (controls_in body) (controls_clean opening) (controls_clean body)) (sequence_clean (taken body) final)
-segment_clean (segment.OperatingSystemCommand opening body ender) following h = append (controls_in opening) (command_dispatch body ender) (controls_clean opening) (command_clean body ender)
+    all_joined IsClean (controls_in opening ++ controls_in body) _ (all_joined IsClean (controls_in opening) (controls_in body) (controls_clean opening) (controls_clean body)) (sequence_clean (taken body) final)
+segment_clean (segment.OperatingSystemCommand opening body ender) following h = all_joined IsClean (controls_in opening) (command_dispatch body ender) (controls_clean opening) (command_clean body ender)
 segment_clean (segment.DeviceControl opening header final body) following h =
-    append (controls_in opening ++ Enter (taken header) final ∷ map Data body) (Exit ∷ [])
-    (append (controls_in opening) (Enter (taken header) final ∷ map Data body) (controls_clean opening) (tt, data_clean body)) (tt, tt)
+    all_joined IsClean (controls_in opening ++ Enter (taken header) final ∷ map Data body) (Exit ∷ [])
+    (all_joined IsClean (controls_in opening) (Enter (taken header) final ∷ map Data body) (controls_clean opening) (tt, data_clean body)) (tt, tt)
 segment_clean (segment.String opening opener body) following h = controls_clean opening
 segment_clean (segment.CutOff tail) following h = decided_clean tail
 
 segments_clean : (segments : List Segment) (tail : List ℕ) → StandInRow segments tail → AreClean (flat_map dispatches_of segments)
 segments_clean [] tail h = tt
-segments_clean (s ∷ segments) tail h = append (dispatches_of s) (flat_map dispatches_of segments) (segment_clean s _ h.0) (segments_clean segments tail h.1)
+segments_clean (s ∷ segments) tail h = all_joined IsClean (dispatches_of s) (flat_map dispatches_of segments) (segment_clean s _ h.0) (segments_clean segments tail h.1)
 
 stream_clean : AllCut → (stream : List ℕ) → AreClean (dispatches stream)
-stream_clean cut stream = append (flat_map dispatches_of (the_cut stream).segments) (decided_of (tail_of stream)) (segments_clean (the_cut stream).segments (bytes_of_tail (tail_of stream)) (cut stream).each) (decided_clean (tail_of stream))
+stream_clean cut stream = all_joined IsClean (flat_map dispatches_of (the_cut stream).segments) (decided_of (tail_of stream)) (segments_clean (the_cut stream).segments (bytes_of_tail (tail_of stream)) (cut stream).each) (decided_clean (tail_of stream))
 
 -- ---- actions
 
@@ -136,12 +132,7 @@ abbrev IsSpelledAction : StreamAction → Type 0
 IsSpelledAction action = IsSpelledText (printed action) × IsSpelledRequest (function_of action)
 
 abbrev AreSpelledActions : List StreamAction → Type 0
-AreSpelledActions [] = ⊤
-AreSpelledActions (action ∷ actions) = IsSpelledAction action × AreSpelledActions actions
-
-joined : (xs ys : List StreamAction) → AreSpelledActions xs → AreSpelledActions ys → AreSpelledActions (xs ++ ys)
-joined [] ys h k = k
-joined (x ∷ xs) ys h k = (h.0, joined xs ys h.1 k)
+AreSpelledActions = AllByRecursion IsSpelledAction
 
 either : (b : Bool) (x y : Option ControlFunction) → IsSpelledRequest x → IsSpelledRequest y → IsSpelledRequest (if b then x else y)
 either true x y h k = h
@@ -244,7 +235,7 @@ dispatch_spelled Exit h = ((spelled_nil, tt), tt)
 
 actions_spelled : (ds : List Dispatch) → AreClean ds → AreSpelledActions (actions_of ds)
 actions_spelled [] h = tt
-actions_spelled (d ∷ ds) h = joined (actions_of_dispatch d) (actions_of ds) (dispatch_spelled d h.0) (actions_spelled ds h.1)
+actions_spelled (d ∷ ds) h = all_joined IsSpelledAction (actions_of_dispatch d) (actions_of ds) (dispatch_spelled d h.0) (actions_spelled ds h.1)
 
 decided_spelled : AllCut → (stream more : List ℕ) → AreSpelledActions (newly_decided_actions stream more)
 decided_spelled cut stream more = actions_spelled (newly_decided stream more) (dropped (length (dispatches stream)) (dispatches (stream ++ more)) (stream_clean cut (stream ++ more)))
@@ -271,4 +262,4 @@ all_spelled width_of v (e ∷ es) h k p q = all_spelled width_of (event_done wid
 pub history_spelled : AllCut → (width_of : List ℕ → ℕ) (v : View) (history : History) → IsView v → AreSizes history → IsSpelledView v → IsSpelledView (after width_of v history)
 history_spelled cut width_of v history h k p =
     let kept = all_spelled width_of v (events v.stream history) h (events_are cut v.stream history k) p (events_spelled cut v.stream history) in
-    record { state = kept.state; held = kept.held }
+    assumption kept

@@ -2,7 +2,7 @@
 use Rattle.std.proofs.Common.{◌≡◌, ℕ, zero, suc, ◌+◌, ◌/◌, ◌%◌, ◌<◌, ◌≤◌, inl, inr, Bool, true, false, List, [], ◌∷◌, ◌++◌, length, map, refl, sym, ap, subst, ◌∙◌, arith, append_assoc, append-nil, length-append}
 use Rattle.std.specs.Prelude.{⊤, ◌⊎◌, ◌==◌, ◌&&◌, ◌||◌, nat_le, All, encode_utf8, encode_utf8_all, if◌then◌else◌}
 use Rattle.std.specs.Char.{IsScalar}
-use Rattle.std.specs.List.{flat_map}
+use Rattle.std.specs.List.{AllByRecursion, flat_map}
 use Rattle.std.proofs.lemmas.Bool.{or_parts}
 use Rattle.std.proofs.lemmas.Bool.Decides.{nat_tests}
 use Rattle.std.proofs.lemmas.List.Elements.{All-cons, All-head, All-nil, All-tail}
@@ -12,6 +12,7 @@ use lib.Utf8.{encode, scalar, scalars}
 use Rattle.unicode_segmentation.specs.Grapheme.{graphemes}
 use Rattle.cell_base.specs.Cluster.{clusters}
 use Rattle.cell_base.specs.Row.{space}
+use Rattle.cell_base.proofs.Pieces.{all_joined}
 use Rattle.cell_base.proofs.PlainClusters.{clusters_are}
 use Rattle.escape_framing.specs.Segment.{IsPrintable}
 use Rattle.escape_framing.specs.Existence.Utf8Lemmas.{Spelled, in_one, in_two, in_three, in_four, spelled, order}
@@ -137,8 +138,7 @@ spelled_character c s p = subst IsSpelledText (append-nil (encode_utf8 c)) (prin
 -- ---- clusters
 
 abbrev pub AreSpelledTexts : List (List ℕ) → Type 0
-AreSpelledTexts [] = ⊤
-AreSpelledTexts (text ∷ texts) = IsSpelledText text × AreSpelledTexts texts
+AreSpelledTexts = AllByRecursion IsSpelledText
 
 scalars_parts : (xs ys : List ℕ) → scalars (xs ++ ys) ≡ true → (scalars xs ≡ true) × (scalars ys ≡ true)
 scalars_parts [] ys h = (refl, h)
@@ -178,12 +178,7 @@ IsSpelledStroke LineFeed = ⊤
 IsSpelledStroke (Cluster text) = IsSpelledText text
 
 abbrev pub AreSpelledStrokes : List Stroke → Type 0
-AreSpelledStrokes [] = ⊤
-AreSpelledStrokes (stroke ∷ strokes) = IsSpelledStroke stroke × AreSpelledStrokes strokes
-
-strokes_append : (xs ys : List Stroke) → AreSpelledStrokes xs → AreSpelledStrokes ys → AreSpelledStrokes (xs ++ ys)
-strokes_append [] ys p q = q
-strokes_append (x ∷ xs) ys p q = (p.0, strokes_append xs ys p.1 q)
+AreSpelledStrokes = AllByRecursion IsSpelledStroke
 
 cluster_strokes : (ts : List (List ℕ)) → AreSpelledTexts ts → AreSpelledStrokes (map Cluster ts)
 cluster_strokes [] p = tt
@@ -200,7 +195,7 @@ part_spelled (Plain text) g = cluster_strokes (clusters text) (spelled_clusters 
 
 parts_spelled : (parts : List TextPart) → AreGood parts → AreSpelledStrokes (flat_map part_strokes parts)
 parts_spelled [] g = tt
-parts_spelled (part ∷ parts) g = strokes_append (part_strokes part) (flat_map part_strokes parts) (part_spelled part g.0) (parts_spelled parts g.1)
+parts_spelled (part ∷ parts) g = all_joined IsSpelledStroke (part_strokes part) (flat_map part_strokes parts) (part_spelled part g.0) (parts_spelled parts g.1)
 
 pub strokes_spelled : (text : List ℕ) → IsSpelledText text → AreSpelledStrokes (strokes text)
 strokes_spelled text p = parts_spelled (text_parts text) (parts_good text p.utf8 p.no_c1)

@@ -26,7 +26,8 @@ use Rattle.terminal_table.proofs.EventLemmas.{event_is}
 use Rattle.terminal_spelling.specs.Spelling.{IsSpelledText, IsSpelledScreen, IsSpelledSaved, IsSpelledState, IsSpelledView, IsSpelledRequest, IsSpelledEvent, HaveSpellings}
 use Rattle.terminal_spelling.proofs.TextLemmas.{spelled_append, spelled_nil}
 use Rattle.terminal_spelling.proofs.DisplayLemmas.{effect_spelled, replay_spelled, size_spelled, screen_spelled}
-use Rattle.terminal_spelling.proofs.ChangeLemmas.{changes_spelled, changes_placed, has_spelling, have_spellings, spellings_append}
+use Rattle.terminal_spelling.proofs.ChangeLemmas.{has_spelling, have_spellings, spellings_append}
+use Rattle.terminal_spelling.proofs.FunctionLemmas.{changes_spelled, changes_placed}
 
 -- ---- steps and runs
 
@@ -38,26 +39,9 @@ pub display_on_is : (state : State) → IsState state → IsDisplay (display_on 
 display_on_is state h = record { lawful = h.lawful; whole = h.whole; sized = length-replicate (height state.screen) SingleWidthLine }
 
 saved_spelled : (function : ControlFunction) (saved : Option SavedCursor) (s : Screen) → IsSpelledSaved saved → IsSpelledScreen s → IsSpelledSaved (saved_step function saved s)
-saved_spelled (table.Moves move) saved s g p = g
-saved_spelled table.LineFeed saved s g p = g
-saved_spelled table.CarriageReturn saved s g p = g
-saved_spelled table.NextRow saved s g p = g
-saved_spelled table.ReverseIndex saved s g p = g
-saved_spelled table.EraseToEndOfDisplay saved s g p = g
-saved_spelled table.EraseDisplay saved s g p = g
-saved_spelled table.EraseToEndOfLine saved s g p = g
-saved_spelled table.EraseLine saved s g p = g
-saved_spelled (table.ScrollUp n) saved s g p = g
-saved_spelled (table.ScrollDown n) saved s g p = g
-saved_spelled (table.Rendition value) saved s g p = g
-saved_spelled (table.Hyperlink link) saved s g p = g
-saved_spelled (table.Title text) saved s g p = g
-saved_spelled (table.ShowCursor shown) saved s g p = g
 saved_spelled table.SaveCursor saved s g p = p.pen
-saved_spelled table.RestoreCursor saved s g p = g
 saved_spelled table.FullReset saved s g p = tt
-saved_spelled table.ReportStatus saved s g p = g
-saved_spelled table.ReportPosition saved s g p = g
+saved_spelled _ saved s g p = g
 
 step_spelled : (request : Option ControlFunction) (state : State) → IsState state → IsSpelledRequest request → IsSpelledState state → IsSpelledState (step_of request state)
 step_spelled None state h f p = p
