@@ -25,7 +25,7 @@ use Rattle.terminal_table.specs.Meaning.{View, event_done, after}
 use Rattle.terminal_table.specs.Turns.{IsView, AreEvents}
 use Rattle.terminal_table.proofs.JoinLemmas.{with_stream, all_done_with, logged_with, after_joins, logged_joins, PiecesJoin, cut_after, cut_logged, nothing_behind}
 
-actions_join : PiecesJoin
+pub actions_join : PiecesJoin
 actions_join stream x y = ap actions_of (newly_join stream x y) ∙ flat_map-append actions_of_dispatch (newly_decided stream x) (newly_decided (stream ++ x) y)
 
 -- ---- events that are those of a history

@@ -4,3 +4,5 @@ pub mod AppendLemmas
 pub mod ReadAllLemmas
 pub mod LawLemmas
 pub mod SpellLemmas
+pub mod UpdateLemmas
+pub mod SendLemmas

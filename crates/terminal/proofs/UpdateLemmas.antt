@@ -1,0 +1,358 @@
+-- The updates of an input that is read in pieces.
+use Rattle.std.proofs.Common.{◌≡◌, ℕ, ◌+◌, ◌-◌, ◌<◌, ◌≤◌, ◌^◌, ◌⊎◌, inl, inr, Bool, true, false, List, [], ◌∷◌, ◌++◌, length, refl, sym, ap, subst, ◌∙◌, arith, Option, Some, None, append_assoc, append-nil, length-append}
+use Rattle.std.specs.Prelude.{◌==◌, if◌then◌else◌}
+use Rattle.std.proofs.lemmas.Grind.{flat_map-append}
+use Rattle.std.specs.Io.KnownBytes.{Appends, Consumes, IsAtEnd, Keeps}
+use Rattle.escape_framing.specs.Existence.Utf8Lemmas.{order}
+use Rattle.terminal.specs.Sent.{IsAt, IsCounted, Sent, SendsPart, looked, lightened, update_at, updates_from, number_behind}
+use Rattle.terminal.specs.Shown.{AppendsPrefix}
+use Rattle.terminal.specs.Terminal.{Terminal, StandsAt, GoesBy, NeedsNumber, log_behind}
+use Rattle.terminal.proofs.GoLemmas.{actions_join, stays}
+use Rattle.terminal_steps.proofs.NumberLemmas.{fold_number}
+use Rattle.terminal_table.specs.History.{History, Piece, Look, Forget}
+use Rattle.terminal_table.specs.Logged.{logged, log_after}
+use Rattle.terminal_table.specs.Meaning.{after}
+use Rattle.terminal_update.specs.Update.{update_of}
+use Rattle.terminal_update.specs.Updates.{Standing, in_pieces, looks, standing_behind, updates_behind}
+use Rattle.terminal_update.specs.Viewers.{AnswersAs}
+use Rattle.terminal_update.proofs.KeptLemmas.{answers_itself, answers_behind, answers_with_replies, answers_behind_forget, answers_alike}
+use Rattle.terminal_update.proofs.PieceLemmas.{grows, fills, standings_join, standings_cut}
+
+-- ---- known bytes
+
+pub appends_both : (a b c : Option (List ℕ)) (x y : List ℕ) → Appends a b x → Appends b c y → Appends a c (x ++ y)
+appends_both None b c x y h k = tt
+appends_both (Some l) None c x y h k = absurd h
+appends_both (Some l) (Some m) None x y h k = absurd k
+appends_both (Some l) (Some m) (Some n) x y h k = k ∙ ap (λ s. s ++ y) h ∙ append_assoc l x y
+
+-- the first of some bytes are the first of these with others behind
+pub prefix_behind : (a b c : Option (List ℕ)) (x y z : List ℕ) → Appends a b x → AppendsPrefix b c y → AppendsPrefix a c (x ++ (y ++ z))
+prefix_behind a b c x y z h k = record {
+  written = x ++ k.written;
+  others = k.others ++ z;
+  whole = ap (λ s. x ++ (s ++ z)) k.whole ∙ ap (λ s. x ++ s) (append_assoc k.written k.others z) ∙ sym (append_assoc x k.written (k.others ++ z));
+  appends = appends_both a b c x k.written h k.appends;
+}
+
+pub prefix_so_far : (a b : Option (List ℕ)) (x z : List ℕ) → Appends a b x → AppendsPrefix a b (x ++ z)
+prefix_so_far a b x z h = record { written = x; others = z; whole = refl; appends = h }
+
+-- ---- the first piece
+
+-- the first piece of an input goes on from what has begun
+record First (every : ℕ) (begun input : List ℕ) : Type 0 where
+  more : List ℕ
+  others : List (List ℕ)
+  are : in_pieces every begun input ≡ (begun ++ more) ∷ others
+
+first_piece : (every : ℕ) (begun input : List ℕ) → First every begun input
+first_piece every begun [] = record { more = []; others = []; are = ap (λ (l : List ℕ). l ∷ []) (sym (append-nil begun)) }
+first_piece every begun (byte ∷ input) = by_test (length begun + 1 == every) refl (first_piece every (begun ++ byte ∷ []) input)
+  where
+    by_test : (b : Bool) → (length begun + 1 == every) ≡ b → First every (begun ++ byte ∷ []) input → First every begun (byte ∷ input)
+    by_test true e later = record {
+      more = byte ∷ [];
+      others = in_pieces every [] input;
+      are = ap (λ b. if b then (begun ++ byte ∷ []) ∷ in_pieces every [] input else in_pieces every (begun ++ byte ∷ []) input) e;
+    }
+    by_test false e later = record {
+      more = byte ∷ later.more;
+      others = later.others;
+      are = ap (λ b. if b then (begun ++ byte ∷ []) ∷ in_pieces every [] input else in_pieces every (begun ++ byte ∷ []) input) e
+          ∙ later.are ∙ ap (λ (l : List ℕ). l ∷ later.others) (append_assoc begun (byte ∷ []) later.more);
+    }
+
+-- so it does from bytes behind it that fit in the piece
+record Holds (every : ℕ) (begun bytes next : List ℕ) : Type 0 where
+  more : List ℕ
+  others : List (List ℕ)
+  are : in_pieces every begun (bytes ++ next) ≡ ((begun ++ bytes) ++ more) ∷ others
+
+holds : (every : ℕ) (begun bytes next : List ℕ) → length begun + length bytes ≤ every → Holds every begun bytes next
+holds every begun [] next h =
+    let first = first_piece every begun next in
+    record { more = first.more; others = first.others; are = first.are ∙ ap (λ (l : List ℕ). (l ++ first.more) ∷ first.others) (sym (append-nil begun)) }
+holds every begun (byte ∷ bytes) next h = either (order (length begun + length (byte ∷ bytes)) every)
+  where
+    all : List ℕ
+    all = byte ∷ bytes
+
+    either : (length begun + length all < every) ⊎ (every ≤ length begun + length all) → Holds every begun all next
+    either (inl l) =
+        let first = first_piece every (begun ++ all) next in
+        record { more = first.more; others = first.others; are = grows every begun all next l ∙ first.are }
+    either (inr l) = record {
+      more = [];
+      others = in_pieces every [] next;
+      are = fills every begun all next (omega arith) (omega arith) ∙ ap (λ (l : List ℕ). l ∷ in_pieces every [] next) (sym (append-nil (begun ++ all)));
+    }
+
+-- ---- standings
+
+looks-append : (ps qs : List (List ℕ)) → looks (ps ++ qs) ≡ looks ps ++ looks qs
+looks-append ps qs = flat_map-append (λ piece. Piece piece ∷ Look ∷ []) ps qs
+
+number_rises : (f : List ℕ → ℕ) (s : Standing) (h : History) → s.log.log.number ≤ (standing_behind f s h).log.log.number
+number_rises f s h = fold_number (logged f s.view h) s.log
+
+module _ {W : Type 0} (width_of : W → List ℕ → ℕ) (w : W) where
+  abbrev f : List ℕ → ℕ
+  f = width_of w
+
+  -- where a terminal that goes on stands
+  goes_at : (t u : Terminal W) (s : Standing) (h : History) → t.surface.canvas.widths ≡ w → IsAt t s → GoesBy width_of t u h → IsAt u (standing_behind f s h)
+  goes_at t u s h e at g = record {
+    stands = subst (λ x. StandsAt u (after (width_of x) s.view h)) e (g.stands s.view at.stands);
+    log = g.log s.view at.stands ∙ (λ i. log_after (width_of (e i)) s.view (at.log i) h);
+  }
+
+  needs_at : (t : Terminal W) (s : Standing) (h : History) → t.surface.canvas.widths ≡ w → IsAt t s → NeedsNumber width_of t h → 2 ^ 64 ≤ (standing_behind f s h).log.log.number
+  needs_at t s h e at n = subst (λ x. 2 ^ 64 ≤ x.log.number) (λ i. log_after (width_of (e i)) s.view (at.log i) h) (n s.view at.stands)
+
+  -- nothing was fed
+  at_rest : (t : Terminal W) (s : Standing) → t.surface.canvas.widths ≡ w → t.is_failed ≡ false → IsAt t s → IsAt t (standing_behind f s (Piece [] ∷ []))
+  at_rest t s e sound at = goes_at t t s (Piece [] ∷ []) e at (stays width_of t sound)
+
+  -- ---- an input that is being read
+
+  -- Of an input some bytes were read, in pieces that are done and one that has begun; an update was written behind each that is done. `last` is where a
+  -- terminal that keeps all stood at the last look, and `kept` where this one did, which answers alike.
+  pub record IsSending (every : ℕ) (start : Standing) (input rest : List ℕ) (old now : Option (List ℕ)) (t : Terminal W) (number left : ℕ) : Type 0 where
+    pub read : List ℕ
+    pub done : List (List ℕ)
+    pub begun : List ℕ
+    pub written : List ℕ
+    pub last : Standing
+    pub kept : Standing
+    pub whole : input ≡ read ++ rest
+    pub room : length begun + left ≡ every
+    pub pieces : (more : List ℕ) → in_pieces every [] (read ++ more) ≡ done ++ in_pieces every begun more
+    pub appends : Appends old now written
+    pub leads : (ps : List (List ℕ)) → updates_behind f start 0 (done ++ ps) ≡ written ++ updates_behind f last number ps
+    pub last_is : last ≡ standing_behind f start (looks done)
+    pub seen : number ≤ last.log.log.number
+    pub answers : AnswersAs number kept last
+    pub at : IsAt t (standing_behind f kept (Piece begun ∷ []))
+
+  pub sending_first : (every : ℕ) (start : Standing) (input : List ℕ) (old : Option (List ℕ)) (t : Terminal W) → t.surface.canvas.widths ≡ w → t.is_failed ≡ false → IsAt t start → IsCounted start → Appends old old []
+      → IsSending every start input input old old t 0 every
+  sending_first every start input old t e sound at counted none = record {
+    read = [];
+    done = [];
+    begun = [];
+    written = [];
+    last = start;
+    kept = start;
+    whole = refl;
+    room = refl;
+    pieces = λ more. refl;
+    appends = none;
+    leads = λ ps. refl;
+    last_is = λ i. record { view = record start.view { stream = sym (append-nil start.view.stream) i }; log = start.log };
+    seen = omega arith;
+    answers = answers_itself 0 start counted;
+    at = at_rest t start e sound at;
+  }
+
+  module _ (every : ℕ) (start : Standing) (input rest : List ℕ) (old now : Option (List ℕ)) (t : Terminal W) (number left : ℕ) (s : IsSending every start input rest old now t number left) where
+    -- the updates, where more comes behind what was read
+    all_is : (more : List ℕ) → updates_from f every start (s.read ++ more) ≡ s.written ++ updates_behind f s.last number (in_pieces every s.begun more)
+    all_is more = ap (updates_behind f start 0) (s.pieces more) ∙ s.leads (in_pieces every s.begun more)
+
+    -- where some bytes more lead
+    fed_at : (bytes : List ℕ) (u : Terminal W) → t.surface.canvas.widths ≡ w → GoesBy width_of t u (Piece bytes ∷ []) → IsAt u (standing_behind f s.kept (Piece (s.begun ++ bytes) ∷ []))
+    fed_at bytes u same g =
+        subst (IsAt u) (sym (standings_join f s.kept (Piece s.begun ∷ []) (Piece bytes ∷ [])) ∙ standings_cut actions_join f s.kept s.begun bytes [])
+        (goes_at t u (standing_behind f s.kept (Piece s.begun ∷ [])) (Piece bytes ∷ []) same s.at g)
+
+    -- some bytes more, which don't fill the piece
+    pub sending_more : (next bytes : List ℕ) (u : Terminal W) (less : ℕ) → rest ≡ bytes ++ next → t.surface.canvas.widths ≡ w → GoesBy width_of t u (Piece bytes ∷ []) → less + length bytes ≡ left → 0 < less
+        → IsSending every start input next old now u number less
+    sending_more next bytes u less e same g count some =
+        let long = length-append s.begun bytes in
+        let room = s.room in
+        record {
+          read = s.read ++ bytes;
+          done = s.done;
+          begun = s.begun ++ bytes;
+          written = s.written;
+          last = s.last;
+          kept = s.kept;
+          whole = s.whole ∙ ap (λ l. s.read ++ l) e ∙ sym (append_assoc s.read bytes next);
+          room = omega arith;
+          pieces = λ more. ap (in_pieces every []) (append_assoc s.read bytes more) ∙ s.pieces (bytes ++ more) ∙ ap (λ ps. s.done ++ ps) (grows every s.begun bytes more (omega arith));
+          appends = s.appends;
+          leads = s.leads;
+          last_is = s.last_is;
+          seen = s.seen;
+          answers = s.answers;
+          at = fed_at bytes u same g;
+        }
+
+    -- ---- a look behind a piece
+
+    next_of : List ℕ → Standing
+    next_of piece = standing_behind f s.last (looks (piece ∷ []))
+
+    here : List ℕ → Standing
+    here piece = looked f (standing_behind f s.kept (Piece piece ∷ []))
+
+    answers_next : (piece : List ℕ) → AnswersAs number (here piece) (next_of piece)
+    unfolding here next_of
+    answers_next piece =
+        subst (λ k. AnswersAs number k (standing_behind f s.last (looks (piece ∷ [])))) (standings_join f s.kept (Piece piece ∷ []) (Look ∷ []))
+        (answers_behind f number s.kept s.last (looks (piece ∷ [])) tt s.answers)
+
+    update_is : (piece : List ℕ) → update_at (here piece) number ≡ update_at (next_of piece) number
+    update_is piece = answers_alike number (here piece) (next_of piece) (answers_next piece) number (omega arith)
+
+    -- the updates, where the piece that has begun is full
+    full_is : (bytes more : List ℕ) → 0 < length bytes → length s.begun + length bytes ≡ every
+        → updates_from f every start (s.read ++ (bytes ++ more)) ≡ s.written ++ (update_at (next_of (s.begun ++ bytes)) number ++ updates_behind f (next_of (s.begun ++ bytes)) (next_of (s.begun ++ bytes)).log.log.number (in_pieces every [] more))
+    unfolding next_of
+    full_is bytes more some full = all_is (bytes ++ more) ∙ ap (λ ps. s.written ++ updates_behind f s.last number ps) (fills every s.begun bytes more some full)
+
+    -- some bytes more, which fill it, and the update behind them
+    pub sending_next : (next bytes : List ℕ) (u v : Terminal W) (later : ℕ) (new : Option (List ℕ)) → rest ≡ bytes ++ next → t.surface.canvas.widths ≡ w → GoesBy width_of t u (Piece bytes ∷ []) → length bytes ≡ left → 0 < left
+        → ((x : Standing) → IsAt u x → Sent f x number later v now new) → v.surface.canvas.widths ≡ w → v.is_failed ≡ false
+        → IsSending every start input next old new v later every
+    unfolding here next_of
+    sending_next next bytes u v later new e same g full some sends widths sound =
+        let piece = s.begun ++ bytes in
+        let sent = sends (standing_behind f s.kept (Piece piece ∷ [])) (fed_at bytes u same g) in
+        let answers = answers_next piece in
+        let later_is : later ≡ (next_of piece).log.log.number = sent.next_is ∙ answers.logs.count in
+        let rises = number_rises f s.last (looks (piece ∷ [])) in
+        let seen = s.seen in
+        let room = s.room in
+        let update = update_at (next_of piece) number in
+        record {
+          read = s.read ++ bytes;
+          done = s.done ++ piece ∷ [];
+          begun = [];
+          written = s.written ++ update;
+          last = next_of piece;
+          kept = lightened f later (here piece);
+          whole = s.whole ∙ ap (λ l. s.read ++ l) e ∙ sym (append_assoc s.read bytes next);
+          room = refl;
+          pieces = λ more. ap (in_pieces every []) (append_assoc s.read bytes more) ∙ s.pieces (bytes ++ more) ∙ ap (λ ps. s.done ++ ps) (fills every s.begun bytes more (omega arith) (omega arith)) ∙ sym (append_assoc s.done (piece ∷ []) (in_pieces every [] more));
+          appends = appends_both old now new s.written update s.appends (subst (Appends now new) (update_is piece) sent.appends);
+          leads = λ ps. ap (updates_behind f start 0) (append_assoc s.done (piece ∷ []) ps) ∙ s.leads (piece ∷ ps)
+              ∙ ap (λ n. s.written ++ (update ++ updates_behind f (next_of piece) n ps)) (sym later_is) ∙ sym (append_assoc s.written update (updates_behind f (next_of piece) later ps));
+          last_is = ap (λ x. standing_behind f x (looks (piece ∷ []))) s.last_is ∙ sym (standings_join f start (looks s.done) (looks (piece ∷ []))) ∙ ap (standing_behind f start) (sym (looks-append s.done (piece ∷ [])));
+          seen = omega (arith, later_is);
+          answers = answers_with_replies later (standing_behind f (here piece) (Forget later ∷ [])) (next_of piece) [] (answers_behind_forget f number later (here piece) (next_of piece) (omega (arith, later_is)) answers);
+          at = at_rest v (lightened f later (here piece)) widths sound sent.at;
+        }
+
+    -- the update at the end of the input
+    at_end : rest ≡ [] → updates_from f every start input ≡ s.written ++ (update_at (next_of s.begun) number ++ [])
+    unfolding next_of
+    at_end e = ap (updates_from f every start) (s.whole ∙ ap (λ l. s.read ++ l) e) ∙ all_is []
+
+    pub sending_all : (u : Terminal W) (later : ℕ) (new : Option (List ℕ)) → rest ≡ [] → ((x : Standing) → IsAt t x → Sent f x number later u now new) → Appends old new (updates_from f every start input)
+    unfolding here
+    sending_all u later new e sends =
+        let sent = sends (standing_behind f s.kept (Piece s.begun ∷ [])) s.at in
+        let update = update_at (next_of s.begun) number in
+        subst (Appends old new) (sym (at_end e ∙ ap (λ l. s.written ++ l) (append-nil update)))
+        (appends_both old now new s.written update s.appends (subst (Appends now new) (update_is s.begun) sent.appends))
+
+    -- ---- where it ends early
+
+    -- what was read, and bytes that were read behind it
+    pub sending_part : (next bytes : List ℕ) (others : Option (List ℕ)) → rest ≡ bytes ++ next → others ≡ Some next → SendsPart f every start input others old now
+    sending_part next bytes others e known = record {
+      read = s.read ++ bytes;
+      rest = next;
+      whole = s.whole ∙ ap (λ l. s.read ++ l) e ∙ sym (append_assoc s.read bytes next);
+      others = known;
+      of_read = subst (AppendsPrefix old now) (sym (all_is bytes)) (prefix_so_far old now s.written _ s.appends);
+      of_input = subst (AppendsPrefix old now) (sym (ap (updates_from f every start) s.whole ∙ all_is rest)) (prefix_so_far old now s.written _ s.appends);
+    }
+
+    -- the first bytes of an update behind them
+    pub sending_some : (next bytes : List ℕ) (u : Terminal W) (new others : Option (List ℕ)) → rest ≡ bytes ++ next → others ≡ Some next → t.surface.canvas.widths ≡ w → GoesBy width_of t u (Piece bytes ∷ []) → length bytes ≡ left → 0 < left
+        → ((x : Standing) → IsAt u x → AppendsPrefix now new (update_at (looked f x) number)) → SendsPart f every start input others old new
+    unfolding here
+    sending_some next bytes u new others e known same g full some sends =
+        let piece = s.begun ++ bytes in
+        let room = s.room in
+        let first = subst (AppendsPrefix now new) (update_is piece) (sends (standing_behind f s.kept (Piece piece ∷ [])) (fed_at bytes u same g)) in
+        record {
+          read = s.read ++ bytes;
+          rest = next;
+          whole = s.whole ∙ ap (λ l. s.read ++ l) e ∙ sym (append_assoc s.read bytes next);
+          others = known;
+          of_read = subst (AppendsPrefix old new) (sym (ap (λ l. updates_from f every start (s.read ++ l)) (sym (append-nil bytes)) ∙ full_is bytes [] (omega arith) (omega arith)))
+              (prefix_behind old now new s.written (update_at (next_of piece) number) _ s.appends first);
+          of_input = subst (AppendsPrefix old new) (sym (ap (updates_from f every start) (s.whole ∙ ap (λ l. s.read ++ l) e) ∙ full_is bytes next (omega arith) (omega arith)))
+              (prefix_behind old now new s.written (update_at (next_of piece) number) _ s.appends first);
+        }
+
+    -- the first bytes of the update at the end
+    pub sending_last : (new others : Option (List ℕ)) → rest ≡ [] → others ≡ Some rest → ((x : Standing) → IsAt t x → AppendsPrefix now new (update_at (looked f x) number)) → SendsPart f every start input others old new
+    unfolding here
+    sending_last new others e known sends =
+        let first = subst (AppendsPrefix now new) (update_is s.begun) (sends (standing_behind f s.kept (Piece s.begun ∷ [])) s.at) in
+        let all = prefix_behind old now new s.written (update_at (next_of s.begun) number) [] s.appends first in
+        let read_is : input ≡ s.read = s.whole ∙ ap (λ l. s.read ++ l) e ∙ append-nil s.read in
+        record {
+          read = s.read;
+          rest = rest;
+          whole = s.whole;
+          others = known;
+          of_read = subst (λ l. AppendsPrefix old new (updates_from f every start l)) read_is (subst (AppendsPrefix old new) (sym (at_end e)) all);
+          of_input = subst (AppendsPrefix old new) (sym (at_end e)) all;
+        }
+
+    -- ---- numbers
+
+    Past : Standing → Type 0
+    Past x = 2 ^ 64 ≤ x.log.log.number
+
+    -- the whole of the input leads further than its front
+    past_front : (front others : History) → standing_behind f start (looks (in_pieces every [] input)) ≡ standing_behind f s.last (front ++ others) → 2 ^ 64 ≤ (standing_behind f s.last front).log.log.number → 2 ^ 64 ≤ number_behind f every start input
+    past_front front others e n =
+        let whole = e ∙ standings_join f s.last front others in
+        let rises = number_rises f (standing_behind f s.last front) others in
+        subst (λ (x : Standing). 2 ^ 64 ≤ x.log.log.number) (sym whole) (omega arith)
+
+    -- the pieces from the one that has begun on
+    pieces_behind : (ps : List (List ℕ)) → in_pieces every [] input ≡ s.done ++ ps → standing_behind f start (looks (in_pieces every [] input)) ≡ standing_behind f s.last (looks ps)
+    pieces_behind ps e =
+        ap (λ qs. standing_behind f start (looks qs)) e ∙ ap (standing_behind f start) (looks-append s.done ps) ∙ standings_join f start (looks s.done) (looks ps) ∙ ap (λ x. standing_behind f x (looks ps)) (sym s.last_is)
+
+    input_is : (bytes next : List ℕ) → rest ≡ bytes ++ next → in_pieces every [] input ≡ s.done ++ in_pieces every s.begun (bytes ++ next)
+    input_is bytes next e = ap (in_pieces every []) (s.whole ∙ ap (λ l. s.read ++ l) e) ∙ s.pieces (bytes ++ next)
+
+    pub past_feed : (next bytes : List ℕ) → rest ≡ bytes ++ next → t.surface.canvas.widths ≡ w → length bytes ≤ left → NeedsNumber width_of t (Piece bytes ∷ []) → 2 ^ 64 ≤ number_behind f every start input
+    past_feed next bytes e same count n =
+        let room = s.room in
+        let piece = s.begun ++ bytes in
+        let h = holds every s.begun bytes next (omega arith) in
+        let there = needs_at t (standing_behind f s.kept (Piece s.begun ∷ [])) (Piece bytes ∷ []) same s.at n in
+        let joined = sym (standings_join f s.kept (Piece s.begun ∷ []) (Piece bytes ∷ [])) ∙ standings_cut actions_join f s.kept s.begun bytes [] in
+        let counted = (answers_behind f number s.kept s.last (Piece piece ∷ []) tt s.answers).logs.count in
+        past_front (Piece piece ∷ []) (Piece h.more ∷ Look ∷ looks h.others)
+        (pieces_behind ((piece ++ h.more) ∷ h.others) (input_is bytes next e ∙ ap (λ ps. s.done ++ ps) h.are) ∙ sym (standings_cut actions_join f s.last piece h.more (Look ∷ looks h.others)))
+        (subst (λ n. 2 ^ 64 ≤ n) counted (subst (λ (x : Standing). 2 ^ 64 ≤ x.log.log.number) joined there))
+
+    pub past_look : (next bytes : List ℕ) (u : Terminal W) → rest ≡ bytes ++ next → t.surface.canvas.widths ≡ w → u.surface.canvas.widths ≡ w → GoesBy width_of t u (Piece bytes ∷ []) → length bytes ≡ left → 0 < left → NeedsNumber width_of u (Look ∷ []) → 2 ^ 64 ≤ number_behind f every start input
+    unfolding here next_of
+    past_look next bytes u e same widths g full some n =
+        let room = s.room in
+        let piece = s.begun ++ bytes in
+        let there = needs_at u (standing_behind f s.kept (Piece piece ∷ [])) (Look ∷ []) widths (fed_at bytes u same g) n in
+        past_front (looks (piece ∷ [])) (looks (in_pieces every [] next))
+        (pieces_behind (piece ∷ in_pieces every [] next) (input_is bytes next e ∙ ap (λ ps. s.done ++ ps) (fills every s.begun bytes next (omega arith) (omega arith))))
+        (subst (λ n. 2 ^ 64 ≤ n) (answers_next piece).logs.count there)
+
+    pub past_end : rest ≡ [] → t.surface.canvas.widths ≡ w → NeedsNumber width_of t (Look ∷ []) → 2 ^ 64 ≤ number_behind f every start input
+    unfolding here next_of
+    past_end e same n =
+        let there = needs_at t (standing_behind f s.kept (Piece s.begun ∷ [])) (Look ∷ []) same s.at n in
+        past_front (looks (s.begun ∷ [])) []
+        (pieces_behind (s.begun ∷ []) (ap (in_pieces every []) (s.whole ∙ ap (λ l. s.read ++ l) e) ∙ s.pieces []))
+        (subst (λ n. 2 ^ 64 ≤ n) (answers_next s.begun).logs.count there)

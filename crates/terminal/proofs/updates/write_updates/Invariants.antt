@@ -1,0 +1,16 @@
+use Rattle.std.proofs.Common.{◌≡◌, ◌<◌, false, length}
+use Rattle.terminal.proofs.SendLemmas.{SendsOn}
+use Rattle.terminal.proofs.updates.write_updates.Given as goal
+
+-- of the input that was read the updates are written
+abbrev pub invariant-loop : goal.invariant-loop
+invariant-loop g l = record {
+  reader : l.reader.has_failed ≡ false;
+  reads : l.reader.reads ≡ l.counter;
+  writer : l.writer.has_failed ≡ false;
+  sound : l.terminal.is_failed ≡ false;
+  widths : l.terminal.surface.canvas.widths ≡ l.initial.terminal.surface.canvas.widths;
+  room : length l.buffer ≡ 4096;
+  some : 0 < l.left;
+  sends : SendsOn (λ w. g.W.Widths.width_of w) l.every l.initial.terminal (g.R.Read.remaining l.initial.reader.inner) (g.R.Read.remaining l.reader.inner) (g.T.Write.contents l.initial.writer.inner) (g.T.Write.contents l.writer.inner) l.terminal l.number l.left;
+}
