@@ -1,7 +1,8 @@
 -- The updates of an input, where it is known.
 use Rattle.std.proofs.Common.{◌≡◌, ℕ, ◌+◌, ◌<◌, ◌≤◌, ◌^◌, false, List, [], ◌∷◌, ◌++◌, length, refl, sym, ap, subst, ◌∙◌, Option, Some, None}
 use Rattle.std.specs.Io.KnownBytes.{Consumes, IsAtEnd, Keeps}
-use Rattle.terminal.specs.Sent.{IsAt, IsCounted, Sends, SendsSome, SendsAll, SendsFirst, SendsPart, LooksNeedNumber}
+use Rattle.terminal.specs.Sent.{IsAt, IsCounted, Sent, Sends, SendsSome, SendsAll, SendsFirst, LooksNeedNumber, looked, update_at}
+use Rattle.terminal.specs.Shown.{AppendsPrefix}
 use Rattle.terminal.specs.Terminal.{Terminal, GoesBy, NeedsNumber}
 use Rattle.terminal.proofs.AppendLemmas.{nothing_appended, keeps_same}
 use Rattle.terminal.proofs.UpdateLemmas.{IsSending, sending_first, sending_more, sending_next, sending_all, sending_part, sending_some, sending_last, past_feed, past_look, past_end}
@@ -36,7 +37,7 @@ module _ {W : Type 0} (width_of : W → List ℕ → ℕ) where
     on_next (Some input) (Some rest) None bytes u v later new s c g full some sends widths sound = absurd c
     on_next (Some input) (Some rest) (Some next) bytes u v later new s c g full some sends widths sound = λ start at counted.
         sending_next width_of before.surface.canvas.widths every start input rest old now t number left (s start at counted) next bytes u v later new c same g full some
-        (λ x there. subst (λ (y : W). Sent_by y x v later new u) (g.widths ∙ same) (sends x there)) (widths ∙ g.widths ∙ same) sound
+        (λ x there. subst (λ (y : W). Sent (width_of y) x number later v now new) (g.widths ∙ same) (sends x there)) (widths ∙ g.widths ∙ same) sound
 
     pub on_all : (input rest next : Option (List ℕ)) (u : Terminal W) (later : ℕ) (new : Option (List ℕ)) → SendsOn width_of every before input rest old now t number left → Consumes rest next [] → IsAtEnd next → Sends width_of t u number later now new → SendsAll width_of every before input old new
     on_all None rest next u later new s c e sends = tt
@@ -44,4 +45,53 @@ module _ {W : Type 0} (width_of : W → List ℕ → ℕ) where
     on_all (Some input) (Some rest) None u later new s c e sends = absurd c
     on_all (Some input) (Some rest) (Some next) u later new s c e sends = λ start at counted.
         sending_all width_of before.surface.canvas.widths every start input rest old now t number left (s start at counted) u later new (c ∙ e)
-        (λ x there. subst (λ (y : W). Sent_by y x u later new t) same (sends x there))
+        (λ x there. subst (λ (y : W). Sent (width_of y) x number later u now new) same (sends x there))
+
+    -- ---- where it ends early
+
+    pub on_part : (input rest next : Option (List ℕ)) (bytes : List ℕ) → SendsOn width_of every before input rest old now t number left → Consumes rest next bytes → SendsFirst width_of every before input next old now
+    on_part None rest next bytes s c = tt
+    on_part (Some input) None next bytes s c = absurd s
+    on_part (Some input) (Some rest) None bytes s c = absurd c
+    on_part (Some input) (Some rest) (Some next) bytes s c = λ start at counted.
+        sending_part width_of before.surface.canvas.widths every start input rest old now t number left (s start at counted) next bytes (Some next) c refl
+
+    pub on_some : (input rest next : Option (List ℕ)) (bytes : List ℕ) (u : Terminal W) (new : Option (List ℕ)) → SendsOn width_of every before input rest old now t number left → Consumes rest next bytes → GoesBy width_of t u (Piece bytes ∷ []) → length bytes ≡ left → 0 < left
+        → SendsSome width_of u number now new → SendsFirst width_of every before input next old new
+    on_some None rest next bytes u new s c g full some sends = tt
+    on_some (Some input) None next bytes u new s c g full some sends = absurd s
+    on_some (Some input) (Some rest) None bytes u new s c g full some sends = absurd c
+    on_some (Some input) (Some rest) (Some next) bytes u new s c g full some sends = λ start at counted.
+        sending_some width_of before.surface.canvas.widths every start input rest old now t number left (s start at counted) next bytes u new (Some next) c refl same g full some
+        (λ x there. subst (λ (y : W). AppendsPrefix now new (update_at (looked (width_of y) x) number)) (g.widths ∙ same) (sends x there))
+
+    pub on_last : (input rest next : Option (List ℕ)) (new : Option (List ℕ)) → SendsOn width_of every before input rest old now t number left → Consumes rest next [] → IsAtEnd next → SendsSome width_of t number now new → SendsFirst width_of every before input next old new
+    on_last None rest next new s c e sends = tt
+    on_last (Some input) None next new s c e sends = absurd s
+    on_last (Some input) (Some rest) None new s c e sends = absurd c
+    on_last (Some input) (Some rest) (Some next) new s c e sends = λ start at counted.
+        sending_last width_of before.surface.canvas.widths every start input rest old now t number left (s start at counted) new (Some next) (c ∙ e) (ap Some (sym c))
+        (λ x there. subst (λ (y : W). AppendsPrefix now new (update_at (looked (width_of y) x) number)) same (sends x there))
+
+    -- ---- numbers
+
+    pub on_feed_past : (input rest next : Option (List ℕ)) (bytes : List ℕ) → SendsOn width_of every before input rest old now t number left → Consumes rest next bytes → length bytes ≤ left → NeedsNumber width_of t (Piece bytes ∷ []) → LooksNeedNumber width_of every before input
+    on_feed_past None rest next bytes s c count n = tt
+    on_feed_past (Some input) None next bytes s c count n = absurd s
+    on_feed_past (Some input) (Some rest) None bytes s c count n = absurd c
+    on_feed_past (Some input) (Some rest) (Some next) bytes s c count n = λ start at counted.
+        past_feed width_of before.surface.canvas.widths every start input rest old now t number left (s start at counted) next bytes c same count n
+
+    pub on_look_past : (input rest next : Option (List ℕ)) (bytes : List ℕ) (u : Terminal W) → SendsOn width_of every before input rest old now t number left → Consumes rest next bytes → GoesBy width_of t u (Piece bytes ∷ []) → length bytes ≡ left → 0 < left → NeedsNumber width_of u (Look ∷ []) → LooksNeedNumber width_of every before input
+    on_look_past None rest next bytes u s c g full some n = tt
+    on_look_past (Some input) None next bytes u s c g full some n = absurd s
+    on_look_past (Some input) (Some rest) None bytes u s c g full some n = absurd c
+    on_look_past (Some input) (Some rest) (Some next) bytes u s c g full some n = λ start at counted.
+        past_look width_of before.surface.canvas.widths every start input rest old now t number left (s start at counted) next bytes u c same (g.widths ∙ same) g full some n
+
+    pub on_end_past : (input rest next : Option (List ℕ)) → SendsOn width_of every before input rest old now t number left → Consumes rest next [] → IsAtEnd next → NeedsNumber width_of t (Look ∷ []) → LooksNeedNumber width_of every before input
+    on_end_past None rest next s c e n = tt
+    on_end_past (Some input) None next s c e n = absurd s
+    on_end_past (Some input) (Some rest) None s c e n = absurd c
+    on_end_past (Some input) (Some rest) (Some next) s c e n = λ start at counted.
+        past_end width_of before.surface.canvas.widths every start input rest old now t number left (s start at counted) (c ∙ e) same n
