@@ -1,16 +1,16 @@
 -- Commands that were read from a body without C0 controls and DEL: their links are carried, and their titles are plain.
-use Rattle.std.proofs.Common.{◌≡◌, ℕ, Bool, true, false, ◌&&◌, List, [], ◌∷◌, ◌++◌, map, codes, refl, sym, subst, ◌∙◌, inl, inr, Option, Some, None, option_map, Ok, arith}
-use Rattle.std.specs.Prelude.{⊤, not, unwrap_or, if◌then◌else◌}
+use Rattle.std.proofs.Common.{◌≡◌, ℕ, true, false, ◌&&◌, List, [], ◌∷◌, ◌++◌, map, codes, refl, sym, ◌∙◌, Option, Some, None, option_map, Ok, arith}
+use Rattle.std.specs.Prelude.{⊤, not, unwrap_or, IfSome, Result, Err, option_and_then}
 use Rattle.std.specs.List.{AllByRecursion, list_all}
-use Rattle.std.specs.Str.{IsUtf8, bytes_eq, is_utf8}
+use Rattle.std.specs.Str.{bytes_eq, is_utf8}
 use Rattle.std.specs.Result.{result_ok}
-use Rattle.std.proofs.lemmas.Bool.{cases_Bool}
-use Rattle.std.proofs.lemmas.Option.{same_Some}
+use Rattle.std.proofs.lemmas.Bool.{cond_both}
+use Rattle.std.proofs.lemmas.Bool.Decides.{nat_tests}
 use Rattle.std.proofs.lemmas.Str.{IsUtf8-from_is_utf8}
+use Rattle.cell_base.specs.declared.link_error.LinkError.{LinkError}
 use Rattle.cell_base.specs.Link.{Link, Param}
 use Rattle.cell_base.specs.LinkText.{param_text, params_text, link_text, link_reading, IsReadBack}
 use Rattle.cell_base.proofs.LinkLaws.{body_back}
-use Rattle.cell_change.proofs.TextLemmas.{by_test}
 use Rattle.escape_framing.specs.Bytes as framing
 use Rattle.escape_framing.specs.Bytes.{taken}
 use Rattle.escape_osc.specs.Command.{Command, set_icon_name_and_window_title, set_icon_name, set_window_title, current_working_directory, set_hyperlink, set_selection, clear_selection, unspecified}
@@ -20,8 +20,6 @@ use Rattle.escape_osc.specs.Selection.{selection_reading}
 use Rattle.escape_osc.specs.Writable.{is_control}
 use Rattle.escape_osc.proofs.ByteLemmas.{each-front, each-back, each_joined, joined_each, none_passes, link_parts_each}
 use Rattle.escape_osc.proofs.C1Lemmas.{LacksC1, or_parts, holds_c1-cons, holds_c1-joint, any_holds_c1-joined, each_lacks_c1, link_parts_lack_c1}
-use Rattle.escape_osc.proofs.Cases.{option_cases}
-use Rattle.escape_osc.proofs.ReadBack.{result_cases, utf8_same}
 use Rattle.escape_osc.proofs.SplitLemmas.{parts_each}
 use Rattle.terminal_render.specs.Links.{is_plain_text, is_plain_param, has_plain_texts, is_carried}
 use Rattle.terminal_render.proofs.LinkLemmas.{is_read_back}
@@ -90,107 +88,80 @@ command_request (set_window_title text) h = h
 command_request (set_hyperlink link) h = h
 command_request _ h = tt
 
-utf8_found : (bytes text : List ℕ) → utf8_reading bytes ≡ Some text → IsUtf8 text
-unfolding utf8_reading
-utf8_found bytes text h = elim (cases_Bool (is_utf8 bytes)) [
-  | inl is ↦ subst IsUtf8 (same_Some _ _ (rw is at h)) (IsUtf8-from_is_utf8 bytes is)
-  | inr other ↦ cc (rw other at h)
-]
+-- what was read, if something was
+abbrev Reads : Option Command → Type 0
+Reads found = IfSome found IsSpelledCommand
 
-text_made : (make : List ℕ → Command) (rest : List (List ℕ)) (command : Command) → ((text : List ℕ) → IsSpelledTitle text → IsSpelledCommand (make text))
-    → AllByRecursion ArePlain rest → any_holds_c1 rest ≡ false → option_map make (text_reading rest) ≡ Some command → IsSpelledCommand command
-unfolding text_reading
-text_made make [] command k c0 c1 h = cc
-text_made make (part ∷ rest) command k c0 c1 h = elim (option_cases (utf8_reading (joined (part ∷ rest)))) [
-  | inl none ↦ cc (rw none at h)
-  | inr (text, some) ↦
-      let e : make text ≡ command = same_Some _ _ (rw some at h) in
-      let plain = subst (λ (t : List ℕ). is_plain_text t ≡ true) (utf8_same (joined (part ∷ rest)) text some) (joined_plain (part ∷ rest) c0 c1) in
-      subst IsSpelledCommand e (k text (record { utf8 = utf8_found (joined (part ∷ rest)) text some; plain = plain }))
-]
+text_read : (make : List ℕ → Command) (rest : List (List ℕ)) → ((text : List ℕ) → IsSpelledTitle text → IsSpelledCommand (make text)) → AllByRecursion ArePlain rest → any_holds_c1 rest ≡ false → Reads (option_map make (text_reading rest))
+unfolding text_reading utf8_reading
+text_read make [] k c0 c1 = tt
+text_read make (part ∷ rest) k c0 c1 =
+    let text = joined (part ∷ rest) in
+    cond_both (is_utf8 text) (Some text) None (λ found. Reads (option_map make found)) (λ e. k text (record { utf8 = IsUtf8-from_is_utf8 text e; plain = joined_plain (part ∷ rest) c0 c1 })) (λ e. tt)
 
-link_made : (parts : List (List ℕ)) (command : Command) → ReadBack parts → AllByRecursion ArePlain parts → any_holds_c1 parts ≡ false → option_map set_hyperlink (result_ok (link_reading parts)) ≡ Some command → IsSpelledCommand command
-link_made parts command back c0 c1 h = elim (result_cases (link_reading parts)) [
-  | inl (link, ok) ↦
-      let e : set_hyperlink link ≡ command = same_Some _ _ (rw ok at h) in
-      subst IsSpelledCommand e (link_carried parts link back c0 c1 ok)
-  | inr (error, err) ↦ cc (rw err at h)
-]
+link_read : (parts : List (List ℕ)) → ReadBack parts → AllByRecursion ArePlain parts → any_holds_c1 parts ≡ false → Reads (option_map set_hyperlink (result_ok (link_reading parts)))
+link_read parts back c0 c1 = by_reading (link_reading parts) refl
+  where
+    by_reading : (read : Result (Option Link) LinkError) → link_reading parts ≡ read → Reads (option_map set_hyperlink (result_ok read))
+    by_reading (Ok link) e = link_carried parts link back c0 c1 e
+    by_reading (Err error) e = tt
 
-made : {X : Type 0} (make : X → Command) → ((x : X) → IsSpelledCommand (make x)) → (found : Option X) (command : Command) → option_map make found ≡ Some command → IsSpelledCommand command
-made make h None command e = cc
-made make h (Some x) command e = subst IsSpelledCommand (same_Some _ _ e) (h x)
+other_read : {X : Type 0} (make : X → Command) → ((x : X) → IsSpelledCommand (make x)) → (found : Option X) → Reads (option_map make found)
+other_read make h None = tt
+other_read make h (Some x) = h x
 
-data_made : (bits : ℕ) (text : List ℕ) (command : Command) → data_reading bits text ≡ Some command → IsSpelledCommand command
+data_read : (bits : ℕ) (text : List ℕ) → Reads (data_reading bits text)
 unfolding data_reading
-data_made bits text command e = elim (cases_Bool (bytes_eq text (codes "?"))) [
-  | inl asks ↦ subst IsSpelledCommand (same_Some _ _ (rw asks at e)) tt
-  | inr sets ↦ made (set_selection bits) (λ x. tt) (base64_reading text) command (rw sets at e)
-]
+data_read bits text = cond_both (bytes_eq text (codes "?")) _ _ Reads (λ e. tt) (λ e. other_read (set_selection bits) (λ x. tt) (base64_reading text))
 
-selection_made : (rest : List (List ℕ)) (command : Command) → selection_command rest ≡ Some command → IsSpelledCommand command
+selection_read : (rest : List (List ℕ)) → Reads (selection_command rest)
 unfolding selection_command clear_reading lettered_reading
-selection_made [] command e = cc
-selection_made (letters ∷ []) command e = made clear_selection (λ x. tt) (selection_reading letters) command e
-selection_made (letters ∷ text ∷ []) command e = elim (option_cases (selection_reading letters)) [
-  | inl none ↦ cc (rw none at e)
-  | inr (bits, some) ↦ data_made bits text command (rw some at e)
-]
-selection_made (letters ∷ text ∷ more ∷ rest) command e = cc
+selection_read [] = tt
+selection_read (letters ∷ []) = other_read clear_selection (λ x. tt) (selection_reading letters)
+selection_read (letters ∷ text ∷ []) = by_bits (selection_reading letters)
+  where
+    by_bits : (found : Option ℕ) → Reads (option_and_then (λ bits. data_reading bits text) found)
+    by_bits None = tt
+    by_bits (Some bits) = data_read bits text
+selection_read (letters ∷ text ∷ more ∷ rest) = tt
 
-coded_spelled : (code : List ℕ) (rest : List (List ℕ)) (command : Command) → ReadBack (code ∷ rest) → AllByRecursion ArePlain (code ∷ rest) → any_holds_c1 (code ∷ rest) ≡ false
-    → coded_reading code rest (code ∷ rest) ≡ Some command → IsSpelledCommand command
+coded_read : (code : List ℕ) (rest : List (List ℕ)) → ReadBack (code ∷ rest) → AllByRecursion ArePlain (code ∷ rest) → any_holds_c1 (code ∷ rest) ≡ false → Reads (coded_reading code rest (code ∷ rest))
 unfolding coded_reading link_command
-coded_spelled code rest command back c0 c1 is =
+coded_read code rest back c0 c1 =
     let others : any_holds_c1 rest ≡ false = (or_parts (holds_c1 code) (any_holds_c1 rest) c1).1 in
-    elim (cases_Bool (bytes_eq code (codes "0"))) [
-      | inl c ↦ text_made set_icon_name_and_window_title rest command (λ text h. h) c0.1 others (rw c at is)
-      | inr n0 ↦ elim (cases_Bool (bytes_eq code (codes "1"))) [
-        | inl c ↦ made set_icon_name (λ x. tt) (text_reading rest) command (rw (n0, c) at is)
-        | inr n1 ↦ elim (cases_Bool (bytes_eq code (codes "2"))) [
-          | inl c ↦ text_made set_window_title rest command (λ text h. h) c0.1 others (rw (n0, n1, c) at is)
-          | inr n2 ↦ elim (cases_Bool (bytes_eq code (codes "7"))) [
-            | inl c ↦ made current_working_directory (λ x. tt) (text_reading rest) command (rw (n0, n1, n2, c) at is)
-            | inr n7 ↦ elim (cases_Bool (bytes_eq code (codes "8"))) [
-              | inl c ↦ link_made (code ∷ rest) command back c0 c1 (rw (n0, n1, n2, n7, c) at is)
-              | inr n8 ↦ elim (cases_Bool (bytes_eq code (codes "52"))) [
-                | inl c ↦ selection_made rest command (rw (n0, n1, n2, n7, n8, c) at is)
-                | inr n52 ↦ cc (rw (n0, n1, n2, n7, n8, n52) at is)
-              ]
-            ]
-          ]
-        ]
-      ]
-    ]
+    cond_both (bytes_eq code (codes "0")) _ _ Reads (λ e. text_read set_icon_name_and_window_title rest (λ text h. h) c0.1 others)
+    (λ e.
+    cond_both (bytes_eq code (codes "1")) _ _ Reads (λ e. other_read set_icon_name (λ x. tt) (text_reading rest))
+    (λ e.
+    cond_both (bytes_eq code (codes "2")) _ _ Reads (λ e. text_read set_window_title rest (λ text h. h) c0.1 others)
+    (λ e.
+    cond_both (bytes_eq code (codes "7")) _ _ Reads (λ e. other_read current_working_directory (λ x. tt) (text_reading rest))
+    (λ e.
+    cond_both (bytes_eq code (codes "8")) _ _ Reads (λ e. link_read (code ∷ rest) back c0 c1)
+    (λ e.
+    cond_both (bytes_eq code (codes "52")) _ _ Reads (λ e. selection_read rest) (λ e. tt))))))
 
 fitting_spelled : (parts : List (List ℕ)) → ReadBack parts → AllByRecursion ArePlain parts → any_holds_c1 parts ≡ false → IsSpelledCommand (unwrap_or (fitting_reading parts) (unspecified parts))
 fitting_spelled [] back c0 c1 = tt
-fitting_spelled (code ∷ rest) back c0 c1 = by_reading (coded_reading code rest (code ∷ rest)) refl
+fitting_spelled (code ∷ rest) back c0 c1 = by_reading (coded_reading code rest (code ∷ rest)) (coded_read code rest back c0 c1)
   where
-    by_reading : (found : Option Command) → coded_reading code rest (code ∷ rest) ≡ found → IsSpelledCommand (unwrap_or found (unspecified (code ∷ rest)))
-    by_reading None e = tt
-    by_reading (Some command) e = coded_spelled code rest command back c0 c1 e
+    by_reading : (found : Option Command) → Reads found → IsSpelledCommand (unwrap_or found (unspecified (code ∷ rest)))
+    by_reading None h = tt
+    by_reading (Some command) h = h
 
 -- with U+0080 to U+009F the parts fit no code
 pub read_spelled : (body : List ℕ) → ArePlain body → IsSpelledCommand (osc_reading (parts_of body))
 read_spelled body h =
-    by_test (any_holds_c1 (parts_of body))
-    (λ e. subst (λ b. IsSpelledCommand (if b then unspecified (parts_of body) else unwrap_or (fitting_reading (parts_of body)) (unspecified (parts_of body)))) (sym e) tt)
-    (λ e.
-    subst (λ b. IsSpelledCommand (if b then unspecified (parts_of body) else unwrap_or (fitting_reading (parts_of body)) (unspecified (parts_of body)))) (sym e)
-    (fitting_spelled (parts_of body) (λ link ok. body_back body (Some link) ok) (parts_each IsPlain body h) e))
+    cond_both (any_holds_c1 (parts_of body)) (unspecified (parts_of body)) (unwrap_or (fitting_reading (parts_of body)) (unspecified (parts_of body))) IsSpelledCommand (λ e. tt)
+    (λ e. fitting_spelled (parts_of body) (λ link ok. body_back body (Some link) ok) (parts_each IsPlain body h) e)
 
 -- ---- bodies
 
-same_control : (b : ℕ) → framing.is_control b ≡ is_control b
+plain_byte : (b : ℕ) → not (framing.is_control b) ≡ true → IsPlain b
 unfolding framing.is_control
-same_control b = refl
-
-pushed : (b : ℕ) (t : Bool) (rest : List ℕ) → is_control b ≡ t → ArePlain rest → ArePlain (if not t then b ∷ rest else rest)
-pushed b true rest e h = h
-pushed b false rest e h = (e, h)
+plain_byte b e = grind (arith, nat_tests)
 
 -- the bytes of a body that are taken are no controls
 pub taken_plain : (body : List ℕ) → ArePlain (taken body)
 taken_plain [] = tt
-taken_plain (b ∷ body) = subst (λ t. ArePlain (if not t then b ∷ taken body else taken body)) (sym (same_control b)) (pushed b (is_control b) (taken body) refl (taken_plain body))
+taken_plain (b ∷ body) = cond_both (not (framing.is_control b)) _ _ ArePlain (λ e. (plain_byte b e, taken_plain body)) (λ e. taken_plain body)

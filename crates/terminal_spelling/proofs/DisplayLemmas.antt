@@ -1,16 +1,16 @@
 -- The cells, the pen and the title of displays have a spelling.
-use Rattle.std.proofs.Common.{◌≡◌, ℕ, zero, suc, ◌+◌, ◌-◌, Bool, true, false, List, [], ◌∷◌, ◌++◌, length, get_or, take, drop, map, fold, replicate, refl, sym, subst, arith}
+use Rattle.std.proofs.Common.{◌≡◌, ℕ, zero, suc, ◌+◌, ◌-◌, Bool, true, false, List, [], ◌∷◌, ◌++◌, length, get_or, take, drop, map, fold, replicate, refl}
 use Rattle.std.specs.Prelude.{All, None, ◌==◌, ◌&&◌, min, nat_lt, nat_le, if◌then◌else◌}
 use Rattle.std.specs.List.{AllByRecursion}
-use Rattle.std.proofs.lemmas.List.Elements.{All-append, All-drop, All-take, All-map, All-set, All-replicate}
+use Rattle.std.proofs.lemmas.Bool.{cond_both}
+use Rattle.std.proofs.lemmas.List.Elements.{All-append, All-cons, All-nil, All-drop, All-take, All-map, All-set, All-replicate}
 use Rattle.cell_base.specs.declared.color.ColorAttribute.{ColorAttribute}
 use Rattle.cell_base.specs.Attributes.{Attributes, plain, blank_of}
 use Rattle.cell_base.specs.AttributeValue as one
 use Rattle.cell_base.specs.AttributeValue.{AttributeValue}
 use Rattle.cell_base.specs.Row.{Row, Narrow, LeftHalf, RightHalf, space, blank, plain_row, columns_of, closed_end, closed_start, set_columns}
-use Rattle.cell_base.specs.Screen.{Screen, IsScreen, height, new_screen, scrolled, line_feed, carriage_return, cluster_columns, write_columns, put}
+use Rattle.cell_base.specs.Screen.{Screen, IsScreen, height, new_screen, line_feed, carriage_return, cluster_columns, write_columns, put}
 use Rattle.cell_change.specs.ChangeValue.{ChangeValue, Attribute, AllAttributes, Text, ClearScreen, ClearToEndOfLine, ClearToEndOfScreen, CursorPosition, CursorColor, CursorShape, CursorVisibility, LineAttribute, ScrollRegionUp, ScrollRegionDown, Title}
-use Rattle.cell_change.proofs.TextLemmas.{by_test}
 use Rattle.cell_rows.proofs.LawfulScreens.{line_feed_is, carriage_return_is}
 use Rattle.screen_effects.specs.Display.{Display, IsDisplay, new_display}
 use Rattle.screen_effects.specs.Effect.{effect, replay, blank_row, cleared_behind, cursor_row}
@@ -104,10 +104,6 @@ cluster_spelled : (width_of : List ℕ → ℕ) (s : Screen) (cluster : List ℕ
 cluster_spelled width_of s cluster p t =
     spelled-columns _ (nat_le 2 (width_of cluster) && nat_lt 1 s.width) s.pen (space_or (nat_le 2 (width_of cluster) && s.width == 1) cluster t) p
 
-only : (x : Row) → IsSpelledRow x → All IsSpelledRow (x ∷ [])
-only x p zero d h = p
-only x p (suc k) d h = absurd (omega arith)
-
 plain_row_spelled : (width : ℕ) → IsSpelledRow (plain_row width)
 plain_row_spelled width = spelled-blanks width plain plain_spelled
 
@@ -116,10 +112,11 @@ blank_row_spelled width color c = spelled-blanks width (blank_of color) (blank_s
 
 fed_spelled : (s : Screen) → IsSpelledScreen s → IsSpelledScreen (line_feed s)
 fed_spelled s p =
-    by_test (s.row + 1 == height s)
-    (λ e. subst (λ b. IsSpelledScreen (if b then scrolled s else record s { row = s.row + 1 })) (sym e)
-    (record { rows = All-append IsSpelledRow (drop 1 s.rows) (plain_row s.width ∷ []) (All-drop IsSpelledRow 1 s.rows p.rows) (only (plain_row s.width) (plain_row_spelled s.width)); pen = p.pen; title = p.title }))
-    (λ e. subst (λ b. IsSpelledScreen (if b then scrolled s else record s { row = s.row + 1 })) (sym e) (assumption p))
+    let blank = plain_row s.width in
+    let below = All-cons IsSpelledRow blank [] (plain_row_spelled s.width) (All-nil IsSpelledRow) in
+    cond_both (s.row + 1 == height s) _ _ IsSpelledScreen
+    (λ e. record { rows = All-append IsSpelledRow (drop 1 s.rows) (blank ∷ []) (All-drop IsSpelledRow 1 s.rows p.rows) below; pen = p.pen; title = p.title })
+    (λ e. assumption p)
 
 written_spelled : (s : Screen) (columns : Row) → IsScreen s → IsSpelledScreen s → IsSpelledRow columns → IsSpelledScreen (write_columns columns s)
 written_spelled s columns h p q = record {
@@ -133,10 +130,9 @@ put_spelled width_of s cluster h t p =
     let columns = cluster_columns width_of s cluster in
     let q = cluster_spelled width_of s cluster p.pen t in
     let fed = fed_spelled s p in
-    by_test (nat_lt s.width (s.column + length columns))
-    (λ e. subst (λ b. IsSpelledScreen (write_columns columns (if b then carriage_return (line_feed s) else s))) (sym e)
-    (written_spelled (carriage_return (line_feed s)) columns (carriage_return_is (line_feed s) (line_feed_is s h)) (assumption fed) q))
-    (λ e. subst (λ b. IsSpelledScreen (write_columns columns (if b then carriage_return (line_feed s) else s))) (sym e) (written_spelled s columns h p q))
+    cond_both (nat_lt s.width (s.column + length columns)) (carriage_return (line_feed s)) s (λ (x : Screen). IsSpelledScreen (write_columns columns x))
+    (λ e. written_spelled (carriage_return (line_feed s)) columns (carriage_return_is (line_feed s) (line_feed_is s h)) (assumption fed) q)
+    (λ e. written_spelled s columns h p q)
 
 strokes_done : (width_of : List ℕ → ℕ) (ss : List Stroke) (d : Display) → AreSpelledStrokes ss → IsDisplay d → IsSpelledScreen d.screen → IsSpelledScreen (fold (stroke_done width_of) d ss).screen
 strokes_done width_of [] d g h p = p
@@ -151,14 +147,8 @@ cleared_spelled column color row c p = spelled-set_columns row column _ p (spell
 
 below_spelled : (s : Screen) (color : ColorAttribute) (n : ℕ) → IsToldColor color → All IsSpelledRow s.rows → IsSpelledRow (cleared_behind s.column color (cursor_row s)) → All IsSpelledRow (take s.row s.rows ++ cleared_behind s.column color (cursor_row s) ∷ replicate n (blank_row s.width color))
 below_spelled s color n c p q =
-    All-append IsSpelledRow (take s.row s.rows) _ (All-take IsSpelledRow s.row s.rows p) first
-  where
-    rest : All IsSpelledRow (replicate n (blank_row s.width color))
-    rest = All-replicate IsSpelledRow n (blank_row s.width color) (blank_row_spelled s.width color c)
-
-    first : All IsSpelledRow (cleared_behind s.column color (cursor_row s) ∷ replicate n (blank_row s.width color))
-    first zero d h = q
-    first (suc k) d h = rest k d (omega arith)
+    All-append IsSpelledRow (take s.row s.rows) _ (All-take IsSpelledRow s.row s.rows p)
+    (All-cons IsSpelledRow (cleared_behind s.column color (cursor_row s)) (replicate n (blank_row s.width color)) q (All-replicate IsSpelledRow n (blank_row s.width color) (blank_row_spelled s.width color c)))
 
 region_spelled : (change : List Row → List Row) (first size : ℕ) (xs : List Row) → ((ys : List Row) → All IsSpelledRow ys → All IsSpelledRow (change ys)) → All IsSpelledRow xs → All IsSpelledRow (in_region change first size xs)
 region_spelled change first size xs keeps p =

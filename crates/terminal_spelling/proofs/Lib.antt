@@ -1,7 +1,7 @@
 pub mod TextLemmas
 pub mod DisplayLemmas
+pub mod PenLemmas
 pub mod ChangeLemmas
-pub mod FunctionLemmas
 pub mod ViewLemmas
 pub mod SequenceLemmas
 pub mod CommandLemmas

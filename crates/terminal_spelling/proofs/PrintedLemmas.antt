@@ -1,6 +1,7 @@
 -- What is sent for changes prints their texts.
 use Rattle.std.proofs.Common.{◌≡◌, ℕ, Bool, true, false, List, [], ◌∷◌, ◌++◌, map, refl, sym, ap, subst, ◌∙◌}
-use Rattle.std.specs.Prelude.{◌==◌, ◌||◌, flat_map, min, Option, Some, None, IfSome, option_map, if◌then◌else◌}
+use Rattle.std.specs.Prelude.{◌==◌, ◌||◌, flat_map, Option, Some, None, IfSome, option_map, if◌then◌else◌}
+use Rattle.std.proofs.lemmas.Bool.{cond_both}
 use Rattle.std.proofs.lemmas.Grind.{flat_map-append}
 use Rattle.cell_base.specs.AttributeValue as one
 use Rattle.cell_base.specs.AttributeValue.{AttributeValue}
@@ -20,7 +21,7 @@ use Rattle.terminal_render.specs.Links.{is_carried, is_plain_text}
 use Rattle.terminal_render.specs.Lists.{all_rendered}
 use Rattle.terminal_render.specs.Pen.{colour_setting, rendition, link_action, attribute_setting, attribute_action, unless_default, set, pen_actions, is_unsaid, pen_settings, pen_rendering, plain_pen, clear_rendering}
 use Rattle.terminal_render.specs.Places.{position_moves}
-use Rattle.terminal_render.specs.Rendering.{edited, moved, is_whole, scroll_rendering, rendering}
+use Rattle.terminal_render.specs.Rendering.{moved, is_whole, scroll_rendering, rendering}
 use Rattle.terminal_render.specs.Texts.{run_actions, part_actions, text_rendering, title_rendering}
 use Rattle.terminal_render.proofs.ListLemmas.{parts}
 use Rattle.terminal_spelling.specs.Sizes.{byte_printed, run_in, runs_in, prints_in}
@@ -51,14 +52,6 @@ text_prints (b ∷ text) = by_test (is_control b) (text_prints text)
 abbrev Prints : List ℕ → Option (List StreamAction) → Type 0
 Prints run found = IfSome found (λ actions. prints_in actions ≡ run)
 
-unless : (run : List ℕ) (b : Bool) (found : Option (List StreamAction)) → Prints run found → Prints run (if b then None else found)
-unless run true found h = tt
-unless run false found h = h
-
-provided : (run : List ℕ) (b : Bool) (found : Option (List StreamAction)) → Prints run found → Prints run (if b then found else None)
-provided run true found h = h
-provided run false found h = tt
-
 mapped : {A : Type 0} (send : A → List StreamAction) → ((x : A) → prints_in (send x) ≡ []) → (found : Option A) → Prints [] (option_map send found)
 mapped send h None = tt
 mapped send h (Some x) = h x
@@ -78,11 +71,7 @@ sets_print (Some value ∷ values) others h = sets_print values others h
 
 value_prints : (value : AttributeValue) → Prints [] (option_map (λ action. action ∷ []) (attribute_action value))
 unfolding attribute_action
-value_prints (one.Hyperlink link) = by_test (is_carried link)
-  where
-    by_test : (b : Bool) → Prints [] (option_map (λ action. action ∷ []) (if b then Some (link_action link) else None))
-    by_test true = refl
-    by_test false = tt
+value_prints (one.Hyperlink link) = cond_both (is_carried link) (Some (link_action link)) None (λ found. Prints [] (option_map (λ action. action ∷ []) found)) (λ e. refl) (λ e. tt)
 value_prints value = by_setting (attribute_setting value)
   where
     by_setting : (found : Option Sgr) → Prints [] (option_map (λ action. action ∷ []) (option_map rendition found))
@@ -95,18 +84,14 @@ clear_prints color erasure h = mapped (λ c. plain_pen c ++ erasure) (λ c. set_
 
 scroll_prints : (scroll : ℕ → Edit) (height first size count : ℕ) → Prints [] (scroll_rendering scroll height first size count)
 unfolding scroll_rendering
-scroll_prints scroll height first size count = provided [] (is_whole height first size) (Some (if count == 0 then [] else edited (scroll (min count height)) ∷ [])) (by_count (count == 0))
-  where
-    by_count : (b : Bool) → prints_in (if b then [] else edited (scroll (min count height)) ∷ []) ≡ []
-    by_count true = refl
-    by_count false = refl
+scroll_prints scroll height first size count = cond_both (is_whole height first size) _ _ (Prints []) (λ e. cond_both (count == 0) _ _ (λ actions. prints_in actions ≡ []) (λ z. refl) (λ z. refl)) (λ e. tt)
 
 change_prints : (change : ChangeValue) (width height : ℕ) → Prints (run_in change) (rendering change width height)
 unfolding text_rendering title_rendering pen_rendering
-change_prints (Text text) width height = unless (run_in (Text text)) (holds_c1 text) (Some (flat_map part_actions (text_parts text))) (text_prints text)
-change_prints (Title text) width height = provided [] (is_plain_text text) _ refl
+change_prints (Text text) width height = cond_both (holds_c1 text) _ _ (Prints (run_in (Text text))) (λ e. tt) (λ e. text_prints text)
+change_prints (Title text) width height = cond_both (is_plain_text text) _ _ (Prints []) (λ e. refl) (λ e. tt)
 change_prints (Attribute value) width height = value_prints value
-change_prints (AllAttributes a) width height = unless [] (is_unsaid a) _ (mapped (λ values. pen_actions values a.hyperlink) (λ values. sets_print values (link_action a.hyperlink ∷ []) refl) (pen_settings a))
+change_prints (AllAttributes a) width height = cond_both (is_unsaid a) _ _ (Prints []) (λ e. tt) (λ e. mapped (λ values. pen_actions values a.hyperlink) (λ values. sets_print values (link_action a.hyperlink ∷ []) refl) (pen_settings a))
 change_prints (ClearScreen color) width height = clear_prints color _ refl
 change_prints (ClearToEndOfLine color) width height = clear_prints color _ refl
 change_prints (ClearToEndOfScreen color) width height = clear_prints color _ refl

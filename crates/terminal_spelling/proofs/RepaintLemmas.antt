@@ -2,6 +2,7 @@
 use Rattle.std.proofs.Common.{◌≡◌, ℕ, ◌+◌, ◌<◌, ◌≤◌, ◌⊎◌, inl, inr, Bool, true, false, List, [], ◌∷◌, ◌++◌, map, fold, refl, sym, subst, arith}
 use Rattle.std.specs.Prelude.{All, ⊤, not, ◌==◌, ◌&&◌, ◌||◌, pos, Option, Some, None, if◌then◌else◌}
 use Rattle.std.specs.List.{AllByRecursion, list_any, concat}
+use Rattle.std.proofs.lemmas.Bool.{cond_both}
 use Rattle.std.proofs.lemmas.List.Elements.{All-head, All-tail}
 use Rattle.cell_base.specs.declared.attributes.CursorShape.{CursorShape as Shape}
 use Rattle.cell_base.specs.declared.attributes.CursorVisibility.TheVariants.{Hidden, Visible}
@@ -39,11 +40,7 @@ visible_spelled at (RightHalf attributes ∷ row) p = visible_spelled (at + 1) r
 
 kept_spelled : (passes : CellContent → Bool) (cells : List CellContent) → AreSpelledCells cells → AreSpelledCells (up_to_last passes cells)
 kept_spelled passes [] p = tt
-kept_spelled passes (cell ∷ cells) p = by_answer (passes cell || list_any passes cells) (cell ∷ up_to_last passes cells) (p.0, kept_spelled passes cells p.1)
-  where
-    by_answer : (b : Bool) (rest : List CellContent) → AreSpelledCells rest → AreSpelledCells (if b then rest else [])
-    by_answer true rest q = q
-    by_answer false rest q = tt
+kept_spelled passes (cell ∷ cells) p = cond_both (passes cell || list_any passes cells) _ _ AreSpelledCells (λ e. (p.0, kept_spelled passes cells p.1)) (λ e. tt)
 
 less_spelled : (background : Option ColorAttribute) (cells : List CellContent) → AreSpelledCells cells → AreSpelledCells (less_blanks background cells)
 less_spelled None cells p = p
@@ -53,16 +50,12 @@ abbrev IsToldOption : Option ColorAttribute → Type 0
 IsToldOption None = ⊤
 IsToldOption (Some color) = IsToldColor color
 
-told_if : (b : Bool) (color : ColorAttribute) → IsToldColor color → IsToldOption (if b then Some color else None)
-told_if true color h = h
-told_if false color h = tt
-
 background_from : (start : Option ColorAttribute) (cells : List CellContent) → IsToldOption start → AreSpelledCells cells
     → IsToldOption (fold (λ _ cell. if is_blank_of cell.attributes.background cell then Some cell.attributes.background else None) start cells)
 background_from start [] h p = h
 background_from start (cell ∷ cells) h p =
     background_from (if is_blank_of cell.attributes.background cell then Some cell.attributes.background else None) cells
-    (told_if (is_blank_of cell.attributes.background cell) cell.attributes.background p.0.1.background) p.1
+    (cond_both (is_blank_of cell.attributes.background cell) _ _ IsToldOption (λ e. p.0.1.background) (λ e. tt)) p.1
 
 background_told : (cells : List CellContent) → AreSpelledCells cells → IsToldOption (background_at_end cells)
 background_told cells p = background_from None cells tt p
@@ -76,22 +69,14 @@ concat_spelled (t ∷ ts) p = spelled_append t (concat ts) p.0 (concat_spelled t
 texts_spelled : (cells : List (List ℕ)) → AreSpelledTexts cells → AreSpelledTexts (texts cells)
 unfolding texts
 texts_spelled [] p = tt
-texts_spelled (cell ∷ cells) p = by_answer (stay_apart (cell ∷ cells))
-  where
-    by_answer : (b : Bool) → AreSpelledTexts (if b then concat (cell ∷ cells) ∷ [] else cell ∷ cells)
-    by_answer true = (concat_spelled (cell ∷ cells) p, tt)
-    by_answer false = p
+texts_spelled (cell ∷ cells) p = cond_both (stay_apart (cell ∷ cells)) _ _ AreSpelledTexts (λ e. (concat_spelled (cell ∷ cells) p, tt)) (λ e. p)
 
 abbrev AreSpelledRuns : List CellRun → Type 0
 AreSpelledRuns = AllByRecursion (λ run. IsSpelledPen run.attributes × AreSpelledTexts run.cells)
 
 before_spelled : (cell : CellContent) (runs : List CellRun) → IsSpelledText cell.text → IsSpelledPen cell.attributes → AreSpelledRuns runs → AreSpelledRuns (before_runs cell runs)
 before_spelled cell [] t a p = ((a, (t, tt)), tt)
-before_spelled cell (run ∷ runs) t a p = by_answer (same_attributes cell.attributes run.attributes)
-  where
-    by_answer : (b : Bool) → AreSpelledRuns (if b then record run { cells = cell.text ∷ run.cells } ∷ runs else record { attributes = cell.attributes; cells = cell.text ∷ [] } ∷ run ∷ runs)
-    by_answer true = ((p.0.0, (t, p.0.1)), p.1)
-    by_answer false = ((a, (t, tt)), p)
+before_spelled cell (run ∷ runs) t a p = cond_both (same_attributes cell.attributes run.attributes) _ _ AreSpelledRuns (λ e. ((p.0.0, (t, p.0.1)), p.1)) (λ e. ((a, (t, tt)), p))
 
 runs_spelled : (cells : List CellContent) → AreSpelledCells cells → AreSpelledRuns (cell_runs cells)
 runs_spelled [] p = tt
@@ -104,11 +89,7 @@ module _ (width tall : ℕ) (some : 0 < width) where
   Sent changes = HaveSpellings width tall changes
 
   pub due_sent : (pen a : Attributes) → IsSpelledPen a → Sent (attributes_due pen a)
-  due_sent pen a p = by_answer (same_attributes a pen)
-    where
-      by_answer : (b : Bool) → Sent (if b then [] else AllAttributes a ∷ [])
-      by_answer true = tt
-      by_answer false = (has_spelling width tall (AllAttributes a) p tt, tt)
+  due_sent pen a p = cond_both (same_attributes a pen) _ _ Sent (λ e. tt) (λ e. (has_spelling width tall (AllAttributes a) p tt, tt))
 
   texts_sent : (ts : List (List ℕ)) → AreSpelledTexts ts → Sent (map Text ts)
   texts_sent [] p = tt
@@ -148,13 +129,9 @@ module _ (width tall : ℕ) (some : 0 < width) where
   rows_sent pen (row ∷ below) p =
       let below_too = go_with_blanks (background_at_end (row_cells row)) below in
       let own = row_painted pen (row_cells row) below_too in
-      by_answer below_too own (in_next_row (rows_painted (pen_left pen own) below))
-      (row_sent pen (row_cells row) below_too (visible_spelled 0 row (All-head IsSpelledRow row below p)))
-      (next_sent (rows_painted (pen_left pen own) below) (rows_sent (pen_left pen own) below (All-tail IsSpelledRow row below p)))
-    where
-      by_answer : (b : Bool) (own rest : List ChangeValue) → Sent own → Sent rest → Sent (if b then own else own ++ rest)
-      by_answer true own rest p q = p
-      by_answer false own rest p q = spellings_append width tall own rest p q
+      let first = row_sent pen (row_cells row) below_too (visible_spelled 0 row (All-head IsSpelledRow row below p)) in
+      let rest = next_sent (rows_painted (pen_left pen own) below) (rows_sent (pen_left pen own) below (All-tail IsSpelledRow row below p)) in
+      cond_both below_too own (own ++ in_next_row (rows_painted (pen_left pen own) below)) Sent (λ e. first) (λ e. spellings_append width tall own (in_next_row (rows_painted (pen_left pen own) below)) first rest)
 
   title_sent : (title : List ℕ) → HaveSpellings width tall (Title title ∷ []) → Sent (title_due title)
   title_sent [] h = tt
@@ -186,11 +163,9 @@ front_sent d h p =
     (rows_sent w n h.lawful.wide_enough plain d.screen.rows p.rows)
 
 pub placed_sent : (width tall : ℕ) (painted : Bool) (column row : ℕ) → column < width → HaveSpellings width tall (cursor_placed painted column row)
-placed_sent width tall painted column row h = by_answer (not painted && (column == 0 && row == 0))
-  where
-    by_answer : (b : Bool) → HaveSpellings width tall (if b then [] else CursorPosition (Absolute column) (Absolute row) ∷ [])
-    by_answer true = tt
-    by_answer false = (has_spelling width tall (CursorPosition (Absolute column) (Absolute row)) tt (place_some width tall column (Absolute row) h), tt)
+placed_sent width tall painted column row h =
+    cond_both (not painted && (column == 0 && row == 0)) _ _ (HaveSpellings width tall) (λ e. tt)
+    (λ e. (has_spelling width tall (CursorPosition (Absolute column) (Absolute row)) tt (place_some width tall column (Absolute row) h), tt))
 
 pub shown_sent : (width tall : ℕ) (visible : Bool) → HaveSpellings width tall (cursor_shown visible None)
 shown_sent width tall true = (has_spelling width tall (CursorVisibility Visible) tt tt, tt)
@@ -209,15 +184,11 @@ repaint_sent d h p c e =
     (subst (λ shape. HaveSpellings s.width (height s) (cursor_shown s.visible shape)) (sym e) (shown_sent s.width (height s) s.visible))
 
 place_or : (s : Screen) (painted : Bool) → IsScreen s → HaveOtherSpellings s (cursor_placed painted s.column s.row)
-place_or s painted h = by_answer (not painted && (s.column == 0 && s.row == 0))
+place_or s painted h = cond_both (not painted && (s.column == 0 && s.row == 0)) _ _ (HaveOtherSpellings s) (λ e. tt) (λ e. (either (order s.column s.width), tt))
   where
     either : (s.column < s.width) ⊎ (s.width ≤ s.column) → HasSpelling s.width (height s) (CursorPosition (Absolute s.column) (Absolute s.row)) ⊎ IsLeftOut s (CursorPosition (Absolute s.column) (Absolute s.row))
     either (inl l) = inl (has_spelling s.width (height s) (CursorPosition (Absolute s.column) (Absolute s.row)) tt (place_some s.width (height s) s.column (Absolute s.row) l))
     either (inr l) = let k = h.column_in in inr (inl (omega arith, refl))
-
-    by_answer : (b : Bool) → HaveOtherSpellings s (if b then [] else CursorPosition (Absolute s.column) (Absolute s.row) ∷ [])
-    by_answer true = tt
-    by_answer false = (either (order s.column s.width), tt)
 
 shape_or : (s : Screen) (visible : Bool) (shape : Option Shape) → HaveOtherSpellings s (cursor_shown visible shape)
 shape_or s true None = (inl (has_spelling s.width (height s) (CursorVisibility Visible) tt tt), tt)

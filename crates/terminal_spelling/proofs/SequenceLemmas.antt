@@ -1,8 +1,9 @@
 -- The SGRs among the actions that are read from parameters can be written, so their colours are of bytes.
-use Rattle.std.proofs.Common.{◌≡◌, ℕ, zero, suc, ◌-◌, ℤ, Bool, true, false, List, [], ◌∷◌, Option, Some, None, option_map, refl}
-use Rattle.std.specs.Prelude.{⊤, ◌==◌, ◌||◌, is_some, IfSome, if◌then◌else◌}
+use Rattle.std.proofs.Common.{◌≡◌, ℕ, zero, suc, ◌-◌, ℤ, Bool, List, [], ◌∷◌, Option, Some, None, option_map, refl}
+use Rattle.std.specs.Prelude.{⊤, ◌==◌, ◌||◌, is_some, IfSome}
 use Rattle.std.specs.List.{AllByRecursion}
 use Rattle.std.specs.Option.{option_or, option_map_or}
+use Rattle.std.proofs.lemmas.Bool.{cond_both}
 use Rattle.csi_codec.specs.declared.cursors.Cursor.{Cursor}
 use Rattle.csi_codec.specs.declared.devices.Device.{Device}
 use Rattle.csi_codec.specs.declared.edits.Edit.{Edit}
@@ -26,10 +27,6 @@ IsSpelledSequence _ = ⊤
 
 abbrev pub AreSpelledSequences : List Action → Type 0
 AreSpelledSequences = AllByRecursion IsSpelledSequence
-
-either : (b : Bool) (xs ys : List Action) → AreSpelledSequences xs → AreSpelledSequences ys → AreSpelledSequences (if b then xs else ys)
-either true xs ys h k = h
-either false xs ys h k = k
 
 -- ---- pieces
 
@@ -78,10 +75,10 @@ pieces_spelled kind truncated final ts = from_spelled kind truncated final 0 ts
 
 sgr_spelled : (truncated : Bool) (final : ℕ) (ts : List CsiParam) → AreSpelledSequences (sgr_reading truncated final ts)
 sgr_spelled truncated final [] = (tt, tt)
-sgr_spelled truncated final (t ∷ ts) = either (all_sgr_tokens (t ∷ ts)) _ _ (pieces_spelled sgr_pieces truncated final (t ∷ ts)) (tt, tt)
+sgr_spelled truncated final (t ∷ ts) = cond_both (all_sgr_tokens (t ∷ ts)) _ _ AreSpelledSequences (λ e. pieces_spelled sgr_pieces truncated final (t ∷ ts)) (λ e. (tt, tt))
 
 modes_spelled : (kind : Kind) (truncated : Bool) (final : ℕ) (ts whole : List CsiParam) → AreSpelledSequences (modes_or kind truncated final ts whole)
-modes_spelled kind truncated final ts whole = either (is_some (piece_of kind final ts)) _ _ (pieces_spelled kind truncated final ts) (tt, tt)
+modes_spelled kind truncated final ts whole = cond_both (is_some (piece_of kind final ts)) _ _ AreSpelledSequences (λ e. pieces_spelled kind truncated final ts) (λ e. (tt, tt))
 
 lone_spelled : (truncated : Bool) (final : ℕ) (ts : List CsiParam) → AreSpelledSequences (lone_or truncated final ts)
 lone_spelled truncated final ts = by_reading (cursor_reading final ts) (edit_reading final ts) (device_reading final ts)
@@ -93,13 +90,13 @@ lone_spelled truncated final ts = by_reading (cursor_reading final ts) (edit_rea
     by_reading None None None = (tt, tt)
 
 standard_spelled : (truncated : Bool) (final : ℕ) (ts : List CsiParam) → AreSpelledSequences (standard_reading truncated final ts)
-standard_spelled truncated final ts = either (final == 104 || final == 108) _ _ (modes_spelled standard_mode_pieces truncated final ts ts) (lone_spelled truncated final ts)
+standard_spelled truncated final ts = cond_both (final == 104 || final == 108) _ _ AreSpelledSequences (λ e. modes_spelled standard_mode_pieces truncated final ts ts) (λ e. lone_spelled truncated final ts)
 
 other_spelled : (truncated : Bool) (final : ℕ) (ts : List CsiParam) → AreSpelledSequences (other_reading truncated final ts)
 other_spelled truncated final [] = standard_spelled truncated final []
 other_spelled truncated final (Integer z ∷ ts) = standard_spelled truncated final (Integer z ∷ ts)
-other_spelled truncated final (P b ∷ ts) = either (b == 63) _ _ (modes_spelled private_mode_pieces truncated final ts (P b ∷ ts)) (standard_spelled truncated final (P b ∷ ts))
+other_spelled truncated final (P b ∷ ts) = cond_both (b == 63) _ _ AreSpelledSequences (λ e. modes_spelled private_mode_pieces truncated final ts (P b ∷ ts)) (λ e. standard_spelled truncated final (P b ∷ ts))
 
 pub reading_spelled : (ts : List CsiParam) (truncated : Bool) (final : ℕ) → AreSpelledSequences (csi_reading ts truncated final)
 unfolding csi_reading
-reading_spelled ts truncated final = either (final == 109) _ _ (sgr_spelled truncated final ts) (other_spelled truncated final ts)
+reading_spelled ts truncated final = cond_both (final == 109) _ _ AreSpelledSequences (λ e. sgr_spelled truncated final ts) (λ e. other_spelled truncated final ts)

@@ -3,6 +3,7 @@ use Rattle.std.proofs.Common.{ℕ, zero, suc, inr, Bool, true, false, List, [], 
 use Rattle.std.specs.Prelude.{⊤, ◌==◌, ◌||◌, Option, Some, None, filter, nat_lt, if◌then◌else◌}
 use Rattle.std.specs.Char.{IsScalar}
 use Rattle.std.specs.List.{AllByRecursion, flat_map}
+use Rattle.std.proofs.lemmas.Bool.{cond_both}
 use Rattle.cell_base.proofs.Pieces.{all_joined}
 use Rattle.csi_codec.specs.Actions as codec
 use Rattle.csi_codec.specs.Actions.{csi_reading}
@@ -87,11 +88,7 @@ sequence_clean parameters final = (tt, tt)
 
 command_clean : (body : List ℕ) (ender : ℕ) → AreClean (command_dispatch body ender)
 unfolding command_dispatch
-command_clean body ender = by_test (ender == 0x07 || ender == 0x1B)
-  where
-    by_test : (b : Bool) → AreClean (if b then OperatingSystemCommand (taken body) ∷ [] else [])
-    by_test true = (taken_plain body, tt)
-    by_test false = tt
+command_clean body ender = cond_both (ender == 0x07 || ender == 0x1B) _ _ AreClean (λ e. (taken_plain body, tt)) (λ e. tt)
 
 decided_clean : (tail : Tail) → AreClean (decided_of tail)
 decided_clean (Begun bytes) = tt
