@@ -1,10 +1,10 @@
 //! The update.
-ghost use Rattle.std.specs.Prelude.{◌≡◌, ◌<◌, ◌^◌, ◌++◌, ◌∷◌, [], false, length, map, IfOk, OnOk, Some};
+ghost use Rattle.std.specs.Prelude.{◌≡◌, ◌<◌, ◌^◌, ◌++◌, false, map, IfOk, OnOk};
 ghost use Rattle.std.specs.List.{flat_map};
 ghost use Rattle.std.specs.Option.{option_map};
 ghost use Rattle.cell_base.specs.declared.attributes.Position.TheVariants as place;
 ghost use Rattle.cell_base.specs.Screen.{height};
-ghost use Rattle.cell_change.specs.ChangeValue.{AllAttributes, CursorPosition as Position_of, Text, Title};
+ghost use Rattle.cell_change.specs.ChangeValue.{AllAttributes, CursorPosition, Text, Title};
 ghost use Rattle.cell_change.specs.ValueOf.{value_of};
 ghost use Rattle.cell_line.specs.CellRefView.{shown_by as cell_shown};
 ghost use Rattle.cell_surface.specs.Surface.{Answers, shown_by};
@@ -16,7 +16,7 @@ ghost use Rattle.screen_repaint.specs.Repaint.{repaint};
 ghost use Rattle.terminal_spelling.specs.Spelling.{HasSpelling, HaveSpellings};
 ghost use Rattle.terminal_update.specs.Sendable.{CanBeSent};
 ghost use Rattle.terminal_update.specs.Sending.{all_sent, is_pending, retold, sent_for};
-ghost use Rattle.terminal_update.specs.Update.{last_cell, painted_anew, update_changes, update_of, written_again};
+ghost use Rattle.terminal_update.specs.Update.{last_cell, update_changes, update_of, written_again};
 
 use crate::laws::updates_have_spellings;
 use cell_base::{CellAttributes, Position, SequenceNo, Widths};
@@ -158,8 +158,8 @@ impl Receiver {
         column: usize,
         row: usize,
     ) -> Result<(), AllocError>
-        requires { HasSpelling self.now.width self.now.height (Position_of (place.Absolute column) (place.Absolute row)) }
-        ensures { OnOk result (map action_value actions.new.items ≡ map action_value actions.old.items ++ sent_for self.now.width self.now.height (Position_of (place.Absolute column) (place.Absolute row))) }
+        requires { HasSpelling self.now.width self.now.height (CursorPosition (place.Absolute column) (place.Absolute row)) }
+        ensures { OnOk result (map action_value actions.new.items ≡ map action_value actions.old.items ++ sent_for self.now.width self.now.height (CursorPosition (place.Absolute column) (place.Absolute row))) }
     {
         let place = Change::CursorPosition {
             x: Position::Absolute(column),
