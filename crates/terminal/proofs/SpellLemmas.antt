@@ -16,9 +16,9 @@ use Rattle.screen_effects.specs.Resize.{resized_row, resized_screen}
 use Rattle.terminal.specs.Terminal.{Terminal, StandsAt, GoesBy, IsSpelled}
 use Rattle.terminal.proofs.GoLemmas.{with_parts, stands_somewhere, looked, resized, forgot, went, fed, events_are as events_are_lawful}
 use Rattle.terminal_spelling.specs.Spelling.{HaveSpellings, IsSpelledSaved, IsSpelledScreen, IsSpelledText, IsSpelledView}
-use Rattle.terminal_spelling.proofs.LogLemmas.{step_size, history_keeps}
+use Rattle.terminal_spelling.proofs.LogLemmas.{history_keeps}
 use Rattle.terminal_spelling.proofs.StreamLemmas.{history_spelled}
-use Rattle.terminal_spelling.proofs.ViewLemmas.{HasSize, new_spelled, settled_is, settled_size}
+use Rattle.terminal_spelling.proofs.ViewLemmas.{HasSize, new_spelled, settled_is, settled_size, step_size}
 use Rattle.terminal_steps.specs.Events.{IsReady, Had}
 use Rattle.terminal_steps.specs.Taking.{Leads, piece_events}
 use Rattle.terminal_steps.specs.declared.state.TerminalState.{TerminalState}

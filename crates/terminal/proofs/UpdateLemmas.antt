@@ -145,7 +145,7 @@ module _ {W : Type 0} (width_of : W → List ℕ → ℕ) (w : W) where
     last = start;
     kept = start;
     whole = refl;
-    room = refl;
+    room = omega arith;
     pieces = λ more. refl;
     appends = none;
     leads = λ ps. refl;
@@ -235,7 +235,7 @@ module _ {W : Type 0} (width_of : W → List ℕ → ℕ) (w : W) where
           last = next_of piece;
           kept = lightened f later (here piece);
           whole = s.whole ∙ ap (λ l. s.read ++ l) e ∙ sym (append_assoc s.read bytes next);
-          room = refl;
+          room = omega arith;
           pieces = λ more. ap (in_pieces every []) (append_assoc s.read bytes more) ∙ s.pieces (bytes ++ more) ∙ ap (λ ps. s.done ++ ps) (fills every s.begun bytes more (omega arith) (omega arith)) ∙ sym (append_assoc s.done (piece ∷ []) (in_pieces every [] more));
           appends = appends_both old now new s.written update s.appends (subst (Appends now new) (update_is piece) sent.appends);
           leads = λ ps. ap (updates_behind f start 0) (append_assoc s.done (piece ∷ []) ps) ∙ s.leads (piece ∷ ps)

@@ -19,8 +19,7 @@ use Rattle.screen_effects.specs.Display.{Display, IsDisplay}
 use Rattle.screen_effects.specs.Effect.{effect, replay}
 use Rattle.screen_effects.specs.Resize.{resized_screen}
 use Rattle.screen_effects.proofs.EffectLaws.{replay_is, resized_is}
-use Rattle.terminal_spelling.proofs.LogLemmas.{replay_size}
-use Rattle.terminal_spelling.proofs.ViewLemmas.{display_on_is}
+use Rattle.terminal_spelling.proofs.ViewLemmas.{display_on_is, replay_size}
 use Rattle.terminal_table.specs.Changes.{changes_of}
 use Rattle.terminal_table.specs.Functions.{function_of}
 use Rattle.terminal_table.specs.History.{History, Piece, Look, Resize, Forget, Event, Act, Looked, Resized, Forgot, events}

@@ -22,8 +22,8 @@ use Rattle.terminal_table.proofs.RunLemmas.{run_step_turns}
 use Rattle.terminal_table.proofs.EventLemmas.{event_is}
 use Rattle.terminal_table.proofs.PrintLemmas.{AllCut, events_are}
 use Rattle.terminal_spelling.specs.Spelling.{AreSpelledEvents, IsSpelledChange, IsSpelledEvent, IsSpelledRequest, IsSpelledState, IsSpelledText, IsSpelledView}
+use Rattle.terminal_spelling.proofs.ChangeLemmas.{changes_spelled}
 use Rattle.terminal_spelling.proofs.DisplayLemmas.{AreSpelledChanges}
-use Rattle.terminal_spelling.proofs.FunctionLemmas.{changes_spelled}
 use Rattle.terminal_spelling.proofs.StreamLemmas.{events_spelled}
 use Rattle.terminal_spelling.proofs.ViewLemmas.{display_on_is, event_spelled, settled_is, settled_spelled}
 use Rattle.terminal_update.specs.Update.{display_on}
