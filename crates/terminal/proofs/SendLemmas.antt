@@ -1,13 +1,14 @@
 -- The updates of an input, where it is known.
-use Rattle.std.proofs.Common.{◌≡◌, ℕ, ◌+◌, ◌<◌, ◌≤◌, ◌^◌, false, List, [], ◌∷◌, ◌++◌, length, refl, sym, ap, subst, ◌∙◌, Option, Some, None}
+use Rattle.std.proofs.Common.{◌≡◌, ℕ, ◌+◌, ◌<◌, ◌≤◌, ◌^◌, false, List, [], ◌∷◌, ◌++◌, length, refl, sym, ap, subst, ◌∙◌, arith, Option, Some, None}
+use Rattle.std.specs.Prelude.{IfSome}
 use Rattle.std.specs.Io.KnownBytes.{Consumes, IsAtEnd, Keeps}
-use Rattle.terminal.specs.Sent.{IsAt, IsCounted, Sent, Sends, SendsSome, SendsAll, SendsFirst, LooksNeedNumber, looked, update_at}
+use Rattle.terminal.specs.Sent.{IsAt, IsCounted, Sent, Sends, SendsSome, SendsAll, SendsFirst, SendsPart, LooksNeedNumber, looked, number_behind, update_at, updates_from}
 use Rattle.terminal.specs.Shown.{AppendsPrefix}
 use Rattle.terminal.specs.Terminal.{Terminal, GoesBy, NeedsNumber}
 use Rattle.terminal.proofs.AppendLemmas.{nothing_appended, keeps_same}
 use Rattle.terminal.proofs.UpdateLemmas.{IsSending, sending_first, sending_more, sending_next, sending_all, sending_part, sending_some, sending_last, past_feed, past_look, past_end}
 use Rattle.terminal_table.specs.History.{Piece, Look}
-use Rattle.terminal_update.specs.Updates.{Standing}
+use Rattle.terminal_update.specs.Updates.{Standing, new_standing}
 
 -- of a known input some bytes were read, and their updates written, wherever the terminal stood
 abbrev pub SendsOn : {W : Type 0} → (W → List ℕ → ℕ) → ℕ → Terminal W → Option (List ℕ) → Option (List ℕ) → Option (List ℕ) → Option (List ℕ) → Terminal W → ℕ → ℕ → Type 0
@@ -95,3 +96,27 @@ module _ {W : Type 0} (width_of : W → List ℕ → ℕ) where
     on_end_past (Some input) (Some rest) None s c e n = absurd c
     on_end_past (Some input) (Some rest) (Some next) s c e n = λ start at counted.
         past_end width_of before.surface.canvas.widths every start input rest old now t number left (s start at counted) (c ∙ e) same n
+
+  -- ---- a new terminal
+
+  pub nothing_sent : (f : List ℕ → ℕ) (every : ℕ) (start : Standing) (input old : Option (List ℕ)) → IfSome input (λ x. SendsPart f every start x input old old)
+  nothing_sent f every start None old = tt
+  nothing_sent f every start (Some x) old = record {
+    read = [];
+    rest = x;
+    whole = refl;
+    others = refl;
+    of_read = record { written = []; others = updates_from f every start []; whole = refl; appends = nothing_appended old old (keeps_same old) };
+    of_input = record { written = []; others = updates_from f every start x; whole = refl; appends = nothing_appended old old (keeps_same old) };
+  }
+
+  pub new_past : (w : W) (every : ℕ) (t : Terminal W) (width height : ℕ) (input : Option (List ℕ)) → IsAt t (new_standing width height) → t.surface.canvas.widths ≡ w → LooksNeedNumber width_of every t input
+      → IfSome input (λ x. 2 ^ 64 ≤ number_behind (width_of w) every (new_standing width height) x)
+  new_past w every t width height None at e n = tt
+  new_past w every t width height (Some x) at e n = subst (λ (y : W). 2 ^ 64 ≤ number_behind (width_of y) every (new_standing width height) x) e (n (new_standing width height) at (omega arith))
+
+-- nothing was read
+pub none_read : (rest next : Option (List ℕ)) → Keeps rest next → Consumes rest next []
+none_read None next k = tt
+none_read (Some x) None k = absurd k
+none_read (Some x) (Some y) k = sym k

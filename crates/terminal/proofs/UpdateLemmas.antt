@@ -3,10 +3,12 @@ use Rattle.std.proofs.Common.{◌≡◌, ℕ, ◌+◌, ◌-◌, ◌<◌, ◌≤�
 use Rattle.std.specs.Prelude.{◌==◌, if◌then◌else◌}
 use Rattle.std.proofs.lemmas.Grind.{flat_map-append}
 use Rattle.std.specs.Io.KnownBytes.{Appends, Consumes, IsAtEnd, Keeps}
+use Rattle.cell_surface.specs.Surface.{number_of}
+use Rattle.change_log.specs.LogSteps.{Sized}
 use Rattle.escape_framing.specs.Existence.Utf8Lemmas.{order}
 use Rattle.terminal.specs.Sent.{IsAt, IsCounted, Sent, SendsPart, looked, lightened, update_at, updates_from, number_behind}
 use Rattle.terminal.specs.Shown.{AppendsPrefix}
-use Rattle.terminal.specs.Terminal.{Terminal, StandsAt, GoesBy, NeedsNumber, log_behind}
+use Rattle.terminal.specs.Terminal.{Terminal, StandsAt, GoesBy, NeedsNumber, log_behind, state_in}
 use Rattle.terminal.proofs.GoLemmas.{actions_join, stays}
 use Rattle.terminal_steps.proofs.NumberLemmas.{fold_number}
 use Rattle.terminal_table.specs.History.{History, Piece, Look, Forget}
@@ -109,6 +111,28 @@ module _ {W : Type 0} (width_of : W → List ℕ → ℕ) (w : W) where
 
   needs_at : (t : Terminal W) (s : Standing) (h : History) → t.surface.canvas.widths ≡ w → IsAt t s → NeedsNumber width_of t h → 2 ^ 64 ≤ (standing_behind f s h).log.log.number
   needs_at t s h e at n = subst (λ x. 2 ^ 64 ≤ x.log.number) (λ i. log_after (width_of (e i)) s.view (at.log i) h) (n s.view at.stands)
+
+  -- what a viewer is sent behind a look, by what the terminal shows then
+  update_there : (t u : Terminal W) (s : Standing) (number : ℕ) → t.surface.canvas.widths ≡ w → IsAt t s → GoesBy width_of t u (Look ∷ []) → update_of (state_in u).screen u.surface.log number ≡ update_at (looked f s) number
+  update_there t u s number e at g = let there = goes_at t u s (Look ∷ []) e at g in λ i. update_of (there.stands.state i).screen (there.log i) number
+
+  pub sent_is : (t u v x : Terminal W) (s : Standing) (number next : ℕ) (bytes : List ℕ) (old new : Option (List ℕ)) → t.surface.canvas.widths ≡ w → IsAt t s → GoesBy width_of t u (Look ∷ [])
+      → bytes ≡ update_of (state_in u).screen u.surface.log number → next ≡ number_of u.surface → Appends old new bytes → GoesBy width_of u v (Forget next ∷ []) → x ≡ record v { replies = [] } → Sent f s number next x old new
+  sent_is t u v x s number next bytes old new e at g b n a h k =
+      let there = goes_at t u s (Look ∷ []) e at g in
+      let after_it = goes_at u v (looked f s) (Forget next ∷ []) (g.widths ∙ e) there h in
+      record {
+        appends = subst (Appends old new) (b ∙ update_there t u s number e at g) a;
+        next_is = n ∙ ap (λ (l : Sized). l.log.number) there.log;
+        at = subst (λ (y : Terminal W). IsAt y (lightened f next (looked f s))) (sym k) (record {
+          stands = record { state = λ i. record (after_it.stands.state i) { replies = [] }; run = after_it.stands.run; unfinished = after_it.stands.unfinished };
+          log = after_it.log;
+        });
+      }
+
+  pub some_is : (t u : Terminal W) (s : Standing) (number : ℕ) (bytes : List ℕ) (old new : Option (List ℕ)) → t.surface.canvas.widths ≡ w → IsAt t s → GoesBy width_of t u (Look ∷ [])
+      → bytes ≡ update_of (state_in u).screen u.surface.log number → AppendsPrefix old new bytes → AppendsPrefix old new (update_at (looked f s) number)
+  some_is t u s number bytes old new e at g b a = subst (AppendsPrefix old new) (b ∙ update_there t u s number e at g) a
 
   -- nothing was fed
   at_rest : (t : Terminal W) (s : Standing) → t.surface.canvas.widths ≡ w → t.is_failed ≡ false → IsAt t s → IsAt t (standing_behind f s (Piece [] ∷ []))
