@@ -3,7 +3,8 @@ use Rattle.std.proofs.Common.{◌≡◌, ℕ, ◌-◌, ◌<◌, Bool, true, fals
 use Rattle.std.specs.Prelude.{All, ⊤, ◌==◌, ◌&&◌, min, not, Option, Some, None, if◌then◌else◌}
 use Rattle.std.specs.List.{flat_map}
 use Rattle.std.proofs.lemmas.Bool.Decides.{nat_tests}
-use Rattle.std.proofs.lemmas.List.Concat.{flat_map-append}
+use Rattle.std.proofs.lemmas.List.{map-id}
+use Rattle.std.proofs.lemmas.List.Concat.{flat_map-append, flat_map_single}
 use Rattle.std.proofs.lemmas.List.Sums.{fold-append}
 use Rattle.cell_base.specs.declared.attributes.CursorVisibility.TheVariants.{Hidden}
 use Rattle.cell_base.specs.declared.attributes.Position.TheVariants.{Absolute}
@@ -113,8 +114,7 @@ told_of_row s wide (CursorPosition (Absolute column) y) p =
 told_of_row s wide change p = refl
 
 pub all_alone : (changes : List ChangeValue) → flat_map (λ change. change ∷ []) changes ≡ changes
-all_alone [] = refl
-all_alone (change ∷ changes) = ap (λ (cs : List ChangeValue). change ∷ cs) (all_alone changes)
+all_alone changes = flat_map_single (λ (change : ChangeValue). change) changes ∙ map-id changes
 
 due_told : (s : Screen) (pen a : Attributes) → flat_map (told s) (attributes_due pen a) ≡ attributes_due pen a
 due_told s pen a = by_answer (same_attributes a pen)

@@ -1,9 +1,7 @@
 -- What is sent for changes in turn.
-use Rattle.std.proofs.Common.{◌≡◌, ◌≢◌, ℕ, zero, suc, ◌+◌, ◌<◌, List, [], ◌∷◌, ◌++◌, length, get_or, take, map, refl, sym, ap, ◌∙◌, subst, arith, append_assoc, append-nil}
+use Rattle.std.proofs.Common.{◌≡◌, ◌≢◌, ℕ, zero, suc, ◌<◌, List, [], ◌∷◌, ◌++◌, length, get_or, map, refl, sym, ap, subst, arith}
 use Rattle.std.specs.Prelude.{Option, Some, None, option_map, option_and_then}
 use Rattle.std.specs.List.{flat_map}
-use Rattle.std.proofs.lemmas.List.{map-append, take_more}
-use Rattle.std.proofs.lemmas.List.Concat.{flat_map-append}
 use Rattle.cell_change.specs.ChangeValue.{ChangeValue}
 use Rattle.escape_stream.specs.StreamAction.{StreamAction}
 use Rattle.terminal_render.specs.Lists.{all_rendered}
@@ -57,27 +55,3 @@ module _ {X : Type 0} (width tall : ℕ) (value : X → ChangeValue) where
   spelled_in told [] i x lt e h = absurd (omega (arith, lt))
   spelled_in told (y ∷ xs) zero x lt e h = subst (λ (z : X). HaveSpellings width tall (told (value z))) (sym e) (spellings_front width tall (told (value y)) (flat_map told (map value xs)) h)
   spelled_in told (y ∷ xs) (suc i) x lt e h = spelled_in told xs i x (omega (arith, lt)) e (spellings_behind width tall (told (value y)) (flat_map told (map value xs)) h)
-
-  -- one more
-  pub one_more : (told : ChangeValue → List ChangeValue) (xs : List X) (i : ℕ) (x : X) → i < length xs → x ≡ get_or xs i x
-      → flat_map told (map value (take (i + 1) xs)) ≡ flat_map told (map value (take i xs)) ++ told (value x)
-  one_more told xs i x lt e =
-      ap (λ (ys : List X). flat_map told (map value ys)) (take_more xs i x lt ∙ ap (λ (z : X). take i xs ++ z ∷ []) (sym e))
-      ∙ ap (flat_map told) (map-append value (take i xs) (x ∷ []))
-      ∙ flat_map-append told (map value (take i xs)) (value x ∷ [])
-      ∙ ap (λ (cs : List ChangeValue). flat_map told (map value (take i xs)) ++ cs) (append-nil (told (value x)))
-
-  pub sends_more : (told : ChangeValue → List ChangeValue) (xs : List X) (i : ℕ) (x : X) (start now next : List StreamAction) → i < length xs → x ≡ get_or xs i x
-      → now ≡ start ++ all_sent width tall (flat_map told (map value (take i xs))) → next ≡ now ++ all_sent width tall (told (value x))
-      → next ≡ start ++ all_sent width tall (flat_map told (map value (take (i + 1) xs)))
-  sends_more told xs i x start now next lt e before more =
-      let done : List ChangeValue = flat_map told (map value (take i xs)) in
-      more
-      ∙ ap (λ (actions : List StreamAction). actions ++ all_sent width tall (told (value x))) before
-      ∙ append_assoc start (all_sent width tall done) (all_sent width tall (told (value x)))
-      ∙ ap (λ (actions : List StreamAction). start ++ actions) (sym (flat_map-append (sent_for width tall) done (told (value x))) ∙ ap (all_sent width tall) (sym (one_more told xs i x lt e)))
-
--- two in turn
-pub sends_both : (width tall : ℕ) (xs ys : List ChangeValue) (first second third : List StreamAction) → second ≡ first ++ all_sent width tall xs → third ≡ second ++ all_sent width tall ys → third ≡ first ++ all_sent width tall (xs ++ ys)
-sends_both width tall xs ys first second third a b =
-    b ∙ ap (λ (actions : List StreamAction). actions ++ all_sent width tall ys) a ∙ append_assoc first (all_sent width tall xs) (all_sent width tall ys) ∙ ap (λ (actions : List StreamAction). first ++ actions) (sym (flat_map-append (sent_for width tall) xs ys))

@@ -1,5 +1,5 @@
 -- What is sent for the changes that are due, or for a repaint, is the update.
-use Rattle.std.proofs.Common.{◌≡◌, ℕ, Bor, List, map, refl, sym, ap, ◌∙◌, subst}
+use Rattle.std.proofs.Common.{◌≡◌, ℕ, ◌++◌, Bor, List, [], map, refl, sym, ap, ◌∙◌, subst}
 use Rattle.std.specs.Prelude.{IfSome, Option, Some, None, Vec}
 use Rattle.std.specs.List.{flat_map}
 use Rattle.std.specs.declared.borrow.CowSlice.{CowSlice}
@@ -13,7 +13,9 @@ use Rattle.cell_change.specs.ValueOf.{value_of}
 use Rattle.cell_surface.specs.Surface.{Answers}
 use Rattle.change_log.specs.Log.{due}
 use Rattle.change_log.specs.LogSteps.{Sized}
+use Rattle.escape_stream.specs.declared.action.Action.{Action}
 use Rattle.escape_stream.specs.StreamAction.{StreamAction}
+use Rattle.escape_stream.specs.StreamActionView.{value_of as action_value}
 use Rattle.escape_stream.specs.StreamText.{stream_text}
 use Rattle.screen_effects.specs.Display.{Display, IsDisplay}
 use Rattle.screen_repaint.specs.Repaint.{repaint}
@@ -54,9 +56,6 @@ module _ (Z : Type 0) (d : Display) (log : Sized) (number : ℕ) (answer : CowSl
       (subst (λ n. HaveSpellings d.screen.width n (map value_of lent.now)) (sym t)
       (subst (λ o. IfSome o (HaveSpellings d.screen.width (height d.screen))) (lent_is lent e) (due_has d.screen.width (height d.screen) log.most log.log number kept)))
 
-  pub lent_update : (lent : Bor (List Change)) → answer ≡ Borrowed lent → update_changes d.screen log number ≡ map value_of lent.now
-  lent_update lent e = ap (due_or (painted_anew d.screen)) (lent_is lent e)
-
   module _ (h : IsDisplay d) (shapeless : d.shape ≡ None) (made : Vec Change Z) (e : answer ≡ Owned made) where
     owned : Answers (due log.most log.log number) (repaint d) (Owned made)
     owned = subst (λ (a : CowSlice Change Z). Answers (due log.most log.log number) (repaint d) a) e given
@@ -64,8 +63,13 @@ module _ (Z : Type 0) (d : Display) (log : Sized) (number : ℕ) (answer : CowSl
     retold_anew : flat_map (retold d.screen) (map value_of made.items) ≡ painted_anew d.screen
     retold_anew = ap (flat_map (retold d.screen)) (made_painted Z (repaint d) (due log.most log.log number) made owned) ∙ retold_is d h.lawful.wide_enough shapeless
 
-    pub made_update : update_changes d.screen log number ≡ flat_map (retold d.screen) (map value_of made.items)
+    made_update : update_changes d.screen log number ≡ flat_map (retold d.screen) (map value_of made.items)
     made_update = ap (due_or (painted_anew d.screen)) (none_due Z (repaint d) (due log.most log.log number) made owned) ∙ sym retold_anew
+
+    pub made_sent : (width tall : ℕ) (before after : List StreamAction) (changes : List Change) → changes ≡ made.items → after ≡ before ++ all_sent width tall (flat_map (retold d.screen) (map value_of changes))
+        → after ≡ before ++ all_sent width tall (update_changes d.screen log number)
+    made_sent width tall before after changes e sent =
+        sent ∙ ap (λ (cs : List ChangeValue). before ++ all_sent width tall cs) (ap (λ (l : List Change). flat_map (retold d.screen) (map value_of l)) e ∙ sym made_update)
 
     pub made_spelled : (width tall : ℕ) → width ≡ d.screen.width → tall ≡ height d.screen → IsSpelledScreen d.screen → HaveSpellings width tall (flat_map (retold d.screen) (map value_of made.items))
     made_spelled width tall w t p =
@@ -75,7 +79,10 @@ module _ (Z : Type 0) (d : Display) (log : Sized) (number : ℕ) (answer : CowSl
 
 -- ---- the bytes
 
-pub sent_bytes : (d : Display) (log : Sized) (number : ℕ) (actions : List StreamAction) (bytes : List ℕ) (width tall : ℕ) → width ≡ d.screen.width → tall ≡ height d.screen → HaveSpellings d.screen.width (height d.screen) (update_changes d.screen log number)
-    → actions ≡ all_sent width tall (update_changes d.screen log number) → bytes ≡ stream_text actions → bytes ≡ update_of d.screen log number
-sent_bytes d log number actions bytes width tall w t h a b =
-    b ∙ ap stream_text (a ∙ (λ i. all_sent (w i) (t i) (update_changes d.screen log number))) ∙ sym (ap bytes_of (all_are_sent d.screen.width (height d.screen) (update_changes d.screen log number) h))
+pub sent_bytes : (d : Display) (log : Sized) (number : ℕ) (lent made start : List Action) (bytes : List ℕ) (width tall : ℕ) → width ≡ d.screen.width → tall ≡ height d.screen → HaveSpellings d.screen.width (height d.screen) (update_changes d.screen log number)
+    → start ≡ [] → map action_value made ≡ map action_value start ++ all_sent width tall (update_changes d.screen log number) → lent ≡ made → bytes ≡ stream_text (map action_value lent) → bytes ≡ update_of d.screen log number
+sent_bytes d log number lent made start bytes width tall w t h none sent same b =
+    let changes : List ChangeValue = update_changes d.screen log number in
+    let actions : map action_value lent ≡ all_sent d.screen.width (height d.screen) changes =
+    ap (map action_value) same ∙ sent ∙ (λ i. map action_value (none i) ++ all_sent (w i) (t i) changes) in
+    b ∙ ap stream_text actions ∙ sym (ap bytes_of (all_are_sent d.screen.width (height d.screen) changes h))

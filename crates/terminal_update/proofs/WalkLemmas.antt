@@ -2,11 +2,9 @@
 use Rattle.std.proofs.Common.{◌≡◌, ℕ, ◌<◌, Bool, true, false, List, [], ◌∷◌, ◌++◌, refl, sym, ap, ◌∙◌}
 use Rattle.std.specs.Prelude.{◌==◌, ◌&&◌, not, Option, None, if◌then◌else◌}
 use Rattle.std.specs.List.{flat_map}
-use Rattle.std.proofs.lemmas.Bool.{false≢true}
 use Rattle.std.proofs.lemmas.List.Concat.{flat_map-append}
 use Rattle.cell_base.specs.declared.attributes.CursorShape.{CursorShape as Shape}
 use Rattle.cell_base.specs.declared.attributes.CursorVisibility.TheVariants.{Hidden}
-use Rattle.cell_base.specs.declared.attributes.Position.{Position}
 use Rattle.cell_base.specs.declared.attributes.Position.TheVariants.{Absolute}
 use Rattle.cell_base.specs.declared.color.ColorAttribute.TheVariants as attribute
 use Rattle.cell_base.specs.Attributes.{Attributes, plain}
@@ -15,10 +13,9 @@ use Rattle.cell_base.specs.Screen.{Screen}
 use Rattle.cell_change.specs.CellChanges.{attributes_due}
 use Rattle.cell_change.specs.ChangeValue.{ChangeValue, AllAttributes, ClearScreen, CursorPosition, CursorVisibility, Title}
 use Rattle.screen_effects.specs.Display.{Display}
-use Rattle.screen_effects.specs.Effect.{cursor_row}
 use Rattle.screen_repaint.specs.Repaint.{are_some, cursor_shown, pen_left, repaint, title_due}
-use Rattle.terminal_update.specs.Sending.{is_pending, retold}
-use Rattle.terminal_update.specs.Update.{last_cell, painted_anew, told, written_again}
+use Rattle.terminal_update.specs.Sending.{retold}
+use Rattle.terminal_update.specs.Update.{painted_anew, told}
 use Rattle.terminal_update.proofs.PaintLemmas.{IsOfRow, all_alone, due_of, each_of_row, painted_rows, place_of, rows_of_row, told_is, told_of_row}
 
 retold_of_row : (s : Screen) → 0 < s.width → (change : ChangeValue) → IsOfRow change → retold s change ≡ change ∷ []
@@ -64,12 +61,3 @@ retold_is d wide shapeless =
     ∙ (λ i. flat_map-append f begin rows i ++ place_retold s i ++ due_of s ++ shown)
     ∙ (λ i. begin_retold s s.title i ++ rows_are i ++ flat_map (told s) (place_of s) ++ due_of s ++ shown)
     ∙ sym (told_is s wide)
-
--- ---- one change
-
-pub pending_is : (s : Screen) (change : ChangeValue) → is_pending s.width change ≡ true → retold s change ≡ written_again s (last_cell (cursor_row s))
-pending_is s (CursorPosition (Absolute column) y) e = ap (λ b. if b then written_again s (last_cell (cursor_row s)) else CursorPosition (Absolute column) y ∷ []) e
-pending_is s change e = absurd (false≢true e)
-
-pub others_are : (s : Screen) (column : ℕ) (y : Position) → is_pending s.width (CursorPosition (Absolute column) y) ≡ false → retold s (CursorPosition (Absolute column) y) ≡ CursorPosition (Absolute column) y ∷ []
-others_are s column y e = ap (λ b. if b then written_again s (last_cell (cursor_row s)) else CursorPosition (Absolute column) y ∷ []) e
