@@ -24,7 +24,7 @@ module _ {W : Type 0} (width_of : W → List ℕ → ℕ) where
   }
 
   -- an idle terminal stands at idle views
-  idle_view : (t : Terminal W) (view : View) → IsIdle t → StandsAt t view → alone.IsIdle view
+  pub idle_view : (t : Terminal W) (view : View) → IsIdle t → StandsAt t view → alone.IsIdle view
   idle_view t view idle st = record { run = sym st.run ∙ idle.run; stream = sym st.unfinished ∙ idle.unfinished }
 
   abbrev of : Terminal W → List ℕ → ℕ

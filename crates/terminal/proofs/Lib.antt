@@ -6,3 +6,4 @@ pub mod LawLemmas
 pub mod SpellLemmas
 pub mod UpdateLemmas
 pub mod SendLemmas
+pub mod ViewLemmas

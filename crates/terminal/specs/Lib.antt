@@ -6,3 +6,4 @@ pub mod WatchedView
 pub mod Shown
 pub mod Fed
 pub mod Sent
+pub mod Viewing

@@ -7,6 +7,7 @@ pub mod laws;
 mod steps;
 mod terminal;
 mod updates;
+pub mod viewers;
 mod watched;
 
 pub use cell_base::{ProgramWidth, SequenceNo, Widths};

@@ -1,11 +1,11 @@
 ghost use Rattle.std.specs.Prelude.{◌≡◌, ◌↔◌, ◌<◌, ◌^◌, true, false, [], ◌∷◌, IsTrue, IsOk, IfOk, OnOk, OnErr, IsErrOf};
 ghost use Rattle.change_log.specs.Log.{most_due, new_log};
 ghost use Rattle.cell_surface.specs.Surface.{number_of};
-ghost use Rattle.terminal.specs.Terminal.{StandsAt, GoesBy, IsSpelled, NeedsNumber, state_in};
+ghost use Rattle.terminal.specs.Terminal.{StandsAt, GoesBy, IsSpelled, NeedsNumber};
+ghost use Rattle.terminal.specs.Viewing.{update_for};
 ghost use Rattle.terminal_table.specs.History.{Piece, Look, Resize, Forget};
 ghost use Rattle.terminal_table.specs.Meaning.{View, new_view};
 ghost use Rattle.terminal_table.specs.Turns.{IsView};
-ghost use Rattle.terminal_update.specs.Update.{update_of};
 
 use cell_base::{SequenceNo, Widths};
 use cell_surface::Surface;
@@ -127,7 +127,7 @@ impl<W: Widths + Drop> Terminal<W> {
     // What a viewer is sent that has seen the changes before a number.
     fn update_for(&self, number: SequenceNo) -> Result<Vec<u8>, AllocError>
         requires { self.now.is_failed ≡ false }
-        ensures { IfOk result (λ bytes. bytes.items ≡ update_of (state_in self.now).screen self.now.surface.log number) }
+        ensures { IfOk result (λ bytes. bytes.items ≡ update_for self.now number) }
     {
         update(self.alloc, self.state.surface(), number)
     }
@@ -147,7 +147,7 @@ impl<W: Widths + Drop> Terminal<W> {
     ) -> Result<(SequenceNo, Vec<u8>), TerminalError>
         ensures settled { OnOk result (GoesBy (λ w. W.width_of w) self.old self.new (Look ∷ [])) }
         ensures number { IfOk result (λ r. r.0 ≡ number_of self.new.surface) }
-        ensures bytes { IfOk result (λ r. r.1.items ≡ update_of (state_in self.new).screen self.new.surface.log number) }
+        ensures bytes { IfOk result (λ r. r.1.items ≡ update_for self.new number) }
         ensures failed { IsErrOf result TerminalError.Failed ↔ IsTrue self.old.is_failed }
         ensures numbers { IsErrOf result TerminalError.Number → NeedsNumber (λ w. W.width_of w) self.old (Look ∷ []) }
         ensures err { OnErr result (self.new.is_failed ≡ false → GoesBy (λ w. W.width_of w) self.old self.new (Look ∷ [])) }

@@ -1,0 +1,155 @@
+-- What terminals show of others.
+use Rattle.std.proofs.Common.{◌≡◌, ℕ, ◌<◌, ◌≤◌, ◌^◌, false, List, [], ◌∷◌, length, refl, sym, ap, subst, ◌∙◌, arith}
+use Rattle.cell_base.specs.Row.{space, plain_row}
+use Rattle.cell_base.specs.Screen.{Screen, height}
+use Rattle.cell_surface.specs.Surface.{Surface, shown_by, number_of}
+use Rattle.change_log.specs.LogSteps.{Forgotten, Sized, step_of_kept}
+use Rattle.change_log.specs.Log.{due}
+use Rattle.escape_framing.specs.Held.{hand_out, held_of, nothing_held}
+use Rattle.screen_effects.specs.Display.{IsDisplay}
+use Rattle.screen_replay.specs.WrittenCells.{IsSoundDisplay}
+use Rattle.std.proofs.lemmas.List.{length-replicate}
+use Rattle.terminal.specs.Terminal.{Terminal, StandsAt, GoesBy, IsIdle, IsSpelled, state_in}
+use Rattle.terminal.specs.Viewing.{ShowsAt, update_for}
+use Rattle.terminal.proofs.LawLemmas.{idle_view}
+use Rattle.terminal_render.specs.Effects.{IsReady}
+use Rattle.terminal_render.specs.Lists.{all_rendered}
+use Rattle.terminal_spelling.proofs.ViewLemmas.{display_on_is}
+use Rattle.terminal_table.specs.Alone as alone
+use Rattle.terminal_table.specs.History.{History, Piece, Forget}
+use Rattle.terminal_table.specs.Meaning.{View, new_view, after}
+use Rattle.terminal_table.specs.State.{State, IsState}
+use Rattle.terminal_table.specs.Turns.{IsView, AreSizes}
+use Rattle.terminal_table.proofs.StateLemmas.{new_is}
+use Rattle.terminal_update.specs.Shows.{Shows}
+use Rattle.terminal_update.specs.Update.{display_on, update_of, bytes_of, due_or, painted_anew}
+use Rattle.terminal_update.specs.Updates.{updated, updates}
+use Rattle.terminal_update.specs.Viewers.{CanRead, UpdatesAreShown, UpdatesLeaveIdle, UpdatesShowTheInput, ViewersGoOnShowing, ScreensShowThemselves, repeated}
+
+-- nothing is unfinished of an empty stream
+idle_stream : held_of [] ≡ nothing_held
+unfolding hand_out
+idle_stream = refl
+
+-- a terminal that stands, with a lawful view, and whose changes can be sent
+pub record IsSound {W : Type 0} (width_of : W → List ℕ → ℕ) (t : Terminal W) : Type 0 where
+  pub view : View
+  pub stands : StandsAt t view
+  pub lawful : IsView view
+  pub spelled : IsSpelled t
+  pub cells : IsSoundDisplay (width_of t.surface.canvas.widths) (shown_by t.surface)
+
+module _ {W : Type 0} (width_of : W → List ℕ → ℕ) where
+  abbrev of : Terminal W → List ℕ → ℕ
+  of t = width_of t.surface.canvas.widths
+
+  pub sound_of : (t : Terminal W) (s : Surface W) → s ≡ t.surface → (view : View) × StandsAt t view × IsView view → IsSpelled t → (s.is_failed ≡ false → IsSoundDisplay (width_of s.canvas.widths) (shown_by s)) → IsSound width_of t
+  sound_of t s e stands p cells = record {
+    view = stands.0;
+    stands = stands.1;
+    lawful = stands.2;
+    spelled = p;
+    cells = subst (λ (x : Surface W). IsSoundDisplay (width_of x.canvas.widths) (shown_by x)) e (cells (ap (λ (x : Surface W). x.is_failed) e ∙ p.surface.stays));
+  }
+
+  pub counted_of : (t : Terminal W) (s : Surface W) → s ≡ t.surface → length s.log.log.entries ≤ number_of s → length t.surface.log.log.entries ≤ number_of t.surface
+  counted_of t s e h = subst (λ (x : Surface W). length x.log.log.entries ≤ number_of x) e h
+
+  state_is : (t : Terminal W) → IsSound width_of t → IsState (state_in t)
+  state_is t s = subst IsState (sym s.stands.state) s.lawful.lawful
+
+  -- what an update of the terminal is sent to
+  can_read : (t : Terminal W) (viewer : View) (number : ℕ) (f : List ℕ → ℕ) → of t ≡ f → f space ≡ 1 → IsSound width_of t → IsReady viewer → alone.IsIdle viewer → ShowsAt width_of viewer.state.screen number t
+      → CanRead f viewer (state_in t).screen t.surface.log number
+  can_read t viewer number f e narrow s ready idle shows = record {
+    narrow = narrow;
+    ready = ready;
+    idle = idle;
+    display = display_on_is (state_in t) (state_is t s);
+    sound = subst (λ g. IsSoundDisplay g (display_on (state_in t).screen)) e s.cells;
+    spelled = s.spelled.surface.spelled;
+    spellings = s.spelled.surface.kept;
+    shows = subst (λ g. Shows g viewer.state.screen number (state_in t).screen t.surface.log) e shows;
+  }
+
+  -- a viewer that is idle can be sent changes
+  ready_is : (v : Terminal W) (s : IsSound width_of v) → IsIdle v → IsReady s.view
+  ready_is v s idle = record {
+    lawful = s.lawful.lawful;
+    width = subst (λ (x : State). x.screen.width < 2 ^ 32) s.stands.state s.spelled.surface.wide;
+    height = subst (λ (x : State). height x.screen < 2 ^ 32) s.stands.state s.spelled.surface.tall;
+    run = sym s.stands.run ∙ idle.run;
+  }
+
+  -- a viewer at which an update was fed
+  module _ (t v behind : Terminal W) (number : ℕ) (narrow : of v space ≡ 1) (st : IsSound width_of t) (sv : IsSound width_of v) (idle : IsIdle v) (same : v.surface.canvas.widths ≡ t.surface.canvas.widths)
+      (shows : ShowsAt width_of (state_in v).screen number t) (g : GoesBy width_of v behind (Piece (update_for t number) ∷ [])) where
+    reads : CanRead (of v) sv.view (state_in t).screen t.surface.log number
+    reads = can_read t sv.view number (of v) (ap width_of (sym same)) narrow st (ready_is v sv idle) (idle_view width_of v sv.view idle sv.stands)
+        (subst (λ (x : State). ShowsAt width_of x.screen number t) sv.stands.state shows)
+
+    pub update_shown : UpdatesAreShown → state_in behind ≡ record (state_in v) { screen = (state_in t).screen }
+    update_shown law =
+        (g.stands sv.view sv.stands).state ∙ law (of v) sv.view (state_in t).screen t.surface.log number reads
+        ∙ ap (λ (x : State). record x { screen = (state_in t).screen }) (sym sv.stands.state)
+
+    pub update_idle : UpdatesLeaveIdle → IsIdle behind
+    update_idle law =
+        let there = g.stands sv.view sv.stands in
+        let quiet = law (of v) sv.view (state_in t).screen t.surface.log number reads in
+        record { run = there.run ∙ quiet.run; unfinished = there.unfinished ∙ quiet.stream }
+
+  -- ---- going on
+
+  pub shown_on : ViewersGoOnShowing → (t now : Terminal W) (shown : Screen) (number : ℕ) (history : History) → IsSound width_of t → AreSizes history → IsDisplay (display_on shown) → length t.surface.log.log.entries ≤ number_of t.surface → number ≤ number_of t.surface
+      → ShowsAt width_of shown number t → GoesBy width_of t now history → ShowsAt width_of (repeated history shown) number now
+  shown_on law t now shown number history s sizes lawful counted within shows g =
+      let f = of t in
+      let there = g.stands s.view s.stands in
+      let whole = law f shown number s.view t.surface.log history s.lawful sizes lawful counted within (subst (λ (x : State). Shows f shown number x.screen t.surface.log) s.stands.state shows) in
+      let logged = subst (λ (l : Sized). Shows f (repeated history shown) number (after f s.view history).state.screen l) (sym (g.log s.view s.stands)) whole in
+      let placed = subst (λ (x : State). Shows f (repeated history shown) number x.screen now.surface.log) (sym there.state) logged in
+      subst (λ (w : W). Shows (width_of w) (repeated history shown) number (state_in now).screen now.surface.log) (sym g.widths) placed
+
+  -- ---- forgetting
+
+  pub forgets_nothing : (t now : Terminal W) (before : ℕ) → IsSound width_of t → GoesBy width_of t now (Forget before ∷ []) → state_in now ≡ state_in t
+  forgets_nothing t now before s g = (g.stands s.view s.stands).state ∙ sym s.stands.state
+
+  pub same_update : ((log : Sized) (before number : ℕ) → length log.log.entries ≤ log.log.number → before ≤ number → due log.most (step_of_kept log (Forgotten before)).log number ≡ due log.most log.log number)
+      → (t now : Terminal W) (before number : ℕ) → IsSound width_of t → length t.surface.log.log.entries ≤ number_of t.surface → GoesBy width_of t now (Forget before ∷ []) → before ≤ number → update_for now number ≡ update_for t number
+  same_update law t now before number s counted g within =
+      (λ i. update_of (forgets_nothing t now before s g i).screen (g.log s.view s.stands i) number)
+      ∙ ap (λ d. bytes_of (all_rendered (due_or (painted_anew (state_in t).screen) d) (state_in t).screen.width (height (state_in t).screen))) (law t.surface.log before number counted within)
+
+  -- ---- the first update
+
+  pub first_tells : UpdatesAreShown → (one other : Terminal W) → of one space ≡ 1 → IsSound width_of one → IsSound width_of other → one.surface.canvas.widths ≡ other.surface.canvas.widths
+      → (state_in one).screen.width ≡ (state_in other).screen.width → height (state_in one).screen ≡ height (state_in other).screen → update_for one 0 ≡ update_for other 0 → (state_in one).screen ≡ (state_in other).screen
+  first_tells law one other narrow s r same wide tall bytes =
+      ap (λ (x : State). x.screen) (sym (seen one s refl refl refl) ∙ ap (λ b. (after (of one) viewer (Piece b ∷ [])).state) bytes ∙ seen other r (ap width_of (sym same)) wide tall)
+    where
+      size : Screen
+      size = (state_in one).screen
+
+      viewer : View
+      viewer = new_view size.width (height size)
+
+      lawful : IsState viewer.state
+      lawful = let h = (state_is one s).lawful in new_is size.width (height size) h.wide_enough (omega (arith, h.row_in))
+
+      seen : (t : Terminal W) → IsSound width_of t → of t ≡ of one → size.width ≡ (state_in t).screen.width → height size ≡ height (state_in t).screen
+          → (after (of one) viewer (Piece (update_for t 0) ∷ [])).state ≡ record viewer.state { screen = (state_in t).screen }
+      seen t x e w h = law (of one) viewer (state_in t).screen t.surface.log 0 (can_read t viewer 0 (of one) e narrow x
+          (record { lawful = lawful; width = s.spelled.surface.wide; height = subst (λ n. n < 2 ^ 32) (sym (length-replicate (height size) (plain_row size.width))) s.spelled.surface.tall; run = refl })
+          (record { run = refl; stream = idle_stream })
+          (record { wide = w; tall = length-replicate (height size) (plain_row size.width) ∙ h; leads = tt }))
+
+  -- ---- all updates of an input
+
+  pub input_shown : UpdatesShowTheInput → (w : W) (width rows every : ℕ) (input : List ℕ) (new behind : Terminal W) → width_of w space ≡ 1 → 0 < width → width < 2 ^ 32 → 0 < rows → rows < 2 ^ 32 → StandsAt new (new_view width rows) → new.surface.canvas.widths ≡ w
+      → GoesBy width_of new behind (Piece (updates (width_of w) width rows every input) ∷ []) → (state_in behind).screen ≡ (updated (width_of w) width rows every input).state.screen
+  input_shown law w width rows every input new behind narrow a b c d st e g =
+      ap (λ (x : State). x.screen) (g.stands (new_view width rows) st).state
+      ∙ ap (λ x. (after (width_of x) (new_view width rows) (Piece (updates (width_of w) width rows every input) ∷ [])).state.screen) e
+      ∙ law (width_of w) width rows every input narrow a b c d

@@ -1,0 +1,77 @@
+//! Laws of viewers, as the contracts of functions that do nothing.
+ghost use Rattle.std.specs.Prelude.{◌≡◌, ℕ, ◌<◌, ◌≤◌, ◌^◌, false, List, [], ◌∷◌};
+ghost use Rattle.cell_base.specs.Screen.{Screen, height};
+ghost use Rattle.cell_surface.specs.Surface.{number_of};
+ghost use Rattle.screen_effects.specs.Display.{IsDisplay};
+ghost use Rattle.terminal.specs.Terminal.{Terminal, StandsAt, GoesBy, IsIdle, state_in};
+ghost use Rattle.terminal.specs.Viewing.{ShowsAt, update_for};
+ghost use Rattle.terminal_table.specs.History.{History, Piece, Forget};
+ghost use Rattle.terminal_table.specs.Meaning.{new_view};
+ghost use Rattle.terminal_table.specs.Turns.{AreSizes};
+ghost use Rattle.terminal_update.specs.Update.{display_on};
+ghost use Rattle.terminal_update.specs.Updates.{updated, updates};
+ghost use Rattle.terminal_update.specs.Viewers.{repeated};
+
+use crate::terminal::Terminal;
+use cell_base::Widths;
+use cell_surface::laws::{forgotten_changes_are_not_due, surfaces_stay_lawful};
+use terminal_update::viewers::{
+    updates_show_the_input, viewers_go_on_showing, viewers_read_updates,
+};
+
+/// An update for a number, fed to an idle terminal of these widths that showed the terminal at that number,
+/// leaves one that shows the terminal's screen, with its saved cursor and its replies as they were, and
+/// idle.
+pub fn updates_are_shown<W: Widths + Drop>(terminal: &Terminal<W>, viewer: &Terminal<W>)
+    ensures shown { (number : ℕ) (behind : Terminal W) → terminal.now.is_failed ≡ false → viewer.now.is_failed ≡ false → IsIdle viewer.now → viewer.now.surface.canvas.widths ≡ terminal.now.surface.canvas.widths → ShowsAt (λ w. W.width_of w) (state_in viewer.now).screen number terminal.now → GoesBy (λ w. W.width_of w) viewer.now behind (Piece (update_for terminal.now number) ∷ []) → state_in behind ≡ record (state_in viewer.now) { screen = (state_in terminal.now).screen } }
+    ensures idle { (number : ℕ) (behind : Terminal W) → terminal.now.is_failed ≡ false → viewer.now.is_failed ≡ false → IsIdle viewer.now → viewer.now.surface.canvas.widths ≡ terminal.now.surface.canvas.widths → ShowsAt (λ w. W.width_of w) (state_in viewer.now).screen number terminal.now → GoesBy (λ w. W.width_of w) viewer.now behind (Piece (update_for terminal.now number) ∷ []) → IsIdle behind }
+{
+    terminal.stands();
+    viewer.stands();
+    surfaces_stay_lawful(terminal.surface());
+    surfaces_stay_lawful(viewer.surface());
+    viewers_read_updates();
+}
+
+/// A screen that shows a terminal at a number, not above the current one, goes on to show it at that number,
+/// whatever the terminal is fed, wherever it is looked at and whatever it forgets, if it takes on the same
+/// sizes. And a terminal's own screen shows it at its current number.
+pub fn terminals_go_on_being_shown<W: Widths + Drop>(terminal: &Terminal<W>)
+    ensures history { (shown : Screen) (number : ℕ) (now : Terminal W) (history : History) → terminal.now.is_failed ≡ false → AreSizes history → IsDisplay (display_on shown) → number ≤ number_of terminal.now.surface → ShowsAt (λ w. W.width_of w) shown number terminal.now → GoesBy (λ w. W.width_of w) terminal.now now history → ShowsAt (λ w. W.width_of w) (repeated history shown) number now }
+    ensures seen { terminal.now.is_failed ≡ false → ShowsAt (λ w. W.width_of w) (state_in terminal.now).screen (number_of terminal.now.surface) terminal.now }
+{
+    terminal.stands();
+    surfaces_stay_lawful(terminal.surface());
+    viewers_go_on_showing();
+}
+
+/// Forgetting the changes before a number changes neither the screen nor the update for that number or a
+/// later one.
+pub fn forgotten_changes_are_not_missed<W: Widths + Drop>(terminal: &Terminal<W>)
+    ensures state { (before : ℕ) (now : Terminal W) → terminal.now.is_failed ≡ false → GoesBy (λ w. W.width_of w) terminal.now now (Forget before ∷ []) → state_in now ≡ state_in terminal.now }
+    ensures update { (before : ℕ) (number : ℕ) (now : Terminal W) → terminal.now.is_failed ≡ false → GoesBy (λ w. W.width_of w) terminal.now now (Forget before ∷ []) → before ≤ number → update_for now number ≡ update_for terminal.now number }
+{
+    terminal.stands();
+    surfaces_stay_lawful(terminal.surface());
+    forgotten_changes_are_not_due();
+}
+
+/// Two terminals of one size and the same widths whose updates for number 0 have the same bytes show the same
+/// screen.
+pub fn first_updates_tell_screens<W: Widths + Drop>(one: &Terminal<W>, other: &Terminal<W>)
+    ensures { one.now.is_failed ≡ false → other.now.is_failed ≡ false → one.now.surface.canvas.widths ≡ other.now.surface.canvas.widths → (state_in one.now).screen.width ≡ (state_in other.now).screen.width → height (state_in one.now).screen ≡ height (state_in other.now).screen → update_for one.now 0 ≡ update_for other.now 0 → (state_in one.now).screen ≡ (state_in other.now).screen }
+{
+    one.stands();
+    other.stands();
+    surfaces_stay_lawful(one.surface());
+    surfaces_stay_lawful(other.surface());
+    viewers_read_updates();
+}
+
+/// A new terminal that is fed the updates of an input, as `run` writes them, shows what a terminal shows that
+/// is fed the input and looked at behind each of so many bytes and at the end.
+pub fn new_viewers_show_the_input<W: Widths>()
+    ensures { (widths : W) (width : ℕ) (height : ℕ) (every : ℕ) (input : List ℕ) (new : Terminal W) (behind : Terminal W) → 0 < width → width < 2 ^ 32 → 0 < height → height < 2 ^ 32 → StandsAt new (new_view width height) → new.surface.canvas.widths ≡ widths → GoesBy (λ w. W.width_of w) new behind (Piece (updates (W.width_of widths) width height every input) ∷ []) → (state_in behind).screen ≡ (updated (W.width_of widths) width height every input).state.screen }
+{
+    updates_show_the_input();
+}
