@@ -5,7 +5,7 @@ use Rattle.clap.specs.declared.parser.matches.ArgMatches.{ArgMatches}
 use Rattle.clap.specs.Simple.{HasMatchesOf}
 use Rattle.clap.specs.declared.error.Error.{Error}
 use Rattle.clap.proofs.WalkLemmas.{one_text-rows}
-use Rattle.relay.specs.CommandLine.{command_line, faults_in, number_or, text_in}
+use Rattle.relay.specs.CommandLine.{command_line, faults_in, is_true, number_or, text_in}
 use Rattle.relay.proofs.options.read.Goals as goal
 
 simple_and_free : is_simple_and_free command_line ≡ true
@@ -55,6 +55,15 @@ pub returns-clause-every : goal.returns-clause-every
 returns-clause-every g c =
     c.number-3.ensures.read
     ∙ read_is (codes "every") 4096 4294967295 _ (map g.S.AsStr.text c.args.words.now) c.in_ok-matches.matches c.in_ok-command.ensures c.in_ok-matches.ensures.matches
+
+-- and so for a flag
+flag_read : (name : Text) (app : App) (words : List Text) (m : ArgMatches) → app ≡ command_line → HasMatchesOf app words m → is_true (one_text (found_of m) name) ≡ is_true (text_in words name)
+unfolding text_in
+flag_read name app words m is matches =
+    ap is_true (one_text-rows (found_of m) name ∙ ap (one_of name) ((matches (ap is_simple is ∙ simple)).0 ∙ ap (λ a. matches_of a words) is))
+
+pub returns-clause-show : goal.returns-clause-show
+returns-clause-show g c = c.flag.ensures ∙ flag_read (codes "show") _ (map g.S.AsStr.text c.args.words.now) c.in_ok-matches.matches c.in_ok-command.ensures c.in_ok-matches.ensures.matches
 
 pub returns-clause-faults : goal.returns-clause-faults
 returns-clause-faults g c =
