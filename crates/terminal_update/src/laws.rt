@@ -1,14 +1,15 @@
 //! Laws of updates: each is the contract of a function that does nothing.
-ghost use Rattle.std.specs.Prelude.{◌≡◌, ℕ, ◌+◌, ◌*◌, ◌≤◌, List, length};
+ghost use Rattle.std.specs.Prelude.{◌≡◌, ℕ, ◌+◌, ◌*◌, ◌≤◌, List, [], length, Some, None};
 ghost use Rattle.cell_base.specs.Row.{space};
 ghost use Rattle.cell_base.specs.Screen.{IsScreen, Screen, height};
-ghost use Rattle.change_log.specs.Log.{most_due};
+ghost use Rattle.cell_change.specs.ChangeValue.{ChangeValue};
+ghost use Rattle.change_log.specs.Log.{due, most_due};
 ghost use Rattle.change_log.specs.LogSteps.{Sized};
 ghost use Rattle.screen_effects.specs.Display.{Display, IsDisplay};
 ghost use Rattle.screen_effects.specs.Effect.{replay};
 ghost use Rattle.screen_replay.specs.WrittenCells.{IsSoundDisplay};
 ghost use Rattle.terminal_spelling.specs.Spelling.{HaveSpellings, IsSpelledScreen};
-ghost use Rattle.terminal_update.specs.Update.{display_on, painted_anew, update_changes};
+ghost use Rattle.terminal_update.specs.Update.{display_on, painted_anew, update_changes, update_of};
 
 /// Any display of the same size on which the changes that paint a screen anew are replayed shows that
 /// screen: its rows, its cursor with a wrap that may be pending, its pen, and its title, also an empty
@@ -32,4 +33,12 @@ pub fn updates_have_spellings()
 pub fn updates_are_counted()
     ensures painted { (screen : Screen) → IsScreen screen → length (painted_anew screen) ≤ 2 * screen.width * height screen + 2 * height screen + 11 }
     ensures update { (screen : Screen) (log : Sized) (number : ℕ) → IsScreen screen → length log.log.entries ≤ log.log.number → log.most ≡ most_due screen.width (height screen) → length (update_changes screen log number) ≤ 2 * screen.width * height screen + 2 * height screen + 11 }
+{}
+
+/// An update is of the changes that are due, exactly where some list of changes is due, and else of those that
+/// paint the screen anew; and where the list is empty it has no bytes.
+pub fn updates_are_what_is_due()
+    ensures due { (screen : Screen) (log : Sized) (number : ℕ) (changes : List ChangeValue) → due log.most log.log number ≡ Some changes → update_changes screen log number ≡ changes }
+    ensures painted { (screen : Screen) (log : Sized) (number : ℕ) → due log.most log.log number ≡ None → update_changes screen log number ≡ painted_anew screen }
+    ensures nothing { (screen : Screen) (log : Sized) (number : ℕ) → due log.most log.log number ≡ Some [] → update_of screen log number ≡ [] }
 {}
