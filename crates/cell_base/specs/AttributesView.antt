@@ -5,4 +5,4 @@ use Rattle.cell_base.specs.declared.cell_attributes.CellAttributes.TheInside.{In
 
 -- the fields, and the link behind its pointer
 abbrev pub attributes_of : Inside → Attributes
-attributes_of a = record { intensity = a.style.marks.intensity; underline = a.style.marks.underline; blink = a.style.marks.blink; italic = a.style.flags.italic; reverse = a.style.flags.reverse; strikethrough = a.style.flags.strikethrough; invisible = a.style.flags.invisible; wrapped = a.style.flags.wrapped; overline = a.style.flags.overline; semantic_type = a.style.semantic_type; vertical_align = a.style.vertical_align; foreground = a.foreground; background = a.background; underline_color = a.underline_color; hyperlink = option_map (λ r. r.value) a.hyperlink }
+attributes_of a = record { intensity = a.look.style.marks.intensity; underline = a.look.style.marks.underline; blink = a.look.style.marks.blink; italic = a.look.style.flags.italic; reverse = a.look.style.flags.reverse; strikethrough = a.look.style.flags.strikethrough; invisible = a.look.style.flags.invisible; wrapped = a.look.style.flags.wrapped; overline = a.look.style.flags.overline; semantic_type = a.look.style.semantic_type; vertical_align = a.look.style.vertical_align; foreground = a.look.foreground; background = a.look.background; underline_color = a.look.underline_color; hyperlink = option_map (λ r. r.value) a.hyperlink }

@@ -98,6 +98,7 @@ impl Cell {
 
     /// Becomes the cell of a printable ASCII character (20h to 7Eh), of one column. It asks for no
     /// memory of its own; a refused one stays as it was.
+    #[inline(always)]
     pub fn set_ascii(&mut self, character: u8, attrs: &CellAttributes) -> Result<(), AllocError>
         requires { is_printable character ≡ true }
         ensures done { OnOk result (self.new ≡ cell_of (character ∷ []) 1 attrs.now) }
@@ -105,6 +106,18 @@ impl Cell {
     {
         self.attributes.copy_from(attrs)?;
         self.text = CellText::of_ascii(character);
+        self.wide = false;
+        Ok(())
+    }
+
+    /// Becomes a space with attributes. It asks for no memory of its own; a refused one stays as it was.
+    #[inline(always)]
+    pub fn set_blank(&mut self, attrs: &CellAttributes) -> Result<(), AllocError>
+        ensures done { OnOk result (self.new ≡ blank_cell attrs.now) }
+        ensures refused { OnErr result (self.new ≡ self.old) }
+    {
+        self.attributes.copy_from(attrs)?;
+        self.text = CellText::Space;
         self.wide = false;
         Ok(())
     }

@@ -41,13 +41,19 @@ struct Style {
     vertical_align: VerticalAlign,
 }
 
-/// The attributes of a cell, compared by value, its link too.
-#[derive(Debug, Drop)]
-pub struct CellAttributes {
+// The attributes less the link, which are copied as one value.
+#[derive(Debug, Clone, Copy)]
+struct Look {
     style: Style,
     foreground: ColorAttribute,
     background: ColorAttribute,
     underline_color: ColorAttribute,
+}
+
+/// The attributes of a cell, compared by value, its link too.
+#[derive(Debug, Drop)]
+pub struct CellAttributes {
+    look: Look,
     hyperlink: Option<Rc<Hyperlink>>,
 }
 
@@ -67,26 +73,28 @@ impl CellAttributes {
         ensures { result ≡ plain }
     {
         CellAttributes {
-            style: Style {
-                marks: Marks {
-                    intensity: Intensity::Normal,
-                    underline: Underline::None,
-                    blink: Blink::None,
+            look: Look {
+                style: Style {
+                    marks: Marks {
+                        intensity: Intensity::Normal,
+                        underline: Underline::None,
+                        blink: Blink::None,
+                    },
+                    flags: Flags {
+                        italic: false,
+                        reverse: false,
+                        strikethrough: false,
+                        invisible: false,
+                        wrapped: false,
+                        overline: false,
+                    },
+                    semantic_type: SemanticType::Output,
+                    vertical_align: VerticalAlign::BaseLine,
                 },
-                flags: Flags {
-                    italic: false,
-                    reverse: false,
-                    strikethrough: false,
-                    invisible: false,
-                    wrapped: false,
-                    overline: false,
-                },
-                semantic_type: SemanticType::Output,
-                vertical_align: VerticalAlign::BaseLine,
+                foreground: ColorAttribute::Default,
+                background: ColorAttribute::Default,
+                underline_color: ColorAttribute::Default,
             },
-            foreground: ColorAttribute::Default,
-            background: ColorAttribute::Default,
-            underline_color: ColorAttribute::Default,
             hyperlink: None,
         }
     }
@@ -95,7 +103,7 @@ impl CellAttributes {
     pub fn intensity(&self) -> Intensity
         ensures { result ≡ self.now.intensity }
     {
-        self.style.marks.intensity
+        self.look.style.marks.intensity
     }
 
     /// Sets how bold the text is, and lends the attributes on.
@@ -103,7 +111,7 @@ impl CellAttributes {
         ensures chains { result.ghost_name ≡ self.entry.ghost_name }
         ensures set { result.now ≡ record self.old { intensity = value } }
     {
-        self.style.marks.intensity = value;
+        self.look.style.marks.intensity = value;
         self
     }
 
@@ -111,7 +119,7 @@ impl CellAttributes {
     pub fn underline(&self) -> Underline
         ensures { result ≡ self.now.underline }
     {
-        self.style.marks.underline
+        self.look.style.marks.underline
     }
 
     /// Sets how the text is underlined, and lends the attributes on.
@@ -119,7 +127,7 @@ impl CellAttributes {
         ensures chains { result.ghost_name ≡ self.entry.ghost_name }
         ensures set { result.now ≡ record self.old { underline = value } }
     {
-        self.style.marks.underline = value;
+        self.look.style.marks.underline = value;
         self
     }
 
@@ -127,7 +135,7 @@ impl CellAttributes {
     pub fn blink(&self) -> Blink
         ensures { result ≡ self.now.blink }
     {
-        self.style.marks.blink
+        self.look.style.marks.blink
     }
 
     /// Sets how the text blinks, and lends the attributes on.
@@ -135,7 +143,7 @@ impl CellAttributes {
         ensures chains { result.ghost_name ≡ self.entry.ghost_name }
         ensures set { result.now ≡ record self.old { blink = value } }
     {
-        self.style.marks.blink = value;
+        self.look.style.marks.blink = value;
         self
     }
 
@@ -143,7 +151,7 @@ impl CellAttributes {
     pub fn italic(&self) -> bool
         ensures { result ≡ self.now.italic }
     {
-        self.style.flags.italic
+        self.look.style.flags.italic
     }
 
     /// Sets whether the text is italic, and lends the attributes on.
@@ -151,7 +159,7 @@ impl CellAttributes {
         ensures chains { result.ghost_name ≡ self.entry.ghost_name }
         ensures set { result.now ≡ record self.old { italic = value } }
     {
-        self.style.flags.italic = value;
+        self.look.style.flags.italic = value;
         self
     }
 
@@ -159,7 +167,7 @@ impl CellAttributes {
     pub fn reverse(&self) -> bool
         ensures { result ≡ self.now.reverse }
     {
-        self.style.flags.reverse
+        self.look.style.flags.reverse
     }
 
     /// Sets whether foreground and background change places, and lends the attributes on.
@@ -167,7 +175,7 @@ impl CellAttributes {
         ensures chains { result.ghost_name ≡ self.entry.ghost_name }
         ensures set { result.now ≡ record self.old { reverse = value } }
     {
-        self.style.flags.reverse = value;
+        self.look.style.flags.reverse = value;
         self
     }
 
@@ -175,7 +183,7 @@ impl CellAttributes {
     pub fn strikethrough(&self) -> bool
         ensures { result ≡ self.now.strikethrough }
     {
-        self.style.flags.strikethrough
+        self.look.style.flags.strikethrough
     }
 
     /// Sets whether the text is struck through, and lends the attributes on.
@@ -183,7 +191,7 @@ impl CellAttributes {
         ensures chains { result.ghost_name ≡ self.entry.ghost_name }
         ensures set { result.now ≡ record self.old { strikethrough = value } }
     {
-        self.style.flags.strikethrough = value;
+        self.look.style.flags.strikethrough = value;
         self
     }
 
@@ -191,7 +199,7 @@ impl CellAttributes {
     pub fn invisible(&self) -> bool
         ensures { result ≡ self.now.invisible }
     {
-        self.style.flags.invisible
+        self.look.style.flags.invisible
     }
 
     /// Sets whether the text is hidden, and lends the attributes on.
@@ -199,7 +207,7 @@ impl CellAttributes {
         ensures chains { result.ghost_name ≡ self.entry.ghost_name }
         ensures set { result.now ≡ record self.old { invisible = value } }
     {
-        self.style.flags.invisible = value;
+        self.look.style.flags.invisible = value;
         self
     }
 
@@ -207,7 +215,7 @@ impl CellAttributes {
     pub fn wrapped(&self) -> bool
         ensures { result ≡ self.now.wrapped }
     {
-        self.style.flags.wrapped
+        self.look.style.flags.wrapped
     }
 
     /// Sets whether the line goes on in the next row behind this cell, and lends the attributes on.
@@ -215,7 +223,7 @@ impl CellAttributes {
         ensures chains { result.ghost_name ≡ self.entry.ghost_name }
         ensures set { result.now ≡ record self.old { wrapped = value } }
     {
-        self.style.flags.wrapped = value;
+        self.look.style.flags.wrapped = value;
         self
     }
 
@@ -223,7 +231,7 @@ impl CellAttributes {
     pub fn overline(&self) -> bool
         ensures { result ≡ self.now.overline }
     {
-        self.style.flags.overline
+        self.look.style.flags.overline
     }
 
     /// Sets whether the text has a line above it, and lends the attributes on.
@@ -231,7 +239,7 @@ impl CellAttributes {
         ensures chains { result.ghost_name ≡ self.entry.ghost_name }
         ensures set { result.now ≡ record self.old { overline = value } }
     {
-        self.style.flags.overline = value;
+        self.look.style.flags.overline = value;
         self
     }
 
@@ -239,7 +247,7 @@ impl CellAttributes {
     pub fn semantic_type(&self) -> SemanticType
         ensures { result ≡ self.now.semantic_type }
     {
-        self.style.semantic_type
+        self.look.style.semantic_type
     }
 
     /// Sets what the text is, and lends the attributes on.
@@ -247,7 +255,7 @@ impl CellAttributes {
         ensures chains { result.ghost_name ≡ self.entry.ghost_name }
         ensures set { result.now ≡ record self.old { semantic_type = value } }
     {
-        self.style.semantic_type = value;
+        self.look.style.semantic_type = value;
         self
     }
 
@@ -255,7 +263,7 @@ impl CellAttributes {
     pub fn vertical_align(&self) -> VerticalAlign
         ensures { result ≡ self.now.vertical_align }
     {
-        self.style.vertical_align
+        self.look.style.vertical_align
     }
 
     /// Sets where the text stands on its line, and lends the attributes on.
@@ -263,7 +271,7 @@ impl CellAttributes {
         ensures chains { result.ghost_name ≡ self.entry.ghost_name }
         ensures set { result.now ≡ record self.old { vertical_align = value } }
     {
-        self.style.vertical_align = value;
+        self.look.style.vertical_align = value;
         self
     }
 
@@ -271,7 +279,7 @@ impl CellAttributes {
     pub fn foreground(&self) -> ColorAttribute
         ensures { result ≡ self.now.foreground }
     {
-        self.foreground
+        self.look.foreground
     }
 
     /// Sets the colour of the text, and lends the attributes on.
@@ -280,7 +288,7 @@ impl CellAttributes {
         ensures set { (c : ColorAttribute) × C.converts color c
             × (result.now ≡ record self.old { foreground = c }) }
     {
-        self.foreground = color.into();
+        self.look.foreground = color.into();
         self
     }
 
@@ -288,7 +296,7 @@ impl CellAttributes {
     pub fn background(&self) -> ColorAttribute
         ensures { result ≡ self.now.background }
     {
-        self.background
+        self.look.background
     }
 
     /// Sets the colour behind the text, and lends the attributes on.
@@ -297,7 +305,7 @@ impl CellAttributes {
         ensures set { (c : ColorAttribute) × C.converts color c
             × (result.now ≡ record self.old { background = c }) }
     {
-        self.background = color.into();
+        self.look.background = color.into();
         self
     }
 
@@ -305,7 +313,7 @@ impl CellAttributes {
     pub fn underline_color(&self) -> ColorAttribute
         ensures { result ≡ self.now.underline_color }
     {
-        self.underline_color
+        self.look.underline_color
     }
 
     /// Sets the colour of the underline, and lends the attributes on.
@@ -314,7 +322,7 @@ impl CellAttributes {
         ensures set { (c : ColorAttribute) × C.converts color c
             × (result.now ≡ record self.old { underline_color = c }) }
     {
-        self.underline_color = color.into();
+        self.look.underline_color = color.into();
         self
     }
 
@@ -338,7 +346,7 @@ impl CellAttributes {
     pub fn attribute_bits_equal(&self, other: &CellAttributes) -> bool
         ensures { IsTrue result ↔ (style_of self.now ≡ style_of other.now) }
     {
-        same_style(&self.style, &other.style)
+        same_style(&self.look.style, &other.look.style)
     }
 
     /// Makes the attributes plain.
@@ -354,21 +362,23 @@ impl CellAttributes {
         ensures { result ≡ sgr_only self.now }
     {
         CellAttributes {
-            style: Style {
-                semantic_type: SemanticType::Output,
-                marks: Marks {
-                    underline: Underline::None,
-                    ..self.style.marks
+            look: Look {
+                style: Style {
+                    semantic_type: SemanticType::Output,
+                    marks: Marks {
+                        underline: Underline::None,
+                        ..self.look.style.marks
+                    },
+                    flags: Flags {
+                        overline: false,
+                        strikethrough: false,
+                        ..self.look.style.flags
+                    },
+                    ..self.look.style
                 },
-                flags: Flags {
-                    overline: false,
-                    strikethrough: false,
-                    ..self.style.flags
-                },
-                ..self.style
+                ..self.look
             },
             hyperlink: None,
-            ..*self
         }
     }
 
@@ -377,15 +387,15 @@ impl CellAttributes {
         ensures { self.new ≡ changed_by self.old change }
     {
         match change {
-            AttributeChange::Intensity(value) => self.style.marks.intensity = value,
-            AttributeChange::Underline(value) => self.style.marks.underline = value,
-            AttributeChange::Italic(value) => self.style.flags.italic = value,
-            AttributeChange::Blink(value) => self.style.marks.blink = value,
-            AttributeChange::Reverse(value) => self.style.flags.reverse = value,
-            AttributeChange::StrikeThrough(value) => self.style.flags.strikethrough = value,
-            AttributeChange::Invisible(value) => self.style.flags.invisible = value,
-            AttributeChange::Foreground(value) => self.foreground = value,
-            AttributeChange::Background(value) => self.background = value,
+            AttributeChange::Intensity(value) => self.look.style.marks.intensity = value,
+            AttributeChange::Underline(value) => self.look.style.marks.underline = value,
+            AttributeChange::Italic(value) => self.look.style.flags.italic = value,
+            AttributeChange::Blink(value) => self.look.style.marks.blink = value,
+            AttributeChange::Reverse(value) => self.look.style.flags.reverse = value,
+            AttributeChange::StrikeThrough(value) => self.look.style.flags.strikethrough = value,
+            AttributeChange::Invisible(value) => self.look.style.flags.invisible = value,
+            AttributeChange::Foreground(value) => self.look.foreground = value,
+            AttributeChange::Background(value) => self.look.background = value,
             AttributeChange::Hyperlink(value) => self.hyperlink = value,
         }
     }
@@ -394,24 +404,30 @@ impl CellAttributes {
     fn is_same(&self, other: &CellAttributes) -> bool
         ensures { IsTrue result ↔ (self.now ≡ other.now) }
     {
-        same_style(&self.style, &other.style)
-            && self.foreground == other.foreground
-            && self.background == other.background
-            && self.underline_color == other.underline_color
-            && same_hyperlink(self.hyperlink(), other.hyperlink())
+        same_look(&self.look, &other.look) && same_hyperlink(self.hyperlink(), other.hyperlink())
+    }
+
+    // Shares the link of other attributes, or drops its own where they have none.
+    #[inline(always)]
+    fn share_link(&mut self, other: &CellAttributes) -> Result<(), AllocError>
+        ensures done { OnOk result (self.new ≡ record self.old { hyperlink = other.now.hyperlink }) }
+        ensures refused { OnErr result (self.new ≡ self.old) }
+    {
+        if self.hyperlink.is_none() && other.hyperlink.is_none() {
+            return Ok(());
+        }
+        self.hyperlink = other.hyperlink.clone()?;
+        Ok(())
     }
 
     /// Becomes a copy of other attributes that shares their link; a refused one stays as it was.
+    #[inline(always)]
     pub fn copy_from(&mut self, other: &CellAttributes) -> Result<(), AllocError>
         ensures done { OnOk result (self.new ≡ other.now) }
         ensures refused { OnErr result (self.new ≡ self.old) }
     {
-        let hyperlink = other.hyperlink.clone()?;
-        self.style = other.style;
-        self.foreground = other.foreground;
-        self.background = other.background;
-        self.underline_color = other.underline_color;
-        self.hyperlink = hyperlink;
+        self.share_link(other)?;
+        self.look = other.look;
         Ok(())
     }
 
@@ -420,7 +436,10 @@ impl CellAttributes {
         ensures { IfOk result (λ copy. copy ≡ self.now) }
     {
         let hyperlink = self.hyperlink.clone()?;
-        Ok(CellAttributes { hyperlink, ..*self })
+        Ok(CellAttributes {
+            look: self.look,
+            hyperlink,
+        })
     }
 }
 
@@ -456,6 +475,15 @@ impl Default for CellAttributes {
     fn default() -> CellAttributes {
         CellAttributes::blank()
     }
+}
+
+fn same_look(a: &Look, b: &Look) -> bool
+    ensures { IsTrue result ↔ (a.now ≡ b.now) }
+{
+    same_style(&a.style, &b.style)
+        && a.foreground == b.foreground
+        && a.background == b.background
+        && a.underline_color == b.underline_color
 }
 
 fn same_style(a: &Style, b: &Style) -> bool

@@ -4,7 +4,7 @@ use Rattle.std.specs.Prelude.{nat_le, if◌then◌else◌}
 use Rattle.std.specs.List.{flat_map, concat, list_all}
 use Rattle.std.proofs.lemmas.Bool.{and_parts, le-leb}
 use Rattle.std.proofs.lemmas.Bool.Decides.{leb_tells}
-use Rattle.std.proofs.lemmas.List.{take_at, drop_at, drop-drop, length-drop, length-take-le, length-replicate}
+use Rattle.std.proofs.lemmas.List.{append-nil, take_at, drop_all, drop_at, drop-drop, length-drop, length-take-le, length-replicate, replicate-append-replicate}
 use Rattle.std.proofs.Math.Seq.{drop-append-add}
 use Rattle.unicode_segmentation.specs.Grapheme.{graphemes}
 use Rattle.text_clusters.specs.Plain.{is_printable, each}
@@ -47,6 +47,17 @@ blanks_more {X} first now start at x o h e =
     let on : suc (at - start) ≡ at + 1 - start = omega arith in
     written_more first now (take start first ++ replicate (at - start) x) at x e (omega arith) h
     ∙ ap (λ (xs : List X). xs ++ drop (at + 1) first) (append_assoc (take start first) (replicate (at - start) x) (x ∷ []) ∙ ap (λ (xs : List X). take start first ++ xs) (one_more (at - start) x ∙ ap (λ n. replicate n x) on))
+
+-- blanks in place of all that there is, and behind
+pub blanks_behind : {X : Type 0} (first now new : List X) (len width : ℕ) (x : X) → len ≡ length first → len ≤ width → now ≡ take 0 first ++ replicate (len - 0) x ++ drop len first → new ≡ now ++ replicate (width - len) x → new ≡ replicate width x
+blanks_behind {X} first now new len width x e h n m =
+    let all : len - 0 ≡ len = omega arith in
+    let none : drop len first ≡ [] = drop_all len first (omega arith) in
+    let on : len + (width - len) ≡ width = omega arith in
+    m
+    ∙ ap (λ (xs : List X). xs ++ replicate (width - len) x) (n ∙ (λ i. replicate (all i) x ++ none i) ∙ append-nil (replicate len x))
+    ∙ replicate-append-replicate len (width - len) x
+    ∙ ap (λ k. replicate k x) on
 
 pub plain_at : (bytes : List ℕ) (i d : ℕ) → list_all is_printable bytes ≡ true → i < length bytes → is_printable (get_or bytes i d) ≡ true
 plain_at [] i d p h = absurd (omega arith)

@@ -127,8 +127,7 @@ impl Line {
         ensures done { OnOk result (self.new ≡ resize_and_clear self.old width seqno blank_attr) }
         ensures refused { OnErr result (IsRefused self.old self.new) }
     {
-        self.cells.clear();
-        row::push_copies(&mut self.cells, width, &Cell::blank_with_attrs(blank_attr))?;
+        runs::clear(&mut self.cells, width, &blank_attr)?;
         self.set_single_width(seqno);
         Ok(())
     }

@@ -200,6 +200,19 @@ pub(crate) fn push_copies(
     Ok(())
 }
 
+// Blanks with attributes are pushed.
+pub(crate) fn push_blanks_with(
+    cells: &mut Vec<Cell>,
+    count: usize,
+    attrs: &CellAttributes,
+) -> Result<(), AllocError>
+    ensures { OnOk result (cells.new.items ≡ cells.old.items ++ replicate count (blank_cell attrs.now)) }
+{
+    let blank = Cell::blank_with_attrs(attrs.try_clone()?);
+    push_copies(cells, count, &blank)?;
+    Ok(())
+}
+
 // The row is cut, and what stood from there on is answered.
 pub(crate) fn split_off(cells: &mut Vec<Cell>, at: usize) -> Result<Vec<Cell>, AllocError>
     requires { at ≤ vec_len cells.old }

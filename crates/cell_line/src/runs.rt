@@ -7,12 +7,13 @@ ghost use Rattle.cell_base.specs.Row.{set_columns, blank};
 ghost use Rattle.cell_line.specs.RowEdits.{overlaid};
 ghost use Rattle.cell_line.specs.TextRuns.{place_behind, plain_cells, text_on, text_left, Leads, Stops};
 
-use crate::row::{column_count, open, write_cell};
+use crate::row::{column_count, open, push_blanks_with, write_cell};
 use cell_base::{Cell, CellAttributes, Widths};
 use std::alloc::{AllocError, Global};
 use text_clusters::{split_first_cluster, split_plain};
 
 // The cell at a place becomes that of a printable character.
+#[inline(always)]
 fn put_ascii(
     cells: &mut Vec<Cell>,
     at: usize,
@@ -25,6 +26,16 @@ fn put_ascii(
     ensures items { OnOk result (cells.new.items ≡ slice_set cells.old.items at (cell_of (character ∷ []) 1 attrs.now)) }
 {
     cells[at].set_ascii(character, attrs)
+}
+
+// The cell at a place becomes a space.
+#[inline(always)]
+fn put_blank(cells: &mut Vec<Cell>, at: usize, attrs: &CellAttributes) -> Result<(), AllocError>
+    requires { at < vec_len cells.old }
+    ensures len { vec_len cells.new ≡ vec_len cells.old }
+    ensures items { OnOk result (cells.new.items ≡ slice_set cells.old.items at (blank_cell attrs.now)) }
+{
+    cells[at].set_blank(attrs)
 }
 
 // Blanks stand in the places of a range.
@@ -40,7 +51,7 @@ fn write_blanks(
     ensures items { OnOk result (cells.new.items ≡ take start cells.old.items ++ replicate (end - start) (blank_cell attrs.now) ++ drop end cells.old.items) }
 {
     for at in start..end {
-        put_ascii(cells, at, b' ', attrs)?;
+        put_blank(cells, at, attrs)?;
     }
     Ok(())
 }
@@ -58,6 +69,23 @@ pub(crate) fn set_blanks(
 {
     open(cells, start, end)?;
     write_blanks(cells, start, end, attrs)?;
+    Ok(())
+}
+
+// So many blanks stand in place of all cells.
+pub(crate) fn clear(
+    cells: &mut Vec<Cell>,
+    width: usize,
+    attrs: &CellAttributes,
+) -> Result<(), AllocError>
+    ensures { OnOk result (cells.new.items ≡ replicate width (blank_cell attrs.now)) }
+{
+    cells.truncate(width);
+    let len = cells.len();
+    write_blanks(cells, 0, len, attrs)?;
+    if len < width {
+        push_blanks_with(cells, width - len, attrs)?;
+    }
     Ok(())
 }
 

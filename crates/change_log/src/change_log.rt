@@ -1,5 +1,5 @@
 //! The log.
-ghost use Rattle.std.specs.Prelude.{IfOk, ◌≡◌, ◌⊎◌, ◌+◌, ◌<◌, ◌≤◌, ◌^◌, ◌↔◌, IsTrue, [], drop, length, map, OnOk, OnErr};
+ghost use Rattle.std.specs.Prelude.{IfOk, ◌≡◌, ◌⊎◌, ◌+◌, ◌<◌, ◌≤◌, ◌^◌, ◌↔◌, IsTrue, [], drop, length, map, take, ◌-◌, OnOk, OnErr};
 ghost use Rattle.std.specs.Option.{option_map};
 ghost use Rattle.cell_change.specs.ValueOf.{value_of};
 ghost use Rattle.change_log.specs.Log.{due, new_log};
@@ -32,9 +32,20 @@ impl Model for ChangeLog {
     ghost invariant = { IsBounded };
 }
 
+// The last changes, so many, change places with the first ones.
+fn bring_to_front(changes: &mut [Change], count: usize)
+    requires { count + count ≤ length changes.old }
+    ensures len { length changes.new ≡ length changes.old }
+    ensures front { take count changes.new ≡ drop (length changes.old - count) changes.old }
+{
+    let (front, last) = changes.split_at_mut(changes.len() - count);
+    front[..count].swap_with_slice(last);
+}
+
 // Drops the changes that are gone where more are stored than may be due; answers how many still are.
 fn without_gone(changes: &mut Vec<Change>, start: usize, most: usize) -> usize
-    requires { start ≤ length changes.old.items }
+    requires within { start ≤ length changes.old.items }
+    requires kept { length changes.old.items ≤ start + most }
     ensures rest { drop result changes.new.items ≡ drop start changes.old.items }
     ensures gone { result ≤ most }
     ensures stored { result + length (drop start changes.old.items) ≡ length changes.new.items }
@@ -43,7 +54,7 @@ fn without_gone(changes: &mut Vec<Change>, start: usize, most: usize) -> usize
         return start;
     }
     let left = changes.len() - start;
-    changes.rotate_left(start);
+    bring_to_front(changes, left);
     changes.truncate(left);
     0
 }
