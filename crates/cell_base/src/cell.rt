@@ -66,6 +66,7 @@ impl Cell {
     }
 
     /// The cell of a cluster that takes `width` columns.
+    #[inline(always)]
     pub fn new_grapheme_with_width(
         alloc: Global,
         text: &str,

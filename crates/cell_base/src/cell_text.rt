@@ -4,18 +4,21 @@ ghost use Rattle.cell_base.specs.CellContent.{cell_text, shows_as_space};
 ghost use Rattle.cell_base.specs.CellText.{text_bytes};
 
 use crate::letter::Letter;
+use crate::short_text::ShortText;
 use std::alloc::{AllocError, Global};
 
-// A space and a lone ASCII character take no memory.
+// A space, a lone ASCII character and a short text take no memory.
 #[derive(Debug, Drop)]
 pub(crate) enum CellText {
     Space,
     Ascii(Letter),
+    Short(ShortText),
     Owned(String),
 }
 
 impl CellText {
     // What stands in a cell for the text.
+    #[inline(always)]
     pub(crate) fn new(alloc: Global, text: &str) -> Result<CellText, AllocError>
         ensures { IfOk result (λ t. text_bytes t ≡ cell_text text.now) }
     {
@@ -26,6 +29,9 @@ impl CellText {
             if *byte < 128 {
                 return Ok(CellText::of_ascii(*byte));
             }
+        }
+        if let Some(short) = ShortText::new(text) {
+            return Ok(CellText::Short(short));
         }
         Ok(CellText::Owned(String::from_str(alloc, text)?))
     }
@@ -44,6 +50,7 @@ impl CellText {
         match self {
             CellText::Space => " ",
             CellText::Ascii(letter) => letter.as_str(),
+            CellText::Short(text) => text.as_str(),
             CellText::Owned(text) => text.as_str(),
         }
     }
@@ -54,6 +61,7 @@ impl CellText {
         match self {
             CellText::Space => Ok(CellText::Space),
             CellText::Ascii(letter) => Ok(CellText::Ascii(*letter)),
+            CellText::Short(text) => Ok(CellText::Short(*text)),
             CellText::Owned(text) => Ok(CellText::Owned(text.clone()?)),
         }
     }

@@ -160,11 +160,11 @@ impl From<SrgbaTuple> for ColorSpec {
 /// A colour of a cell: a true colour may name what stands in for it where true colour is lacking.
 #[derive(Debug, Clone, Copy, PartialEq, Eq, Hash, Default)]
 pub enum ColorAttribute {
-    TrueColorWithPaletteFallback(SrgbaTuple, PaletteIndex),
-    TrueColorWithDefaultFallback(SrgbaTuple),
-    PaletteIndex(PaletteIndex),
     #[default]
     Default,
+    PaletteIndex(PaletteIndex),
+    TrueColorWithDefaultFallback(SrgbaTuple),
+    TrueColorWithPaletteFallback(SrgbaTuple, PaletteIndex),
 }
 
 impl From<AnsiColor> for ColorAttribute {

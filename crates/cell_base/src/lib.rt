@@ -17,6 +17,7 @@ mod letter;
 mod link_error;
 mod link_reading;
 mod ranges;
+mod short_text;
 mod widths;
 
 pub use attribute_change::AttributeChange;

@@ -24,6 +24,7 @@ pub(crate) fn column_count(cell: &Cell) -> usize
 }
 
 // Whether the cell that is read last before `at` is a wide one whose second column is at `at`.
+#[inline(always)]
 pub(crate) fn is_halved(cells: &[Cell], at: usize) -> bool
     requires { at ≤ length cells.now }
     ensures { result ≡ ends_halved (take at cells.now) }
@@ -62,6 +63,7 @@ fn split_cell(cells: &mut Vec<Cell>, at: usize) -> Result<(), AllocError>
 }
 
 // A wide cell whose columns stand on both sides of `at` becomes two blanks.
+#[inline(always)]
 fn cut_at(cells: &mut Vec<Cell>, at: usize) -> Result<(), AllocError>
     requires { at ≤ vec_len cells.old }
     ensures len { vec_len cells.new ≡ vec_len cells.old }

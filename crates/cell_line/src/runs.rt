@@ -170,6 +170,9 @@ fn set_first_cluster<'a, W: Widths>(
     if at == end {
         return Ok(None);
     }
+    if text.is_empty() {
+        return Ok(None);
+    }
     let Some((cluster, rest)) = split_first_cluster(text) else {
         return Ok(None);
     };

@@ -27,4 +27,3 @@ pub mod StepLemmas
 pub mod SpellLemmas
 mod WideLemmas
 mod QuickLemmas
-mod LaneLemmas

@@ -1,6 +1,5 @@
 -- The bytes of a character to lend (Unicode, table 3-7, less the C1 controls).
 use Rattle.std.specs.Prelude.{◌≡◌, ℕ, ◌≤◌, Bool, ◌&&◌, nat_le, ◌==◌, List, length, take, if◌then◌else◌}
-use Rattle.std.specs.Int.{w64, trailing_zeros}
 use Rattle.escape_framing.specs.Framed.{IsText, BeginsNoText}
 
 -- a character from space to ~, which is one byte
@@ -20,10 +19,6 @@ is_second x y = nat_le (least_second x) y && nat_le y (most_second x)
 -- a byte behind these
 unfoldable pub is_behind : ℕ → Bool
 is_behind b = nat_le 0x80 b && nat_le b 0xBF
-
--- the place of the lowest bit that is set, or n
-abbrev pub first_set : ℕ → ℕ → ℕ
-first_set mask n = if mask == 0 then n else trailing_zeros w64 mask
 
 -- so many bytes are a text at the front; 0 only where none can stand there
 pub record IsRunLen (bytes : List ℕ) (n : ℕ) : Type 0 where

@@ -1,12 +1,9 @@
-//! Plain characters, from space to ~, sixteen bytes at a time.
-ghost use Rattle.std.specs.Prelude.{◌≡◌, ℕ, ◌≤◌, length, take, drop};
+//! Plain characters, from space to ~.
+ghost use Rattle.std.specs.Prelude.{◌≡◌};
 ghost use Rattle.std.specs.List.{prefix_len};
-ghost use Rattle.escape_framing.specs.Wide.{is_plain as in_plain, first_set as place_of};
+ghost use Rattle.escape_framing.specs.Wide.{is_plain as in_plain};
 
-use std::simd::prelude::*;
-
-// How many bytes are looked at at once.
-const LANES: usize = 16;
+use text_clusters::printable_len;
 
 /// A character from space to ~.
 #[inline(always)]
@@ -17,58 +14,10 @@ pub(crate) fn is_plain(byte: u8) -> bool
     0x20 <= byte && byte <= 0x7e
 }
 
-// The place of the lowest bit that is set, or so many.
-#[inline(always)]
-fn first_set(mask: u64, lanes: usize) -> usize
-    ensures { result ≡ place_of mask lanes }
-{
-    if mask == 0 {
-        lanes
-    } else {
-        mask.trailing_zeros() as usize
-    }
-}
-
-// How many of the first sixteen bytes are plain, up to one that isn't.
-#[inline(always)]
-fn block_len(bytes: &[u8]) -> usize
-    requires { LANES ≤ length bytes.now }
-    ensures { result ≡ prefix_len in_plain (take LANES bytes.now) }
-{
-    let from_space = u8x16::from_slice(bytes) - u8x16::splat(0x20);
-    let stops = from_space.simd_ge(u8x16::splat(0x5f));
-    first_set(stops.to_bitmask(), LANES)
-}
-
-// What stands behind so many bytes.
-#[inline(always)]
-fn behind(bytes: &[u8], count: usize) -> &[u8]
-    requires { count ≤ length bytes.now }
-    ensures { result.now ≡ drop count bytes.now }
-{
-    &bytes[count..]
-}
-
-// How many plain characters stand at the front of a few bytes.
-#[inline(always)]
-fn few_len(bytes: &[u8]) -> usize
-    ensures { result ≡ prefix_len in_plain bytes.now }
-{
-    bytes.iter().take_while(|byte| is_plain(**byte)).count()
-}
-
 /// How many plain characters stand at the front.
+#[inline(always)]
 pub(crate) fn plain_len(bytes: &[u8]) -> usize
     ensures { result ≡ prefix_len in_plain bytes.now }
 {
-    let mut rest = bytes;
-    while LANES <= rest.len() {
-        let run = block_len(rest);
-        if run < LANES {
-            return bytes.len() - (rest.len() - run);
-        }
-        rest = behind(rest, LANES);
-    }
-    let few = few_len(rest);
-    bytes.len() - (rest.len() - few)
+    printable_len(bytes)
 }

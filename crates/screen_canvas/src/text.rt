@@ -1,5 +1,5 @@
 //! Texts cut at their controls.
-ghost use Rattle.std.specs.Prelude.{◌≡◌, ◌≤◌, ◌↔◌, ◌∷◌, ◌++◌, [], true, length, not, IfNone, IsNone, IsUtf8, IfSome};
+ghost use Rattle.std.specs.Prelude.{◌≡◌, ◌≤◌, ◌↔◌, ◌∷◌, ◌++◌, [], true, drop, length, not, IfNone, IsNone, IsUtf8, IfSome};
 ghost use Rattle.std.specs.List.{prefix_len};
 ghost use Rattle.cell_base.specs.CellContent.{is_control};
 ghost use Rattle.cell_base.specs.Cluster.{clusters};
@@ -8,7 +8,7 @@ ghost use Rattle.screen_canvas.specs.Parts.{IsAtControl, plain_part};
 ghost use Rattle.screen_effects.specs.Strokes.{Control, text_parts};
 ghost use Rattle.unicode_segmentation.specs.Grapheme.{graphemes};
 
-use text_clusters::split_first_cluster;
+use text_clusters::{printable_len, split_first_cluster};
 
 // Whether the byte is a C0 control or DEL.
 fn is_control(byte: u8) -> bool
@@ -17,14 +17,29 @@ fn is_control(byte: u8) -> bool
     byte < 0x20 || byte == 0x7f
 }
 
+// How many bytes stand before the first control, one looked at after another.
+fn few_len(bytes: &[u8]) -> usize
+    ensures { result ≡ prefix_len (λ byte. not (is_control byte)) bytes.now }
+{
+    bytes.iter().take_while(|byte| !is_control(**byte)).count()
+}
+
+// What stands behind so many bytes.
+fn behind(bytes: &[u8], count: usize) -> &[u8]
+    requires { count ≤ length bytes.now }
+    ensures { result.now ≡ drop count bytes.now }
+{
+    &bytes[count..]
+}
+
 // How many bytes stand before the first control.
 fn plain_len(text: &str) -> usize
     ensures { result ≡ prefix_len (λ byte. not (is_control byte)) text.now }
 {
-    text.as_bytes()
-        .iter()
-        .take_while(|byte| !is_control(**byte))
-        .count()
+    let bytes = text.as_bytes();
+    let rest = behind(bytes, printable_len(bytes));
+    let few = few_len(rest);
+    bytes.len() - (rest.len() - few)
 }
 
 /// Cuts a text before its first C0 control or DEL.

@@ -1,4 +1,5 @@
 pub mod CharacterFacts
 pub mod CutLemmas
+pub mod LaneLemmas
 pub mod PlainLemmas
 pub mod TextLemmas

@@ -4,14 +4,8 @@ ghost use Rattle.std.specs.List.{list_all, prefix_len};
 ghost use Rattle.unicode_segmentation.specs.Grapheme.{graphemes};
 ghost use Rattle.text_clusters.specs.Plain.{is_printable, each, plain_len};
 
+use crate::printable::{is_printable, printable_len};
 use unicode_segmentation::UnicodeSegmentation;
-
-// Whether the byte is a printable ASCII character.
-fn is_printable(byte: u8) -> bool
-    ensures { result ≡ is_printable byte }
-{
-    32 <= byte && byte < 127
-}
 
 // The first `most` bytes, or all if there are fewer.
 #[tactic(auto, using(crate::proofs::PlainLemmas::take_at_most))]
@@ -26,10 +20,7 @@ fn first_bytes(text: &str, most: usize) -> &[u8]
 fn printable_run(text: &str, most: usize) -> usize
     ensures { result ≡ prefix_len is_printable (take most text.now) }
 {
-    first_bytes(text, most)
-        .iter()
-        .take_while(|byte| is_printable(**byte))
-        .count()
+    printable_len(first_bytes(text, most))
 }
 
 // Whether a byte stands at a place that isn't a printable character.

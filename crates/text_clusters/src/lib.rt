@@ -4,5 +4,7 @@
 
 mod front;
 pub mod laws;
+mod printable;
 
 pub use front::{split_first_cluster, split_plain};
+pub use printable::printable_len;

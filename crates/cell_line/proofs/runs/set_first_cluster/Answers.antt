@@ -1,4 +1,5 @@
-use Rattle.std.proofs.Common.{refl, true, [], ◌≡◌, ◌∙◌, ◌<◌, ◌+◌, ap, sym, subst, length, arith, inl, inr}
+use Rattle.std.proofs.Common.{rules, refl, true, [], ◌≡◌, ◌∙◌, ◌<◌, ◌+◌, ap, sym, subst, length, arith, inl, inr}
+use Rattle.std.proofs.lemmas.List.{nil_from_length}
 use Rattle.text_clusters.proofs.PlainLemmas.{graphemes-nil}
 use Rattle.text_clusters.proofs.TextLemmas.{joined_clusters}
 use Rattle.unicode_segmentation.specs.Grapheme.{graphemes}
@@ -14,6 +15,12 @@ use Rattle.cell_line.proofs.runs.set_first_cluster.Goals as goal
 pub returns-then-at-end-clause-leads : goal.returns-then-at-end-clause-leads
 returns-then-at-end-clause-leads g c =
     (refl, stops_full (g.W.Widths.width_of c.args.w.now) c.args.attrs.now _ c.args.at c.args.end c.args.text.now (joined_clusters c.args.text.now c.utf8.text) (omega arith))
+
+pub returns-then-is_empty-clause-leads : goal.returns-then-is_empty-clause-leads
+returns-then-is_empty-clause-leads g c =
+    let none : length c.args.text.now ≡ 0 = search rules in
+    let empty : c.args.text.now ≡ [] = nil_from_length c.args.text.now none in
+    (refl, stops_empty (g.W.Widths.width_of c.args.w.now) c.args.attrs.now _ c.args.at c.args.end c.args.text.now (joined_clusters c.args.text.now c.utf8.text) (ap (graphemes true) empty ∙ graphemes-nil))
 
 pub returns-in_default-clause-leads : goal.returns-in_default-clause-leads
 returns-in_default-clause-leads g c =

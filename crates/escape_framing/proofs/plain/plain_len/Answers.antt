@@ -1,24 +1,21 @@
-use Rattle.std.proofs.Common.{arith, ap, length, length-drop}
+use Rattle.std.proofs.Common.{◌≡◌, ℕ, Bool, true, false, refl, sym, ap, ◌∙◌, arith}
+use Rattle.std.specs.Prelude.{◌&&◌, nat_le, nat_lt}
 use Rattle.std.specs.List.{prefix_len}
-use Rattle.std.proofs.lemmas.List.Sums.{prefix_len-le-length}
+use Rattle.std.proofs.lemmas.Bool.Decides.{nat_tests}
+use Rattle.text_clusters.specs.Plain.{is_printable}
 use Rattle.escape_framing.specs.Wide.{is_plain}
-use Rattle.escape_framing.proofs.LaneLemmas.{prefix_taken, block_stops, block_goes}
 use Rattle.escape_framing.proofs.plain.plain_len.Goals as goal
 
-pub returns-then-run-lt-LANES : goal.returns-then-run-lt-LANES
-returns-then-run-lt-LANES c = omega (arith, c.loop-rest.invariant.within, c.loop-rest.invariant.counted, c.block_len-run.ensures, block_stops is_plain 16 c.loop-rest.rest.now (omega (arith, c.block_len-run.ensures)) (omega arith))
+below : (byte : ℕ) → nat_lt byte 127 ≡ nat_le byte 126
+below byte = by_test (nat_lt byte 127) refl
+  where
+    by_test : (t : Bool) → nat_lt byte 127 ≡ t → nat_lt byte 127 ≡ nat_le byte 126
+    by_test true e = let f : nat_le byte 126 ≡ true = grind (arith, nat_tests) in e ∙ sym f
+    by_test false e = let f : nat_le byte 126 ≡ false = grind (arith, nat_tests) in e ∙ sym f
 
-pub loop-rest-preserved : goal.loop-rest-preserved
-loop-rest-preserved c =
-    let l = ap length c.behind-rest.ensures in
-    let d = length-drop 16 c.loop-rest.rest.now in
-    record {
-      within = omega (arith, c.loop-rest.invariant.within, l, d);
-      counted = omega (arith, l, d, c.loop-rest.invariant.counted, c.block_len-run.ensures, ap (prefix_len is_plain) c.behind-rest.ensures, block_goes is_plain 16 c.loop-rest.rest.now (omega (arith, c.block_len-run.ensures)));
-    }
+same : (byte : ℕ) → is_printable byte ≡ is_plain byte
+unfolding is_plain
+same byte = ap (λ t. nat_le 32 byte && t) (below byte)
 
 pub returns : goal.returns
-returns c = omega (arith, c.loop-rest.invariant.within, c.loop-rest.invariant.counted, c.few_len-few.ensures, prefix_len-le-length is_plain c.loop-rest.rest.now)
-
-pub overflow_sub-result-2 : goal.overflow_sub-result-2
-overflow_sub-result-2 c = omega (arith, c.few_len-few.ensures, prefix_len-le-length is_plain c.loop-rest.rest.now)
+returns c = c.printable_len.ensures ∙ (λ i. prefix_len (λ byte. same byte i) c.args.bytes.now)

@@ -1,4 +1,4 @@
-use Rattle.std.proofs.Common.{◌≡◌, ◌∙◌, ◌++◌, true, List, ap, sym, subst, take, drop, IsCharBoundary}
+use Rattle.std.proofs.Common.{◌∙◌, ◌++◌, true, ap, sym, subst, take, drop, IsCharBoundary}
 use Rattle.std.specs.List.{list_all}
 use Rattle.unicode_segmentation.specs.Grapheme.{graphemes}
 use Rattle.text_clusters.specs.Plain.{is_printable, each}

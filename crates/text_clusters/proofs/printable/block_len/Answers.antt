@@ -1,13 +1,12 @@
 use Rattle.std.proofs.Common.{leb, cond, refl, take, arith}
 use Rattle.std.proofs.lemmas.List.{length-take-le}
-use Rattle.escape_framing.specs.Wide.{is_plain}
-use Rattle.escape_framing.proofs.LaneLemmas.{joined, splat_is, itself, run_len, take_fits}
-use Rattle.escape_framing.proofs.plain.block_len.Goals as goal
+use Rattle.text_clusters.specs.Plain.{is_printable}
+use Rattle.text_clusters.proofs.LaneLemmas.{joined, splat_is, itself, run_len, take_fits}
+use Rattle.text_clusters.proofs.printable.block_len.Goals as goal
 
 pub returns : goal.returns
-unfolding is_plain
 returns c =
     let v = take 16 c.args.bytes.now in
     let long = length-take-le 16 c.args.bytes.now c.requires in
-    run_len is_plain v _ 16 _ long (omega arith) (take_fits 16 c.args.bytes.now c.type_inv.bytes) c.first_set.ensures _
+    run_len is_printable v _ 16 _ long (omega arith) (take_fits 16 c.args.bytes.now c.type_inv.bytes) c.first_set.ensures _
     (joined (λ a b. cond (leb a b) 255 0) _ _ v (splat_is v 16 95 long) (joined _ _ _ v (itself v) (splat_is v 16 32 long))) refl

@@ -1,11 +1,11 @@
--- Plain characters, sixteen bytes at a time.
-use Rattle.std.proofs.Common.{◌≡◌, ◌≢◌, ℕ, zero, suc, ◌+◌, ◌-◌, ◌%◌, ◌^◌, ◌<◌, ◌≤◌, eqb, Bool, true, false, not, ◌||◌, List, [], ◌∷◌, map, take, drop, length, get_or, replicate, Fits, w8, refl, sym, ap, ap₂, ◌∙◌, subst, arith, inl, inr}
+-- Bytes that are counted sixteen bytes at a time.
+use Rattle.std.proofs.Common.{◌≡◌, ℕ, zero, suc, ◌+◌, ◌%◌, ◌^◌, ◌<◌, ◌≤◌, Bool, true, false, not, List, [], ◌∷◌, map, take, drop, length, get_or, replicate, Fits, w8, refl, sym, ap, ap₂, ◌∙◌, arith, inl, inr}
 use Rattle.std.specs.List.{prefix_len}
 use Rattle.std.proofs.lemmas.Bool.{agree_below, agree_below_at, cases_eq, eq-eqb, ne_eqb, cond-true, cond-false}
 use Rattle.std.proofs.lemmas.Simd.{map-map, mask_l-mod, leading_from_mask_l, trailing_mask_l}
 use Rattle.std.proofs.lemmas.List.{length-map}
 use lib.Lanes.{zip2, mask_l, top}
-use Rattle.escape_framing.specs.Wide.{is_plain, first_set}
+use Rattle.text_clusters.specs.Lanes.{first_set}
 
 zip2-map : (h : ℕ → ℕ → ℕ) (f g : ℕ → ℕ) (xs : List ℕ) → zip2 h (map f xs) (map g xs) ≡ map (λ x. h (f x) (g x)) xs
 zip2-map h f g [] = refl
@@ -98,3 +98,20 @@ prefix_taken p (suc n) (x ∷ xs) = by_test (p x) refl (prefix_taken p n xs)
     by_test : (t : Bool) → p x ≡ t → prefix_len p (take n xs) ≤ prefix_len p xs → prefix_len p (take (suc n) (x ∷ xs)) ≤ prefix_len p (x ∷ xs)
     by_test true e h = let a = prefix_cons p x xs e in let b = prefix_cons p x (take n xs) e in omega arith
     by_test false e h = let b = prefix_stop p x (take n xs) e in omega arith
+
+-- what passes one test, and behind it what passes another that all of these pass
+pub passed : (p q : ℕ → Bool) → ((x : ℕ) → p x ≡ true → q x ≡ true) → (xs : List ℕ) → prefix_len q xs ≡ prefix_len p xs + prefix_len q (drop (prefix_len p xs) xs)
+passed p q h [] = refl
+passed p q h (x ∷ xs) = by_test (p x) refl (passed p q h xs)
+  where
+    by_test : (t : Bool) → p x ≡ t → prefix_len q xs ≡ prefix_len p xs + prefix_len q (drop (prefix_len p xs) xs) → prefix_len q (x ∷ xs) ≡ prefix_len p (x ∷ xs) + prefix_len q (drop (prefix_len p (x ∷ xs)) (x ∷ xs))
+    by_test true e k =
+        let a = prefix_cons p x xs e in
+        let b = prefix_cons q x xs (h x e) in
+        let on : prefix_len p (x ∷ xs) ≡ suc (prefix_len p xs) = omega arith in
+        let c = ap (λ n. prefix_len q (drop n (x ∷ xs))) on in
+        omega (arith, a, b, c, k)
+    by_test false e k =
+        let a = prefix_stop p x xs e in
+        let c = ap (λ n. prefix_len q (drop n (x ∷ xs))) a in
+        omega (arith, a, c)

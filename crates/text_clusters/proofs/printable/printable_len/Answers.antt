@@ -1,0 +1,24 @@
+use Rattle.std.proofs.Common.{arith, ap, length, length-drop}
+use Rattle.std.specs.List.{prefix_len}
+use Rattle.std.proofs.lemmas.List.Sums.{prefix_len-le-length}
+use Rattle.text_clusters.specs.Plain.{is_printable}
+use Rattle.text_clusters.proofs.LaneLemmas.{block_stops, block_goes}
+use Rattle.text_clusters.proofs.printable.printable_len.Goals as goal
+
+pub returns-then-run-lt-LANES : goal.returns-then-run-lt-LANES
+returns-then-run-lt-LANES c = omega (arith, c.loop-rest.invariant.within, c.loop-rest.invariant.counted, c.block_len-run.ensures, block_stops is_printable 16 c.loop-rest.rest.now (omega (arith, c.block_len-run.ensures)) (omega arith))
+
+pub loop-rest-preserved : goal.loop-rest-preserved
+loop-rest-preserved c =
+    let l = ap length c.behind-rest.ensures in
+    let d = length-drop 16 c.loop-rest.rest.now in
+    record {
+      within = omega (arith, c.loop-rest.invariant.within, l, d);
+      counted = omega (arith, l, d, c.loop-rest.invariant.counted, c.block_len-run.ensures, ap (prefix_len is_printable) c.behind-rest.ensures, block_goes is_printable 16 c.loop-rest.rest.now (omega (arith, c.block_len-run.ensures)));
+    }
+
+pub returns : goal.returns
+returns c = omega (arith, c.loop-rest.invariant.within, c.loop-rest.invariant.counted, c.few_len-few.ensures, prefix_len-le-length is_printable c.loop-rest.rest.now)
+
+pub overflow_sub-result-2 : goal.overflow_sub-result-2
+overflow_sub-result-2 c = omega (arith, c.few_len-few.ensures, prefix_len-le-length is_printable c.loop-rest.rest.now)

@@ -1,0 +1,74 @@
+//! Printable characters at the front of some bytes, sixteen bytes at a time.
+ghost use Rattle.std.specs.Prelude.{◌≡◌, ◌≤◌, length, take, drop};
+ghost use Rattle.std.specs.List.{prefix_len};
+ghost use Rattle.text_clusters.specs.Lanes.{first_set as place_of};
+ghost use Rattle.text_clusters.specs.Plain.{is_printable};
+
+use std::simd::prelude::*;
+
+// How many bytes are looked at at once.
+const LANES: usize = 16;
+
+/// A printable ASCII character (20h to 7Eh).
+#[inline(always)]
+pub(crate) fn is_printable(byte: u8) -> bool
+    ensures { result ≡ is_printable byte }
+{
+    32 <= byte && byte < 127
+}
+
+// The place of the lowest bit that is set, or so many.
+#[inline(always)]
+fn first_set(mask: u64, lanes: usize) -> usize
+    ensures { result ≡ place_of mask lanes }
+{
+    if mask == 0 {
+        lanes
+    } else {
+        mask.trailing_zeros() as usize
+    }
+}
+
+// How many of the first sixteen bytes are printable, up to one that isn't.
+#[inline(always)]
+fn block_len(bytes: &[u8]) -> usize
+    requires { LANES ≤ length bytes.now }
+    ensures { result ≡ prefix_len is_printable (take LANES bytes.now) }
+{
+    let from_space = u8x16::from_slice(bytes) - u8x16::splat(0x20);
+    let stops = from_space.simd_ge(u8x16::splat(0x5f));
+    first_set(stops.to_bitmask(), LANES)
+}
+
+// What stands behind so many bytes.
+#[inline(always)]
+fn behind(bytes: &[u8], count: usize) -> &[u8]
+    requires { count ≤ length bytes.now }
+    ensures { result.now ≡ drop count bytes.now }
+{
+    &bytes[count..]
+}
+
+// How many printable characters stand at the front of a few bytes.
+#[inline(always)]
+fn few_len(bytes: &[u8]) -> usize
+    ensures { result ≡ prefix_len is_printable bytes.now }
+{
+    bytes.iter().take_while(|byte| is_printable(**byte)).count()
+}
+
+/// How many printable ASCII characters (20h to 7Eh) stand at the front.
+pub fn printable_len(bytes: &[u8]) -> usize
+    ensures { result ≡ prefix_len is_printable bytes.now }
+{
+    let mut rest = bytes;
+    while LANES <= rest.len() {
+        let run = block_len(rest);
+        if run < LANES {
+            return bytes.len() - (rest.len() - run);
+        }
+        rest = behind(rest, LANES);
+    }
+    let few = few_len(rest);
+    bytes.len() - (rest.len() - few)
+}
