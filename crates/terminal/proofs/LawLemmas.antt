@@ -1,15 +1,20 @@
 -- What histories make of terminals.
-use Rattle.std.proofs.Common.{◌≡◌, ℕ, List, [], ◌∷◌, ◌++◌, fold, sym, ap, ◌∙◌}
-use Rattle.change_log.specs.LogSteps.{step_of_kept}
+use Rattle.std.proofs.Common.{◌≡◌, ℕ, List, [], ◌∷◌, ◌++◌, length, fold, sym, ap, ◌∙◌}
+use Rattle.std.specs.Prelude.{◌==◌, if◌then◌else◌}
+use Rattle.change_log.specs.LogSteps.{Logged, step_of_kept}
+use Rattle.escape_framing.specs.Held.{held_of}
 use Rattle.escape_stream.specs.StreamAction.{StreamAction}
 use Rattle.escape_stream.specs.StreamWritable.{IsWritable}
 use Rattle.terminal.specs.Terminal.{Terminal, StandsAt, GoesBy, IsIdle, IsAlike, state_in}
 use Rattle.terminal.proofs.GoLemmas.{in_turn, joined}
 use Rattle.terminal_table.specs.Alone as alone
 use Rattle.terminal_table.specs.Alone.{row_done, row_logged}
-use Rattle.terminal_table.specs.History.{History, Piece}
+use Rattle.terminal_table.specs.Changes.{run_change}
+use Rattle.terminal_table.specs.History.{History, Look, Piece}
 use Rattle.terminal_table.specs.Logged.{logged}
 use Rattle.terminal_table.specs.Meaning.{View, after}
+use Rattle.terminal_table.specs.Steps.{run_step}
+use Rattle.terminal_table.proofs.JoinLemmas.{nothing_behind}
 
 module _ {W : Type 0} (width_of : W → List ℕ → ℕ) where
   pub pieces_in_turn : (first between last : Terminal W) (x y : List ℕ) → GoesBy width_of first between (Piece x ∷ []) → GoesBy width_of between last (Piece y ∷ []) → GoesBy width_of first last (Piece (x ++ y) ∷ [])
@@ -22,6 +27,18 @@ module _ {W : Type 0} (width_of : W → List ℕ → ℕ) where
     unfinished = (g.stands view st).unfinished ∙ sym (h.stands view st).unfinished;
     log = g.log view st ∙ sym (h.log view st);
   }
+
+  -- a look where no run is held
+  pub look_again : (before now : Terminal W) (view : View) → StandsAt before view → before.run ≡ [] → GoesBy width_of before now (Look ∷ []) → IsAlike now before
+  look_again before now view st none g =
+      let there = g.stands view st in
+      let held : view.held ≡ [] = sym st.run ∙ none in
+      record {
+        state = there.state ∙ ap (λ (text : List ℕ). if length text == 0 then view.state else run_step (width_of before.surface.canvas.widths) text view.state) held ∙ sym st.state;
+        run = there.run ∙ sym none;
+        unfinished = there.unfinished ∙ ap held_of (nothing_behind view.stream) ∙ sym st.unfinished;
+        log = g.log view st ∙ ap (λ (text : List ℕ). fold step_of_kept before.surface.log ((if length text == 0 then [] else Logged (run_change text) ∷ []) ++ [])) held;
+      }
 
   -- an idle terminal stands at idle views
   pub idle_view : (t : Terminal W) (view : View) → IsIdle t → StandsAt t view → alone.IsIdle view

@@ -1,19 +1,27 @@
 -- What terminals show of others.
-use Rattle.std.proofs.Common.{◌≡◌, ℕ, ◌<◌, ◌≤◌, ◌^◌, false, List, [], ◌∷◌, length, refl, sym, ap, subst, ◌∙◌, arith}
+use Rattle.std.proofs.Common.{◌≡◌, ℕ, ◌+◌, ◌*◌, ◌<◌, ◌≤◌, ◌^◌, false, Option, Some, None, List, [], ◌∷◌, length, refl, sym, ap, subst, ◌∙◌, arith}
 use Rattle.cell_base.specs.Row.{space, plain_row}
-use Rattle.cell_base.specs.Screen.{Screen, height}
+use Rattle.cell_base.specs.Screen.{Screen, IsScreen, height}
+use Rattle.cell_change.specs.ChangeValue.{ChangeValue}
 use Rattle.cell_surface.specs.Surface.{Surface, shown_by, number_of}
 use Rattle.change_log.specs.LogSteps.{Forgotten, Sized, step_of_kept}
-use Rattle.change_log.specs.Log.{due}
+use Rattle.change_log.specs.Log.{due, most_due}
 use Rattle.escape_framing.specs.Held.{hand_out, held_of, nothing_held}
+use Rattle.escape_stream.specs.StreamAction.{StreamAction}
+use Rattle.escape_stream.specs.StreamText.{stream_text}
+use Rattle.escape_stream.specs.StreamWritable.{IsWritable}
 use Rattle.screen_effects.specs.Display.{IsDisplay}
+use Rattle.screen_effects.specs.Effect.{effect}
 use Rattle.screen_replay.specs.WrittenCells.{IsSoundDisplay}
-use Rattle.std.proofs.lemmas.List.{length-replicate}
+use Rattle.std.proofs.lemmas.List.{length-map, length-replicate}
 use Rattle.terminal.specs.Terminal.{Terminal, StandsAt, GoesBy, IsIdle, IsSpelled, state_in}
-use Rattle.terminal.specs.Viewing.{ShowsAt, update_for}
+use Rattle.terminal.specs.Viewing.{Prints, ShowsAt, changes_for, update_for}
 use Rattle.terminal.proofs.LawLemmas.{idle_view}
-use Rattle.terminal_render.specs.Effects.{IsReady}
+use Rattle.terminal_render.specs.Effects.{IsReady, RenderedTextsHaveTheEffect, RenderedTextsLeaveIdle}
 use Rattle.terminal_render.specs.Lists.{all_rendered}
+use Rattle.terminal_render.specs.Rendering.{rendering}
+use Rattle.terminal_spelling.specs.Sizes.{all_sent_size, prints_in, runs_in}
+use Rattle.terminal_spelling.specs.Spelling.{HaveSpellings, IsSpelledScreen}
 use Rattle.terminal_spelling.proofs.ViewLemmas.{display_on_is}
 use Rattle.terminal_table.specs.Alone as alone
 use Rattle.terminal_table.specs.History.{History, Piece, Forget}
@@ -22,9 +30,9 @@ use Rattle.terminal_table.specs.State.{State, IsState}
 use Rattle.terminal_table.specs.Turns.{IsView, AreSizes}
 use Rattle.terminal_table.proofs.StateLemmas.{new_is}
 use Rattle.terminal_update.specs.Shows.{Shows}
-use Rattle.terminal_update.specs.Update.{display_on, update_of, bytes_of, due_or, painted_anew}
+use Rattle.terminal_update.specs.Update.{display_on, update_changes, update_of, bytes_of, due_or, painted_anew}
 use Rattle.terminal_update.specs.Updates.{updated, updates}
-use Rattle.terminal_update.specs.Viewers.{CanRead, UpdatesAreShown, UpdatesLeaveIdle, UpdatesShowTheInput, ViewersGoOnShowing, ScreensShowThemselves, repeated}
+use Rattle.terminal_update.specs.Viewers.{CanRead, UpdatesAreShown, UpdatesLeaveIdle, UpdatesLeaveNewViewersIdle, UpdatesShowTheInput, ViewersGoOnShowing, ScreensShowThemselves, repeated}
 
 -- nothing is unfinished of an empty stream
 idle_stream : held_of [] ≡ nothing_held
@@ -82,10 +90,10 @@ module _ {W : Type 0} (width_of : W → List ℕ → ℕ) where
   }
 
   -- a viewer at which an update was fed
-  module _ (t v behind : Terminal W) (number : ℕ) (narrow : of v space ≡ 1) (st : IsSound width_of t) (sv : IsSound width_of v) (idle : IsIdle v) (same : v.surface.canvas.widths ≡ t.surface.canvas.widths)
+  module _ (t v behind : Terminal W) (number : ℕ) (narrow : of v space ≡ 1) (st : IsSound width_of t) (sv : IsSound width_of v) (idle : IsIdle v) (same : of v ≡ of t)
       (shows : ShowsAt width_of (state_in v).screen number t) (g : GoesBy width_of v behind (Piece (update_for t number) ∷ [])) where
     reads : CanRead (of v) sv.view (state_in t).screen t.surface.log number
-    reads = can_read t sv.view number (of v) (ap width_of (sym same)) narrow st (ready_is v sv idle) (idle_view width_of v sv.view idle sv.stands)
+    reads = can_read t sv.view number (of v) (sym same) narrow st (ready_is v sv idle) (idle_view width_of v sv.view idle sv.stands)
         (subst (λ (x : State). ShowsAt width_of x.screen number t) sv.stands.state shows)
 
     pub update_shown : UpdatesAreShown → state_in behind ≡ record (state_in v) { screen = (state_in t).screen }
@@ -124,10 +132,10 @@ module _ {W : Type 0} (width_of : W → List ℕ → ℕ) where
 
   -- ---- the first update
 
-  pub first_tells : UpdatesAreShown → (one other : Terminal W) → of one space ≡ 1 → IsSound width_of one → IsSound width_of other → one.surface.canvas.widths ≡ other.surface.canvas.widths
+  pub first_tells : UpdatesAreShown → (one other : Terminal W) → of one space ≡ 1 → IsSound width_of one → IsSound width_of other → of one ≡ of other
       → (state_in one).screen.width ≡ (state_in other).screen.width → height (state_in one).screen ≡ height (state_in other).screen → update_for one 0 ≡ update_for other 0 → (state_in one).screen ≡ (state_in other).screen
   first_tells law one other narrow s r same wide tall bytes =
-      ap (λ (x : State). x.screen) (sym (seen one s refl refl refl) ∙ ap (λ b. (after (of one) viewer (Piece b ∷ [])).state) bytes ∙ seen other r (ap width_of (sym same)) wide tall)
+      ap (λ (x : State). x.screen) (sym (seen one s refl refl refl) ∙ ap (λ b. (after (of one) viewer (Piece b ∷ [])).state) bytes ∙ seen other r (sym same) wide tall)
     where
       size : Screen
       size = (state_in one).screen
@@ -153,3 +161,73 @@ module _ {W : Type 0} (width_of : W → List ℕ → ℕ) where
       ap (λ (x : State). x.screen) (g.stands (new_view width rows) st).state
       ∙ ap (λ x. (after (width_of x) (new_view width rows) (Piece (updates (width_of w) width rows every input) ∷ [])).state.screen) e
       ∙ law (width_of w) width rows every input narrow a b c d
+
+  pub input_idle : UpdatesLeaveNewViewersIdle → (w : W) (width rows every : ℕ) (input : List ℕ) (new behind : Terminal W) → width_of w space ≡ 1 → 0 < width → width < 2 ^ 32 → 0 < rows → rows < 2 ^ 32 → StandsAt new (new_view width rows) → new.surface.canvas.widths ≡ w
+      → GoesBy width_of new behind (Piece (updates (width_of w) width rows every input) ∷ []) → IsIdle behind
+  input_idle law w width rows every input new behind narrow a b c d st e g =
+      let there = g.stands (new_view width rows) st in
+      let bytes = updates (width_of w) width rows every input in
+      let quiet = subst (λ x. alone.IsIdle (after (width_of x) (new_view width rows) (Piece bytes ∷ []))) (sym e) (law (width_of w) width rows every input narrow a b c d) in
+      record { run = there.run ∙ quiet.run; unfinished = there.unfinished ∙ quiet.stream }
+
+  -- ---- what is sent
+
+  some_of : {A : Type 0} (o : Option A) → (o ≡ None → ⊥) → (x : A) × (o ≡ Some x)
+  some_of None h = absurd (h refl)
+  some_of (Some x) h = (x, refl)
+
+  module _ (t : Terminal W) (s : IsSound width_of t) (number : ℕ) where
+    abbrev screen : Screen
+    screen = (state_in t).screen
+
+    spelled_update : ((x : Screen) (log : Sized) (n : ℕ) → IsDisplay (display_on x) → IsSpelledScreen x → HaveSpellings x.width (height x) log.log.entries → HaveSpellings x.width (height x) (update_changes x log n)) → HaveSpellings screen.width (height screen) (changes_for t number)
+    spelled_update law = law screen t.surface.log number (display_on_is (state_in t) (state_is t s)) s.spelled.surface.spelled s.spelled.surface.kept
+
+    pub short : ((x : Screen) (log : Sized) (n : ℕ) → IsDisplay (display_on x) → IsSpelledScreen x → HaveSpellings x.width (height x) log.log.entries → HaveSpellings x.width (height x) (update_changes x log n))
+        → ((w h : ℕ) (changes : List ChangeValue) → HaveSpellings w h changes → all_rendered changes w h ≡ None → ⊥)
+        → ((w h : ℕ) (changes : List ChangeValue) (actions : List StreamAction) → 0 < w → w < 2 ^ 32 → 0 < h → h < 2 ^ 32 → HaveSpellings w h changes → all_rendered changes w h ≡ Some actions → length (stream_text actions) ≤ all_sent_size changes)
+        → length (update_for t number) ≤ all_sent_size (changes_for t number)
+    short law rendered size =
+        let spelled = spelled_update law in
+        let found = some_of (all_rendered (changes_for t number) screen.width (height screen)) (rendered screen.width (height screen) (changes_for t number) spelled) in
+        let lawful = (state_is t s).lawful in
+        subst (λ o. length (bytes_of o) ≤ all_sent_size (changes_for t number)) (sym found.1)
+        (size screen.width (height screen) (changes_for t number) found.0 lawful.wide_enough s.spelled.surface.wide (omega (arith, lawful.row_in)) s.spelled.surface.tall spelled found.1)
+
+    pub prints : ((x : Screen) (log : Sized) (n : ℕ) → IsDisplay (display_on x) → IsSpelledScreen x → HaveSpellings x.width (height x) log.log.entries → HaveSpellings x.width (height x) (update_changes x log n))
+        → ((w h : ℕ) (changes : List ChangeValue) → HaveSpellings w h changes → all_rendered changes w h ≡ None → ⊥)
+        → ((w h : ℕ) (changes : List ChangeValue) (actions : List StreamAction) → all_rendered changes w h ≡ Some actions → prints_in actions ≡ runs_in changes)
+        → Prints (update_for t number) (runs_in (changes_for t number))
+    prints law rendered once =
+        let found = some_of (all_rendered (changes_for t number) screen.width (height screen)) (rendered screen.width (height screen) (changes_for t number) (spelled_update law)) in
+        record { actions = found.0; text_is = ap bytes_of found.1; printed = once screen.width (height screen) (changes_for t number) found.0 found.1 }
+
+    pub counted : ((x : Screen) (log : Sized) (n : ℕ) → IsScreen x → length log.log.entries ≤ log.log.number → log.most ≡ most_due x.width (height x) → length (update_changes x log n) ≤ 2 * x.width * height x + 2 * height x + 11)
+        → length t.surface.log.log.entries ≤ number_of t.surface → t.surface.log.most ≡ most_due screen.width (height screen)
+        → length (changes_for t number) ≤ 2 * screen.width * height screen + 2 * height screen + 11
+    counted law within most = law screen t.surface.log number (state_is t s).lawful within most
+
+  -- how many changes may be due
+  pub most_of : (t : Terminal W) (x : Surface W) → x ≡ t.surface → IsSpelled t → (x.is_failed ≡ false → x.log.most ≡ most_due x.canvas.width (length x.canvas.lines)) → t.surface.log.most ≡ most_due (state_in t).screen.width (height (state_in t).screen)
+  most_of t x e p most =
+      subst (λ (y : Surface W). y.log.most ≡ most_due y.canvas.width (length y.canvas.lines)) e (most (ap (λ (y : Surface W). y.is_failed) e ∙ p.surface.stays))
+      ∙ ap (most_due t.surface.canvas.width) (sym (length-map t.surface.canvas.lines (λ l. l.columns)))
+
+  -- ---- what is rendered for one change
+
+  module _ (v behind : Terminal W) (change : ChangeValue) (actions : List StreamAction) (sv : IsSound width_of v) (idle : IsIdle v)
+      (sent : rendering change (state_in v).screen.width (height (state_in v).screen) ≡ Some actions) (writable : IsWritable actions) (g : GoesBy width_of v behind (Piece (stream_text actions) ∷ [])) where
+    sent_at : rendering change sv.view.state.screen.width (height sv.view.state.screen) ≡ Some actions
+    sent_at = subst (λ (x : State). rendering change x.screen.width (height x.screen) ≡ Some actions) sv.stands.state sent
+
+    pub rendered_shown : RenderedTextsHaveTheEffect → state_in behind ≡ record (state_in v) { screen = (effect (of v) (display_on (state_in v).screen) change).screen }
+    rendered_shown law =
+        (g.stands sv.view sv.stands).state
+        ∙ ap (λ (x : View). x.state) (law (of v) sv.view (display_on (state_in v).screen) change actions (ready_is v sv idle) (idle_view width_of v sv.view idle sv.stands) writable (ap (λ (x : State). x.screen) sv.stands.state) sent_at)
+        ∙ ap (λ (x : State). record x { screen = (effect (of v) (display_on (state_in v).screen) change).screen }) (sym sv.stands.state)
+
+    pub rendered_idle : RenderedTextsLeaveIdle → IsIdle behind
+    rendered_idle law =
+        let there = g.stands sv.view sv.stands in
+        let quiet = law (of v) sv.view change actions (ready_is v sv idle) (idle_view width_of v sv.view idle sv.stands) writable sent_at in
+        record { run = there.run ∙ quiet.run; unfinished = there.unfinished ∙ quiet.stream }

@@ -5,7 +5,7 @@ ghost use Rattle.escape_stream.specs.StreamAction.{StreamAction};
 ghost use Rattle.escape_stream.specs.StreamWritable.{IsWritable};
 ghost use Rattle.terminal.specs.Terminal.{Terminal, StandsAt, GoesBy, IsIdle, IsAlike, IsSpelled, state_in};
 ghost use Rattle.terminal_table.specs.Alone.{alone, row_done, row_logged};
-ghost use Rattle.terminal_table.specs.History.{History, Piece};
+ghost use Rattle.terminal_table.specs.History.{History, Look, Piece};
 ghost use Rattle.terminal_table.specs.Meaning.{View};
 ghost use Rattle.terminal_table.specs.Turns.{IsView};
 
@@ -45,3 +45,9 @@ pub fn lone_actions<W: Widths>()
 {
     lone_actions_are_their_rows();
 }
+
+/// Where no run is held a look changes nothing: so `update`, asked again where its bytes were refused memory,
+/// gives what it would have given.
+pub fn settled_terminals_stay<W: Widths>()
+    ensures { (before : Terminal W) (now : Terminal W) (view : View) → StandsAt before view → before.run ≡ [] → GoesBy (λ w. W.width_of w) before now (Look ∷ []) → IsAlike now before }
+{}

@@ -17,7 +17,8 @@ use terminal_update::update;
 
 /// A terminal that keeps the screen which an application's bytes lead to, and the replies that they ask for.
 ///
-/// A call that is refused leaves one that has failed.
+/// A `feed`, `settle` or `resize` that is refused leaves one that has failed, and so may an `update`;
+/// `is_failed` tells.
 #[derive(Drop)]
 pub struct Terminal<W: Widths> {
     alloc: Global,
@@ -146,12 +147,13 @@ impl<W: Widths + Drop> Terminal<W> {
         number: SequenceNo,
     ) -> Result<(SequenceNo, Vec<u8>), TerminalError>
         ensures settled { OnOk result (GoesBy (λ w. W.width_of w) self.old self.new (Look ∷ [])) }
-        ensures number { IfOk result (λ r. r.0 ≡ number_of self.new.surface) }
+        ensures answer { IfOk result (λ r. r.0 ≡ number_of self.new.surface) }
         ensures bytes { IfOk result (λ r. r.1.items ≡ update_for self.new number) }
         ensures failed { IsErrOf result TerminalError.Failed ↔ IsTrue self.old.is_failed }
-        ensures numbers { IsErrOf result TerminalError.Number → NeedsNumber (λ w. W.width_of w) self.old (Look ∷ []) }
+        ensures number { IsErrOf result TerminalError.Number → NeedsNumber (λ w. W.width_of w) self.old (Look ∷ []) }
         ensures err { OnErr result (self.new.is_failed ≡ false → GoesBy (λ w. W.width_of w) self.old self.new (Look ∷ [])) }
         ensures fails { IsErrOf result TerminalError.Number → IsTrue self.new.is_failed }
+        ensures stays { IsTrue self.old.is_failed → IsTrue self.new.is_failed }
         ensures nothing { self.old.run ≡ [] → self.old.is_failed ≡ false → self.new.is_failed ≡ false }
     {
         self.settle()?;
@@ -200,7 +202,7 @@ impl<W: Widths + Drop> Terminal<W> {
         let _ = &self.parser;
     }
 
-    /// Whether a call was refused, so that each one that can be refused answers `Failed` from then on.
+    /// Whether it has failed, so that each call that can be refused answers `Failed` from then on.
     pub fn is_failed(&self) -> bool
         ensures { result ≡ self.now.is_failed }
     {

@@ -1,10 +1,17 @@
 //! Laws of viewers, as the contracts of functions that do nothing.
-ghost use Rattle.std.specs.Prelude.{◌≡◌, ℕ, ◌<◌, ◌≤◌, ◌^◌, false, List, [], ◌∷◌};
+ghost use Rattle.std.specs.Prelude.{◌≡◌, ℕ, ◌+◌, ◌*◌, ◌<◌, ◌≤◌, ◌^◌, false, List, [], ◌∷◌, length, Some};
 ghost use Rattle.cell_base.specs.Screen.{Screen, height};
+ghost use Rattle.cell_change.specs.ChangeValue.{ChangeValue};
 ghost use Rattle.cell_surface.specs.Surface.{number_of};
+ghost use Rattle.escape_stream.specs.StreamAction.{StreamAction};
+ghost use Rattle.escape_stream.specs.StreamText.{stream_text};
+ghost use Rattle.escape_stream.specs.StreamWritable.{IsWritable};
 ghost use Rattle.screen_effects.specs.Display.{IsDisplay};
+ghost use Rattle.screen_effects.specs.Effect.{effect};
 ghost use Rattle.terminal.specs.Terminal.{Terminal, StandsAt, GoesBy, IsIdle, state_in};
-ghost use Rattle.terminal.specs.Viewing.{ShowsAt, update_for};
+ghost use Rattle.terminal.specs.Viewing.{Prints, ShowsAt, changes_for, update_for};
+ghost use Rattle.terminal_render.specs.Rendering.{rendering};
+ghost use Rattle.terminal_spelling.specs.Sizes.{all_sent_size, runs_in};
 ghost use Rattle.terminal_table.specs.History.{History, Piece, Forget};
 ghost use Rattle.terminal_table.specs.Meaning.{new_view};
 ghost use Rattle.terminal_table.specs.Turns.{AreSizes};
@@ -15,16 +22,20 @@ ghost use Rattle.terminal_update.specs.Viewers.{repeated};
 use crate::terminal::Terminal;
 use cell_base::Widths;
 use cell_surface::laws::{forgotten_changes_are_not_due, surfaces_stay_lawful};
+use terminal_render::laws::rendered_texts_have_the_effect;
+use terminal_spelling::laws::spelled_changes_are_rendered;
+use terminal_spelling::sizes::{deltas_print_each_run_once, sent_lists_are_short};
+use terminal_update::laws::{updates_are_counted, updates_have_spellings};
 use terminal_update::viewers::{
     updates_show_the_input, viewers_go_on_showing, viewers_read_updates,
 };
 
-/// An update for a number, fed to an idle terminal of these widths that showed the terminal at that number,
-/// leaves one that shows the terminal's screen, with its saved cursor and its replies as they were, and
+/// An update for a number, fed to an idle terminal whose widths answer alike and which showed the terminal at
+/// that number, leaves one that shows the terminal's screen, with its saved cursor and its replies as they were, and
 /// idle.
 pub fn updates_are_shown<W: Widths + Drop>(terminal: &Terminal<W>, viewer: &Terminal<W>)
-    ensures shown { (number : ℕ) (behind : Terminal W) → terminal.now.is_failed ≡ false → viewer.now.is_failed ≡ false → IsIdle viewer.now → viewer.now.surface.canvas.widths ≡ terminal.now.surface.canvas.widths → ShowsAt (λ w. W.width_of w) (state_in viewer.now).screen number terminal.now → GoesBy (λ w. W.width_of w) viewer.now behind (Piece (update_for terminal.now number) ∷ []) → state_in behind ≡ record (state_in viewer.now) { screen = (state_in terminal.now).screen } }
-    ensures idle { (number : ℕ) (behind : Terminal W) → terminal.now.is_failed ≡ false → viewer.now.is_failed ≡ false → IsIdle viewer.now → viewer.now.surface.canvas.widths ≡ terminal.now.surface.canvas.widths → ShowsAt (λ w. W.width_of w) (state_in viewer.now).screen number terminal.now → GoesBy (λ w. W.width_of w) viewer.now behind (Piece (update_for terminal.now number) ∷ []) → IsIdle behind }
+    ensures shown { (number : ℕ) (behind : Terminal W) → terminal.now.is_failed ≡ false → viewer.now.is_failed ≡ false → IsIdle viewer.now → W.width_of viewer.now.surface.canvas.widths ≡ W.width_of terminal.now.surface.canvas.widths → ShowsAt (λ w. W.width_of w) (state_in viewer.now).screen number terminal.now → GoesBy (λ w. W.width_of w) viewer.now behind (Piece (update_for terminal.now number) ∷ []) → state_in behind ≡ record (state_in viewer.now) { screen = (state_in terminal.now).screen } }
+    ensures idle { (number : ℕ) (behind : Terminal W) → terminal.now.is_failed ≡ false → viewer.now.is_failed ≡ false → IsIdle viewer.now → W.width_of viewer.now.surface.canvas.widths ≡ W.width_of terminal.now.surface.canvas.widths → ShowsAt (λ w. W.width_of w) (state_in viewer.now).screen number terminal.now → GoesBy (λ w. W.width_of w) viewer.now behind (Piece (update_for terminal.now number) ∷ []) → IsIdle behind }
 {
     terminal.stands();
     viewer.stands();
@@ -59,7 +70,7 @@ pub fn forgotten_changes_are_not_missed<W: Widths + Drop>(terminal: &Terminal<W>
 /// Two terminals of one size and the same widths whose updates for number 0 have the same bytes show the same
 /// screen.
 pub fn first_updates_tell_screens<W: Widths + Drop>(one: &Terminal<W>, other: &Terminal<W>)
-    ensures { one.now.is_failed ≡ false → other.now.is_failed ≡ false → one.now.surface.canvas.widths ≡ other.now.surface.canvas.widths → (state_in one.now).screen.width ≡ (state_in other.now).screen.width → height (state_in one.now).screen ≡ height (state_in other.now).screen → update_for one.now 0 ≡ update_for other.now 0 → (state_in one.now).screen ≡ (state_in other.now).screen }
+    ensures { one.now.is_failed ≡ false → other.now.is_failed ≡ false → W.width_of one.now.surface.canvas.widths ≡ W.width_of other.now.surface.canvas.widths → (state_in one.now).screen.width ≡ (state_in other.now).screen.width → height (state_in one.now).screen ≡ height (state_in other.now).screen → update_for one.now 0 ≡ update_for other.now 0 → (state_in one.now).screen ≡ (state_in other.now).screen }
 {
     one.stands();
     other.stands();
@@ -68,10 +79,39 @@ pub fn first_updates_tell_screens<W: Widths + Drop>(one: &Terminal<W>, other: &T
     viewers_read_updates();
 }
 
+/// An update has at most 2wh + 2h + 11 changes on a screen of w columns and h rows, and no more bytes than
+/// what is sent for each of them at most: 320 beside its text, its title or its link. Where changes are due it
+/// prints their texts, each once and in turn.
+pub fn updates_are_small<W: Widths + Drop>(terminal: &Terminal<W>)
+    ensures count { (number : ℕ) → terminal.now.is_failed ≡ false → length (changes_for terminal.now number) ≤ 2 * (state_in terminal.now).screen.width * height (state_in terminal.now).screen + 2 * height (state_in terminal.now).screen + 11 }
+    ensures bytes { (number : ℕ) → terminal.now.is_failed ≡ false → length (update_for terminal.now number) ≤ all_sent_size (changes_for terminal.now number) }
+    ensures printed { (number : ℕ) → terminal.now.is_failed ≡ false → Prints (update_for terminal.now number) (runs_in (changes_for terminal.now number)) }
+{
+    terminal.stands();
+    surfaces_stay_lawful(terminal.surface());
+    updates_are_counted();
+    updates_have_spellings();
+    spelled_changes_are_rendered();
+    sent_lists_are_short();
+    deltas_print_each_run_once();
+}
+
+/// What `render` answers for a change, fed as bytes to an idle terminal of that size, has the change's effect on
+/// its screen, with its saved cursor and its replies as they were, and leaves it idle.
+pub fn renderings_are_shown<W: Widths + Drop>(viewer: &Terminal<W>)
+    ensures shown { (change : ChangeValue) (actions : List StreamAction) (behind : Terminal W) → viewer.now.is_failed ≡ false → IsIdle viewer.now → rendering change (state_in viewer.now).screen.width (height (state_in viewer.now).screen) ≡ Some actions → IsWritable actions → GoesBy (λ w. W.width_of w) viewer.now behind (Piece (stream_text actions) ∷ []) → state_in behind ≡ record (state_in viewer.now) { screen = (effect (W.width_of viewer.now.surface.canvas.widths) (display_on (state_in viewer.now).screen) change).screen } }
+    ensures idle { (change : ChangeValue) (actions : List StreamAction) (behind : Terminal W) → viewer.now.is_failed ≡ false → IsIdle viewer.now → rendering change (state_in viewer.now).screen.width (height (state_in viewer.now).screen) ≡ Some actions → IsWritable actions → GoesBy (λ w. W.width_of w) viewer.now behind (Piece (stream_text actions) ∷ []) → IsIdle behind }
+{
+    viewer.stands();
+    surfaces_stay_lawful(viewer.surface());
+    rendered_texts_have_the_effect();
+}
+
 /// A new terminal that is fed the updates of an input, as `run` writes them, shows what a terminal shows that
-/// is fed the input and looked at behind each of so many bytes and at the end.
+/// is fed the input and looked at behind each of so many bytes and at the end; and it is idle.
 pub fn new_viewers_show_the_input<W: Widths>()
-    ensures { (widths : W) (width : ℕ) (height : ℕ) (every : ℕ) (input : List ℕ) (new : Terminal W) (behind : Terminal W) → 0 < width → width < 2 ^ 32 → 0 < height → height < 2 ^ 32 → StandsAt new (new_view width height) → new.surface.canvas.widths ≡ widths → GoesBy (λ w. W.width_of w) new behind (Piece (updates (W.width_of widths) width height every input) ∷ []) → (state_in behind).screen ≡ (updated (W.width_of widths) width height every input).state.screen }
+    ensures shown { (widths : W) (width : ℕ) (height : ℕ) (every : ℕ) (input : List ℕ) (new : Terminal W) (behind : Terminal W) → 0 < width → width < 2 ^ 32 → 0 < height → height < 2 ^ 32 → StandsAt new (new_view width height) → new.surface.canvas.widths ≡ widths → GoesBy (λ w. W.width_of w) new behind (Piece (updates (W.width_of widths) width height every input) ∷ []) → (state_in behind).screen ≡ (updated (W.width_of widths) width height every input).state.screen }
+    ensures idle { (widths : W) (width : ℕ) (height : ℕ) (every : ℕ) (input : List ℕ) (new : Terminal W) (behind : Terminal W) → 0 < width → width < 2 ^ 32 → 0 < height → height < 2 ^ 32 → StandsAt new (new_view width height) → new.surface.canvas.widths ≡ widths → GoesBy (λ w. W.width_of w) new behind (Piece (updates (W.width_of widths) width height every input) ∷ []) → IsIdle behind }
 {
     updates_show_the_input();
 }

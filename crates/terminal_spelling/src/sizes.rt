@@ -18,8 +18,8 @@ pub fn sent_lists_are_short()
     renderings_are_short();
 }
 
-/// What is sent for changes prints their texts, each once and in turn: without their C0 controls and DEL, of
-/// which each counts as a space but CR and LF.
+/// What is sent for changes prints their texts, each once and in turn; each C0 control or DEL in them as a
+/// space, but CR and LF, which print nothing.
 pub fn deltas_print_each_run_once()
     ensures { (width : ℕ) (height : ℕ) (changes : List ChangeValue) (actions : List StreamAction) → all_rendered changes width height ≡ Some actions → prints_in actions ≡ runs_in changes }
 {}

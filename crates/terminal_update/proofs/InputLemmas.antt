@@ -97,11 +97,11 @@ module _ (cut : AllCut) (shown : UpdatesAreShown) (idles : UpdatesLeaveIdle) (wi
   -- ---- all pieces
 
   all_shown : PiecesJoin → (piece : List ℕ) (pieces : List (List ℕ)) (s : Standing) (number : ℕ) (viewer : View) → Stands width_of s → Reads viewer → number ≤ s.log.log.number → Shows width_of viewer.state.screen number s.view.state.screen s.log
-      → (after width_of viewer (Piece (updates_behind width_of s number (piece ∷ pieces)) ∷ [])).state.screen ≡ (after width_of s.view (looks (piece ∷ pieces))).state.screen
+      → HasRead (after width_of viewer (Piece (updates_behind width_of s number (piece ∷ pieces)) ∷ [])) (after width_of s.view (looks (piece ∷ pieces))).state.screen
   all_shown joins piece [] s number viewer h r n p =
       let behind = standing_behind width_of s (looks (piece ∷ [])) in
-      ap (λ bytes. (after width_of viewer (Piece bytes ∷ [])).state.screen) (nothing_behind (update_of behind.view.state.screen behind.log number))
-      ∙ (has_read viewer behind.view.state.screen behind.log number (can_read s piece number viewer h r n p)).screen_is
+      subst (λ (bytes : List ℕ). HasRead (after width_of viewer (Piece bytes ∷ [])) behind.view.state.screen) (sym (nothing_behind (update_of behind.view.state.screen behind.log number)))
+      (has_read viewer behind.view.state.screen behind.log number (can_read s piece number viewer h r n p))
   all_shown joins piece (other ∷ pieces) s number viewer h r n p =
       let behind = standing_behind width_of s (looks (piece ∷ [])) in
       let update = update_of behind.view.state.screen behind.log number in
@@ -109,9 +109,10 @@ module _ (cut : AllCut) (shown : UpdatesAreShown) (idles : UpdatesLeaveIdle) (wi
       let stands = next_stands s piece h in
       let read = has_read viewer behind.view.state.screen behind.log number (can_read s piece number viewer h r n p) in
       let shows = subst (λ (x : Screen). Shows width_of x behind.log.log.number behind.view.state.screen behind.log) (sym read.screen_is) (shows_itself width_of behind.view.state.screen behind.log stands.counted) in
-      ap (λ (v : View). v.state.screen) (sym (cut_after joins width_of viewer update rest []) ∙ after_joins width_of viewer (Piece update ∷ []) (Piece rest ∷ []))
-      ∙ all_shown joins other pieces behind behind.log.log.number (after width_of viewer (Piece update ∷ [])) stands read.reads (omega arith) shows
-      ∙ ap (λ (v : View). v.state.screen) (sym (after_joins width_of s.view (looks (piece ∷ [])) (looks (other ∷ pieces))))
+      let others = all_shown joins other pieces behind behind.log.log.number (after width_of viewer (Piece update ∷ [])) stands read.reads (omega arith) shows in
+      subst (λ (v : View). HasRead v (after width_of s.view (looks (piece ∷ other ∷ pieces))).state.screen)
+      (sym (sym (cut_after joins width_of viewer update rest []) ∙ after_joins width_of viewer (Piece update ∷ []) (Piece rest ∷ [])))
+      (subst (λ (v : View). HasRead (after width_of (after width_of viewer (Piece update ∷ [])) (Piece rest ∷ [])) v.state.screen) (sym (after_joins width_of s.view (looks (piece ∷ [])) (looks (other ∷ pieces)))) others)
 
   -- ---- the input
 
@@ -143,10 +144,18 @@ module _ (cut : AllCut) (shown : UpdatesAreShown) (idles : UpdatesLeaveIdle) (wi
     idle = record { run = refl; stream = idle_stream };
   }
 
-  pub input_is_shown : PiecesJoin → (width height every : ℕ) (input : List ℕ) → 0 < width → width < 2 ^ 32 → 0 < height → height < 2 ^ 32
-      → (after width_of (new_view width height) (Piece (updates width_of width height every input) ∷ [])).state.screen ≡ (updated width_of width height every input).state.screen
-  input_is_shown joins width height every input w wide t tall =
+  input_read : PiecesJoin → (width height every : ℕ) (input : List ℕ) → 0 < width → width < 2 ^ 32 → 0 < height → height < 2 ^ 32
+      → HasRead (after width_of (new_view width height) (Piece (updates width_of width height every input) ∷ [])) (updated width_of width height every input).state.screen
+  input_read joins width height every input w wide t tall =
       let s = new_standing width height in
       let p = some_piece every [] input in
-      subst (λ pieces. (after width_of (new_view width height) (Piece (updates_behind width_of s 0 pieces) ∷ [])).state.screen ≡ (after width_of (new_view width height) (looks pieces)).state.screen) (sym p.2)
+      subst (λ pieces. HasRead (after width_of (new_view width height) (Piece (updates_behind width_of s 0 pieces) ∷ [])) (after width_of (new_view width height) (looks pieces)).state.screen) (sym p.2)
       (all_shown joins p.0 p.1 s 0 (new_view width height) (new_stands width height w t) (new_reads width height w wide t tall) (omega arith) (record { wide = refl; tall = refl; leads = tt }))
+
+  pub input_is_shown : PiecesJoin → (width height every : ℕ) (input : List ℕ) → 0 < width → width < 2 ^ 32 → 0 < height → height < 2 ^ 32
+      → (after width_of (new_view width height) (Piece (updates width_of width height every input) ∷ [])).state.screen ≡ (updated width_of width height every input).state.screen
+  input_is_shown joins width height every input w wide t tall = (input_read joins width height every input w wide t tall).screen_is
+
+  pub input_leaves_idle : PiecesJoin → (width height every : ℕ) (input : List ℕ) → 0 < width → width < 2 ^ 32 → 0 < height → height < 2 ^ 32
+      → IsIdle (after width_of (new_view width height) (Piece (updates width_of width height every input) ∷ []))
+  input_leaves_idle joins width height every input w wide t tall = (input_read joins width height every input w wide t tall).reads.idle

@@ -80,6 +80,11 @@ abbrev pub UpdatesShowTheInput : Type 0
 UpdatesShowTheInput = (width_of : List ℕ → ℕ) (width height every : ℕ) (input : List ℕ) → width_of space ≡ 1 → 0 < width → width < 2 ^ 32 → 0 < height → height < 2 ^ 32
     → (after width_of (new_view width height) (Piece (updates width_of width height every input) ∷ [])).state.screen ≡ (updated width_of width height every input).state.screen
 
+-- and it is idle then
+abbrev pub UpdatesLeaveNewViewersIdle : Type 0
+UpdatesLeaveNewViewersIdle = (width_of : List ℕ → ℕ) (width height every : ℕ) (input : List ℕ) → width_of space ≡ 1 → 0 < width → width < 2 ^ 32 → 0 < height → height < 2 ^ 32
+    → IsIdle (after width_of (new_view width height) (Piece (updates width_of width height every input) ∷ []))
+
 -- ---- standings that answer alike
 
 -- bytes are fed and looks taken, and nothing else happens

@@ -1,5 +1,5 @@
 //! Laws of viewers: each is the contract of a function that does nothing.
-ghost use Rattle.terminal_update.specs.Viewers.{EventsKeepSound, HistoriesKeepSound, NewViewsAreSound, ScreensShowThemselves, UpdatesAreShown, UpdatesLeaveIdle, UpdatesShowTheInput, ViewersGoOnShowing};
+ghost use Rattle.terminal_update.specs.Viewers.{EventsKeepSound, HistoriesKeepSound, NewViewsAreSound, ScreensShowThemselves, UpdatesAreShown, UpdatesLeaveIdle, UpdatesLeaveNewViewersIdle, UpdatesShowTheInput, ViewersGoOnShowing};
 
 use crate::laws::{updates_have_spellings, updates_paint_the_screen};
 use escape_framing::laws::one_cut;
@@ -43,9 +43,10 @@ pub fn viewers_read_updates()
     updates_paint_the_screen();
 }
 
-/// A new viewer that is fed all updates of an input shows in the end what the terminal shows.
+/// A new viewer that is fed all updates of an input shows in the end what the terminal shows, and is idle.
 pub fn updates_show_the_input()
-    ensures { UpdatesShowTheInput }
+    ensures shown { UpdatesShowTheInput }
+    ensures idle { UpdatesLeaveNewViewersIdle }
 {
     one_cut();
     actions_of_pieces_join();

@@ -13,4 +13,4 @@ returns-in_err-write_all-clause-err g c =
 
 pub returns-clause-ok : goal.returns-clause-ok
 returns-clause-ok g c = λ s at. sent_is (λ w. g.W.Widths.width_of w) c.args.terminal.now.surface.canvas.widths c.args.terminal.now c.update.new.self c.forget_before.new.self c.take_replies-replies.new.self s c.args.number c.in_ok-next.next c.deref.result.now _ _ refl at
-    c.in_ok-next.ensures.settled (c.deref.ensures.value ∙ c.in_ok-next.ensures.bytes) c.in_ok-next.ensures.number c.in_ok-write_all.ensures.ok (c.forget_before.ensures.done c.in_ok-next.ensures.settled.sound) c.take_replies-replies.ensures.none
+    c.in_ok-next.ensures.settled (c.deref.ensures.value ∙ c.in_ok-next.ensures.bytes) c.in_ok-next.ensures.answer c.in_ok-write_all.ensures.ok (c.forget_before.ensures.done c.in_ok-next.ensures.settled.sound) c.take_replies-replies.ensures.none
