@@ -6,7 +6,7 @@ use cell_surface::SurfaceError;
 use escape_stream::ParseError;
 use std::alloc::{AllocError, AllocFailed};
 use std::io;
-use terminal::TerminalError;
+use terminal::{RunError, TerminalError};
 use thiserror::Error;
 
 /// Why a row can't be run.
@@ -69,6 +69,14 @@ impl From<TerminalError> for Fault {
     ghost from_gives = { λ _ e. e ≡ Memory };
 
     fn from(_error: TerminalError) -> Fault {
+        Fault::Memory
+    }
+}
+
+impl From<RunError> for Fault {
+    ghost from_gives = { λ _ e. e ≡ Memory };
+
+    fn from(_error: RunError) -> Fault {
         Fault::Memory
     }
 }

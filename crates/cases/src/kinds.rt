@@ -4,13 +4,13 @@ use crate::row::Row;
 use crate::sheet::Sheet;
 use crate::{
     codes, commands, framing, lines, screens, sequences, sequences_of_changes, streams, surfaces,
-    terminals, values,
+    terminals, updates, values,
 };
 
 // How many arguments a kind takes.
 fn count_of(kind: &str) -> usize {
     match kind {
-        "csi tokens" | "cell" => 3,
+        "csi tokens" | "cell" | "run" => 3,
         "csi"
         | "code"
         | "esc"
@@ -20,6 +20,7 @@ fn count_of(kind: &str) -> usize {
         | "screen"
         | "settled screen"
         | "terminal"
+        | "render"
         | "surface"
         | "sequence" => 2,
         _ => 1,
@@ -40,6 +41,8 @@ fn answer_value(kind: &str, row: &Row<'_>, sheet: &mut Sheet) -> Result<(), Faul
         "settled screen" => screens::settled(row, sheet),
         "terminal" => terminals::terminal(row, sheet),
         "torn" => terminals::torn(row, sheet),
+        "render" => updates::rendered(row, sheet),
+        "run" => updates::run_input(row, sheet),
         "surface" => surfaces::surface(row, sheet),
         "sequence" => sequences_of_changes::sequence(row, sheet),
         _ => Err(Fault::Kind),

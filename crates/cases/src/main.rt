@@ -27,6 +27,7 @@ mod streams;
 mod surfaces;
 mod tally;
 mod terminals;
+mod updates;
 mod values;
 
 use fault::Fault;

@@ -69,11 +69,16 @@ impl Sheet {
         }
     }
 
+    /// Writes bytes between quotes as a word.
+    pub fn quoted_bytes(&mut self, bytes: &[u8]) {
+        self.word("\"");
+        self.add(bytes);
+        self.add(b"\"");
+    }
+
     /// Writes a text between quotes as a word.
     pub fn quoted(&mut self, text: &str) {
-        self.word("\"");
-        self.add(text.as_bytes());
-        self.add(b"\"");
+        self.quoted_bytes(text.as_bytes());
     }
 
     /// Goes on with a value.

@@ -3,6 +3,7 @@ use crate::call::Call;
 use crate::fault::Fault;
 use crate::row::{Row, number_up_to};
 use crate::sheet::Sheet;
+use crate::updates::{Pair, shows_same};
 use crate::{escapes, surfaces};
 use std::alloc::Global;
 use terminal::{ProgramWidth, Terminal};
@@ -18,31 +19,31 @@ pub fn terminal_of(alloc: Global, size: &str) -> Result<Plain, Fault> {
 }
 
 // A call that changes the terminal; whether the word names one.
-fn change(terminal: &mut Plain, call: &Call<'_>, sheet: &mut Sheet) -> Result<bool, Fault> {
+fn change(pair: &mut Pair, call: &Call<'_>, sheet: &mut Sheet) -> Result<bool, Fault> {
     match call.word(0) {
-        "settle" => terminal.settle()?,
+        "settle" => pair.terminal.settle()?,
         "resize" => {
             let width = number_up_to(4096, call.word(1))?;
             let height = number_up_to(4096, call.word(2))?;
-            terminal.resize(width, height)?;
+            pair.resize(width, height)?;
         }
-        "forget" => terminal.forget_before(call.number(1, sheet)),
+        "forget" => pair.terminal.forget_before(call.number(1, sheet)),
         _ => return Ok(false),
     }
     Ok(true)
 }
 
 // What is asked of the terminal, or of its surface.
-fn ask(terminal: &mut Plain, call: &Call<'_>, sheet: &mut Sheet) -> Result<(), Fault> {
+fn ask(pair: &mut Pair, call: &Call<'_>, sheet: &mut Sheet) -> Result<(), Fault> {
     match call.word(0) {
         "replies" => {
-            let replies = terminal.take_replies();
-            sheet.word("\"");
-            sheet.add(&replies);
-            sheet.add(b"\"");
+            let replies = pair.terminal.take_replies();
+            sheet.quoted_bytes(&replies);
         }
+        "update" => pair.say_update(call.number(1, sheet), sheet)?,
+        "send" => pair.say_sent(call.number(1, sheet), sheet)?,
         _ => {
-            if !surfaces::ask_surface(terminal.surface(), call, sheet)? {
+            if !surfaces::ask_surface(pair.terminal.surface(), call, sheet)? {
                 return Err(Fault::Word);
             }
         }
@@ -51,25 +52,20 @@ fn ask(terminal: &mut Plain, call: &Call<'_>, sheet: &mut Sheet) -> Result<(), F
 }
 
 // A piece is fed, or a call is made.
-fn take_step(
-    alloc: Global,
-    terminal: &mut Plain,
-    step: &str,
-    sheet: &mut Sheet,
-) -> Result<(), Fault> {
+fn take_step(alloc: Global, pair: &mut Pair, step: &str, sheet: &mut Sheet) -> Result<(), Fault> {
     let inner = step
         .strip_prefix('<')
         .and_then(|words| words.strip_suffix('>'));
     match inner {
         Some(words) if !words.starts_with('<') => {
             let call = Call::read(alloc, words)?;
-            if !change(terminal, &call, sheet)? {
-                ask(terminal, &call, sheet)?;
+            if !change(pair, &call, sheet)? {
+                ask(pair, &call, sheet)?;
             }
         }
         _ => {
             let bytes = escapes::read(alloc, step)?;
-            terminal.feed(&bytes)?;
+            pair.terminal.feed(&bytes)?;
         }
     }
     Ok(())
@@ -77,18 +73,27 @@ fn take_step(
 
 /// `WIDTH HEIGHT | STEPS => ANSWERS`: what a new terminal answers behind pieces and calls with ` + ` between them; a call stands in `<>`.
 pub fn terminal(row: &Row<'_>, sheet: &mut Sheet) -> Result<(), Fault> {
-    let mut terminal = terminal_of(row.alloc(), row.column(0))?;
+    let mut pair = Pair::new(row.alloc(), row.column(0))?;
     for step in row.column(1).split(" + ") {
-        take_step(row.alloc(), &mut terminal, step.trim(), sheet)?;
+        take_step(row.alloc(), &mut pair, step.trim(), sheet)?;
     }
     Ok(())
 }
 
-/// A terminal that was fed and settled, and its replies.
+/// Feeds pieces of one byte.
+pub fn feed_each(terminal: &mut Plain, bytes: &[u8]) -> Result<(), Fault> {
+    for byte in bytes {
+        terminal.feed(&[*byte])?;
+    }
+    Ok(())
+}
+
+/// A terminal that was fed and settled, its replies, and the update that paints its screen.
 #[derive(Drop)]
 pub struct Seen {
     pub terminal: Plain,
     replies: Vec<u8>,
+    update: Vec<u8>,
 }
 
 impl Seen {
@@ -96,7 +101,12 @@ impl Seen {
     fn settled(mut terminal: Plain) -> Result<Seen, Fault> {
         terminal.settle()?;
         let replies = terminal.take_replies();
-        Ok(Seen { terminal, replies })
+        let (_, update) = terminal.update(0)?;
+        Ok(Seen {
+            terminal,
+            replies,
+            update,
+        })
     }
 
     /// Behind two pieces, the first with so many bytes.
@@ -111,30 +121,30 @@ impl Seen {
     /// Behind pieces of one byte.
     pub fn byte_by_byte(alloc: Global, size: &str, bytes: &[u8]) -> Result<Seen, Fault> {
         let mut terminal = terminal_of(alloc, size)?;
-        for byte in bytes {
-            terminal.feed(&[*byte])?;
-        }
+        feed_each(&mut terminal, bytes)?;
         Seen::settled(terminal)
     }
 
-    /// Whether both show the same cells, cursor, pen and title, and have the same number and replies.
+    /// Whether both show the same screen, and have the same number, replies and update.
     pub fn is_same(&self, other: &Seen) -> Result<bool, Fault> {
-        let (one, two) = (self.terminal.surface(), other.terminal.surface());
-        let changes = one.diff_screens(two)?;
         Ok(
-            changes.is_empty()
-                && one.cursor_position() == two.cursor_position()
-                && one.cursor_visibility() == two.cursor_visibility()
-                && one.pen() == two.pen()
-                && one.title() == two.title()
-                && one.current_seqno() == two.current_seqno()
-                && self.replies.as_slice() == other.replies.as_slice(),
+            shows_same(&self.terminal, &other.terminal)?
+                && self.terminal.current_number() == other.terminal.current_number()
+                && self.replies.as_slice() == other.replies.as_slice()
+                && self.update.as_slice() == other.update.as_slice(),
         )
+    }
+
+    /// Whether a new terminal shows the same screen that reads the update byte by byte.
+    pub fn is_viewed(&self, alloc: Global, size: &str) -> Result<bool, Fault> {
+        let mut viewer = terminal_of(alloc, size)?;
+        feed_each(&mut viewer, &self.update)?;
+        shows_same(&self.terminal, &viewer)
     }
 }
 
 // The bytes are cut in two at their first places only, so that many take no longer.
-const MOST_CUTS: usize = 200;
+const MOST_CUTS: usize = 400;
 
 /// Says in which pieces the bytes lead to something else; whether there are none.
 pub fn say_torn(
@@ -157,13 +167,21 @@ pub fn say_torn(
     Ok(all_same && is_same)
 }
 
-/// `BYTES => same`: whether terminals of several sizes show the same if the bytes are cut in two at each place, and byte by byte.
+// Says in which pieces the bytes lead to something else on a terminal of this size, or that its viewer does; whether neither is so.
+fn say_apart(alloc: Global, size: &str, bytes: &[u8], sheet: &mut Sheet) -> Result<bool, Fault> {
+    let whole = Seen::in_two(alloc, size, bytes, 0)?;
+    let is_viewed = whole.is_viewed(alloc, size)?;
+    sheet.word_if(!is_viewed, "but another at a viewer");
+    Ok(say_torn(alloc, size, bytes, &whole, sheet)? && is_viewed)
+}
+
+/// `BYTES => same`: whether terminals of several sizes show the same, and are sent the same, if the bytes are cut in two at each
+/// place, and byte by byte; and whether a new viewer that reads the update for 0 byte by byte shows the screen.
 pub fn torn(row: &Row<'_>, sheet: &mut Sheet) -> Result<(), Fault> {
     let bytes = row.bytes(0)?;
     let mut all_same = true;
     for size in ["1 1", "1 2", "3 1", "4 3", "8 1"] {
-        let whole = Seen::in_two(row.alloc(), size, &bytes, 0)?;
-        if !say_torn(row.alloc(), size, &bytes, &whole, sheet)? {
+        if !say_apart(row.alloc(), size, &bytes, sheet)? {
             sheet.word(size);
             all_same = false;
         }

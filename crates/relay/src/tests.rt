@@ -15,6 +15,8 @@ struct Input {
 
 const INPUT: &[u8] = b"w00tfoobaarbaz";
 
+const LETTERS: &[u8] = b"abc";
+
 const ROWS: &[u8] = b"foob\naarb\naz  \n";
 
 impl Read for Input {
@@ -52,9 +54,9 @@ impl Write for Output {
     }
 }
 
-fn input_in(most: usize, reads_left: usize) -> Input {
+fn input_in(bytes: &'static [u8], most: usize, reads_left: usize) -> Input {
     Input {
-        bytes: INPUT,
+        bytes,
         most,
         reads_left,
     }
@@ -70,6 +72,18 @@ fn output_of(alloc: Global, most: usize, writes_left: usize) -> Output {
 
 const SHOW: [&str; 6] = ["relay", "--width", "4", "--height", "3", "--show"];
 
+const SEND: [&str; 7] = ["relay", "--width", "4", "--height", "1", "--every", "2"];
+
+// The updates of three letters with a look behind two of them.
+const UPDATES: &[u8] =
+    b"\x1b[?25l\x1b[0m\x1b]8;;\x1b\\\x1b[2J\x1b[1;1H\x1b]2;\x1b\\ab\0\x1b[1;3H\x1b[?25hc\0";
+
+// How many bytes the first of them has.
+const FIRST: usize = UPDATES.len() - 2;
+
+// The update of a blank screen.
+const BLANK: &[u8] = b"\x1b[?25l\x1b[0m\x1b]8;;\x1b\\\x1b[2J\x1b[1;1H\x1b]2;\x1b\\\x1b[?25h";
+
 const NOTHING: &[u8] = b"";
 
 /// What a run answers and writes.
@@ -80,15 +94,8 @@ struct Run {
     told: Vec<u8>,
 }
 
-/// A run of the words on a reader that gives so many bytes at a time and fails behind so many reads, and on a writer that takes
-/// so many bytes at a time and fails behind so many writes.
-fn run_of<R: AllocGlobal>(
-    rt: &R,
-    words: &[&str],
-    reads: (usize, usize),
-    writes: (usize, usize),
-) -> Run {
-    let mut input = input_in(reads.0, reads.1);
+/// A run of the words on an input and on a writer that takes so many bytes at a time and fails behind so many writes.
+fn run_of<R: AllocGlobal>(rt: &R, words: &[&str], mut input: Input, writes: (usize, usize)) -> Run {
     let mut output = output_of(rt.alloc(), writes.0, writes.1);
     let mut faults = output_of(rt.alloc(), 100, 100);
     let status = serve(rt.alloc(), words, &mut input, &mut output, &mut faults);
@@ -101,11 +108,11 @@ fn run_of<R: AllocGlobal>(
 fn assert_run<R: Abort + AllocGlobal>(
     rt: &R,
     words: &[&str],
-    reads: (usize, usize),
+    input: Input,
     writes: (usize, usize),
     expected: (u8, &[u8], &[u8]),
 ) {
-    let run = run_of(rt, words, reads, writes);
+    let run = run_of(rt, words, input, writes);
     assert_eq!(rt; run.status, expected.0);
     assert_eq!(rt; run.text.as_slice(), expected.1);
     assert_eq!(rt; run.told.as_slice(), expected.2);
@@ -114,13 +121,14 @@ fn assert_run<R: Abort + AllocGlobal>(
 #[test]
 fn shows_the_rows(rt: HostRuntime) {
     for most in [1, 5, 100] {
-        assert_run(&rt, &SHOW, (most, 100), (most, 100), (0, ROWS, NOTHING));
+        let input = input_in(INPUT, most, 100);
+        assert_run(&rt, &SHOW, input, (most, 100), (0, ROWS, NOTHING));
     }
 }
 
 /// The words show the rows.
 fn assert_shown<R: Abort + AllocGlobal>(rt: &R, words: &[&str]) {
-    let run = run_of(rt, words, (100, 100), (100, 100));
+    let run = run_of(rt, words, input_in(INPUT, 100, 100), (100, 100));
     assert_eq!(rt; run.status, 0);
     assert_eq!(rt; run.text.as_slice(), ROWS);
 }
@@ -140,10 +148,12 @@ fn takes_each_option_of_a_command_line(rt: HostRuntime) {
             "4",
         ],
     );
-    assert_shown(&rt, &["relay", "--width=4", "--height=3"]);
+    assert_shown(&rt, &["relay", "--width=4", "--height=3", "--show"]);
     assert_shown(
         &rt,
-        &["relay", "--every", "1", "--width", "4", "--height", "3"],
+        &[
+            "relay", "--every", "1", "--width", "4", "--show", "--height", "3",
+        ],
     );
 }
 
@@ -151,14 +161,20 @@ fn takes_each_option_of_a_command_line(rt: HostRuntime) {
 fn tells_of_a_read_that_fails(rt: HostRuntime) {
     for reads in 0..4 {
         let expected = (1, NOTHING, b"relay: cannot read\n".as_slice());
-        assert_run(&rt, &SHOW, (5, reads), (100, 100), expected);
+        assert_run(&rt, &SHOW, input_in(INPUT, 5, reads), (100, 100), expected);
     }
 }
 
 /// A write fails behind these bytes of the rows.
 fn assert_cut<R: Abort + AllocGlobal>(rt: &R, writes: (usize, usize), text: &[u8]) {
     let told = b"relay: cannot write\n".as_slice();
-    assert_run(rt, &SHOW, (100, 100), writes, (1, text, told));
+    assert_run(
+        rt,
+        &SHOW,
+        input_in(INPUT, 100, 100),
+        writes,
+        (1, text, told),
+    );
 }
 
 #[test]
@@ -170,8 +186,45 @@ fn tells_of_a_write_that_fails(rt: HostRuntime) {
 }
 
 #[test]
+fn sends_the_updates(rt: HostRuntime) {
+    for most in [1, 5, 100] {
+        let letters = input_in(LETTERS, most, 100);
+        assert_run(&rt, &SEND, letters, (most, 100), (0, UPDATES, NOTHING));
+    }
+    let nothing = input_in(NOTHING, 100, 100);
+    assert_run(&rt, &SHOW[..5], nothing, (100, 100), (0, BLANK, NOTHING));
+}
+
+#[test]
+fn sends_the_updates_of_what_was_read(rt: HostRuntime) {
+    let told = b"relay: cannot read\n".as_slice();
+    for reads in 0..3 {
+        let text = &UPDATES[..if reads < 1 { 0 } else { FIRST }];
+        let letters = input_in(LETTERS, 100, reads);
+        assert_run(&rt, &SEND, letters, (100, 100), (1, text, told));
+    }
+}
+
+#[test]
+fn sends_updates_up_to_a_write_that_fails(rt: HostRuntime) {
+    let told = b"relay: cannot write\n".as_slice();
+    for writes in 0..FIRST {
+        let letters = input_in(LETTERS, 100, 100);
+        assert_run(
+            &rt,
+            &SEND,
+            letters,
+            (1, writes),
+            (1, &UPDATES[..writes], told),
+        );
+    }
+    let letters = input_in(LETTERS, 100, 100);
+    assert_run(&rt, &SEND, letters, (100, 1), (1, &UPDATES[..FIRST], told));
+}
+
+#[test]
 fn drops_a_fault_while_faults_are_written(rt: HostRuntime) {
-    let mut input = input_in(5, 0);
+    let mut input = input_in(INPUT, 5, 0);
     let mut output = output_of(rt.alloc(), 100, 100);
     let mut faults = output_of(rt.alloc(), 100, 0);
     let status = serve(rt.alloc(), &SHOW, &mut input, &mut output, &mut faults);
@@ -181,7 +234,7 @@ fn drops_a_fault_while_faults_are_written(rt: HostRuntime) {
 
 /// The words are refused, and nothing is shown.
 fn assert_refused<R: Abort + AllocGlobal>(rt: &R, words: &[&str]) {
-    let run = run_of(rt, words, (100, 100), (100, 100));
+    let run = run_of(rt, words, input_in(INPUT, 100, 100), (100, 100));
     assert_eq!(rt; run.status, 2);
     assert!(rt; run.text.is_empty());
     assert!(rt; run.told.starts_with(b"error: ".as_slice()));
@@ -201,7 +254,12 @@ fn refuses_bad_command_lines(rt: HostRuntime) {
 
 #[test]
 fn help_goes_to_the_writer(rt: HostRuntime) {
-    let run = run_of(&rt, &["relay", "--help"], (100, 100), (7, 1000));
+    let run = run_of(
+        &rt,
+        &["relay", "--help"],
+        input_in(INPUT, 100, 100),
+        (7, 1000),
+    );
     assert_eq!(rt; run.status, 0);
     assert!(rt; run.text.starts_with(b"Keeps the screen".as_slice()));
     assert!(rt; run.told.is_empty());
@@ -210,5 +268,11 @@ fn help_goes_to_the_writer(rt: HostRuntime) {
 #[test]
 fn help_that_cannot_be_written(rt: HostRuntime) {
     let expected = (1, NOTHING, b"relay: cannot write\n".as_slice());
-    assert_run(&rt, &["relay", "--help"], (100, 100), (7, 0), expected);
+    assert_run(
+        &rt,
+        &["relay", "--help"],
+        input_in(INPUT, 100, 100),
+        (7, 0),
+        expected,
+    );
 }

@@ -19,6 +19,8 @@ mod fronts;
 #[cfg(test)]
 mod lines;
 #[cfg(test)]
+mod partial;
+#[cfg(test)]
 mod pieces;
 #[cfg(test)]
 mod places;
@@ -34,5 +36,7 @@ mod streams;
 mod surfaces;
 #[cfg(test)]
 mod texts;
+#[cfg(test)]
+mod updates;
 #[cfg(test)]
 mod widths;

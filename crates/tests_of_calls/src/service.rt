@@ -1,59 +1,8 @@
-//! Readers and writers that give and take a few bytes at a time, and fail.
+//! `show` on readers and writers that give and take a few bytes at a time, and fail.
+use crate::partial::{Pieces, Sink, sink_of};
 use std::alloc::Global;
-use std::io;
-use std::io::{ErrorKind, Read, Write};
+use std::io::{Read, Write};
 use terminal::{ProgramWidth, RunError, Watched, show};
-
-/// Gives its bytes a few at a time, and fails at one read, or where one asks for more than 4,096
-/// bytes.
-#[derive(Drop)]
-struct Pieces {
-    bytes: &'static [u8],
-    most: usize,
-    reads_left: usize,
-}
-
-impl Read for Pieces {
-    fn read(&mut self, buf: &mut [u8]) -> io::Result<usize> {
-        if self.reads_left == 0 || buf.len() > 4096 {
-            self.reads_left = usize::MAX;
-            return Err(io::Error::from(ErrorKind::Other));
-        }
-        self.reads_left -= 1;
-        let wanted = buf.len().min(self.most);
-        self.bytes.read(&mut buf[..wanted])
-    }
-}
-
-/// Takes a few bytes at a time, and fails at one write, or at the flush.
-#[derive(Drop)]
-struct Sink {
-    text: Vec<u8>,
-    most: usize,
-    writes_left: usize,
-    can_flush: bool,
-}
-
-impl Write for Sink {
-    fn write(&mut self, buf: &[u8]) -> io::Result<usize> {
-        if self.writes_left == 0 {
-            self.writes_left = usize::MAX;
-            return Err(io::Error::from(ErrorKind::Other));
-        }
-        self.writes_left -= 1;
-        let count = buf.len().min(self.most);
-        self.text.extend_from_slice(&buf[..count])?;
-        Ok(count)
-    }
-
-    fn flush(&mut self) -> io::Result<()> {
-        if self.can_flush {
-            Ok(())
-        } else {
-            Err(io::Error::from(ErrorKind::Other))
-        }
-    }
-}
 
 const INPUT: &[u8] = b"w00tfoobaarbaz";
 
@@ -64,15 +13,6 @@ fn input_in(most: usize, reads_left: usize) -> Pieces {
         bytes: INPUT,
         most,
         reads_left,
-    }
-}
-
-fn sink_of(alloc: Global, most: usize, writes_left: usize, can_flush: bool) -> Sink {
-    Sink {
-        text: Vec::new(alloc),
-        most,
-        writes_left,
-        can_flush,
     }
 }
 
@@ -92,7 +32,7 @@ fn shows_the_rows_whatever_the_pieces(rt: HostRuntime) {
     let alloc = rt.alloc();
     for most in [1, 2, 5, 4096] {
         for part in [1, 3, 100] {
-            let (result, text) = shown(alloc, input_in(most, 100), sink_of(alloc, part, 100, true));
+            let (result, text) = shown(alloc, input_in(most, 100), sink_of(alloc, part, 100, 1));
             assert_eq!(rt; result, Ok(()), "reads of {most}, writes of {part}");
             assert_eq!(rt; text.as_slice(), ROWS);
         }
@@ -103,7 +43,7 @@ fn shows_the_rows_whatever_the_pieces(rt: HostRuntime) {
 fn ends_at_a_read_that_fails(rt: HostRuntime) {
     let alloc = rt.alloc();
     for reads in 0..4 {
-        let (result, text) = shown(alloc, input_in(5, reads), sink_of(alloc, 100, 100, true));
+        let (result, text) = shown(alloc, input_in(5, reads), sink_of(alloc, 100, 100, 1));
         assert_eq!(rt; result, Err(RunError::Read), "after {reads} reads");
         assert!(rt; text.is_empty());
     }
@@ -113,14 +53,14 @@ fn ends_at_a_read_that_fails(rt: HostRuntime) {
 fn ends_at_a_write_that_fails(rt: HostRuntime) {
     let alloc = rt.alloc();
     for writes in 0..5 {
-        let (result, text) = shown(alloc, input_in(100, 100), sink_of(alloc, 3, writes, true));
+        let (result, text) = shown(alloc, input_in(100, 100), sink_of(alloc, 3, writes, 1));
         assert_eq!(rt; result, Err(RunError::Write), "after {writes} writes");
         assert_eq!(rt; text.as_slice(), &ROWS[..3 * writes]);
     }
-    let (result, text) = shown(alloc, input_in(100, 100), sink_of(alloc, 0, 100, true));
+    let (result, text) = shown(alloc, input_in(100, 100), sink_of(alloc, 0, 100, 1));
     assert_eq!(rt; result, Err(RunError::Write), "a write that takes nothing");
     assert!(rt; text.is_empty());
-    let (result, text) = shown(alloc, input_in(100, 100), sink_of(alloc, 100, 100, false));
+    let (result, text) = shown(alloc, input_in(100, 100), sink_of(alloc, 100, 100, 0));
     assert_eq!(rt; result, Err(RunError::Write), "a flush");
     assert_eq!(rt; text.as_slice(), ROWS);
 }
@@ -132,7 +72,7 @@ fn watched_counts_reads_and_keeps_faults(rt: HostRuntime) {
     assert!(rt; reader.read(&mut buffer).is_ok() && !reader.failed());
     assert!(rt; reader.read(&mut buffer).is_err() && reader.failed());
     assert_eq!(rt; reader.reads(), 2);
-    let mut writer = Watched::new(sink_of(rt.alloc(), 0, 100, true));
+    let mut writer = Watched::new(sink_of(rt.alloc(), 0, 100, 1));
     assert!(rt; writer.write(b"").is_ok() && !writer.failed());
     assert!(rt; writer.flush().is_ok() && !writer.failed());
     assert!(rt; writer.write(b"a").is_ok() && writer.failed());

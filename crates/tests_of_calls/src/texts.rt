@@ -6,6 +6,7 @@ use std::alloc::AllocError;
 use std::collections::BTreeMap;
 use std::fmt::Display;
 use std::process::Abort;
+use terminal::{RenderError, RunError};
 
 // A value prints as that text.
 fn assert_prints<R: Abort + AllocGlobal, T: Display>(rt: &R, value: &T, want: &str) {
@@ -30,6 +31,13 @@ fn texts_of_errors(rt: HostRuntime) {
     assert_prints(&rt, &CrackError::NotASpelling, "not a spelling");
     assert_prints(&rt, &CrackError::Memory, "out of memory");
     assert_prints(&rt, &ParseError::Memory, "out of memory");
+    assert_prints(&rt, &RenderError::Memory, "out of memory");
+    assert_prints(
+        &rt,
+        &RenderError::NoSpelling,
+        "the change has no spelling",
+    );
+    assert_prints(&rt, &RunError::Read, "cannot read");
 }
 
 #[test]

@@ -64,6 +64,28 @@ fn widths_are_lent(rt: HostRuntime) {
     assert_leads_to(&rt, Single, b"\xe3\x81\x8b", 1);
 }
 
+// A new viewer of the same widths that reads the update for 0 shows the same row, with the cursor in the same column.
+fn assert_viewed<R: Abort + AllocGlobal, W: Widths + Drop + Copy>(rt: &R, widths: W, input: &[u8]) {
+    let mut terminal = Terminal::new(rt.alloc(), 4, 1, widths).expect(rt, "memory");
+    let mut viewer = Terminal::new(rt.alloc(), 4, 1, widths).expect(rt, "memory");
+    assert!(rt; terminal.feed(input).is_ok());
+    let (number, update) = terminal.update(0).expect(rt, "memory");
+    assert_eq!(rt; number, terminal.current_number());
+    assert!(rt; viewer.feed(&update).is_ok());
+    let row = terminal.surface().screen_chars_to_string().expect(rt, "memory");
+    let shown = viewer.surface().screen_chars_to_string().expect(rt, "memory");
+    assert_eq!(rt; row.as_str(), shown.as_str());
+    let (column, _) = terminal.surface().cursor_position();
+    assert_eq!(rt; viewer.surface().cursor_position().0, column);
+}
+
+#[test]
+fn viewers_of_own_widths(rt: HostRuntime) {
+    assert_viewed(&rt, ProgramWidth, b"\xe3\x81\x8b\xe3\x81\x8b");
+    assert_viewed(&rt, Single, b"\xe3\x81\x8b\xe3\x81\x8b");
+    assert_viewed(&rt, Single, b"\xe3\x81\x8babc");
+}
+
 #[test]
 fn nothing_fed_changes_nothing(rt: HostRuntime) {
     let mut terminal = Terminal::new(rt.alloc(), 4, 3, ProgramWidth).expect(&rt, "memory");

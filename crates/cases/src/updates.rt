@@ -1,0 +1,168 @@
+//! Updates: of a terminal, which a viewer reads, and of an input that is run; and what is sent for a change.
+ghost use Rattle.std.specs.Prelude.{◌<◌, ◌≤◌};
+
+use crate::call::Call;
+use crate::fault::Fault;
+use crate::row::{Row, number_up_to};
+use crate::sheet::Sheet;
+use crate::steps;
+use crate::terminals::{feed_each, terminal_of};
+use escape_stream::encode;
+use std::alloc::Global;
+use std::io;
+use std::io::{Read, Write};
+use terminal::{ProgramWidth, RenderError, Terminal, Watched, render, run};
+
+type Plain = Terminal<ProgramWidth>;
+
+/// Whether both show the same cells, cursor, pen and title.
+pub fn shows_same(one: &Plain, two: &Plain) -> Result<bool, Fault> {
+    let (one, two) = (one.surface(), two.surface());
+    let changes = one.diff_screens(two)?;
+    Ok(
+        changes.is_empty()
+            && one.dimensions() == two.dimensions()
+            && one.cursor_position() == two.cursor_position()
+            && one.cursor_visibility() == two.cursor_visibility()
+            && one.pen() == two.pen()
+            && one.title() == two.title(),
+    )
+}
+
+/// A terminal, and a viewer of its size.
+#[derive(Drop)]
+pub struct Pair {
+    pub terminal: Plain,
+    viewer: Plain,
+}
+
+impl Pair {
+    /// Two new terminals of the width and height that two words give.
+    pub fn new(alloc: Global, size: &str) -> Result<Pair, Fault> {
+        let terminal = terminal_of(alloc, size)?;
+        let viewer = terminal_of(alloc, size)?;
+        Ok(Pair { terminal, viewer })
+    }
+
+    /// Both become so many columns wide and rows high.
+    pub fn resize(&mut self, width: usize, height: usize) -> Result<(), Fault>
+        requires columns { 0 < width }
+        requires width { width ≤ 4096 }
+        requires rows { 0 < height }
+        requires height { height ≤ 4096 }
+    {
+        self.terminal.resize(width, height)?;
+        self.viewer.resize(width, height)?;
+        Ok(())
+    }
+
+    // Writes the number and the bytes of the update for a number; answers the bytes.
+    fn take_update(&mut self, number: usize, sheet: &mut Sheet) -> Result<Vec<u8>, Fault> {
+        let (number, bytes) = self.terminal.update(number)?;
+        sheet.show(&number);
+        sheet.quoted_bytes(&bytes);
+        Ok(bytes)
+    }
+
+    /// Writes the number and the bytes of the update for a number.
+    pub fn say_update(&mut self, number: usize, sheet: &mut Sheet) -> Result<(), Fault> {
+        let _bytes = self.take_update(number, sheet)?;
+        Ok(())
+    }
+
+    /// The same, and the viewer reads the bytes one by one; says so where it then shows another screen.
+    pub fn say_sent(&mut self, number: usize, sheet: &mut Sheet) -> Result<(), Fault> {
+        let bytes = self.take_update(number, sheet)?;
+        feed_each(&mut self.viewer, &bytes)?;
+        let is_same = shows_same(&self.terminal, &self.viewer)?;
+        sheet.word_if(!is_same, "but the viewer shows another screen");
+        Ok(())
+    }
+}
+
+// Gives its bytes, at most so many at a time.
+#[derive(Drop)]
+struct Pieces<'a> {
+    bytes: &'a [u8],
+    most: usize,
+}
+
+impl Read for Pieces<'_> {
+    fn read(&mut self, buf: &mut [u8]) -> io::Result<usize> {
+        let wanted = buf.len().min(self.most);
+        self.bytes.read(&mut buf[..wanted])
+    }
+}
+
+// Takes at most so many bytes at a time.
+#[derive(Drop)]
+struct Sink {
+    text: Vec<u8>,
+    most: usize,
+}
+
+impl Write for Sink {
+    fn write(&mut self, buf: &[u8]) -> io::Result<usize> {
+        let count = buf.len().min(self.most);
+        self.text.extend_from_slice(&buf[..count])?;
+        Ok(count)
+    }
+
+    fn flush(&mut self) -> io::Result<()> {
+        Ok(())
+    }
+}
+
+// What `run` writes for the row's input, where at most so many bytes are read and written at a time.
+fn written(row: &Row<'_>, most: usize) -> Result<Vec<u8>, Fault> {
+    let (width, height) = row.column(0).split_once(' ').ok_or(Fault::Number)?;
+    let width = number_up_to(4096, width)?;
+    let height = number_up_to(4096, height)?;
+    let every = number_up_to(4096, row.column(1))?;
+    let bytes = row.bytes(2)?;
+    let text = Vec::new(row.alloc());
+    let mut reader = Watched::new(Pieces {
+        bytes: &bytes,
+        most,
+    });
+    let mut writer = Watched::new(Sink { text, most });
+    run(
+        row.alloc(),
+        &mut reader,
+        &mut writer,
+        width,
+        height,
+        every,
+        ProgramWidth,
+    )?;
+    let Sink { text, .. } = writer.into_inner();
+    Ok(text)
+}
+
+/// `WIDTH HEIGHT | EVERY | INPUT => UPDATES`: what `run` writes for an input with a look behind each `EVERY` bytes; also where one
+/// byte is read and written at a time.
+pub fn run_input(row: &Row<'_>, sheet: &mut Sheet) -> Result<(), Fault> {
+    let whole = written(row, usize::MAX)?;
+    sheet.quoted_bytes(&whole);
+    let each = written(row, 1)?;
+    sheet.word_if(
+        each.as_slice() != whole.as_slice(),
+        "but another byte by byte",
+    );
+    Ok(())
+}
+
+/// `WIDTH HEIGHT | CHANGE => BYTES`: what is sent for a change to a terminal of this size, or that it has no spelling.
+pub fn rendered(row: &Row<'_>, sheet: &mut Sheet) -> Result<(), Fault> {
+    let (width, height) = row.column(0).split_once(' ').ok_or(Fault::Number)?;
+    let width = number_up_to(4096, width)?;
+    let height = number_up_to(4096, height)?;
+    let call = Call::read(row.alloc(), row.column(1))?;
+    let change = steps::change_of(&call, sheet)?;
+    match render(row.alloc(), &change, width, height) {
+        Ok(actions) => sheet.quoted_bytes(&encode(row.alloc(), &actions)?),
+        Err(RenderError::NoSpelling) => sheet.word("none"),
+        Err(RenderError::Memory) => sheet.fail(Fault::Memory),
+    }
+    Ok(())
+}

@@ -1,0 +1,86 @@
+//! `run` on readers and writers that give and take a few bytes at a time, and fail.
+use crate::partial::{Pieces, Sink, sink_of};
+use std::alloc::Global;
+use std::process::Abort;
+use terminal::{ProgramWidth, RunError, Watched, run};
+
+const INPUT: &[u8] = b"abc";
+
+// The update behind `ab`, and that at the end.
+const UPDATES: &[u8] =
+    b"\x1b[?25l\x1b[0m\x1b]8;;\x1b\\\x1b[2J\x1b[1;1H\x1b]2;\x1b\\ab\0\x1b[1;3H\x1b[?25hc\0";
+
+// How many bytes the first of them has.
+const FIRST: usize = UPDATES.len() - 2;
+
+fn input_in(most: usize, reads_left: usize) -> Pieces {
+    Pieces {
+        bytes: INPUT,
+        most,
+        reads_left,
+    }
+}
+
+/// What `run` answers and writes on 4x1 with a look behind each two bytes.
+fn ran(alloc: Global, mut pieces: Pieces, mut sink: Sink) -> (Result<(), RunError>, Vec<u8>) {
+    let result = {
+        let mut reader = Watched::new(&mut pieces);
+        let mut writer = Watched::new(&mut sink);
+        run(alloc, &mut reader, &mut writer, 4, 1, 2, ProgramWidth)
+    };
+    let Sink { text, .. } = sink;
+    (result, text)
+}
+
+#[test]
+fn writes_the_updates_whatever_the_pieces(rt: HostRuntime) {
+    let alloc = rt.alloc();
+    for most in [1, 2, 4096] {
+        for part in [1, 3, 100] {
+            let (result, text) = ran(alloc, input_in(most, 100), sink_of(alloc, part, 100, 2));
+            assert_eq!(rt; result, Ok(()), "reads of {most}, writes of {part}");
+            assert_eq!(rt; text.as_slice(), UPDATES);
+        }
+    }
+}
+
+/// Where a read fails behind so many, the updates of what was read are written, the last one not.
+fn assert_unread<R: Abort + AllocGlobal>(rt: &R, pieces: Pieces, count: usize) {
+    let (result, text) = ran(rt.alloc(), pieces, sink_of(rt.alloc(), 100, 100, 2));
+    assert_eq!(rt; result, Err(RunError::Read));
+    assert_eq!(rt; text.as_slice(), &UPDATES[..count]);
+}
+
+#[test]
+fn run_ends_at_a_read_that_fails(rt: HostRuntime) {
+    for reads in 0..4 {
+        assert_unread(&rt, input_in(1, reads), if reads < 2 { 0 } else { FIRST });
+    }
+    for reads in 0..3 {
+        assert_unread(
+            &rt,
+            input_in(4096, reads),
+            if reads < 1 { 0 } else { FIRST },
+        );
+    }
+}
+
+/// A write or a flush fails behind so many bytes.
+fn assert_unwritten<R: Abort + AllocGlobal>(rt: &R, sink: Sink, count: usize) {
+    let (result, text) = ran(rt.alloc(), input_in(100, 100), sink);
+    assert_eq!(rt; result, Err(RunError::Write));
+    assert_eq!(rt; text.as_slice(), &UPDATES[..count]);
+}
+
+#[test]
+fn run_ends_at_a_write_that_fails(rt: HostRuntime) {
+    let alloc = rt.alloc();
+    for writes in 0..UPDATES.len() {
+        assert_unwritten(&rt, sink_of(alloc, 1, writes, 2), writes);
+    }
+    assert_unwritten(&rt, sink_of(alloc, 100, 0, 2), 0);
+    assert_unwritten(&rt, sink_of(alloc, 100, 1, 2), FIRST);
+    assert_unwritten(&rt, sink_of(alloc, 0, 100, 2), 0);
+    assert_unwritten(&rt, sink_of(alloc, 100, 100, 0), FIRST);
+    assert_unwritten(&rt, sink_of(alloc, 100, 100, 1), UPDATES.len());
+}
