@@ -195,31 +195,37 @@ fn sends_the_updates(rt: HostRuntime) {
     assert_run(&rt, &SHOW[..5], nothing, (100, 100), (0, BLANK, NOTHING));
 }
 
+/// A run that ends early with status 1 writes so many of the first bytes of the updates, and tells that.
+fn assert_ends_early<R: Abort + AllocGlobal>(
+    rt: &R,
+    reads_left: usize,
+    writes: (usize, usize),
+    count: usize,
+    told: &[u8],
+) {
+    let run = run_of(rt, &SEND, input_in(LETTERS, 100, reads_left), writes);
+    assert_eq!(rt; run.status, 1);
+    assert_eq!(rt; run.told.as_slice(), told);
+    assert_eq!(rt; run.text.len(), count);
+    assert!(rt; UPDATES.starts_with(run.text.as_slice()));
+}
+
 #[test]
 fn sends_the_updates_of_what_was_read(rt: HostRuntime) {
     let told = b"relay: cannot read\n".as_slice();
-    for reads in 0..3 {
-        let text = &UPDATES[..if reads < 1 { 0 } else { FIRST }];
-        let letters = input_in(LETTERS, 100, reads);
-        assert_run(&rt, &SEND, letters, (100, 100), (1, text, told));
-    }
+    assert_ends_early(&rt, 0, (100, 100), 0, told);
+    assert_ends_early(&rt, 1, (100, 100), FIRST, told);
+    assert_ends_early(&rt, 2, (100, 100), FIRST, told);
 }
 
 #[test]
 fn sends_updates_up_to_a_write_that_fails(rt: HostRuntime) {
     let told = b"relay: cannot write\n".as_slice();
-    for writes in 0..FIRST {
-        let letters = input_in(LETTERS, 100, 100);
-        assert_run(
-            &rt,
-            &SEND,
-            letters,
-            (1, writes),
-            (1, &UPDATES[..writes], told),
-        );
+    for writes in 0..UPDATES.len() {
+        assert_ends_early(&rt, 100, (1, writes), writes, told);
     }
-    let letters = input_in(LETTERS, 100, 100);
-    assert_run(&rt, &SEND, letters, (100, 1), (1, &UPDATES[..FIRST], told));
+    assert_ends_early(&rt, 100, (0, 100), 0, told);
+    assert_ends_early(&rt, 100, (100, 1), FIRST, told);
 }
 
 #[test]

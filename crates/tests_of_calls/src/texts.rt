@@ -32,11 +32,7 @@ fn texts_of_errors(rt: HostRuntime) {
     assert_prints(&rt, &CrackError::Memory, "out of memory");
     assert_prints(&rt, &ParseError::Memory, "out of memory");
     assert_prints(&rt, &RenderError::Memory, "out of memory");
-    assert_prints(
-        &rt,
-        &RenderError::NoSpelling,
-        "the change has no spelling",
-    );
+    assert_prints(&rt, &RenderError::NoSpelling, "the change has no spelling");
     assert_prints(&rt, &RunError::Read, "cannot read");
 }
 

@@ -44,11 +44,16 @@ fn writes_the_updates_whatever_the_pieces(rt: HostRuntime) {
     }
 }
 
+/// Whether a text is so many bytes, the first ones of the updates.
+fn is_part(text: &[u8], count: usize) -> bool {
+    text.len() == count && UPDATES.starts_with(text)
+}
+
 /// Where a read fails behind so many, the updates of what was read are written, the last one not.
 fn assert_unread<R: Abort + AllocGlobal>(rt: &R, pieces: Pieces, count: usize) {
     let (result, text) = ran(rt.alloc(), pieces, sink_of(rt.alloc(), 100, 100, 2));
     assert_eq!(rt; result, Err(RunError::Read));
-    assert_eq!(rt; text.as_slice(), &UPDATES[..count]);
+    assert!(rt; is_part(&text, count));
 }
 
 #[test]
@@ -69,7 +74,7 @@ fn run_ends_at_a_read_that_fails(rt: HostRuntime) {
 fn assert_unwritten<R: Abort + AllocGlobal>(rt: &R, sink: Sink, count: usize) {
     let (result, text) = ran(rt.alloc(), input_in(100, 100), sink);
     assert_eq!(rt; result, Err(RunError::Write));
-    assert_eq!(rt; text.as_slice(), &UPDATES[..count]);
+    assert!(rt; is_part(&text, count));
 }
 
 #[test]

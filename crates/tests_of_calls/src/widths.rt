@@ -72,8 +72,14 @@ fn assert_viewed<R: Abort + AllocGlobal, W: Widths + Drop + Copy>(rt: &R, widths
     let (number, update) = terminal.update(0).expect(rt, "memory");
     assert_eq!(rt; number, terminal.current_number());
     assert!(rt; viewer.feed(&update).is_ok());
-    let row = terminal.surface().screen_chars_to_string().expect(rt, "memory");
-    let shown = viewer.surface().screen_chars_to_string().expect(rt, "memory");
+    let row = terminal
+        .surface()
+        .screen_chars_to_string()
+        .expect(rt, "memory");
+    let shown = viewer
+        .surface()
+        .screen_chars_to_string()
+        .expect(rt, "memory");
     assert_eq!(rt; row.as_str(), shown.as_str());
     let (column, _) = terminal.surface().cursor_position();
     assert_eq!(rt; viewer.surface().cursor_position().0, column);
