@@ -142,10 +142,7 @@ impl<W: Widths + Drop> Terminal<W> {
     ///
     /// Refuses as `feed` does. Where the bytes are refused memory the terminal hasn't failed: it is as behind
     /// `settle`, and the same call, asked again, gives what it would have given.
-    pub fn update(
-        &mut self,
-        number: SequenceNo,
-    ) -> Result<(SequenceNo, Vec<u8>), TerminalError>
+    pub fn update(&mut self, number: SequenceNo) -> Result<(SequenceNo, Vec<u8>), TerminalError>
         ensures settled { OnOk result (GoesBy (λ w. W.width_of w) self.old self.new (Look ∷ [])) }
         ensures answer { IfOk result (λ r. r.0 ≡ number_of self.new.surface) }
         ensures bytes { IfOk result (λ r. r.1.items ≡ update_for self.new number) }

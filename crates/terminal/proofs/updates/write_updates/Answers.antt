@@ -110,32 +110,32 @@ loop-preserved g c =
     let counted : c.read.new.self.reads ≡ c.loop.counter + 1 = omega (arith, reads, c.loop.invariant.reads, c.loop-test.true) in
     let room : length (c.read.new.buffer ++ drop c.min-most.result c.loop.buffer) ≡ 4096 = omega (arith, c.read.auto.buffer, c.loop.invariant.room, length-take c.min-most.result c.loop.buffer, length-drop c.min-most.result c.loop.buffer, length-append c.read.new.buffer (drop c.min-most.result c.loop.buffer)) in
     elim c.if-left-eq0.branch [
-      then-left-eq0+in_ok-number w ↦
-        let full : length (take c.in-Ok.count c.read.new.buffer) ≡ c.loop.left = omega (arith, within, w.if-left-eq0.true, c.read.auto.buffer, c.min-most.ensures, length-take c.min-most.result c.loop.buffer, length-take c.in-Ok.count c.read.new.buffer) in
-        record {
-          reader = no_fault _ _ _ c.in-Ok.ensures.failed c.loop.invariant.reader refl;
-          reads = counted;
-          writer = ap (λ (x : Watched g.row.T.Denot). x.has_failed) w.writer-is ∙ never _ (λ h. let wrong = w.in_ok-number.ensures.write.1 h in cc);
-          sound = ap (λ (t : Value g.row.W.Denot). t.is_failed) w.terminal-is ∙ w.in_ok-number.ensures.sound;
-          widths = ap (λ (t : Value g.row.W.Denot). t.surface.canvas.widths) w.terminal-is ∙ w.in_ok-number.ensures.widths ∙ c.in_ok-feed.ensures.done.widths ∙ c.loop.invariant.widths;
-          room = room;
-          some = subst (λ n. 0 < n) (sym w.left-is) c.requires.every;
-          sends = subst (λ (T : Type 0). T) (sym (λ i. SendsOn (λ w. g.W.Widths.width_of w) c.args.every c.args.terminal.now (g.R.Read.remaining c.args.reader.now.inner) (g.R.Read.remaining c.read.new.self.inner) (g.T.Write.contents c.args.writer.now.inner) (g.T.Write.contents (w.writer-is i).inner) (w.terminal-is i) (w.number-is i) (w.left-is i)))
-              (on_next (λ w. g.W.Widths.width_of w) c.args.every c.args.terminal.now (g.T.Write.contents c.args.writer.now.inner) (g.T.Write.contents c.loop.writer.inner) c.loop.terminal c.loop.number c.loop.left c.loop.invariant.widths (g.R.Read.remaining c.args.reader.now.inner) (g.R.Read.remaining c.loop.reader.inner) (g.R.Read.remaining c.read.new.self.inner) (take c.in-Ok.count c.read.new.buffer) c.feed.new.self w.write_update-then-left-eq0.new.terminal _ _ c.loop.invariant.sends c.in-Ok.ensures.bytes.0 fed full c.loop.invariant.some
-              w.in_ok-number.ensures.ok w.in_ok-number.ensures.widths w.in_ok-number.ensures.sound);
-        }
-    | else-left-eq0 w ↦
-        let less : c.loop.left - c.in-Ok.count + length (take c.in-Ok.count c.read.new.buffer) ≡ c.loop.left = omega (arith, within, c.read.auto.buffer, c.min-most.ensures, length-take c.min-most.result c.loop.buffer, length-take c.in-Ok.count c.read.new.buffer) in
-        let some : 0 < c.loop.left - c.in-Ok.count = omega (arith, w.if-left-eq0.false) in
-        record {
-          reader = no_fault _ _ _ c.in-Ok.ensures.failed c.loop.invariant.reader refl;
-          reads = counted;
-          writer = ap (λ (x : Watched g.row.T.Denot). x.has_failed) w.writer-is ∙ c.loop.invariant.writer;
-          sound = ap (λ (t : Value g.row.W.Denot). t.is_failed) w.terminal-is ∙ c.in_ok-feed.ensures.done.sound;
-          widths = ap (λ (t : Value g.row.W.Denot). t.surface.canvas.widths) w.terminal-is ∙ c.in_ok-feed.ensures.done.widths ∙ c.loop.invariant.widths;
-          room = room;
-          some = subst (λ n. 0 < n) (sym w.left-is) some;
-          sends = subst (λ (T : Type 0). T) (sym (λ i. SendsOn (λ w. g.W.Widths.width_of w) c.args.every c.args.terminal.now (g.R.Read.remaining c.args.reader.now.inner) (g.R.Read.remaining c.read.new.self.inner) (g.T.Write.contents c.args.writer.now.inner) (g.T.Write.contents (w.writer-is i).inner) (w.terminal-is i) (w.number-is i) (w.left-is i)))
-              (on_more (λ w. g.W.Widths.width_of w) c.args.every c.args.terminal.now (g.T.Write.contents c.args.writer.now.inner) (g.T.Write.contents c.loop.writer.inner) c.loop.terminal c.loop.number c.loop.left c.loop.invariant.widths (g.R.Read.remaining c.args.reader.now.inner) (g.R.Read.remaining c.loop.reader.inner) (g.R.Read.remaining c.read.new.self.inner) (take c.in-Ok.count c.read.new.buffer) c.feed.new.self (c.loop.left - c.in-Ok.count) c.loop.invariant.sends c.in-Ok.ensures.bytes.0 fed less some);
-        }
+      | then-left-eq0+in_ok-number w ↦
+          let full : length (take c.in-Ok.count c.read.new.buffer) ≡ c.loop.left = omega (arith, within, w.if-left-eq0.true, c.read.auto.buffer, c.min-most.ensures, length-take c.min-most.result c.loop.buffer, length-take c.in-Ok.count c.read.new.buffer) in
+          record {
+            reader = no_fault _ _ _ c.in-Ok.ensures.failed c.loop.invariant.reader refl;
+            reads = counted;
+            writer = ap (λ (x : Watched g.row.T.Denot). x.has_failed) w.writer-is ∙ never _ (λ h. let wrong = w.in_ok-number.ensures.write.1 h in cc);
+            sound = ap (λ (t : Value g.row.W.Denot). t.is_failed) w.terminal-is ∙ w.in_ok-number.ensures.sound;
+            widths = ap (λ (t : Value g.row.W.Denot). t.surface.canvas.widths) w.terminal-is ∙ w.in_ok-number.ensures.widths ∙ c.in_ok-feed.ensures.done.widths ∙ c.loop.invariant.widths;
+            room = room;
+            some = subst (λ n. 0 < n) (sym w.left-is) c.requires.every;
+            sends = subst (λ (T : Type 0). T) (sym (λ i. SendsOn (λ w. g.W.Widths.width_of w) c.args.every c.args.terminal.now (g.R.Read.remaining c.args.reader.now.inner) (g.R.Read.remaining c.read.new.self.inner) (g.T.Write.contents c.args.writer.now.inner) (g.T.Write.contents (w.writer-is i).inner) (w.terminal-is i) (w.number-is i) (w.left-is i)))
+                (on_next (λ w. g.W.Widths.width_of w) c.args.every c.args.terminal.now (g.T.Write.contents c.args.writer.now.inner) (g.T.Write.contents c.loop.writer.inner) c.loop.terminal c.loop.number c.loop.left c.loop.invariant.widths (g.R.Read.remaining c.args.reader.now.inner) (g.R.Read.remaining c.loop.reader.inner) (g.R.Read.remaining c.read.new.self.inner) (take c.in-Ok.count c.read.new.buffer) c.feed.new.self w.write_update-then-left-eq0.new.terminal _ _ c.loop.invariant.sends c.in-Ok.ensures.bytes.0 fed full c.loop.invariant.some
+                w.in_ok-number.ensures.ok w.in_ok-number.ensures.widths w.in_ok-number.ensures.sound);
+          }
+      | else-left-eq0 w ↦
+          let less : c.loop.left - c.in-Ok.count + length (take c.in-Ok.count c.read.new.buffer) ≡ c.loop.left = omega (arith, within, c.read.auto.buffer, c.min-most.ensures, length-take c.min-most.result c.loop.buffer, length-take c.in-Ok.count c.read.new.buffer) in
+          let some : 0 < c.loop.left - c.in-Ok.count = omega (arith, w.if-left-eq0.false) in
+          record {
+            reader = no_fault _ _ _ c.in-Ok.ensures.failed c.loop.invariant.reader refl;
+            reads = counted;
+            writer = ap (λ (x : Watched g.row.T.Denot). x.has_failed) w.writer-is ∙ c.loop.invariant.writer;
+            sound = ap (λ (t : Value g.row.W.Denot). t.is_failed) w.terminal-is ∙ c.in_ok-feed.ensures.done.sound;
+            widths = ap (λ (t : Value g.row.W.Denot). t.surface.canvas.widths) w.terminal-is ∙ c.in_ok-feed.ensures.done.widths ∙ c.loop.invariant.widths;
+            room = room;
+            some = subst (λ n. 0 < n) (sym w.left-is) some;
+            sends = subst (λ (T : Type 0). T) (sym (λ i. SendsOn (λ w. g.W.Widths.width_of w) c.args.every c.args.terminal.now (g.R.Read.remaining c.args.reader.now.inner) (g.R.Read.remaining c.read.new.self.inner) (g.T.Write.contents c.args.writer.now.inner) (g.T.Write.contents (w.writer-is i).inner) (w.terminal-is i) (w.number-is i) (w.left-is i)))
+                (on_more (λ w. g.W.Widths.width_of w) c.args.every c.args.terminal.now (g.T.Write.contents c.args.writer.now.inner) (g.T.Write.contents c.loop.writer.inner) c.loop.terminal c.loop.number c.loop.left c.loop.invariant.widths (g.R.Read.remaining c.args.reader.now.inner) (g.R.Read.remaining c.loop.reader.inner) (g.R.Read.remaining c.read.new.self.inner) (take c.in-Ok.count c.read.new.buffer) c.feed.new.self (c.loop.left - c.in-Ok.count) c.loop.invariant.sends c.in-Ok.ensures.bytes.0 fed less some);
+          }
     ]
