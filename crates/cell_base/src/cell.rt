@@ -1,8 +1,8 @@
 //! Cells: a text of one cluster with its width and attributes.
-ghost use Rattle.std.specs.Prelude.{◌≡◌, ◌≤◌, ◌↔◌, true, [], ◌∷◌, encode_utf8, IfOk, OnOk, OnErr, IsTrue};
+ghost use Rattle.std.specs.Prelude.{◌≡◌, ◌≤◌, ◌↔◌, ◌==◌, ◌&&◌, true, not, None, [], ◌∷◌, encode_utf8, IfOk, OnOk, OnErr, IsTrue};
 ghost use Rattle.std.specs.Borrow.{sem};
-ghost use Rattle.cell_base.specs.Attributes.{plain};
-ghost use Rattle.cell_base.specs.CellContent.{cell_of, blank_cell};
+ghost use Rattle.cell_base.specs.Attributes.{Attributes, plain};
+ghost use Rattle.cell_base.specs.CellContent.{cell_of, blank_cell, shows_as_space};
 ghost use Rattle.cell_base.specs.LawfulCell.{IsCell};
 ghost use Rattle.text_clusters.specs.Plain.{is_printable};
 
@@ -17,6 +17,7 @@ use std::marker::Model;
 #[derive(Debug, Drop)]
 pub struct Cell {
     text: CellText,
+    // Isn't looked at where the text is a letter.
     wide: bool,
     attributes: CellAttributes,
 }
@@ -77,12 +78,23 @@ impl Cell {
         requires most { width ≤ 2 }
         ensures { IfOk result (λ c. c ≡ cell_of text.now width attrs) }
     {
-        let wide = width == 2 && !shows_as_space(text);
+        let wide = is_wide(text, width);
         Ok(Cell {
-            text: CellText::new(alloc, text)?,
+            text: CellText::new(alloc, text, wide)?,
             wide,
             attributes: attrs,
         })
+    }
+
+    /// The columns that the cell of a cluster of `width` columns takes: 1 or 2.
+    #[inline(always)]
+    pub fn columns_for(text: &str, width: usize) -> usize
+        requires { width ≤ 2 }
+        ensures value { (attributes : Attributes) → result ≡ (cell_of text.now width attributes).width }
+        ensures some { 1 ≤ result }
+        ensures most { result ≤ 2 }
+    {
+        if is_wide(text, width) { 2 } else { 1 }
     }
 
     /// The cell of a printable ASCII character (20h to 7Eh), of one column.
@@ -106,8 +118,7 @@ impl Cell {
         ensures refused { OnErr result (self.new ≡ self.old) }
     {
         self.attributes.copy_from(attrs)?;
-        self.text = CellText::of_ascii(character);
-        self.wide = false;
+        self.text.set_ascii(character);
         Ok(())
     }
 
@@ -118,8 +129,50 @@ impl Cell {
         ensures refused { OnErr result (self.new ≡ self.old) }
     {
         self.attributes.copy_from(attrs)?;
-        self.text = CellText::Space;
-        self.wide = false;
+        self.text.set_ascii(b' ');
+        Ok(())
+    }
+
+    /// The same as `set_ascii`, with attributes that have no link: it can't be refused.
+    #[inline(always)]
+    pub fn set_ascii_without_link(&mut self, character: u8, attrs: &CellAttributes)
+        requires printable { is_printable character ≡ true }
+        requires unlinked { attrs.now.hyperlink ≡ None }
+        ensures { self.new ≡ cell_of (character ∷ []) 1 attrs.now }
+    {
+        self.attributes.copy_without_link(attrs);
+        self.text.set_ascii(character);
+    }
+
+    /// The same as `set_blank`, with attributes that have no link: it can't be refused.
+    #[inline(always)]
+    pub fn set_blank_without_link(&mut self, attrs: &CellAttributes)
+        requires { attrs.now.hyperlink ≡ None }
+        ensures { self.new ≡ blank_cell attrs.now }
+    {
+        self.attributes.copy_without_link(attrs);
+        self.text.set_ascii(b' ');
+    }
+
+    /// Becomes the cell of a cluster of `width` columns, of which none count as one; a refused one
+    /// stays as it was.
+    #[inline(always)]
+    pub fn set_grapheme_with_width(
+        &mut self,
+        alloc: Global,
+        text: &str,
+        width: usize,
+        attrs: &CellAttributes,
+    ) -> Result<(), AllocError>
+        requires { width ≤ 2 }
+        ensures done { OnOk result (self.new ≡ cell_of text.now width attrs.now) }
+        ensures refused { OnErr result (self.new ≡ self.old) }
+    {
+        let wide = is_wide(text, width);
+        let text = CellText::new(alloc, text, wide)?;
+        self.attributes.copy_from(attrs)?;
+        self.text = text;
+        self.wide = wide;
         Ok(())
     }
 
@@ -135,7 +188,7 @@ impl Cell {
         ensures { result ≡ blank_cell attrs }
     {
         Cell {
-            text: CellText::Space,
+            text: CellText::of_ascii(b' '),
             wide: false,
             attributes: attrs,
         }
@@ -154,7 +207,7 @@ impl Cell {
         ensures some { 1 ≤ result }
         ensures most { result ≤ 2 }
     {
-        if self.wide { 2 } else { 1 }
+        self.text.columns(self.wide)
     }
 
     /// The attributes.
@@ -183,7 +236,9 @@ impl Cell {
     fn is_same(&self, other: &Cell) -> bool
         ensures { IsTrue result ↔ (self.now ≡ other.now) }
     {
-        self.str() == other.str() && self.wide == other.wide && self.attributes == other.attributes
+        self.str() == other.str()
+            && self.width() == other.width()
+            && self.attributes == other.attributes
     }
 
     /// A copy that shares the link.
@@ -196,6 +251,14 @@ impl Cell {
             attributes: self.attributes.try_clone()?,
         })
     }
+}
+
+// Whether the cell of a cluster of `width` columns takes two.
+#[inline(always)]
+fn is_wide(text: &str, width: usize) -> bool
+    ensures { result ≡ (width == 2 && not (shows_as_space text.now)) }
+{
+    width == 2 && !shows_as_space(text)
 }
 
 impl PartialEq for Cell {

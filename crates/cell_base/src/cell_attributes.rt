@@ -1,5 +1,5 @@
 //! The attributes of a cell.
-ghost use Rattle.std.specs.Prelude.{◌≡◌, ◌↔◌, IfOk, OnOk, OnErr, IsTrue};
+ghost use Rattle.std.specs.Prelude.{◌≡◌, ◌↔◌, None, IfOk, OnOk, OnErr, IsTrue};
 ghost use Rattle.std.specs.Option.{option_map};
 ghost use Rattle.cell_base.specs.Attributes.{plain, sgr_only, style_of};
 ghost use Rattle.cell_base.specs.AttributeChange.{changed_by};
@@ -41,13 +41,15 @@ struct Style {
     vertical_align: VerticalAlign,
 }
 
-// The attributes less the link, which are copied as one value.
+// The attributes less the link, which are copied as one value: of 32 bytes, since two moves copy
+// these.
 #[derive(Debug, Clone, Copy)]
 struct Look {
     style: Style,
     foreground: ColorAttribute,
     background: ColorAttribute,
     underline_color: ColorAttribute,
+    padding: [u8; 3],
 }
 
 /// The attributes of a cell, compared by value, its link too.
@@ -94,6 +96,7 @@ impl CellAttributes {
                 foreground: ColorAttribute::Default,
                 background: ColorAttribute::Default,
                 underline_color: ColorAttribute::Default,
+                padding: [0; 3],
             },
             hyperlink: None,
         }
@@ -431,6 +434,18 @@ impl CellAttributes {
         Ok(())
     }
 
+    /// Becomes a copy of other attributes, which have no link.
+    #[inline(always)]
+    pub(crate) fn copy_without_link(&mut self, other: &CellAttributes)
+        requires { other.now.hyperlink ≡ None }
+        ensures { self.new ≡ other.now }
+    {
+        self.look = other.look;
+        if self.hyperlink.is_some() {
+            self.hyperlink = None;
+        }
+    }
+
     /// A copy that shares the link.
     pub fn try_clone(&self) -> Result<CellAttributes, AllocError>
         ensures { IfOk result (λ copy. copy ≡ self.now) }
@@ -478,7 +493,10 @@ impl Default for CellAttributes {
 }
 
 fn same_look(a: &Look, b: &Look) -> bool
-    ensures { IsTrue result ↔ (a.now ≡ b.now) }
+    ensures { IsTrue result ↔ ((a.now.style ≡ b.now.style)
+        × (a.now.foreground ≡ b.now.foreground)
+        × (a.now.background ≡ b.now.background)
+        × (a.now.underline_color ≡ b.now.underline_color)) }
 {
     same_style(&a.style, &b.style)
         && a.foreground == b.foreground

@@ -1,17 +1,16 @@
 //! The text of a cell.
-ghost use Rattle.std.specs.Prelude.{◌≡◌, ◌<◌, [], ◌∷◌, IfOk, IsTrue, ◌↔◌};
+ghost use Rattle.std.specs.Prelude.{◌≡◌, ℕ, ◌<◌, Bool, true, false, [], ◌∷◌, IfOk, if◌then◌else◌};
 ghost use Rattle.cell_base.specs.CellContent.{cell_text, shows_as_space};
-ghost use Rattle.cell_base.specs.CellText.{text_bytes};
+ghost use Rattle.cell_base.specs.CellText.{columns_of, text_bytes};
 
 use crate::letter::Letter;
 use crate::short_text::ShortText;
 use std::alloc::{AllocError, Global};
 
-// A space, a lone ASCII character and a short text take no memory.
+// A lone ASCII character, which takes one column, and a short text take no memory.
 #[derive(Debug, Drop)]
 pub(crate) enum CellText {
-    Space,
-    Ascii(Letter),
+    Letter(Letter),
     Short(ShortText),
     Owned(String),
 }
@@ -19,14 +18,16 @@ pub(crate) enum CellText {
 impl CellText {
     // What stands in a cell for the text.
     #[inline(always)]
-    pub(crate) fn new(alloc: Global, text: &str) -> Result<CellText, AllocError>
-        ensures { IfOk result (λ t. text_bytes t ≡ cell_text text.now) }
+    pub(crate) fn new(alloc: Global, text: &str, wide: bool) -> Result<CellText, AllocError>
+        requires { wide ≡ true → shows_as_space text.now ≡ false }
+        ensures text { IfOk result (λ t. text_bytes t ≡ cell_text text.now) }
+        ensures columns { IfOk result (λ t. columns_of t wide ≡ (if wide then 2 else 1)) }
     {
-        if shows_as_space(text) || text == " " {
-            return Ok(CellText::Space);
+        if shows_as_space(text) {
+            return Ok(CellText::of_ascii(b' '));
         }
         if let [byte] = text.as_bytes() {
-            if *byte < 128 {
+            if !wide && *byte < 128 {
                 return Ok(CellText::of_ascii(*byte));
             }
         }
@@ -36,31 +37,66 @@ impl CellText {
         Ok(CellText::Owned(String::from_str(alloc, text)?))
     }
 
-    // The text of one ASCII character.
+    // The text of one ASCII character of one column.
     pub(crate) fn of_ascii(byte: u8) -> CellText
         requires { byte < 128 }
-        ensures { text_bytes result ≡ byte ∷ [] }
+        ensures text { text_bytes result ≡ byte ∷ [] }
+        ensures columns { (wide : Bool) → columns_of result wide ≡ 1 }
     {
-        CellText::Ascii(Letter::new(byte))
+        CellText::Letter(Letter::new(byte))
+    }
+
+    // Becomes the text of one ASCII character of one column.
+    #[inline(always)]
+    pub(crate) fn set_ascii(&mut self, byte: u8)
+        requires { byte < 128 }
+        ensures text { text_bytes self.new ≡ byte ∷ [] }
+        ensures columns { (wide : Bool) → columns_of self.new wide ≡ 1 }
+    {
+        if let CellText::Letter(letter) = self {
+            *letter = Letter::new(byte);
+        } else {
+            self.replace(byte);
+        }
+    }
+
+    // The same where another text is dropped.
+    #[cold]
+    #[inline(never)]
+    fn replace(&mut self, byte: u8)
+        requires { byte < 128 }
+        ensures text { text_bytes self.new ≡ byte ∷ [] }
+        ensures columns { (wide : Bool) → columns_of self.new wide ≡ 1 }
+    {
+        *self = CellText::of_ascii(byte);
+    }
+
+    // How many columns the text takes where wide ones take two.
+    pub(crate) fn columns(&self, wide: bool) -> usize
+        ensures { result ≡ columns_of self.now wide }
+    {
+        match self {
+            CellText::Letter(_) => 1,
+            _ => { if wide { 2 } else { 1 } }
+        }
     }
 
     pub(crate) fn as_str(&self) -> &str
         ensures { result.now ≡ text_bytes self.now }
     {
         match self {
-            CellText::Space => " ",
-            CellText::Ascii(letter) => letter.as_str(),
+            CellText::Letter(letter) => letter.as_str(),
             CellText::Short(text) => text.as_str(),
             CellText::Owned(text) => text.as_str(),
         }
     }
 
     pub(crate) fn try_clone(&self) -> Result<CellText, AllocError>
-        ensures { IfOk result (λ copy. text_bytes copy ≡ text_bytes self.now) }
+        ensures text { IfOk result (λ copy. text_bytes copy ≡ text_bytes self.now) }
+        ensures columns { IfOk result (λ copy. (wide : Bool) → columns_of copy wide ≡ columns_of self.now wide) }
     {
         match self {
-            CellText::Space => Ok(CellText::Space),
-            CellText::Ascii(letter) => Ok(CellText::Ascii(*letter)),
+            CellText::Letter(letter) => Ok(CellText::Letter(*letter)),
             CellText::Short(text) => Ok(CellText::Short(*text)),
             CellText::Owned(text) => Ok(CellText::Owned(text.clone()?)),
         }

@@ -4,6 +4,37 @@ ghost use Rattle.std.specs.Str.{IsUtf8};
 
 use std::str;
 
+// The bytes, and zeros behind them. Most texts are one character of two to four bytes.
+#[inline(always)]
+fn padded(bytes: &[u8]) -> [u8; 22]
+    requires { length bytes.now ≤ 22 }
+    ensures { take (length bytes.now) result ≡ bytes.now }
+{
+    match bytes {
+        [a, b] => [
+            *a, *b, 0, 0, 0, 0, 0, 0, 0, 0, 0, 0, 0, 0, 0, 0, 0, 0, 0, 0, 0, 0,
+        ],
+        [a, b, c] => [
+            *a, *b, *c, 0, 0, 0, 0, 0, 0, 0, 0, 0, 0, 0, 0, 0, 0, 0, 0, 0, 0, 0,
+        ],
+        [a, b, c, d] => [
+            *a, *b, *c, *d, 0, 0, 0, 0, 0, 0, 0, 0, 0, 0, 0, 0, 0, 0, 0, 0, 0, 0,
+        ],
+        _ => padded_text(bytes),
+    }
+}
+
+// The same for bytes of any length.
+#[inline(never)]
+fn padded_text(bytes: &[u8]) -> [u8; 22]
+    requires { length bytes.now ≤ 22 }
+    ensures { take (length bytes.now) result ≡ bytes.now }
+{
+    let mut all = [0u8; 22];
+    all[..bytes.len()].copy_from_slice(bytes);
+    all
+}
+
 // A text of at most 22 bytes, which lie in the value itself.
 #[derive(Debug, Clone, Copy)]
 pub(crate) struct ShortText {
@@ -22,10 +53,8 @@ impl ShortText {
         if text.len() > 22 {
             return None;
         }
-        let mut bytes = [0u8; 22];
-        bytes[..text.len()].copy_from_slice(text.as_bytes());
         Some(ShortText {
-            bytes,
+            bytes: padded(text.as_bytes()),
             len: text.len() as u8,
         })
     }

@@ -1,18 +1,18 @@
 -- The end of a row: plain blanks, and the last cell.
 use Rattle.std.proofs.Common.{◌≡◌, ℕ, zero, suc, ◌+◌, ◌-◌, ◌<◌, ◌≤◌, Bool, true, false, List, [], ◌∷◌, ◌++◌, length, get_or, take, set, refl, sym, ap, subst, ◌∙◌, arith}
-use Rattle.std.specs.Prelude.{nat_le, not, ◌||◌, if◌then◌else◌}
+use Rattle.std.specs.Prelude.{nat_le, not, ◌||◌, fold, if◌then◌else◌}
 use Rattle.std.specs.List.{list_any}
 use Rattle.std.proofs.lemmas.Bool.{false≢true}
 use Rattle.std.proofs.lemmas.List.{take_more}
 use Rattle.cell_base.specs.Attributes.{Attributes}
 use Rattle.cell_base.specs.CellContent.{CellContent, row_of_cells}
 use Rattle.cell_base.specs.Row.{Column, Narrow, LeftHalf, RightHalf, Row, blank}
-use Rattle.cell_line.specs.CellList.{ends_halved}
+use Rattle.cell_line.specs.CellList.{ends_halved, last_read}
 use Rattle.cell_line.specs.LineContent.{LineContent, changed, changed_unless_empty}
 use Rattle.cell_line.specs.LineCalls.{update_last_change_seqno}
 use Rattle.cell_change.specs.UpToLast.{up_to_last}
 use Rattle.cell_line.specs.RowEdits.{is_plain_blank, pruned_row}
-use Rattle.cell_line.specs.VisibleCells.{mark_cell, VisibleCell, visible_at, visible_from, row_of_visible, with_end_wrapped, row_end_wrapped}
+use Rattle.cell_line.specs.VisibleCells.{mark_cell, VisibleCell, visible_at, visible_from, visible_cells, ends_wrapped, row_of_visible, with_end_wrapped, row_end_wrapped}
 use Rattle.cell_line.proofs.CutLemmas.{row_narrow_any}
 use Rattle.cell_line.proofs.CellLemmas.{by_test, row_wide, row_narrow, halved_wide, halved_narrow, halved_more, row_joined}
 
@@ -126,15 +126,8 @@ prune_end_wide cells w d s l h =
 
 -- ---- the last cell
 
--- where the last cell that is read stands
-abbrev pub end_at : List CellContent → ℕ
-end_at [] = 0
-end_at (c ∷ []) = 0
-end_at (c ∷ n ∷ []) = if nat_le 2 c.width then 0 else 1
-end_at (c ∷ n ∷ m ∷ cs) = if nat_le 2 c.width then suc (suc (end_at (m ∷ cs))) else suc (end_at (n ∷ m ∷ cs))
-
 -- it is the last one, or the one before it, behind which the last one is not looked at
-pub end_is : (cells : List CellContent) (k : ℕ) → length cells ≡ suc k → end_at cells ≡ (if ends_halved (take k cells) then k - 1 else k)
+pub end_is : (cells : List CellContent) (k : ℕ) → length cells ≡ suc k → last_read cells ≡ (if ends_halved (take k cells) then k - 1 else k)
 end_is [] k e = absurd (omega arith)
 end_is (c ∷ []) zero e = refl
 end_is (c ∷ []) (suc k) e = absurd (omega arith)
@@ -145,12 +138,12 @@ end_is (c ∷ n ∷ m ∷ cs) zero e = absurd (omega arith)
 end_is (c ∷ n ∷ m ∷ cs) (suc zero) e = absurd (omega arith)
 end_is (c ∷ n ∷ m ∷ cs) (suc (suc k)) e = by_test (nat_le 2 c.width)
     (λ t.
-    ap (λ b. if b then suc (suc (end_at (m ∷ cs))) else suc (end_at (n ∷ m ∷ cs))) t
+    ap (λ b. if b then suc (suc (last_read (m ∷ cs))) else suc (last_read (n ∷ m ∷ cs))) t
     ∙ ap (λ x. suc (suc x)) (end_is (m ∷ cs) k (omega arith))
     ∙ two (ends_halved (take k (m ∷ cs))) k (some k (m ∷ cs))
     ∙ ap (λ b. if b then suc (suc k) - 1 else suc (suc k)) (sym (halved_wide c n (take k (m ∷ cs)) t)))
     (λ t.
-    ap (λ b. if b then suc (suc (end_at (m ∷ cs))) else suc (end_at (n ∷ m ∷ cs))) t
+    ap (λ b. if b then suc (suc (last_read (m ∷ cs))) else suc (last_read (n ∷ m ∷ cs))) t
     ∙ ap suc (end_is (n ∷ m ∷ cs) (suc k) (omega arith))
     ∙ one (ends_halved (n ∷ take k (m ∷ cs))) k
     ∙ ap (λ b. if b then suc (suc k) - 1 else suc (suc k)) (sym (halved_narrow c n (take k (m ∷ cs)) t)))
@@ -172,7 +165,7 @@ ends_later b v i m [] = by_test (nat_le 2 m.width) (λ e. rw e refl) (λ e. rw e
 ends_later b v i m (k ∷ cs) = by_test (nat_le 2 m.width) (λ e. rw e refl) (λ e. rw e refl)
 
 pub set_end : (i : ℕ) (b : Bool) (c : CellContent) (cs : List CellContent) (d : CellContent)
-    → row_of_cells (set (c ∷ cs) (end_at (c ∷ cs)) (mark_cell b (get_or (c ∷ cs) (end_at (c ∷ cs)) d))) ≡ row_of_visible (with_end_wrapped b (visible_from i (row_of_cells (c ∷ cs))))
+    → row_of_cells (set (c ∷ cs) (last_read (c ∷ cs)) (mark_cell b (get_or (c ∷ cs) (last_read (c ∷ cs)) d))) ≡ row_of_visible (with_end_wrapped b (visible_from i (row_of_cells (c ∷ cs))))
 set_end i b c [] d = by_test (nat_le 2 c.width) (λ e. rw e refl) (λ e. rw e refl)
 set_end i b c (n ∷ []) d = by_test (nat_le 2 c.width)
     (λ e.
@@ -187,25 +180,49 @@ set_end i b c (n ∷ []) d = by_test (nat_le 2 c.width)
     ∙ sym (ap (λ (r : Row). row_of_visible (with_end_wrapped b (visible_from i r))) (row_narrow c n [] e)))
 set_end i b c (n ∷ m ∷ cs) d = by_test (nat_le 2 c.width)
     (λ e.
-    ap (λ t. let at = (if t then suc (suc (end_at (m ∷ cs))) else suc (end_at (n ∷ m ∷ cs))) in row_of_cells (set (c ∷ n ∷ m ∷ cs) at (mark_cell b (get_or (c ∷ n ∷ m ∷ cs) at d)))) e
-    ∙ row_wide c n (set (m ∷ cs) (end_at (m ∷ cs)) (mark_cell b (get_or (m ∷ cs) (end_at (m ∷ cs)) d))) e
+    ap (λ t. let at = (if t then suc (suc (last_read (m ∷ cs))) else suc (last_read (n ∷ m ∷ cs))) in row_of_cells (set (c ∷ n ∷ m ∷ cs) at (mark_cell b (get_or (c ∷ n ∷ m ∷ cs) at d)))) e
+    ∙ row_wide c n (set (m ∷ cs) (last_read (m ∷ cs)) (mark_cell b (get_or (m ∷ cs) (last_read (m ∷ cs)) d))) e
     ∙ ap (λ (r : Row). LeftHalf c.text c.attributes ∷ RightHalf c.attributes ∷ r) (set_end (i + 1 + 1) b m cs d)
     ∙ ap row_of_visible (sym (ends_later b (visible_at i c.text 2 c.attributes) (i + 1 + 1) m cs))
     ∙ sym (ap (λ (r : Row). row_of_visible (with_end_wrapped b (visible_from i r))) (row_wide c n (m ∷ cs) e)))
     (λ e.
-    ap (λ t. let at = (if t then suc (suc (end_at (m ∷ cs))) else suc (end_at (n ∷ m ∷ cs))) in row_of_cells (set (c ∷ n ∷ m ∷ cs) at (mark_cell b (get_or (c ∷ n ∷ m ∷ cs) at d)))) e
-    ∙ row_narrow_any c (set (n ∷ m ∷ cs) (end_at (n ∷ m ∷ cs)) (mark_cell b (get_or (n ∷ m ∷ cs) (end_at (n ∷ m ∷ cs)) d))) e
+    ap (λ t. let at = (if t then suc (suc (last_read (m ∷ cs))) else suc (last_read (n ∷ m ∷ cs))) in row_of_cells (set (c ∷ n ∷ m ∷ cs) at (mark_cell b (get_or (c ∷ n ∷ m ∷ cs) at d)))) e
+    ∙ row_narrow_any c (set (n ∷ m ∷ cs) (last_read (n ∷ m ∷ cs)) (mark_cell b (get_or (n ∷ m ∷ cs) (last_read (n ∷ m ∷ cs)) d))) e
     ∙ ap (λ (r : Row). Narrow c.text c.attributes ∷ r) (set_end (i + 1) b n (m ∷ cs) d)
     ∙ ap row_of_visible (sym (ends_later b (visible_at i c.text 1 c.attributes) (i + 1) n (m ∷ cs)))
     ∙ sym (ap (λ (r : Row). row_of_visible (with_end_wrapped b (visible_from i r))) (row_narrow c n (m ∷ cs) e)))
 
 -- what the code sets
-pub end_set : (cells : List CellContent) (k at : ℕ) (b : Bool) (d : CellContent) (new : CellContent) → length cells ≡ suc k → at ≡ (if ends_halved (take k cells) then k - 1 else k) → new ≡ mark_cell b (get_or cells at d)
+pub end_set : (cells : List CellContent) (at : ℕ) (b : Bool) (d : CellContent) (new : CellContent) → 0 < length cells → at ≡ last_read cells → new ≡ mark_cell b (get_or cells at d)
     → row_of_cells (set cells at new) ≡ row_end_wrapped b (row_of_cells cells)
-end_set [] k at b d new l e n = absurd (omega arith)
-end_set (c ∷ cs) k at b d new l e n =
-    let is : at ≡ end_at (c ∷ cs) = e ∙ sym (end_is (c ∷ cs) k l) in
-    (λ i. row_of_cells (set (c ∷ cs) (is i) ((n ∙ ap (λ m. mark_cell b (get_or (c ∷ cs) m d)) is) i))) ∙ set_end 0 b c cs d
+end_set [] at b d new l e n = absurd (omega arith)
+end_set (c ∷ cs) at b d new l e n = (λ i. row_of_cells (set (c ∷ cs) (e i) ((n ∙ ap (λ m. mark_cell b (get_or (c ∷ cs) m d)) e) i))) ∙ set_end 0 b c cs d
+
+-- whether the line goes on behind the last cell
+wrapped_end : (i : ℕ) (b : Bool) (c : CellContent) (cs : List CellContent) (d : CellContent)
+    → (get_or (c ∷ cs) (last_read (c ∷ cs)) d).attributes.wrapped ≡ fold (λ _ (v : VisibleCell). v.cell.attributes.wrapped) b (visible_from i (row_of_cells (c ∷ cs)))
+wrapped_end i b c [] d = by_test (nat_le 2 c.width) (λ e. rw e refl) (λ e. rw e refl)
+wrapped_end i b c (n ∷ []) d = by_test (nat_le 2 c.width)
+    (λ e.
+    ap (λ t. (get_or (c ∷ n ∷ []) (if t then 0 else 1) d).attributes.wrapped) e
+    ∙ sym (ap (λ (r : Row). fold (λ _ (v : VisibleCell). v.cell.attributes.wrapped) b (visible_from i r)) (row_wide c n [] e)))
+    (λ e.
+    ap (λ t. (get_or (c ∷ n ∷ []) (if t then 0 else 1) d).attributes.wrapped) e
+    ∙ wrapped_end (i + 1) c.attributes.wrapped n [] d
+    ∙ sym (ap (λ (r : Row). fold (λ _ (v : VisibleCell). v.cell.attributes.wrapped) b (visible_from i r)) (row_narrow c n [] e)))
+wrapped_end i b c (n ∷ m ∷ cs) d = by_test (nat_le 2 c.width)
+    (λ e.
+    ap (λ t. (get_or (c ∷ n ∷ m ∷ cs) (if t then suc (suc (last_read (m ∷ cs))) else suc (last_read (n ∷ m ∷ cs))) d).attributes.wrapped) e
+    ∙ wrapped_end (i + 1 + 1) c.attributes.wrapped m cs d
+    ∙ sym (ap (λ (r : Row). fold (λ _ (v : VisibleCell). v.cell.attributes.wrapped) b (visible_from i r)) (row_wide c n (m ∷ cs) e)))
+    (λ e.
+    ap (λ t. (get_or (c ∷ n ∷ m ∷ cs) (if t then suc (suc (last_read (m ∷ cs))) else suc (last_read (n ∷ m ∷ cs))) d).attributes.wrapped) e
+    ∙ wrapped_end (i + 1) c.attributes.wrapped n (m ∷ cs) d
+    ∙ sym (ap (λ (r : Row). fold (λ _ (v : VisibleCell). v.cell.attributes.wrapped) b (visible_from i r)) (row_narrow c n (m ∷ cs) e)))
+
+pub wrapped_last : (cells : List CellContent) (at : ℕ) (d : CellContent) → 0 < length cells → at ≡ last_read cells → (get_or cells at d).attributes.wrapped ≡ ends_wrapped (visible_cells (row_of_cells cells))
+wrapped_last [] at d l e = absurd (omega arith)
+wrapped_last (c ∷ cs) at d l e = ap (λ n. (get_or (c ∷ cs) n d).attributes.wrapped) e ∙ wrapped_end 0 false c cs d
 
 -- ---- what is left of a line
 

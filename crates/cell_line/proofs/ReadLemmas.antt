@@ -1,5 +1,5 @@
 -- Cells read from the left as they are stored, and as visible cells.
-use Rattle.std.proofs.Common.{◌≡◌, ℕ, ◌+◌, ◌<◌, ◌≤◌, Bool, true, false, List, [], ◌∷◌, ◌++◌, length, refl, sym, ap, ◌∙◌, append_assoc, arith}
+use Rattle.std.proofs.Common.{◌≡◌, ℕ, ◌+◌, ◌<◌, ◌≤◌, Bool, true, false, List, [], ◌∷◌, ◌++◌, length, drop, refl, sym, ap, ◌∙◌, append_assoc, arith}
 use Rattle.std.specs.Prelude.{nat_le, nat_lt, ◌&&◌, map, filter, if◌then◌else◌}
 use Rattle.cell_base.specs.CellContent.{CellContent, row_of_cells}
 use Rattle.cell_base.specs.Row.{Row}
@@ -59,6 +59,10 @@ read_narrow i c (n ∷ cs) h = ap (λ t. if t then record { column = i; cell = c
 
 pub read_wide : (i : ℕ) (c n : CellContent) (cs : List CellContent) → 2 ≤ c.width → read_from i (c ∷ n ∷ cs) ≡ record { column = i; cell = c } ∷ read_from (i + 2) cs
 read_wide i c n cs h = ap (λ t. if t then record { column = i; cell = c } ∷ read_from (i + 2) cs else record { column = i; cell = c } ∷ read_from (i + 1) (n ∷ cs)) (wide_is c.width h)
+
+pub read_wide_any : (i : ℕ) (c : CellContent) (cs : List CellContent) → 2 ≤ c.width → read_from i (c ∷ cs) ≡ record { column = i; cell = c } ∷ read_from (i + 2) (drop 1 cs)
+read_wide_any i c [] h = refl
+read_wide_any i c (n ∷ cs) h = ap (λ t. if t then record { column = i; cell = c } ∷ read_from (i + 2) cs else record { column = i; cell = c } ∷ read_from (i + 1) (n ∷ cs)) (wide_is c.width h)
 
 -- rows see of a cell its columns alone
 pub rows_of_seen : (width : ℕ) (row : Row) (cells : List VisibleCell) → rows_from width row (contents (map seen cells)) ≡ rows_from width row (contents cells)

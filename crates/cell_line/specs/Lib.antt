@@ -4,6 +4,8 @@ pub mod ClusterView
 pub mod Clusters
 pub mod Groups
 pub mod LentCells
+pub mod LineBits
+pub mod LineBitsView
 pub mod LineCalls
 pub mod LineContent
 pub mod LineView
@@ -17,6 +19,7 @@ pub mod Region
 pub mod RowEdits
 pub mod SameLine
 pub mod Samples
+pub mod TakenCells
 pub mod TextRuns
 pub mod VisibleCells
 pub mod Words

@@ -24,6 +24,7 @@ ghost use Rattle.cell_rows.specs.WholeRow.{IsWhole};
 
 use crate::cell_ref::CellRef;
 use crate::clusters::CellCluster;
+use crate::line_bits::LineBits;
 use crate::region::RegionIter;
 use crate::visible_cells::VisibleCellIter;
 use crate::{changes, query, row, runs, text, words, wrap, zones};
@@ -47,7 +48,7 @@ use std::ops::Range;
 pub struct Line {
     alloc: Global,
     number: SequenceNo,
-    bits: LineAttribute,
+    bits: LineBits,
     cells: Vec<Cell>,
 }
 
@@ -84,7 +85,7 @@ impl Line {
         Line {
             alloc,
             number: seqno,
-            bits: LineAttribute::SingleWidthLine,
+            bits: LineBits::new(LineAttribute::SingleWidthLine),
             cells,
         }
     }
@@ -164,35 +165,35 @@ impl Line {
     pub fn is_single_width(&self) -> bool
         ensures { result ≡ is_single_width self.now }
     {
-        self.bits == LineAttribute::SingleWidthLine
+        self.bits.shows(LineAttribute::SingleWidthLine)
     }
 
     /// Whether the line is shown at double width alone.
     pub fn is_double_width(&self) -> bool
         ensures { result ≡ is_double_width self.now }
     {
-        self.bits == LineAttribute::DoubleWidthLine
+        self.bits.shows(LineAttribute::DoubleWidthLine)
     }
 
     /// Whether the line is the top half of one shown at double width and height.
     pub fn is_double_height_top(&self) -> bool
         ensures { result ≡ is_double_height_top self.now }
     {
-        self.bits == LineAttribute::DoubleHeightTopHalfLine
+        self.bits.shows(LineAttribute::DoubleHeightTopHalfLine)
     }
 
     /// Whether the line is the bottom half of one shown at double width and height.
     pub fn is_double_height_bottom(&self) -> bool
         ensures { result ≡ is_double_height_bottom self.now }
     {
-        self.bits == LineAttribute::DoubleHeightBottomHalfLine
+        self.bits.shows(LineAttribute::DoubleHeightBottomHalfLine)
     }
 
     /// Shows the line at normal size.
     pub fn set_single_width(&mut self, seqno: SequenceNo)
         ensures { self.new ≡ set_single_width self.old seqno }
     {
-        self.bits = LineAttribute::SingleWidthLine;
+        self.bits = LineBits::new(LineAttribute::SingleWidthLine);
         self.update_last_change_seqno(seqno);
     }
 
@@ -200,7 +201,7 @@ impl Line {
     pub fn set_double_width(&mut self, seqno: SequenceNo)
         ensures { self.new ≡ set_double_width self.old seqno }
     {
-        self.bits = LineAttribute::DoubleWidthLine;
+        self.bits = LineBits::new(LineAttribute::DoubleWidthLine);
         self.update_last_change_seqno(seqno);
     }
 
@@ -208,7 +209,7 @@ impl Line {
     pub fn set_double_height_top(&mut self, seqno: SequenceNo)
         ensures { self.new ≡ set_double_height_top self.old seqno }
     {
-        self.bits = LineAttribute::DoubleHeightTopHalfLine;
+        self.bits = LineBits::new(LineAttribute::DoubleHeightTopHalfLine);
         self.update_last_change_seqno(seqno);
     }
 
@@ -216,7 +217,7 @@ impl Line {
     pub fn set_double_height_bottom(&mut self, seqno: SequenceNo)
         ensures { self.new ≡ set_double_height_bottom self.old seqno }
     {
-        self.bits = LineAttribute::DoubleHeightBottomHalfLine;
+        self.bits = LineBits::new(LineAttribute::DoubleHeightBottomHalfLine);
         self.update_last_change_seqno(seqno);
     }
 
@@ -232,7 +233,7 @@ impl Line {
         Ok(Line {
             alloc: self.alloc,
             number: seqno,
-            bits: self.bits,
+            bits: self.bits.copy(),
             cells,
         })
     }
@@ -725,7 +726,7 @@ impl Line {
         if self.number != other.number {
             return false;
         }
-        if self.bits != other.bits {
+        if !self.bits.is_same(&other.bits) {
             return false;
         }
         query::same_columns(&self.cells, &other.cells)
@@ -738,7 +739,7 @@ impl Line {
         Ok(Line {
             alloc: self.alloc,
             number: self.number,
-            bits: self.bits,
+            bits: self.bits.copy(),
             cells: row::copy(self.alloc, &self.cells)?,
         })
     }

@@ -12,7 +12,7 @@ ghost use Rattle.cell_line.specs.CellRefView.{shown_by};
 ghost use Rattle.cell_line.specs.Links.{has_implicit_link};
 
 use crate::cell_ref::CellRef;
-use crate::row::{has_implicit, is_halved};
+use crate::row::{has_implicit, is_halved, last_read};
 use crate::visible_cells::VisibleCellIter;
 use cell_base::Cell;
 use std::alloc::AllocError;
@@ -113,11 +113,7 @@ pub(crate) fn is_whitespace(cells: &[Cell]) -> bool
 pub(crate) fn ends_wrapped(cells: &[Cell]) -> bool
     ensures { result ≡ ends_wrapped (visible_cells (row_of_cells cells.now)) }
 {
-    let mut wrapped = false;
-    for cell in VisibleCellIter::new(cells) {
-        wrapped = cell.attrs().wrapped();
-    }
-    wrapped
+    !cells.is_empty() && cells[last_read(cells)].attrs().wrapped()
 }
 
 // Whether the visible cells have the same contents, each in turn.

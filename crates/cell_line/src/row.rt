@@ -4,7 +4,7 @@ ghost use Rattle.std.specs.Prelude.{◌≡◌, ℕ, ◌+◌, ◌-◌, ◌≤◌,
 ghost use Rattle.cell_base.specs.CellContent.{row_of_cells, blank_cell};
 ghost use Rattle.cell_base.specs.Attributes.{plain};
 ghost use Rattle.cell_base.specs.Row.{set_columns, space};
-ghost use Rattle.cell_line.specs.CellList.{ends_halved, blank_for};
+ghost use Rattle.cell_line.specs.CellList.{ends_halved, last_read, blank_for};
 ghost use Rattle.cell_line.specs.VisibleCells.{mark_cell, row_end_wrapped};
 ghost use Rattle.cell_line.specs.Links.{is_implicit, cell_without_implicit};
 ghost use Rattle.std.specs.Str.{bytes_eq};
@@ -36,6 +36,20 @@ pub(crate) fn is_halved(cells: &[Cell], at: usize) -> bool
         place -= 1;
     }
     halved
+}
+
+// Where the cell that is read last stands. Only the wide cells right before the end are looked at.
+pub(crate) fn last_read(cells: &[Cell]) -> usize
+    requires { 0 < length cells.now }
+    ensures within { result < length cells.now }
+    ensures at { result ≡ last_read cells.now }
+{
+    let last = cells.len() - 1;
+    if is_halved(cells, last) {
+        last - 1
+    } else {
+        last
+    }
 }
 
 // The cell takes the place of the one that is there.
@@ -373,15 +387,10 @@ fn mark(cell: &mut Cell, wrapped: bool)
 pub(crate) fn set_end_wrapped(cells: &mut Vec<Cell>, wrapped: bool)
     ensures { row_of_cells cells.new.items ≡ row_end_wrapped wrapped (row_of_cells cells.old.items) }
 {
-    let len = cells.len();
-    if len == 0 {
+    if cells.is_empty() {
         return;
     }
-    let at = if is_halved(cells, len - 1) {
-        len - 2
-    } else {
-        len - 1
-    };
+    let at = last_read(cells);
     mark(&mut cells[at], wrapped);
 }
 

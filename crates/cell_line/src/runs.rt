@@ -1,13 +1,15 @@
 //! Columns of a row that are set at once: blanks, and the cells of a text as far as they fit.
-ghost use Rattle.std.specs.Prelude.{◌≡◌, ◌+◌, ◌-◌, ◌≤◌, ◌<◌, ◌++◌, [], ◌∷◌, true, length, take, drop, map, replicate, slice_set, vec_len, OnOk, IfOk, MatchOption};
+ghost use Rattle.std.specs.Prelude.{◌≡◌, ◌+◌, ◌-◌, ◌≤◌, ◌<◌, ◌++◌, [], ◌∷◌, true, None, length, take, drop, map, replicate, slice_set, vec_len, OnOk, IfOk, MatchOption};
 ghost use Rattle.std.specs.List.{list_all};
 ghost use Rattle.text_clusters.specs.Plain.{is_printable};
+ghost use Rattle.cell_base.specs.Attributes.{Attributes};
 ghost use Rattle.cell_base.specs.CellContent.{row_of_cells, blank_cell, cell_of};
 ghost use Rattle.cell_base.specs.Row.{set_columns, blank};
+ghost use Rattle.cell_line.specs.LineContent.{cell_columns};
 ghost use Rattle.cell_line.specs.RowEdits.{overlaid};
 ghost use Rattle.cell_line.specs.TextRuns.{place_behind, plain_cells, text_on, text_left, Leads, Stops};
 
-use crate::row::{column_count, open, push_blanks_with, write_cell};
+use crate::row::{open, push_blanks_with};
 use cell_base::{Cell, CellAttributes, Widths};
 use std::alloc::{AllocError, Global};
 use text_clusters::{split_first_cluster, split_plain};
@@ -38,8 +40,79 @@ fn put_blank(cells: &mut Vec<Cell>, at: usize, attrs: &CellAttributes) -> Result
     cells[at].set_blank(attrs)
 }
 
+// The same for a run of attributes without a link.
+#[inline(always)]
+fn put_blank_without_link(cells: &mut [Cell], at: usize, attrs: &CellAttributes)
+    requires within { at < length cells.old }
+    requires unlinked { attrs.now.hyperlink ≡ None }
+    ensures { cells.new ≡ slice_set cells.old at (blank_cell attrs.now) }
+{
+    cells[at].set_blank_without_link(attrs);
+}
+
+// The cell at a place becomes that of a printable character, with attributes without a link.
+#[inline(always)]
+fn put_ascii_without_link(cells: &mut [Cell], at: usize, character: u8, attrs: &CellAttributes)
+    requires printable { is_printable character ≡ true }
+    requires within { at < length cells.old }
+    requires unlinked { attrs.now.hyperlink ≡ None }
+    ensures { cells.new ≡ slice_set cells.old at (cell_of (character ∷ []) 1 attrs.now) }
+{
+    cells[at].set_ascii_without_link(character, attrs);
+}
+
+// The cell at a place becomes that of a cluster.
+#[inline(always)]
+fn put_cluster(
+    alloc: Global,
+    cells: &mut Vec<Cell>,
+    at: usize,
+    cluster: &str,
+    width: usize,
+    attrs: &CellAttributes,
+) -> Result<(), AllocError>
+    requires most { width ≤ 2 }
+    requires within { at < vec_len cells.old }
+    ensures len { vec_len cells.new ≡ vec_len cells.old }
+    ensures items { OnOk result (cells.new.items ≡ slice_set cells.old.items at (cell_of cluster.now width attrs.now)) }
+{
+    cells[at].set_grapheme_with_width(alloc, cluster, width, attrs)
+}
+
+// Blanks with attributes without a link stand in the places of a range.
+fn write_blanks_without_link(cells: &mut [Cell], start: usize, end: usize, attrs: &CellAttributes)
+    requires order { start ≤ end }
+    requires within { end ≤ length cells.old }
+    requires unlinked { attrs.now.hyperlink ≡ None }
+    ensures { cells.new ≡ take start cells.old ++ replicate (end - start) (blank_cell attrs.now) ++ drop end cells.old }
+{
+    for at in start..end {
+        put_blank_without_link(cells, at, attrs);
+    }
+}
+
 // Blanks stand in the places of a range.
 fn write_blanks(
+    cells: &mut Vec<Cell>,
+    start: usize,
+    end: usize,
+    attrs: &CellAttributes,
+) -> Result<(), AllocError>
+    requires order { start ≤ end }
+    requires within { end ≤ vec_len cells.old }
+    ensures len { vec_len cells.new ≡ vec_len cells.old }
+    ensures items { OnOk result (cells.new.items ≡ take start cells.old.items ++ replicate (end - start) (blank_cell attrs.now) ++ drop end cells.old.items) }
+{
+    if attrs.hyperlink().is_none() {
+        write_blanks_without_link(cells, start, end, attrs);
+        return Ok(());
+    }
+    write_linked_blanks(cells, start, end, attrs)?;
+    Ok(())
+}
+
+// Blanks stand in the places of a range, each of which may share a link.
+fn write_linked_blanks(
     cells: &mut Vec<Cell>,
     start: usize,
     end: usize,
@@ -89,8 +162,40 @@ pub(crate) fn clear(
     Ok(())
 }
 
+// Cells of one printable character each stand from a place on, with attributes without a link.
+fn write_plain_without_link(cells: &mut [Cell], start: usize, bytes: &[u8], attrs: &CellAttributes)
+    requires printable { list_all is_printable bytes.now ≡ true }
+    requires within { start + length bytes.now ≤ length cells.old }
+    requires unlinked { attrs.now.hyperlink ≡ None }
+    ensures { cells.new ≡ take start cells.old ++ plain_cells bytes.now attrs.now ++ drop (start + length bytes.now) cells.old }
+{
+    for index in 0..bytes.len() {
+        put_ascii_without_link(cells, start + index, bytes[index], attrs);
+    }
+}
+
 // Cells of one printable character each stand from a place on.
 fn write_plain(
+    cells: &mut Vec<Cell>,
+    start: usize,
+    bytes: &[u8],
+    attrs: &CellAttributes,
+) -> Result<(), AllocError>
+    requires printable { list_all is_printable bytes.now ≡ true }
+    requires within { start + length bytes.now ≤ vec_len cells.old }
+    ensures len { vec_len cells.new ≡ vec_len cells.old }
+    ensures items { OnOk result (cells.new.items ≡ take start cells.old.items ++ plain_cells bytes.now attrs.now ++ drop (start + length bytes.now) cells.old.items) }
+{
+    if attrs.hyperlink().is_none() {
+        write_plain_without_link(cells, start, bytes, attrs);
+        return Ok(());
+    }
+    write_linked_plain(cells, start, bytes, attrs)?;
+    Ok(())
+}
+
+// The same where each cell may share a link.
+fn write_linked_plain(
     cells: &mut Vec<Cell>,
     start: usize,
     bytes: &[u8],
@@ -150,6 +255,43 @@ fn set_plain_front<'a, W: Widths>(
     Ok((at + front.len(), rest))
 }
 
+// How many columns the cell of a cluster takes.
+#[inline(always)]
+fn cluster_columns(cluster: &str, width: usize) -> usize
+    requires { width ≤ 2 }
+    ensures { (attributes : Attributes) → result ≡ length (cell_columns (cell_of cluster.now width attributes)) }
+{
+    if Cell::columns_for(cluster, width) >= 2 {
+        2
+    } else {
+        1
+    }
+}
+
+// The cell of a cluster takes its columns from `at` on.
+#[inline(always)]
+fn write_cluster(
+    alloc: Global,
+    cells: &mut Vec<Cell>,
+    at: usize,
+    cluster: &str,
+    width: usize,
+    attrs: &CellAttributes,
+) -> Result<(), AllocError>
+    requires most { width ≤ 2 }
+    requires within { at + length (cell_columns (cell_of cluster.now width attrs.now)) ≤ vec_len cells.old }
+    ensures len { vec_len cells.new ≡ vec_len cells.old }
+    ensures row { OnOk result (row_of_cells cells.new.items ≡ set_columns (row_of_cells cells.old.items) at (cell_columns (cell_of cluster.now width attrs.now))) }
+{
+    let count = cluster_columns(cluster, width);
+    open(cells, at, at + count)?;
+    if count == 2 {
+        put_blank(cells, at + 1, attrs)?;
+    }
+    put_cluster(alloc, cells, at, cluster, width, attrs)?;
+    Ok(())
+}
+
 // Sets the first cluster of a text if it fits before `end`; answers the next column and the rest.
 fn set_first_cluster<'a, W: Widths>(
     alloc: Global,
@@ -176,12 +318,12 @@ fn set_first_cluster<'a, W: Widths>(
     let Some((cluster, rest)) = split_first_cluster(text) else {
         return Ok(None);
     };
-    let cell = Cell::new_grapheme(alloc, cluster, attrs.try_clone()?, w)?;
-    let count = column_count(&cell);
+    let width = usize::from(w.width(cluster));
+    let count = cluster_columns(cluster, width);
     if end - at < count {
         return Ok(None);
     }
-    write_cell(cells, at, cell)?;
+    write_cluster(alloc, cells, at, cluster, width, attrs)?;
     Ok(Some((at + count, rest)))
 }
 

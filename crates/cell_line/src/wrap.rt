@@ -9,7 +9,8 @@ ghost use Rattle.cell_line.specs.OpenRows.{breaks, rows_from, last_text, texts_u
 use crate::line::Line;
 use crate::query::is_space;
 use crate::read_cells::ReadCells;
-use crate::row::{close_end, column_count, copy, push_cell, set_end_wrapped};
+use crate::row::{close_end, column_count, copy, is_halved, push_cell, set_end_wrapped};
+use crate::taken_cells::TakenCells;
 use crate::visible_cells::VisibleCellIter;
 use crate::zones::is_kept;
 use cell_base::{Cell, SequenceNo};
@@ -25,6 +26,9 @@ pub(crate) fn between(
 ) -> Result<Vec<Cell>, AllocError>
     ensures { IfOk result (λ kept. row_of_cells kept.items ≡ row_of_visible (cells_between start end (row_of_cells cells.now))) }
 {
+    if !is_halved(cells, cells.len()) {
+        return copy_between(alloc, cells, start, end);
+    }
     let mut whole = copy(alloc, cells)?;
     close_end(&mut whole)?;
     copy_between(alloc, &whole, start, end)
@@ -117,31 +121,24 @@ pub(crate) fn rows(
     ensures { IfOk result (λ lines. lines.items ≡ map (line_of seqno) (rows_from width [] (contents (texts_up_to (visible_cells (row_of_cells cells.items)))))) }
 {
     close_end(&mut cells)?;
-    fill_rows(alloc, &cells, width, seqno)
+    fill_rows(alloc, cells, width, seqno)
 }
 
 fn fill_rows(
     alloc: Global,
-    cells: &[Cell],
+    cells: Vec<Cell>,
     width: usize,
     seqno: SequenceNo,
 ) -> Result<Vec<Line>, AllocError>
-    requires { ends_halved cells.now ≡ false }
-    ensures { IfOk result (λ lines. lines.items ≡ map (line_of seqno) (rows_from width [] (contents (texts_up_to (visible_cells (row_of_cells cells.now)))))) }
+    requires { ends_halved cells.items ≡ false }
+    ensures { IfOk result (λ lines. lines.items ≡ map (line_of seqno) (rows_from width [] (contents (texts_up_to (visible_cells (row_of_cells cells.items)))))) }
 {
-    let last = last_text(cells);
+    let last = last_text(&cells);
     let mut lines = Vec::new(alloc);
     let mut open = Vec::new(alloc);
-    for (column, cell) in ReadCells::new(cells) {
+    for (column, cell) in TakenCells::new(cells) {
         if is_kept(last, column) {
-            place(
-                alloc,
-                &mut lines,
-                &mut open,
-                cell.try_clone()?,
-                width,
-                seqno,
-            )?;
+            place(alloc, &mut lines, &mut open, cell, width, seqno)?;
         }
     }
     lines.push(Line::from_cells(alloc, open, seqno))?;

@@ -33,10 +33,24 @@ fn is_other_at(text: &str, place: usize) -> bool
     }
 }
 
+// Whether a printable character stands at the front.
+#[inline(always)]
+fn begins_printable(text: &str) -> bool
+    ensures { result ≡ nat_lt 0 (prefix_len is_printable text.now) }
+{
+    match text.as_bytes().first() {
+        None => false,
+        Some(byte) => is_printable(*byte),
+    }
+}
+
 // How many bytes of plain text stand at the front, of `most` at the most.
 fn plain_len(text: &str, most: usize) -> usize
     ensures { result ≡ min most (plain_len text.now) }
 {
+    if !begins_printable(text) {
+        return 0;
+    }
     let run = printable_run(text, most);
     if is_other_at(text, run) {
         run.saturating_sub(1)

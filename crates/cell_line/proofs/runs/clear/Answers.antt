@@ -1,4 +1,4 @@
-use Rattle.std.proofs.Common.{length, arith}
+use Rattle.std.proofs.Common.{arith}
 use Rattle.cell_base.specs.CellContent.{blank_cell}
 use Rattle.cell_line.proofs.RunLemmas.{blanks_behind}
 use Rattle.cell_line.proofs.runs.clear.Goals as goal

@@ -1,40 +1,42 @@
 use Rattle.std.proofs.Common.{◌≡◌, ℕ, Bool, List, Option, ◌∙◌, ◌++◌, ◌∷◌, [], true, length, sym, ap}
 use Rattle.std.specs.Prelude.{map, filter, vec_len, if◌then◌else◌}
-use Rattle.cell_base.specs.CellContent.{row_of_cells}
+use Rattle.cell_base.specs.CellContent.{CellContent, row_of_cells}
 use Rattle.cell_base.specs.Row.{Row}
 use Rattle.cell_line.specs.LineContent.{LineContent, line_of, cell_columns}
-use Rattle.cell_line.specs.ReadCells.{read_from, read_left}
-use Rattle.cell_line.specs.VisibleCells.{VisibleCell, contents, row_end_wrapped}
-use Rattle.cell_line.specs.OpenRows.{breaks, rows_from}
+use Rattle.cell_line.specs.ReadCells.{read_from}
+use Rattle.cell_line.specs.TakenCells.{taken_left}
+use Rattle.cell_line.specs.VisibleCells.{VisibleCell, visible_cells, contents, row_end_wrapped}
+use Rattle.cell_line.specs.OpenRows.{breaks, rows_from, last_text}
 use Rattle.cell_line.specs.OpenZones.{is_kept_by}
 use Rattle.cell_line.proofs.CellLemmas.{length-row}
 use Rattle.cell_line.proofs.ReadLemmas.{placed, rows_read}
 use Rattle.cell_line.proofs.wrap.fill_rows.Goals as goal
 
-pub loop-column-preserved-in_ok-place : goal.loop-column-preserved-in_ok-place
-loop-column-preserved-in_ok-place c =
+pub loop-column-preserved-in-Continue-1 : goal.loop-column-preserved-in-Continue-1
+loop-column-preserved-in-Continue-1 c =
     let lines = c.loop-column.lines.items in
     let row : Row = row_of_cells c.loop-column.open.items in
     let width = c.args.width in
+    let cell = c.in-Some.cell in
     let p : ℕ → Bool = is_kept_by c.last_text-last.result in
-    let v : VisibleCell = record { column = c.in-Some.column; cell = c.in-Some.cell.now } in
-    let left : List VisibleCell = filter (λ w. p w.column) (read_left c.next.new.self) in
+    let v : VisibleCell = record { column = c.in-Some.column; cell = cell } in
+    let left : List VisibleCell = filter (λ w. p w.column) (taken_left c.next.new.self) in
     let rest : Row → List Row = λ r. rows_from width r (contents left) in
     let there : vec_len c.loop-column.open ≡ length row = c.loop-column.open.ok.0 ∙ sym (length-row c.loop-column.open.items) in
-    let copy : c.in_ok-try_clone.field-0 ≡ c.in-Some.cell.now = c.in_ok-try_clone.ensures in
     let kept : p c.in-Some.column ≡ true = sym c.is_kept.ensures ∙ c.if-is_kept.true in
     record {
       whole = c.in_ok-place.ensures.whole;
       lines =
-          placed (breaks width (length row) c.in-Some.cell.now) lines c.place.new.lines.items (row_end_wrapped true row) (row_of_cells c.place.new.row.items) (cell_columns c.in-Some.cell.now) (row ++ cell_columns c.in-Some.cell.now) c.args.seqno rest
-          (c.in_ok-place.ensures.lines ∙ (λ i. if breaks width (there i) (copy i) then lines ++ line_of c.args.seqno (row_end_wrapped true row) ∷ [] else lines))
-          (c.in_ok-place.ensures.row ∙ (λ i. if breaks width (there i) (copy i) then cell_columns (copy i) else row ++ cell_columns (copy i)))
+          placed (breaks width (length row) cell) lines c.place.new.lines.items (row_end_wrapped true row) (row_of_cells c.place.new.row.items) (cell_columns cell) (row ++ cell_columns cell) c.args.seqno rest
+          (c.in_ok-place.ensures.lines ∙ ap (λ n. if breaks width n cell then lines ++ line_of c.args.seqno (row_end_wrapped true row) ∷ [] else lines) there)
+          (c.in_ok-place.ensures.row ∙ ap (λ n. if breaks width n cell then cell_columns cell else row ++ cell_columns cell) there)
           ∙ ap (λ (ws : List VisibleCell). lines ++ map (line_of c.args.seqno) (rows_from width row (contents ws))) (sym (ap (λ t. if t then v ∷ left else left) kept) ∙ sym (ap (filter (λ w. p w.column)) c.in-Some.ensures.steps))
           ∙ c.loop-column.invariant.lines;
     }
 
 pub returns : goal.returns
 returns c =
+    let cells = c.args.cells.items in
     let lines = c.loop-column.lines.items in
     let row : Row = row_of_cells c.loop-column.open.items in
     let width = c.args.width in
@@ -42,5 +44,5 @@ returns c =
     c.in_ok-push.ensures.items ∙ ap (λ (l : LineContent). lines ++ l ∷ []) c.from_cells.ensures
     ∙ ap (λ (ws : List VisibleCell). lines ++ map (line_of c.args.seqno) (rows_from width row (contents (filter (λ w. p w.column) ws)))) (sym c.in-None.ensures.steps.0)
     ∙ c.loop-column.invariant.lines
-    ∙ ap (λ (o : Option ℕ). map (line_of c.args.seqno) (rows_from width [] (contents (filter (λ w. is_kept_by o w.column) (read_from 0 c.args.cells.now))))) c.last_text-last.ensures
-    ∙ ap (map (line_of c.args.seqno)) (rows_read width c.args.cells.now c.requires)
+    ∙ ap (λ (o : Option ℕ). map (line_of c.args.seqno) (rows_from width [] (contents (filter (λ w. is_kept_by o w.column) (read_from 0 cells))))) (c.last_text-last.ensures ∙ ap (λ (cs : List CellContent). last_text (visible_cells (row_of_cells cs))) c.deref.ensures.value)
+    ∙ ap (map (line_of c.args.seqno)) (rows_read width cells c.requires)

@@ -1,6 +1,6 @@
 use Rattle.std.proofs.Common.{◌≡◌, ◌-◌, ◌++◌, take, drop, replicate, length}
 use Rattle.cell_base.specs.CellContent.{blank_cell}
-use Rattle.cell_line.proofs.runs.write_blanks.Given as goal
+use Rattle.cell_line.proofs.runs.write_linked_blanks.Given as goal
 
 -- the places before `at` are written
 abbrev pub invariant-loop-at : goal.invariant-loop-at

@@ -1,6 +1,6 @@
 use Rattle.std.proofs.Common.{◌≡◌, ◌+◌, ◌++◌, take, drop, length}
 use Rattle.cell_line.specs.TextRuns.{plain_cells}
-use Rattle.cell_line.proofs.runs.write_plain.Given as goal
+use Rattle.cell_line.proofs.runs.write_linked_plain.Given as goal
 
 -- the characters before `index` are written
 abbrev pub invariant-loop-index : goal.invariant-loop-index
