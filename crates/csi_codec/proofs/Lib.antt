@@ -3,6 +3,7 @@ mod SgrLemmas
 mod PieceLemmas
 mod SgrTokens
 mod PlainLemmas
+mod TextSteps
 mod PlaceLemmas
 mod ReadingLemmas
 mod JoinLemmas
@@ -19,6 +20,6 @@ mod FrontLemmas
 mod FrontTrip
 mod PairTrip
 mod SizeLemmas
-mod EqualValues
+pub mod EqualValues
 mod LongestLemmas
 mod ColourLemmas

@@ -1,11 +1,11 @@
 -- A piece of SGR that is one number, at the end of a list or in front of a `;`.
-use Rattle.std.proofs.Common.{◌≡◌, ℕ, ℤ, pos, negsuc, eqb, Bool, true, false, cond, List, [], ◌∷◌, Option, Some, None, IfSome, option_map, inl, inr, option_and_then, refl, sym, ap, ◌∙◌, subst}
+use Rattle.std.proofs.Common.{◌≡◌, ℕ, ℤ, pos, negsuc, eqb, Bool, true, false, cond, List, [], ◌∷◌, Option, Some, None, IfSome, inl, inr, refl, sym, ap, ◌∙◌, subst}
 use Rattle.std.proofs.lemmas.Bool.{cases_Bool, eqb-true}
 use Rattle.csi_codec.specs.declared.parameters.CsiParam.{CsiParam}
 use Rattle.csi_codec.specs.declared.parameters.CsiParam.TheVariants.{Integer, P}
 use Rattle.csi_codec.specs.declared.rendition.Sgr.{Sgr}
-use Rattle.csi_codec.specs.Parameters.{is_number, number_within, with_semicolon}
-use Rattle.csi_codec.specs.Rendition.{single_code, plain_code, taking, colour_shape, underline_shape, underline_or_single, numbered_shape, sgr_shape, sgr_piece}
+use Rattle.csi_codec.specs.Parameters.{is_number, with_semicolon}
+use Rattle.csi_codec.specs.Rendition.{single_code, plain_code, taking, underline_shape, underline_or_single, numbered_shape, sgr_shape, sgr_piece}
 use Rattle.csi_codec.specs.ColourCases.{plain_case}
 
 -- no number of a colour has a value of its own

@@ -7,7 +7,7 @@ use Rattle.csi_codec.specs.declared.parameters.CsiParam.{CsiParam}
 use Rattle.csi_codec.specs.declared.parameters.CsiParam.TheVariants.{Integer, P}
 use Rattle.csi_codec.specs.declared.rendition.Sgr.{Sgr}
 use Rattle.csi_codec.specs.declared.rendition.Sgr.TheVariants as value
-use Rattle.csi_codec.specs.Parameters.{is_number, number_within, semicolon_count, semicolon_at, with_semicolon}
+use Rattle.csi_codec.specs.Parameters.{is_number, number_within, semicolon_at, with_semicolon}
 use Rattle.csi_codec.specs.Rendition.{Part, byte_part, number_part, any_number, is_part, stands, taking, Form, first_form, colour_forms, colour_form, colour_shape, underline_numbered, underline_or_single, underline_shape, numbered_shape, single_code, sgr_shape, sgr_piece}
 use Rattle.csi_codec.specs.Actions.{Action, sgr, rendition_piece, all_sgr_tokens, is_sgr_token}
 use Rattle.csi_codec.proofs.SgrLemmas.{four_ways}

@@ -22,3 +22,4 @@ pub mod Writable
 pub mod Sizes
 pub mod Longest
 pub mod ColourCases
+pub mod Writing

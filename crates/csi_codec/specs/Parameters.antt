@@ -101,6 +101,10 @@ spelled params control = record { params = params; control = control }
 abbrev pub spelled_text : Spelled → List ℕ
 spelled_text s = flat_map token_text s.params ++ encode_utf8 s.control
 
+-- and ESC [ in front of that
+abbrev pub sequence_text : Spelled → List ℕ
+sequence_text s = 27 ∷ 91 ∷ spelled_text s
+
 -- a number
 abbrev pub number_tokens : ℕ → List CsiParam
 number_tokens n = Integer (pos n) ∷ []

@@ -1,7 +1,7 @@
 -- What a CSI value shows, what its iterator hands out, and the text of an action.
 use Rattle.std.specs.Prelude.{◌≡◌, ℕ, List, [], ◌∷◌, Option, Some, None, Result, Ok, Err}
 use Rattle.std.specs.declared.alloc.AllocError.{AllocError}
-use Rattle.csi_codec.specs.Parameters.{spelled_text}
+use Rattle.csi_codec.specs.Parameters.{sequence_text}
 use Rattle.csi_codec.specs.Actions.{Action, sgr, cursor, edit, mode, device, unspecified, spelling_of}
 use Rattle.csi_codec.specs.declared.parameters.Unspecified.{Unspecified}
 use Rattle.csi_codec.specs.declared.sequences.CSI.{CSI}
@@ -38,4 +38,4 @@ HandsOut before (Some (Err error)) after = (after ≡ []) × FirstNeedsMemory be
 
 -- ECMA-48 5.4: ESC [, the parameters side by side, and the final byte
 abbrev pub csi_text : Action → List ℕ
-csi_text action = 27 ∷ 91 ∷ spelled_text (spelling_of action)
+csi_text action = sequence_text (spelling_of action)

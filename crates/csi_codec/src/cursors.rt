@@ -12,13 +12,14 @@ ghost use Rattle.csi_codec.specs.Cursors.{
   position_request,
   save_or_margins,
 };
-ghost use Rattle.csi_codec.specs.Parameters.{spelled_text};
+ghost use Rattle.csi_codec.specs.Parameters.{sequence_text, spelled_text};
 
 use crate::one_based::OneBased;
 use crate::parameters::{
     CsiParam, count, one_place, one_slot, place_pair, slot_and_space, slot_number,
 };
-use crate::spelling::{Spelling, count_spelling, number_spelling, pair_spelling};
+use crate::spelling::{put_bare, put_count, put_number, put_pair};
+use crate::text::SequenceText;
 use std::fmt;
 
 /// The look of the cursor (DECSCUSR of xterm's control sequences).
@@ -168,54 +169,61 @@ impl fmt::Display for Cursor {
     ghost output = { λ cursor. Some (spelled_text (cursor_spelling cursor)) };
 
     fn fmt<W: fmt::Write>(&self, f: &mut fmt::Formatter<W>) -> fmt::Result {
-        self.spelling().fmt(f)
+        let mut text = SequenceText::new();
+        self.put_text(&mut text);
+        f.write_str(text.parameters())
     }
 }
 
 impl Cursor {
-    /// The parameters and the final byte that are written for it.
+    /// Makes `text` what is written for it.
     #[tactic(auto, unfolding(crate::specs::Cursors::cursor_spelling))]
-    pub(crate) fn spelling(self) -> Spelling
-        ensures { result ≡ cursor_spelling self }
+    #[inline(never)]
+    pub(crate) fn put_text(&self, text: &mut SequenceText)
+        ensures { text.new ≡ sequence_text (cursor_spelling self.now) }
     {
-        match self {
-            Cursor::Up(n) => count_spelling(n, 'A'),
-            Cursor::Down(n) => count_spelling(n, 'B'),
-            Cursor::Right(n) => count_spelling(n, 'C'),
-            Cursor::Left(n) => count_spelling(n, 'D'),
-            Cursor::NextLine(n) => count_spelling(n, 'E'),
-            Cursor::PrecedingLine(n) => count_spelling(n, 'F'),
-            Cursor::CharacterAbsolute(n) => number_spelling(n.as_one_based(), 'G'),
-            Cursor::CharacterPositionAbsolute(n) => number_spelling(n.as_one_based(), '`'),
-            Cursor::LinePositionAbsolute(n) => number_spelling(n, 'd'),
-            Cursor::CharacterPositionForward(n) => count_spelling(n, 'a'),
-            Cursor::CharacterPositionBackward(n) => count_spelling(n, 'j'),
-            Cursor::LinePositionForward(n) => count_spelling(n, 'e'),
-            Cursor::LinePositionBackward(n) => count_spelling(n, 'k'),
-            Cursor::Position { line, col } => pair_spelling(line, col, 'H'),
-            Cursor::CharacterAndLinePosition { line, col } => pair_spelling(line, col, 'f'),
-            Cursor::ActivePositionReport { line, col } => pair_spelling(line, col, 'R'),
-            Cursor::ForwardTabulation(n) => count_spelling(n, 'I'),
-            Cursor::BackwardTabulation(n) => count_spelling(n, 'Z'),
-            Cursor::LineTabulation(n) => count_spelling(n, 'Y'),
-            Cursor::TabulationClear(known) => number_spelling(u32::from(known.to_u16()), 'g'),
-            Cursor::TabulationControl(known) => number_spelling(u32::from(known.to_u16()), 'W'),
-            Cursor::SetTopAndBottomMargins { top, bottom } => pair_spelling(top, bottom, 'r'),
-            Cursor::SetLeftAndRightMargins { left, right } => pair_spelling(left, right, 's'),
-            Cursor::SaveCursor => Spelling::new(&[], 's'),
-            Cursor::RestoreCursor => Spelling::new(&[], 'u'),
-            Cursor::RequestActivePositionReport => number_spelling(6, 'n'),
-            Cursor::CursorStyle(style) => style_spelling(style),
+        match *self {
+            Cursor::Up(n) => put_count(n, b'A', text),
+            Cursor::Down(n) => put_count(n, b'B', text),
+            Cursor::Right(n) => put_count(n, b'C', text),
+            Cursor::Left(n) => put_count(n, b'D', text),
+            Cursor::NextLine(n) => put_count(n, b'E', text),
+            Cursor::PrecedingLine(n) => put_count(n, b'F', text),
+            Cursor::CharacterAbsolute(n) => put_number(n.as_one_based(), b'G', text),
+            Cursor::CharacterPositionAbsolute(n) => put_number(n.as_one_based(), b'`', text),
+            Cursor::LinePositionAbsolute(n) => put_number(n, b'd', text),
+            Cursor::CharacterPositionForward(n) => put_count(n, b'a', text),
+            Cursor::CharacterPositionBackward(n) => put_count(n, b'j', text),
+            Cursor::LinePositionForward(n) => put_count(n, b'e', text),
+            Cursor::LinePositionBackward(n) => put_count(n, b'k', text),
+            Cursor::Position { line, col } => put_pair(line, col, b'H', text),
+            Cursor::CharacterAndLinePosition { line, col } => put_pair(line, col, b'f', text),
+            Cursor::ActivePositionReport { line, col } => put_pair(line, col, b'R', text),
+            Cursor::ForwardTabulation(n) => put_count(n, b'I', text),
+            Cursor::BackwardTabulation(n) => put_count(n, b'Z', text),
+            Cursor::LineTabulation(n) => put_count(n, b'Y', text),
+            Cursor::TabulationClear(known) => put_number(u32::from(known.to_u16()), b'g', text),
+            Cursor::TabulationControl(known) => put_number(u32::from(known.to_u16()), b'W', text),
+            Cursor::SetTopAndBottomMargins { top, bottom } => put_pair(top, bottom, b'r', text),
+            Cursor::SetLeftAndRightMargins { left, right } => put_pair(left, right, b's', text),
+            Cursor::SaveCursor => put_bare(b's', text),
+            Cursor::RestoreCursor => put_bare(b'u', text),
+            Cursor::RequestActivePositionReport => put_number(6, b'n', text),
+            Cursor::CursorStyle(style) => put_style(style, text),
         }
     }
 }
 
+/// A style's number and a space.
 #[tactic(auto, unfolding(crate::specs::Cursors::cursor_spelling))]
-fn style_spelling(style: CursorStyle) -> Spelling
-    ensures { result ≡ cursor_spelling (Cursor.CursorStyle style) }
+fn put_style(style: CursorStyle, text: &mut SequenceText)
+    ensures { text.new ≡ sequence_text (cursor_spelling (Cursor.CursorStyle style)) }
 {
-    let number = CsiParam::Integer(i64::from(style.to_u16()));
-    Spelling::new(&[number, CsiParam::P(b' ')], 'q')
+    let mut built = SequenceText::opened();
+    built.push_number(style.to_u16() as u32);
+    built.push_sign(b' ');
+    built.push_sign(b'q');
+    *text = built;
 }
 
 /// What a whole list before a final byte spells, if it is a cursor sequence.

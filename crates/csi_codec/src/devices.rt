@@ -1,10 +1,11 @@
 //! Requests to the terminal itself.
 ghost use Rattle.std.specs.Prelude.{◌≡◌, Some};
 ghost use Rattle.csi_codec.specs.Devices.{device_reading, device_spelling};
-ghost use Rattle.csi_codec.specs.Parameters.{spelled_text};
+ghost use Rattle.csi_codec.specs.Parameters.{sequence_text, spelled_text};
 
 use crate::parameters::CsiParam;
-use crate::spelling::{Spelling, number_spelling};
+use crate::spelling::{put_bare, put_number};
+use crate::text::SequenceText;
 use std::fmt;
 
 /// A request to the terminal itself.
@@ -19,22 +20,35 @@ impl fmt::Display for Device {
     ghost output = { λ device. Some (spelled_text (device_spelling device)) };
 
     fn fmt<W: fmt::Write>(&self, f: &mut fmt::Formatter<W>) -> fmt::Result {
-        self.spelling().fmt(f)
+        let mut text = SequenceText::new();
+        self.put_text(&mut text);
+        f.write_str(text.parameters())
     }
 }
 
 impl Device {
-    /// The parameters and the final byte that are written for it.
+    /// Makes `text` what is written for it.
     #[tactic(auto, unfolding(crate::specs::Devices::device_spelling))]
-    pub(crate) fn spelling(self) -> Spelling
-        ensures { result ≡ device_spelling self }
+    #[inline(never)]
+    pub(crate) fn put_text(&self, text: &mut SequenceText)
+        ensures { text.new ≡ sequence_text (device_spelling self.now) }
     {
-        match self {
-            Device::SoftReset => Spelling::new(&[CsiParam::P(b'!')], 'p'),
-            Device::RequestPrimaryDeviceAttributes => Spelling::new(&[], 'c'),
-            Device::StatusReport => number_spelling(5, 'n'),
+        match *self {
+            Device::SoftReset => put_soft_reset(text),
+            Device::RequestPrimaryDeviceAttributes => put_bare(b'c', text),
+            Device::StatusReport => put_number(5, b'n', text),
         }
     }
+}
+
+#[tactic(auto, unfolding(crate::specs::Devices::device_spelling))]
+fn put_soft_reset(text: &mut SequenceText)
+    ensures { text.new ≡ sequence_text (device_spelling Device.SoftReset) }
+{
+    let mut built = SequenceText::opened();
+    built.push_sign(b'!');
+    built.push_sign(b'p');
+    *text = built;
 }
 
 /// What a whole list before a final byte spells, if it is a request.

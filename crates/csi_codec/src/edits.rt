@@ -8,10 +8,11 @@ ghost use Rattle.csi_codec.specs.Edits.{
   edit_reading,
   edit_spelling,
 };
-ghost use Rattle.csi_codec.specs.Parameters.{spelled_text};
+ghost use Rattle.csi_codec.specs.Parameters.{sequence_text, spelled_text};
 
 use crate::parameters::{CsiParam, count, one_slot, slot_number};
-use crate::spelling::{Spelling, count_spelling, erase_spelling};
+use crate::spelling::{put_count, put_extent};
+use crate::text::SequenceText;
 use std::fmt;
 
 /// How much of its line EL erases (ECMA-48 8.3.41).
@@ -93,27 +94,30 @@ impl fmt::Display for Edit {
     ghost output = { λ edit. Some (spelled_text (edit_spelling edit)) };
 
     fn fmt<W: fmt::Write>(&self, f: &mut fmt::Formatter<W>) -> fmt::Result {
-        self.spelling().fmt(f)
+        let mut text = SequenceText::new();
+        self.put_text(&mut text);
+        f.write_str(text.parameters())
     }
 }
 
 impl Edit {
-    /// The parameters and the final byte that are written for it.
+    /// Makes `text` what is written for it.
     #[tactic(auto, unfolding(crate::specs::Edits::edit_spelling))]
-    pub(crate) fn spelling(self) -> Spelling
-        ensures { result ≡ edit_spelling self }
+    #[inline(never)]
+    pub(crate) fn put_text(&self, text: &mut SequenceText)
+        ensures { text.new ≡ sequence_text (edit_spelling self.now) }
     {
-        match self {
-            Edit::InsertCharacter(n) => count_spelling(n, '@'),
-            Edit::DeleteCharacter(n) => count_spelling(n, 'P'),
-            Edit::InsertLine(n) => count_spelling(n, 'L'),
-            Edit::DeleteLine(n) => count_spelling(n, 'M'),
-            Edit::EraseCharacter(n) => count_spelling(n, 'X'),
-            Edit::ScrollUp(n) => count_spelling(n, 'S'),
-            Edit::ScrollDown(n) => count_spelling(n, 'T'),
-            Edit::Repeat(n) => count_spelling(n, 'b'),
-            Edit::EraseInDisplay(extent) => erase_spelling(extent.to_u16(), 'J'),
-            Edit::EraseInLine(extent) => erase_spelling(extent.to_u16(), 'K'),
+        match *self {
+            Edit::InsertCharacter(n) => put_count(n, b'@', text),
+            Edit::DeleteCharacter(n) => put_count(n, b'P', text),
+            Edit::InsertLine(n) => put_count(n, b'L', text),
+            Edit::DeleteLine(n) => put_count(n, b'M', text),
+            Edit::EraseCharacter(n) => put_count(n, b'X', text),
+            Edit::ScrollUp(n) => put_count(n, b'S', text),
+            Edit::ScrollDown(n) => put_count(n, b'T', text),
+            Edit::Repeat(n) => put_count(n, b'b', text),
+            Edit::EraseInDisplay(extent) => put_extent(extent.to_u16(), b'J', text),
+            Edit::EraseInLine(extent) => put_extent(extent.to_u16(), b'K', text),
         }
     }
 }

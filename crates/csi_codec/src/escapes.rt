@@ -1,7 +1,9 @@
 //! ESC pairs: an ESC, at most one intermediate byte, and a final byte.
-ghost use Rattle.std.specs.Prelude.{◌≡◌, Some};
-ghost use Rattle.csi_codec.specs.Escapes.{lone_code, pair_code, esc_reading, esc_text, esc_code_intermediate, esc_code_control};
+ghost use Rattle.std.specs.Prelude.{◌≡◌, ◌++◌, OnErr, OnOk, Some};
+ghost use Rattle.csi_codec.specs.Escapes.{lone_code, pair_code, esc_bytes, esc_reading, esc_text, esc_code_intermediate, esc_code_control};
 
+use crate::text::SequenceText;
+use std::alloc::AllocError;
 use std::fmt;
 
 /// An ESC pair that has a name (ECMA-48 5.3 and xterm's control sequences).
@@ -115,24 +117,36 @@ impl fmt::Display for Esc {
     ghost output = { λ esc. Some (esc_text esc) };
 
     fn fmt<W: fmt::Write>(&self, f: &mut fmt::Formatter<W>) -> fmt::Result {
-        let (intermediate, control) = match *self {
-            Esc::Code(code) => (code.intermediate(), code.control()),
-            Esc::Unspecified {
-                intermediate,
-                control,
-            } => (intermediate, control),
-        };
-        write!(f, "\x1b")?;
-        if let Some(byte) = intermediate {
-            let character = char::from(byte);
-            write!(f, "{character}")?;
-        }
-        let last = char::from(control);
-        write!(f, "{last}")
+        let mut text = SequenceText::new();
+        self.put_text(&mut text);
+        f.write_str(text.as_str())
     }
 }
 
 impl Esc {
+    /// Appends the bytes of the pair's text. Where memory is refused, `bytes` stay as they were.
+    pub fn append_bytes_to(&self, bytes: &mut Vec<u8>) -> Result<(), AllocError>
+        ensures ok { OnOk result (bytes.new.items ≡ bytes.old.items ++ esc_text self.now) }
+        ensures err { OnErr result (bytes.new.items ≡ bytes.old.items) }
+    {
+        let mut text = SequenceText::new();
+        self.put_text(&mut text);
+        bytes.extend_from_slice(text.as_bytes())
+    }
+
+    /// Makes `text` what is written for it.
+    fn put_text(&self, text: &mut SequenceText)
+        ensures { text.new ≡ esc_text self.now }
+    {
+        match *self {
+            Esc::Code(code) => put_pair(code.intermediate(), code.control(), text),
+            Esc::Unspecified {
+                intermediate,
+                control,
+            } => put_pair(intermediate, control, text),
+        }
+    }
+
     /// What an ESC pair means; it takes no memory. An intermediate of 0 in front of the final byte of a known lone
     /// code is no intermediate.
     pub fn parse(intermediate: Option<u8>, control: u8) -> Self
@@ -150,6 +164,22 @@ impl Esc {
             },
         }
     }
+}
+
+/// ESC, an intermediate byte, if there is one, and a final byte.
+fn put_pair(intermediate: Option<u8>, control: u8, text: &mut SequenceText)
+    ensures { text.new ≡ esc_bytes intermediate control }
+{
+    let mut built = SequenceText::new();
+    built.push_sign(0x1b);
+    match intermediate {
+        Some(byte) => {
+            built.push_character(byte);
+            built.push_character(control);
+        }
+        None => built.push_character(control),
+    }
+    *text = built;
 }
 
 #[tactic(auto, unfolding(crate::specs::Escapes::lone_code))]

@@ -19,6 +19,7 @@ mod sequences;
 mod sgr_reading;
 mod sgr_spelling;
 mod spelling;
+mod text;
 
 pub use cracking::Cracked;
 pub use cursors::{Cursor, CursorStyle, CursorTabulationControl, TabulationClear};

@@ -1,5 +1,5 @@
 //! Modes by number, and the sequences that set, reset, save and restore them.
-ghost use Rattle.std.specs.Prelude.{◌≡◌, Some};
+ghost use Rattle.std.specs.Prelude.{◌≡◌, ◌<◌, Some};
 ghost use Rattle.csi_codec.specs.Modes.{
   dec_private_mode_named,
   dec_private_mode_number,
@@ -13,10 +13,11 @@ ghost use Rattle.csi_codec.specs.Modes.{
   mode_reading,
   mode_spelling,
 };
-ghost use Rattle.csi_codec.specs.Parameters.{number_within, private_tokens, spelled, spelled_text};
+ghost use Rattle.csi_codec.specs.Parameters.{number_within, private_tokens, sequence_text, spelled, spelled_text};
 
 use crate::parameters::{CsiParam, number_within};
-use crate::spelling::{Spelling, number_spelling};
+use crate::spelling::put_number;
+use crate::text::SequenceText;
 use std::fmt;
 
 /// A private mode that has a name (xterm: DECSET, DECRST).
@@ -174,32 +175,40 @@ impl fmt::Display for Mode {
     ghost output = { λ mode. Some (spelled_text (mode_spelling mode)) };
 
     fn fmt<W: fmt::Write>(&self, f: &mut fmt::Formatter<W>) -> fmt::Result {
-        self.spelling().fmt(f)
+        let mut text = SequenceText::new();
+        self.put_text(&mut text);
+        f.write_str(text.parameters())
     }
 }
 
 impl Mode {
-    /// The parameters and the final byte that are written for it.
+    /// Makes `text` what is written for it.
     #[tactic(auto, unfolding(crate::specs::Modes::mode_spelling))]
-    pub(crate) fn spelling(self) -> Spelling
-        ensures { result ≡ mode_spelling self }
+    #[inline(never)]
+    pub(crate) fn put_text(&self, text: &mut SequenceText)
+        ensures { text.new ≡ sequence_text (mode_spelling self.now) }
     {
-        match self {
-            Mode::SetDecPrivateMode(mode) => private_spelling(mode, 'h'),
-            Mode::ResetDecPrivateMode(mode) => private_spelling(mode, 'l'),
-            Mode::SaveDecPrivateMode(mode) => private_spelling(mode, 's'),
-            Mode::RestoreDecPrivateMode(mode) => private_spelling(mode, 'r'),
-            Mode::SetMode(mode) => number_spelling(u32::from(mode.number()), 'h'),
-            Mode::ResetMode(mode) => number_spelling(u32::from(mode.number()), 'l'),
+        match *self {
+            Mode::SetDecPrivateMode(mode) => put_private(mode, b'h', text),
+            Mode::ResetDecPrivateMode(mode) => put_private(mode, b'l', text),
+            Mode::SaveDecPrivateMode(mode) => put_private(mode, b's', text),
+            Mode::RestoreDecPrivateMode(mode) => put_private(mode, b'r', text),
+            Mode::SetMode(mode) => put_number(u32::from(mode.number()), b'h', text),
+            Mode::ResetMode(mode) => put_number(u32::from(mode.number()), b'l', text),
         }
     }
 }
 
-fn private_spelling(mode: DecPrivateMode, control: char) -> Spelling
-    ensures { result ≡ spelled (private_tokens (dec_mode_code mode)) control }
+/// `?` and the number of a private mode.
+fn put_private(mode: DecPrivateMode, control: u8, text: &mut SequenceText)
+    requires { control < 128 }
+    ensures { text.new ≡ sequence_text (spelled (private_tokens (dec_mode_code mode)) control) }
 {
-    let number = CsiParam::Integer(i64::from(mode.number()));
-    Spelling::new(&[CsiParam::P(b'?'), number], control)
+    let mut built = SequenceText::opened();
+    built.push_sign(b'?');
+    built.push_number(mode.number() as u32);
+    built.push_sign(control);
+    *text = built;
 }
 
 impl DecPrivateMode {

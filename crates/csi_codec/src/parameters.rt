@@ -1,9 +1,11 @@
 //! Tokens of a CSI list, the slots that a list can have, and how tokens are written.
-ghost use Rattle.std.specs.Prelude.{◌≡◌, ◌≤◌, Some, IfOk};
-ghost use Rattle.csi_codec.specs.Parameters.{number_within, token_text, spelled, spelled_text, one_slot, two_slots, slot_and_space, place, slot_number, count, place_pair, semicolon_at};
+ghost use Rattle.std.specs.Prelude.{◌≡◌, ◌≤◌, ◌++◌, Some, IfOk, OnErr, OnOk, length, take};
+ghost use Rattle.std.specs.Fmt.{signed_decimal};
+ghost use Rattle.csi_codec.specs.Parameters.{number_within, token_text, sequence_text, spelled, spelled_text, one_slot, two_slots, slot_and_space, place, slot_number, count, place_pair, semicolon_at};
 ghost use Rattle.csi_codec.specs.Rests.{IsSameRest};
 
 use crate::one_based::OneBased;
+use crate::text::SequenceText;
 use std::alloc::AllocError;
 use std::fmt;
 use thiserror::Error;
@@ -19,11 +21,39 @@ impl fmt::Display for CsiParam {
     ghost output = { λ token. Some (token_text token) };
 
     fn fmt<W: fmt::Write>(&self, f: &mut fmt::Formatter<W>) -> fmt::Result {
-        match *self {
-            CsiParam::Integer(number) => write!(f, "{number}"),
-            CsiParam::P(byte) => f.write_char(char::from(byte)),
+        f.write_str(self.text().as_str())
+    }
+}
+
+impl CsiParam {
+    /// What is written for it.
+    fn text(self) -> SequenceText
+        ensures { result ≡ token_text self }
+    {
+        match self {
+            CsiParam::Integer(number) => signed_text(number),
+            CsiParam::P(byte) => {
+                let mut text = SequenceText::new();
+                text.push_character(byte);
+                text
+            }
         }
     }
+}
+
+/// A number in decimal.
+fn signed_text(number: i64) -> SequenceText
+    ensures { result ≡ signed_decimal number }
+{
+    let size = number.unsigned_abs();
+    let mut text = SequenceText::new();
+    if number < 0 {
+        text.push_sign(b'-');
+        text.push_large_number(size);
+    } else {
+        text.push_large_number(size);
+    }
+    text
 }
 
 /// The rest of a list that has no reading, with the flag and the final byte that it was read under.
@@ -46,6 +76,32 @@ impl fmt::Display for Unspecified {
 }
 
 impl Unspecified {
+    /// Appends the bytes of `ESC [`, the parameters and the final byte. Where memory is refused, `bytes` stay as they were.
+    pub(crate) fn append_bytes_to(&self, bytes: &mut Vec<u8>) -> Result<(), AllocError>
+        ensures ok { OnOk result (bytes.new.items ≡ bytes.old.items ++ sequence_text (spelled self.now.params.items self.now.control)) }
+        ensures err { OnErr result (bytes.new.items ≡ bytes.old.items) }
+    {
+        let len = bytes.len();
+        let result = self.append_parts_to(bytes);
+        if result.is_err() {
+            bytes.truncate(len);
+        }
+        result
+    }
+
+    /// The same, where what was appended before a refusal stays.
+    fn append_parts_to(&self, bytes: &mut Vec<u8>) -> Result<(), AllocError>
+        ensures ok { OnOk result (bytes.new.items ≡ bytes.old.items ++ sequence_text (spelled self.now.params.items self.now.control)) }
+        ensures err { take (length bytes.old.items) bytes.new.items ≡ bytes.old.items }
+    {
+        bytes.extend_from_slice(b"\x1b[")?;
+        for token in self.params.iter() {
+            bytes.extend_from_slice(token.text().as_bytes())?;
+        }
+        let mut buffer = [0; 4];
+        bytes.extend_from_slice(self.control.encode_utf8(&mut buffer).as_bytes())
+    }
+
     /// A copy.
     pub fn try_clone(&self) -> Result<Self, AllocError>
         ensures { IfOk result (λ copy. IsSameRest copy self.now) }

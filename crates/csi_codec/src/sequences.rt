@@ -1,5 +1,5 @@
 //! CSI sequences: what a list of parameters before a final byte means, action by action.
-ghost use Rattle.std.specs.Prelude.{◌≡◌, ◌<◌, ◌≤◌, IfOk, OnErr, Some, length, max};
+ghost use Rattle.std.specs.Prelude.{◌≡◌, ◌<◌, ◌≤◌, ◌++◌, IfNone, IfOk, IfSome, OnErr, OnOk, Some, length, max};
 ghost use Rattle.csi_codec.specs.Actions.{device, csi_reading, unspecified};
 ghost use Rattle.csi_codec.specs.Laws.{KeepsRests};
 ghost use Rattle.csi_codec.specs.Sequences.{action_of, csi_text, NeedsMemory, rest_of};
@@ -11,6 +11,7 @@ use crate::modes::Mode;
 use crate::parameters::{CsiParam, Unspecified};
 use crate::places::CSIPlace;
 use crate::rendition::Sgr;
+use crate::text::SequenceText;
 use std::alloc::{AllocError, Global};
 use std::fmt;
 use std::marker::Model;
@@ -30,19 +31,47 @@ impl fmt::Display for CSI {
     ghost output = { λ csi. Some (csi_text (action_of csi)) };
 
     fn fmt<W: fmt::Write>(&self, f: &mut fmt::Formatter<W>) -> fmt::Result {
-        f.write_str("\x1b[")?;
-        match self {
-            CSI::Sgr(value) => value.fmt(f),
-            CSI::Cursor(value) => value.fmt(f),
-            CSI::Edit(value) => value.fmt(f),
-            CSI::Mode(value) => value.fmt(f),
-            CSI::Device(value) => (**value).fmt(f),
-            CSI::Unspecified(rest) => (**rest).fmt(f),
+        let mut text = SequenceText::new();
+        match self.put_text(&mut text) {
+            None => f.write_str(text.as_str()),
+            Some(rest) => {
+                f.write_str("\x1b[")?;
+                rest.fmt(f)
+            }
         }
     }
 }
 
 impl CSI {
+    /// Appends the bytes of the action's text. Where memory is refused, `bytes` stay as they were.
+    pub fn append_bytes_to(&self, bytes: &mut Vec<u8>) -> Result<(), AllocError>
+        ensures ok { OnOk result (bytes.new.items ≡ bytes.old.items ++ csi_text (action_of self.now)) }
+        ensures err { OnErr result (bytes.new.items ≡ bytes.old.items) }
+    {
+        let mut text = SequenceText::new();
+        match self.put_text(&mut text) {
+            None => bytes.extend_from_slice(text.as_bytes()),
+            Some(rest) => rest.append_bytes_to(bytes),
+        }
+    }
+
+    /// Makes `text` what is written for it, but for the rest of a list, which it hands out.
+    #[inline(always)]
+    fn put_text(&self, text: &mut SequenceText) -> Option<&Unspecified>
+        ensures text { IfNone result (text.new ≡ csi_text (action_of self.now)) }
+        ensures rest { IfSome result (λ rest. action_of self.now ≡ rest_of rest.now) }
+    {
+        match self {
+            CSI::Sgr(value) => value.put_text(text),
+            CSI::Cursor(value) => value.put_text(text),
+            CSI::Edit(value) => value.put_text(text),
+            CSI::Mode(value) => value.put_text(text),
+            CSI::Device(value) => value.put_text(text),
+            CSI::Unspecified(rest) => return Some(rest),
+        }
+        None
+    }
+
     /// Reads a list of parameters before a final byte. The flag says that parameters were dropped; it changes no
     /// reading, and the rest keeps it. Nothing is allocated until the actions are asked for.
     pub fn parse<'a>(

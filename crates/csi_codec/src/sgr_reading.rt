@@ -221,6 +221,7 @@ fn single_code(code: u8) -> Option<Sgr>
         39 => Some(Sgr::Foreground(ColorSpec::Default)),
         49 => Some(Sgr::Background(ColorSpec::Default)),
         59 => Some(Sgr::UnderlineColor(ColorSpec::Default)),
+        38 | 48 | 58 => None,
         _ => ranged_code(code),
     }
 }

@@ -1,6 +1,6 @@
 //! SGR: what is written for it.
-ghost use Rattle.std.specs.Prelude.{◌≡◌, ◌∷◌, []};
-ghost use Rattle.csi_codec.specs.Parameters.{spelled};
+ghost use Rattle.std.specs.Prelude.{◌≡◌, ◌≤◌, ◌∷◌, [], length};
+ghost use Rattle.csi_codec.specs.Parameters.{sequence_text, spelled};
 ghost use Rattle.csi_codec.specs.declared.parameters.CsiParam.TheVariants.{P};
 ghost use Rattle.csi_codec.specs.Rendition.{
   sgr_spelling,
@@ -14,169 +14,174 @@ ghost use Rattle.csi_codec.specs.Rendition.{
   opaque_tokens,
   alpha_tokens,
 };
+ghost use Rattle.csi_codec.specs.Writing.{opened_text};
 
-use crate::parameters::CsiParam;
 use crate::rendition::{Font, Sgr};
-use crate::spelling::{Spelling, number_spelling};
+use crate::spelling::put_number;
+use crate::text::SequenceText;
 use cell_base::{Blink, ColorSpec, Intensity, SrgbaTuple, Underline, VerticalAlign};
 
 impl Sgr {
-    /// The parameters and the final byte that are written for it.
+    /// Makes `text` what is written for it.
     #[tactic(auto, unfolding(crate::specs::Rendition::sgr_spelling))]
-    pub(crate) fn spelling(self) -> Spelling
-        ensures { result ≡ sgr_spelling self }
+    #[inline(never)]
+    pub(crate) fn put_text(&self, text: &mut SequenceText)
+        ensures { text.new ≡ sequence_text (sgr_spelling self.now) }
     {
         match self {
-            Sgr::Reset => number_spelling(0, 'm'),
-            Sgr::Intensity(Intensity::Bold) => number_spelling(1, 'm'),
-            Sgr::Intensity(Intensity::Half) => number_spelling(2, 'm'),
-            Sgr::Intensity(Intensity::Normal) => number_spelling(22, 'm'),
-            Sgr::Underline(line) => underline_spelling(line),
-            Sgr::Blink(Blink::Slow) => number_spelling(5, 'm'),
-            Sgr::Blink(Blink::Rapid) => number_spelling(6, 'm'),
-            Sgr::Blink(Blink::None) => number_spelling(25, 'm'),
-            Sgr::Italic(on) => switch(3, 23, on),
-            Sgr::Inverse(on) => switch(7, 27, on),
-            Sgr::Invisible(on) => switch(8, 28, on),
-            Sgr::StrikeThrough(on) => switch(9, 29, on),
-            Sgr::Overline(on) => switch(53, 55, on),
-            Sgr::Font(Font::Default) => number_spelling(10, 'm'),
-            Sgr::Font(Font::Alternate(n)) => number_spelling(10 + u32::from(n), 'm'),
-            Sgr::VerticalAlign(VerticalAlign::SuperScript) => number_spelling(73, 'm'),
-            Sgr::VerticalAlign(VerticalAlign::SubScript) => number_spelling(74, 'm'),
-            Sgr::VerticalAlign(VerticalAlign::BaseLine) => number_spelling(75, 'm'),
-            Sgr::Foreground(color) => short_color_spelling(38, 39, 30, 82, color),
-            Sgr::Background(color) => short_color_spelling(48, 49, 40, 92, color),
-            Sgr::UnderlineColor(color) => underline_color_spelling(color),
+            Sgr::Reset => put_number(0, b'm', text),
+            Sgr::Intensity(Intensity::Bold) => put_number(1, b'm', text),
+            Sgr::Intensity(Intensity::Half) => put_number(2, b'm', text),
+            Sgr::Intensity(Intensity::Normal) => put_number(22, b'm', text),
+            Sgr::Underline(line) => put_underline(*line, text),
+            Sgr::Blink(Blink::Slow) => put_number(5, b'm', text),
+            Sgr::Blink(Blink::Rapid) => put_number(6, b'm', text),
+            Sgr::Blink(Blink::None) => put_number(25, b'm', text),
+            Sgr::Italic(on) => put_switch(3, 23, *on, text),
+            Sgr::Inverse(on) => put_switch(7, 27, *on, text),
+            Sgr::Invisible(on) => put_switch(8, 28, *on, text),
+            Sgr::StrikeThrough(on) => put_switch(9, 29, *on, text),
+            Sgr::Overline(on) => put_switch(53, 55, *on, text),
+            Sgr::Font(Font::Default) => put_number(10, b'm', text),
+            Sgr::Font(Font::Alternate(n)) => put_number(10 + u32::from(*n), b'm', text),
+            Sgr::VerticalAlign(VerticalAlign::SuperScript) => put_number(73, b'm', text),
+            Sgr::VerticalAlign(VerticalAlign::SubScript) => put_number(74, b'm', text),
+            Sgr::VerticalAlign(VerticalAlign::BaseLine) => put_number(75, b'm', text),
+            Sgr::Foreground(color) => put_short_color(38, 39, 30, 82, color, text),
+            Sgr::Background(color) => put_short_color(48, 49, 40, 92, color, text),
+            Sgr::UnderlineColor(color) => put_underline_color(color, text),
         }
     }
 }
 
-fn switch(on: u32, off: u32, value: bool) -> Spelling
-    ensures { result ≡ spelled (switch on off value) 109 }
+fn put_switch(on: u32, off: u32, value: bool, text: &mut SequenceText)
+    ensures { text.new ≡ sequence_text (spelled (switch on off value) 109) }
 {
-    number_spelling(if value { on } else { off }, 'm')
+    put_number(if value { on } else { off }, b'm', text)
 }
 
-fn underline_spelling(line: Underline) -> Spelling
-    ensures { result ≡ spelled (underline_tokens line) 109 }
+fn put_underline(line: Underline, text: &mut SequenceText)
+    ensures { text.new ≡ sequence_text (spelled (underline_tokens line) 109) }
 {
     match line {
-        Underline::None => number_spelling(24, 'm'),
-        Underline::Single => number_spelling(4, 'm'),
-        Underline::Double => number_spelling(21, 'm'),
-        Underline::Curly => line_spelling(3),
-        Underline::Dotted => line_spelling(4),
-        Underline::Dashed => line_spelling(5),
+        Underline::None => put_number(24, b'm', text),
+        Underline::Single => put_number(4, b'm', text),
+        Underline::Double => put_number(21, b'm', text),
+        Underline::Curly => put_line(3, text),
+        Underline::Dotted => put_line(4, text),
+        Underline::Dashed => put_line(5, text),
     }
 }
 
-fn line_spelling(kind: u8) -> Spelling
-    ensures { result ≡ spelled (number 4 ∷ P 58 ∷ number kind ∷ []) 109 }
+fn put_line(kind: u8, text: &mut SequenceText)
+    ensures { text.new ≡ sequence_text (spelled (number 4 ∷ P 58 ∷ number kind ∷ []) 109) }
 {
-    Spelling::new(&[number(4), CsiParam::P(b':'), number(kind)], 'm')
+    let mut built = SequenceText::opened();
+    built.push_small_number(4);
+    built.push_sign(b':');
+    built.push_small_number(kind);
+    built.push_sign(b'm');
+    *text = built;
 }
 
-fn number(value: u8) -> CsiParam
-    ensures { result ≡ number value }
-{
-    CsiParam::Integer(i64::from(value))
-}
-
-fn short_color_spelling(target: u8, off: u8, low: u8, bright: u8, color: ColorSpec) -> Spelling
-    ensures { result ≡ spelled (short_colour_tokens target off low bright color) 109 }
+fn put_short_color(
+    target: u8,
+    off: u8,
+    low: u8,
+    bright: u8,
+    color: &ColorSpec,
+    text: &mut SequenceText,
+)
+    ensures { text.new ≡ sequence_text (spelled (short_colour_tokens target off low bright color.now) 109) }
 {
     match color {
-        ColorSpec::Default => number_spelling(u32::from(off), 'm'),
-        ColorSpec::PaletteIndex(index) if index < 8 => {
-            number_spelling(u32::from(low) + u32::from(index), 'm')
+        ColorSpec::Default => put_number(u32::from(off), b'm', text),
+        ColorSpec::PaletteIndex(index) if *index < 8 => {
+            put_number(u32::from(low) + u32::from(*index), b'm', text)
         }
-        ColorSpec::PaletteIndex(index) if index < 16 => {
-            number_spelling(u32::from(bright) + u32::from(index), 'm')
+        ColorSpec::PaletteIndex(index) if *index < 16 => {
+            put_number(u32::from(bright) + u32::from(*index), b'm', text)
         }
-        ColorSpec::PaletteIndex(index) => palette_spelling(target, index),
-        ColorSpec::TrueColor(color) => true_color_spelling(target, color),
+        ColorSpec::PaletteIndex(index) => put_palette(target, *index, text),
+        ColorSpec::TrueColor(color) => put_true_color(target, color, text),
     }
 }
 
-fn underline_color_spelling(color: ColorSpec) -> Spelling
-    ensures { result ≡ spelled (underline_colour_tokens color) 109 }
+fn put_underline_color(color: &ColorSpec, text: &mut SequenceText)
+    ensures { text.new ≡ sequence_text (spelled (underline_colour_tokens color.now) 109) }
 {
     match color {
-        ColorSpec::Default => number_spelling(59, 'm'),
-        ColorSpec::PaletteIndex(index) => palette_spelling(58, index),
-        ColorSpec::TrueColor(color) => true_color_spelling(58, color),
+        ColorSpec::Default => put_number(59, b'm', text),
+        ColorSpec::PaletteIndex(index) => put_palette(58, *index, text),
+        ColorSpec::TrueColor(color) => put_true_color(58, color, text),
     }
 }
 
-fn palette_spelling(target: u8, index: u8) -> Spelling
-    ensures { result ≡ spelled (palette_tokens target index) 109 }
+#[inline(always)]
+fn put_true_color(target: u8, color: &SrgbaTuple, text: &mut SequenceText)
+    ensures { text.new ≡ sequence_text (spelled (colour_tokens target color.now) 109) }
 {
-    let colon = CsiParam::P(b':');
-    Spelling::new(
-        &[number(target), colon, number(5), colon, number(index)],
-        'm',
-    )
-}
-
-fn true_color_spelling(target: u8, color: SrgbaTuple) -> Spelling
-    ensures { result ≡ spelled (colour_tokens target color) 109 }
-{
-    let SrgbaTuple(red, green, blue, alpha) = color;
+    let SrgbaTuple(red, green, blue, alpha) = *color;
     if alpha == 255 {
-        opaque_spelling(target, red, green, blue)
+        put_opaque(target, red, green, blue, text);
     } else {
-        alpha_spelling(target, red, green, blue, alpha)
+        put_alpha(target, red, green, blue, alpha, text);
     }
 }
 
-fn opaque_spelling(target: u8, red: u8, green: u8, blue: u8) -> Spelling
-    ensures { result ≡ spelled (opaque_tokens target red green blue) 109 }
+fn put_palette(target: u8, index: u8, text: &mut SequenceText)
+    ensures { text.new ≡ sequence_text (spelled (palette_tokens target index) 109) }
 {
-    let colon = CsiParam::P(b':');
-    let red = number(red);
-    let green = number(green);
-    let blue = number(blue);
-    Spelling::new(
-        &[
-            number(target),
-            colon,
-            number(2),
-            colon,
-            colon,
-            red,
-            colon,
-            green,
-            colon,
-            blue,
-        ],
-        'm',
-    )
+    let mut built = color_opened(target, 5);
+    built.push_small_number(index);
+    built.push_sign(b'm');
+    *text = built;
 }
 
-fn alpha_spelling(target: u8, red: u8, green: u8, blue: u8, alpha: u8) -> Spelling
-    ensures { result ≡ spelled (alpha_tokens target red green blue alpha) 109 }
+fn put_opaque(target: u8, red: u8, green: u8, blue: u8, text: &mut SequenceText)
+    ensures { text.new ≡ sequence_text (spelled (opaque_tokens target red green blue) 109) }
 {
-    let colon = CsiParam::P(b':');
-    let red = number(red);
-    let green = number(green);
-    let blue = number(blue);
-    let alpha = number(alpha);
-    Spelling::new(
-        &[
-            number(target),
-            colon,
-            number(6),
-            colon,
-            colon,
-            red,
-            colon,
-            green,
-            colon,
-            blue,
-            colon,
-            alpha,
-        ],
-        'm',
-    )
+    let mut built = channels_opened(target, 2, red, green, blue);
+    built.push_sign(b'm');
+    *text = built;
+}
+
+fn put_alpha(target: u8, red: u8, green: u8, blue: u8, alpha: u8, text: &mut SequenceText)
+    ensures { text.new ≡ sequence_text (spelled (alpha_tokens target red green blue alpha) 109) }
+{
+    let mut built = channels_opened(target, 6, red, green, blue);
+    built.push_sign(b':');
+    built.push_small_number(alpha);
+    built.push_sign(b'm');
+    *text = built;
+}
+
+/// What a colour is of, three channels, and what kind of colour they are.
+#[inline(always)]
+fn channels_opened(target: u8, kind: u8, red: u8, green: u8, blue: u8) -> SequenceText
+    ensures text { result ≡ opened_text (number target ∷ P 58 ∷ number kind ∷ P 58 ∷ P 58 ∷ number red ∷ P 58 ∷ number green ∷ P 58 ∷ number blue ∷ []) }
+    ensures short { length result ≤ 22 }
+{
+    let mut text = color_opened(target, kind);
+    text.push_sign(b':');
+    text.push_small_number(red);
+    text.push_sign(b':');
+    text.push_small_number(green);
+    text.push_sign(b':');
+    text.push_small_number(blue);
+    text
+}
+
+/// What a colour is of, and what kind of colour.
+#[inline(always)]
+fn color_opened(target: u8, kind: u8) -> SequenceText
+    ensures text { result ≡ opened_text (number target ∷ P 58 ∷ number kind ∷ P 58 ∷ []) }
+    ensures short { length result ≤ 10 }
+{
+    let mut text = SequenceText::opened();
+    text.push_small_number(target);
+    text.push_sign(b':');
+    text.push_small_number(kind);
+    text.push_sign(b':');
+    text
 }

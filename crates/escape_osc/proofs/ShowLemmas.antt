@@ -1,6 +1,7 @@
 -- Facts on what the parts of a command's text print.
-use Rattle.std.proofs.Common.{◌≡◌, ℕ, Bool, true, false, ◌+◌, ◌<◌, ◌≤◌, ◌==◌, List, [], ◌∷◌, ◌++◌, length, get_or, take, drop, map, Vec, Global, arith, append_assoc, append-nil, refl, ap, sym, ◌∙◌, if◌then◌else◌}
+use Rattle.std.proofs.Common.{◌≡◌, ℕ, Bool, true, false, ◌+◌, ◌<◌, ◌≤◌, ◌==◌, List, [], ◌∷◌, ◌++◌, length, get_or, take, drop, map, Vec, Global, arith, append_assoc, append-nil, refl, ap, sym, ◌∙◌, if◌then◌else◌, Option, Some, None, option_map, find, eq-eqb}
 use Rattle.std.proofs.lemmas.List.{take_more, take_all, flat_map_more, at_drop_more, at_drop_all}
+use Rattle.std.proofs.lemmas.Bool.Decides.{nat_tests}
 use Rattle.std.proofs.lemmas.Str.{utf8_lossy_chunk, utf8_lossy_last_chunk}
 use Rattle.std.specs.Str.Lossy.{utf8_lossy, utf8_valid_len, utf8_invalid_len}
 use Rattle.std.proofs.Output.{has_written_append, has_written_of_eq}
@@ -14,7 +15,7 @@ use Rattle.escape_osc.specs.declared.show.TheConstants.{LETTERS}
 use Rattle.escape_osc.specs.Parts.{semicolon, joined}
 use Rattle.escape_osc.proofs.ReadingLemmas.{behind, joined-cons}
 use Rattle.escape_osc.specs.ShownParts.{replacement_of}
-use Rattle.escape_osc.specs.Selection.{bits_of, letters_of}
+use Rattle.escape_osc.specs.Selection.{Letter, bits_of, letter_bits, letters, letters_of}
 
 -- what a row of the letters' table gives
 abbrev pub row_letter : ℕ → (ℕ × Selection) → List ℕ
@@ -35,6 +36,51 @@ row_letters_next bits rows i d below =
 
 pub row_letters_end : (bits : ℕ) (i : ℕ) → 13 ≤ i → row_letters bits (take i LETTERS) ≡ letters_of bits
 row_letters_end bits i h = ap (row_letters bits) (take_all i LETTERS h) ∙ row_letters-LETTERS bits
+
+-- the bits of the row that has a letter
+abbrev pub row_bits : ℕ → List (ℕ × Selection) → Option ℕ
+row_bits letter rows = option_map (λ row. bits_of row.1) (find (λ row. row.0 == letter) rows)
+
+row_bits_of : (letter : ℕ) (ls : List Letter) → row_bits letter (map (λ l. (l.letter, record { 0 = l.bits })) ls) ≡ option_map (λ l. l.bits) (find (λ l. l.letter == letter) ls)
+row_bits_of letter [] = refl
+row_bits_of letter (l ∷ ls) = by_test (l.letter == letter) (row_bits_of letter ls)
+  where
+    by_test : (b : Bool) → row_bits letter (map (λ (l : Letter). (l.letter, record { 0 = l.bits })) ls) ≡ option_map (λ (l : Letter). l.bits) (find (λ l. l.letter == letter) ls)
+        → option_map (λ (row : ℕ × Selection). bits_of row.1) (if b then Some (l.letter, record { 0 = l.bits }) else find (λ row. row.0 == letter) (map (λ (l : Letter). (l.letter, record { 0 = l.bits })) ls))
+        ≡ option_map (λ (l : Letter). l.bits) (if b then Some l else find (λ l. l.letter == letter) ls)
+    by_test true rest = refl
+    by_test false rest = rest
+
+pub row_bits-LETTERS : (letter : ℕ) → row_bits letter LETTERS ≡ letter_bits letter
+unfolding letter_bits
+row_bits-LETTERS letter = row_bits_of letter letters
+
+row_by : (rows : List (ℕ × Selection)) (i letter : ℕ) (d : ℕ × Selection) → i < length rows
+    → row_bits letter (drop i rows) ≡ (if (get_or rows i d).0 == letter then Some (bits_of (get_or rows i d).1) else row_bits letter (drop (i + 1) rows))
+row_by rows i letter d below =
+    at_drop_more (λ rs. row_bits letter rs) rows i d below ∙ by_test ((get_or rows i d).0 == letter)
+  where
+    by_test : (b : Bool) → option_map (λ (row : ℕ × Selection). bits_of row.1) (if b then Some (get_or rows i d) else find (λ row. row.0 == letter) (drop (i + 1) rows))
+        ≡ (if b then Some (bits_of (get_or rows i d).1) else row_bits letter (drop (i + 1) rows))
+    by_test true = refl
+    by_test false = refl
+
+not_same : (a b : ℕ) → (a ≡ b → ⊥) → (a == b) ≡ false
+not_same a b h = grind (arith, nat_tests)
+
+-- the steps of a walk that looks for a letter
+pub row_found : (rows : List (ℕ × Selection)) (i letter : ℕ) (d : ℕ × Selection) (bits : Option ℕ) → i < length rows → (get_or rows i d).0 ≡ letter
+    → row_bits letter (drop i rows) ≡ bits → Some (bits_of (get_or rows i d).1) ≡ bits
+row_found rows i letter d bits below same whole =
+    sym (ap (λ (b : Bool). if b then Some (bits_of (get_or rows i d).1) else row_bits letter (drop (i + 1) rows)) (eq-eqb _ _ same)) ∙ sym (row_by rows i letter d below) ∙ whole
+
+pub row_passed : (rows : List (ℕ × Selection)) (i letter : ℕ) (d : ℕ × Selection) (bits : Option ℕ) → i < length rows → ((get_or rows i d).0 ≡ letter → ⊥)
+    → row_bits letter (drop i rows) ≡ bits → row_bits letter (drop (i + 1) rows) ≡ bits
+row_passed rows i letter d bits below other whole =
+    sym (ap (λ (b : Bool). if b then Some (bits_of (get_or rows i d).1) else row_bits letter (drop (i + 1) rows)) (not_same (get_or rows i d).0 letter other)) ∙ sym (row_by rows i letter d below) ∙ whole
+
+pub row_none : (i letter : ℕ) → 13 ≤ i → row_bits letter (drop i LETTERS) ≡ None
+row_none i letter h = at_drop_all (λ rs. row_bits letter rs) LETTERS i h
 
 -- the two steps of a walk over the table, by whether the letter's selection is held
 module _ {W : Type 0} (took : W → List ℕ → W → Type 0) where

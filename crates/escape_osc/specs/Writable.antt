@@ -1,10 +1,14 @@
 -- Commands that can be written: what is written for them reads back as they are, and a byte stream carries it as it is.
-use Rattle.std.specs.Prelude.{◌≡◌, ℕ, ◌<◌, ◌==◌, ◌-◌, ◌^◌, nat_lt, Bool, false, ◌||◌, List, Option, None, Ok}
-use Rattle.std.specs.List.{list_any}
+use Rattle.std.specs.Prelude.{◌≡◌, ℕ, ◌<◌, ◌==◌, ◌-◌, ◌^◌, nat_lt, Bool, true, false, ◌||◌, List, Option, None, Ok}
+use Rattle.std.specs.List.{list_any, list_all, AllByRecursion}
+use Rattle.std.specs.List.Sorted.{IsStrictlySortedBy}
+use Rattle.std.specs.Map.{keys_of}
+use Rattle.std.specs.Ordering.{nat_cmp}
+use Rattle.std.specs.Cmp.Lexicographic.{slice_cmp}
 use Rattle.std.specs.Int.RustNames.{bit_and}
 use Rattle.std.specs.Str.{IsUtf8}
 use Rattle.cell_base.specs.Link.{Link}
-use Rattle.cell_base.specs.LinkText.{link_reading, text_of_link}
+use Rattle.cell_base.specs.LinkText.{link_reading, text_of_link, is_writable, is_empty_link}
 use Rattle.escape_osc.specs.Command.{Command, set_icon_name_and_window_title, set_icon_name, set_window_title, current_working_directory, set_hyperlink, set_selection, query_selection, clear_selection, unspecified}
 use Rattle.escape_osc.specs.Parts.{parts_of, joined, holds_c1}
 use Rattle.escape_osc.specs.Reading.{fitting_reading, osc_reading}
@@ -31,6 +35,16 @@ pub record IsSelection (bits : ℕ) : Type 0 where
 -- a link, or the end of one, that its own text gives
 abbrev pub IsReadableLink : Option Link → Type 0
 IsReadableLink link = link_reading (parts_of (text_of_link link)) ≡ Ok link
+
+-- a link by value, given by a program, with a URI or parameters: keys and values that are UTF-8 and hold no sign of the text,
+-- in the order of the keys
+pub record IsLink (link : Link) : Type 0 where
+  pub texts : AllByRecursion (λ param. IsUtf8 param.0 × IsUtf8 param.1) link.params
+  pub plain : list_all is_writable link.params ≡ true
+  pub sorted : IsStrictlySortedBy (slice_cmp nat_cmp) (keys_of link.params)
+  pub uri : IsUtf8 link.uri
+  pub given : link.implicit ≡ false
+  pub some : is_empty_link link ≡ false
 
 -- a command by value: a text that is UTF-8, a link that its text gives, selections that have letters, and parts that fit
 -- no code and that a body can be cut into

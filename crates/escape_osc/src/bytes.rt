@@ -6,27 +6,16 @@ ghost use Rattle.escape_osc.specs.Parts.{joined};
 ghost use Rattle.escape_osc.specs.Text.{framed, text_of};
 
 use crate::command::OperatingSystemCommand;
+use crate::parts::{joined, lent};
 use std::alloc::{AllocError, Global};
 
-// The parts joined by `;`.
-#[tactic(auto, using(crate::proofs::CopyLemmas::joined_start, crate::proofs::CopyLemmas::joined_next, crate::proofs::CopyLemmas::joined_end))]
-fn joined_behind(alloc: Global, first: &[u8], rest: &[Vec<u8>]) -> Result<Vec<u8>, AllocError>
-    ensures { IfOk result (λ v. v.items ≡ joined (first.now ∷ map (λ p. p.items) rest.now)) }
-{
-    let mut text = Vec::from_slice(alloc, first)?;
-    for part in rest {
-        text.push(b';')?;
-        text.extend_from_slice(part)?;
-    }
-    Ok(text)
-}
-
-// The same of all parts.
-fn joined(alloc: Global, parts: &[Vec<u8>]) -> Result<Vec<u8>, AllocError>
+// All parts joined by `;`.
+fn joined_all(alloc: Global, parts: &[Vec<u8>]) -> Result<Vec<u8>, AllocError>
     ensures { IfOk result (λ v. v.items ≡ joined (map (λ p. p.items) parts.now)) }
 {
-    match parts.split_first() {
-        Some((first, rest)) => joined_behind(alloc, first, rest),
+    let slices = lent(alloc, parts)?;
+    match slices.split_first() {
+        Some((first, rest)) => joined(alloc, first, rest),
         None => Ok(Vec::new(alloc)),
     }
 }
@@ -48,7 +37,7 @@ impl OperatingSystemCommand {
         ensures { IfOk result (λ bytes. bytes.items ≡ text_of (command_of self.now)) }
     {
         if let OperatingSystemCommand::Unspecified(parts) = self {
-            return framed(alloc, &joined(alloc, parts)?);
+            return framed(alloc, &joined_all(alloc, parts)?);
         }
         Ok(self.to_string(alloc)?.into_bytes())
     }

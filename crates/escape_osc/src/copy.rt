@@ -4,18 +4,15 @@ ghost use Rattle.std.specs.Prelude.{◌≡◌, map, IfOk};
 ghost use Rattle.escape_osc.specs.CommandView.{command_of};
 
 use crate::command::OperatingSystemCommand;
+use crate::parts::{copied, lent};
 use std::alloc::{AllocError, Global};
 
-// A copy of each part.
-#[tactic(auto, using(crate::proofs::CopyLemmas::copied_next, crate::proofs::CopyLemmas::copied_end))]
-fn copied(alloc: Global, parts: &[Vec<u8>]) -> Result<Vec<Vec<u8>>, AllocError>
+// A copy of all parts.
+fn copied_all(alloc: Global, parts: &[Vec<u8>]) -> Result<Vec<Vec<u8>>, AllocError>
     ensures { IfOk result (λ v. map (λ p. p.items) v.items ≡ map (λ p. p.items) parts.now) }
 {
-    let mut copies = Vec::new(alloc);
-    for part in parts {
-        copies.push(Vec::from_slice(alloc, part)?)?;
-    }
-    Ok(copies)
+    let slices = lent(alloc, parts)?;
+    copied(alloc, &slices)
 }
 
 impl OperatingSystemCommand {
@@ -52,7 +49,7 @@ impl OperatingSystemCommand {
                 Ok(OperatingSystemCommand::ClearSelection(*selection))
             }
             OperatingSystemCommand::Unspecified(parts) => Ok(OperatingSystemCommand::Unspecified(
-                copied(*parts.allocator(), parts)?,
+                copied_all(*parts.allocator(), parts)?,
             )),
         }
     }

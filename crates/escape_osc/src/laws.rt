@@ -1,6 +1,6 @@
 //! Laws of the definitions, as functions that do nothing.
 
-ghost use Rattle.std.specs.Prelude.{◌≡◌, ◌↔◌, IsTrue, false, Option, ℕ, List};
+ghost use Rattle.std.specs.Prelude.{◌≡◌, ◌↔◌, IsTrue, false, None, Option, Some, ℕ, List};
 ghost use Rattle.cell_base.specs.Link.{Link};
 ghost use Rattle.cell_base.specs.LinkText.{text_of_link};
 ghost use Rattle.escape_osc.specs.CommandView.{command_of};
@@ -9,7 +9,7 @@ ghost use Rattle.escape_osc.specs.Parts.{parts_of, holds_c1};
 ghost use Rattle.escape_osc.specs.Reading.{osc_reading};
 ghost use Rattle.escape_osc.specs.Sizes.{EndOfLinkTakesSeven, LinksTakeSeven, TextsTakeSix};
 ghost use Rattle.escape_osc.specs.Text.{body_of};
-ghost use Rattle.escape_osc.specs.Writable.{IsReadableLink, IsWritable, LacksControls, ReadsBack};
+ghost use Rattle.escape_osc.specs.Writable.{IsLink, IsReadableLink, IsWritable, LacksControls, ReadsBack};
 
 use crate::command::OperatingSystemCommand;
 
@@ -50,6 +50,12 @@ pub fn text_is_writable(text: &str)
 {
     let _ = text;
 }
+
+/// A link of texts that hold no sign of a link's text, given by a program, is what its own text gives; so is the end of one.
+pub fn links_read_back()
+    ensures link { (link : Link) → IsLink link → IsReadableLink (Some link) }
+    ensures end_of_link { IsReadableLink None }
+{}
 
 /// A link, or the end of one, that its own text gives can be written where that text holds no control of any kind.
 pub fn link_is_writable()

@@ -1,7 +1,9 @@
-// The parts of a command's body, and the characters that fit no command.
+// The parts of a command's body: joined, copied and lent, and the characters that fit no command.
 
-ghost use Rattle.std.specs.Prelude.{◌≡◌, map};
-ghost use Rattle.escape_osc.specs.Parts.{is_c1, holds_c1, any_holds_c1};
+ghost use Rattle.std.specs.Prelude.{◌≡◌, ◌∷◌, map, IfOk};
+ghost use Rattle.escape_osc.specs.Parts.{is_c1, holds_c1, any_holds_c1, joined};
+
+use std::alloc::{AllocError, Global};
 
 // Whether two bytes are U+0080 to U+009F: C2 and then 80 to 9F.
 fn is_c1(lead: u8, next: u8) -> bool
@@ -34,4 +36,41 @@ pub(crate) fn any_holds_c1(parts: &[&[u8]]) -> bool
         }
     }
     false
+}
+
+// The parts joined by `;`.
+#[tactic(auto, using(crate::proofs::ReadingLemmas::joined_start, crate::proofs::ReadingLemmas::joined_next, crate::proofs::ReadingLemmas::joined_end))]
+pub(crate) fn joined(alloc: Global, first: &[u8], rest: &[&[u8]]) -> Result<Vec<u8>, AllocError>
+    ensures { IfOk result (λ v. v.items ≡ joined (first.now ∷ map (λ p. p.now) rest.now)) }
+{
+    let mut text = Vec::from_slice(alloc, first)?;
+    for part in rest {
+        text.push(b';')?;
+        text.extend_from_slice(part)?;
+    }
+    Ok(text)
+}
+
+// A copy of each part.
+#[tactic(auto, using(crate::proofs::ReadingLemmas::copied_next, crate::proofs::ReadingLemmas::copied_end))]
+pub(crate) fn copied(alloc: Global, parts: &[&[u8]]) -> Result<Vec<Vec<u8>>, AllocError>
+    ensures { IfOk result (λ v. map (λ p. p.items) v.items ≡ map (λ p. p.now) parts.now) }
+{
+    let mut copies = Vec::new(alloc);
+    for part in parts {
+        copies.push(Vec::from_slice(alloc, part)?)?;
+    }
+    Ok(copies)
+}
+
+// Each part, lent.
+#[tactic(auto, using(crate::proofs::CopyLemmas::lent_next, crate::proofs::CopyLemmas::lent_end))]
+pub(crate) fn lent(alloc: Global, parts: &[Vec<u8>]) -> Result<Vec<&[u8]>, AllocError>
+    ensures { IfOk result (λ v. map (λ p. p.now) v.items ≡ map (λ p. p.items) parts.now) }
+{
+    let mut slices = Vec::new(alloc);
+    for part in parts {
+        slices.push(part.as_slice())?;
+    }
+    Ok(slices)
 }

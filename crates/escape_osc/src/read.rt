@@ -1,35 +1,21 @@
 // From the parts of a body to its command.
 
-ghost use Rattle.std.specs.Prelude.{◌≡◌, [], ◌∷◌, ◌++◌, map, option_map, IfOk};
+ghost use Rattle.std.specs.Prelude.{◌≡◌, map, option_map, IfOk};
 ghost use Rattle.std.specs.String.{string_bytes};
 ghost use Rattle.base64.specs.Engines.{standard};
 ghost use Rattle.base64.specs.GeneralPurpose.{decoded_of};
 ghost use Rattle.escape_osc.specs.CommandView.{command_of};
-ghost use Rattle.escape_osc.specs.Parts.{joined};
 ghost use Rattle.escape_osc.specs.Reading.{utf8_reading, text_reading, base64_reading, data_reading, clear_reading, lettered_reading, selection_command, link_command, coded_reading, fitting_reading, osc_reading};
 ghost use Rattle.escape_osc.specs.Selection.{bits_of};
 
 use crate::command::OperatingSystemCommand;
-use crate::parts::any_holds_c1;
+use crate::parts::{any_holds_c1, copied, joined};
 use crate::selection::Selection;
 use base64::DecodeAllocError;
 use base64::engine::general_purpose::STANDARD;
 use cell_base::{Hyperlink, LinkError};
 use std::alloc::{AllocError, Global};
 use std::rc::Rc;
-
-// The parts joined by `;`.
-#[tactic(auto, using(crate::proofs::ReadingLemmas::joined_start, crate::proofs::ReadingLemmas::joined_next, crate::proofs::ReadingLemmas::joined_end))]
-fn joined(alloc: Global, first: &[u8], rest: &[&[u8]]) -> Result<Vec<u8>, AllocError>
-    ensures { IfOk result (λ v. v.items ≡ joined (first.now ∷ map (λ p. p.now) rest.now)) }
-{
-    let mut text = Vec::from_slice(alloc, first)?;
-    for part in rest {
-        text.push(b';')?;
-        text.extend_from_slice(part)?;
-    }
-    Ok(text)
-}
 
 // The bytes as a text, where they are UTF-8.
 #[tactic(auto, using(crate::proofs::ReadingLemmas::utf8_no))]
@@ -183,18 +169,6 @@ fn read_fitting(
         Some((code, rest)) => read_coded(alloc, code, rest, parts),
         None => Ok(None),
     }
-}
-
-// A copy of each part.
-#[tactic(auto, using(crate::proofs::ReadingLemmas::copied_next, crate::proofs::ReadingLemmas::copied_end))]
-fn copied(alloc: Global, parts: &[&[u8]]) -> Result<Vec<Vec<u8>>, AllocError>
-    ensures { IfOk result (λ v. map (λ p. p.items) v.items ≡ map (λ p. p.now) parts.now) }
-{
-    let mut copies = Vec::new(alloc);
-    for part in parts {
-        copies.push(Vec::from_slice(alloc, part)?)?;
-    }
-    Ok(copies)
 }
 
 impl OperatingSystemCommand {

@@ -3,6 +3,7 @@
 ghost use Rattle.std.specs.Prelude.{⊤, ◌≡◌, option_map, Some};
 ghost use Rattle.escape_osc.specs.Selection.{bits_of, flag_table, letter_bits, letters_bits, selection_reading};
 
+use crate::show::LETTERS;
 use bitflags::{Flag, Flags};
 
 /// A set of selections: the clipboard, the primary and the secondary selection, and the ten cut
@@ -106,27 +107,16 @@ impl Selection {
     ];
 
     // The selection of one letter.
-    #[tactic(auto, unfolding(crate::specs::Selection::letter_bits))]
+    #[tactic(auto, using(crate::proofs::ShowLemmas::row_found, crate::proofs::ShowLemmas::row_passed, crate::proofs::ShowLemmas::row_none))]
     fn from_letter(letter: u8) -> Option<Selection>
         ensures { option_map bits_of result ≡ letter_bits letter }
     {
-        let selection = match letter {
-            b'c' => Selection::CLIPBOARD,
-            b'p' => Selection::PRIMARY,
-            b's' => Selection::SELECT,
-            b'0' => Selection::CUT0,
-            b'1' => Selection::CUT1,
-            b'2' => Selection::CUT2,
-            b'3' => Selection::CUT3,
-            b'4' => Selection::CUT4,
-            b'5' => Selection::CUT5,
-            b'6' => Selection::CUT6,
-            b'7' => Selection::CUT7,
-            b'8' => Selection::CUT8,
-            b'9' => Selection::CUT9,
-            _ => return None,
-        };
-        Some(selection)
+        for (known, selection) in &LETTERS {
+            if *known == char::from(letter) {
+                return Some(*selection);
+            }
+        }
+        None
     }
 
     // The selections that letters name. A letter that is none makes the whole nothing.

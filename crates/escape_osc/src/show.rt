@@ -10,7 +10,7 @@ use bitflags::Flags;
 use std::fmt;
 
 // Each letter and its selection, in the order in which letters are written.
-const LETTERS: [(char, Selection); 13] = [
+pub(crate) const LETTERS: [(char, Selection); 13] = [
     ('c', Selection::CLIPBOARD),
     ('p', Selection::PRIMARY),
     ('s', Selection::SELECT),

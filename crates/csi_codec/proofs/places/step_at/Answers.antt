@@ -1,4 +1,4 @@
-use Rattle.std.proofs.Common.{refl, arith, subst, sym, ◌∙◌}
+use Rattle.std.proofs.Common.{refl, arith, ◌∙◌}
 use Rattle.csi_codec.specs.Parsing.{actions_behind, list_kind}
 use Rattle.csi_codec.proofs.PieceLemmas.{pieces_ended}
 use Rattle.csi_codec.proofs.PlaceLemmas.{behind_some, step_behind}

@@ -1,4 +1,4 @@
-use Rattle.std.proofs.Common.{rules, arith, ◌≡◌, ◌≤◌, ◌<◌, length}
+use Rattle.std.proofs.Common.{rules, arith, ◌≤◌, ◌<◌, length}
 use Rattle.csi_codec.proofs.PlaceLemmas.{none_behind, first_to_come, more_to_come}
 use Rattle.csi_codec.proofs.places.CSIPlace.is_end.Goals as goal
 

@@ -1,0 +1,4 @@
+use Rattle.csi_codec.proofs.text.SequenceText.+push_large_number.Given as goal
+
+abbrev pub decreases-push_large_number : goal.decreases-push_large_number
+decreases-push_large_number l = l.number
