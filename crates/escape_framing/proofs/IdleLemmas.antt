@@ -19,7 +19,7 @@ kept_nothing (OpenHeader o header) e = cc
 kept_nothing (OpenDevice o header f body) e = cc
 kept_nothing (OpenString o x body) e = cc
 
-tail_is : (s : List ℕ) → tail_of s ≡ (read_on (Begun []) (seven_bit s)).tail
+pub tail_is : (s : List ℕ) → tail_of s ≡ (read_on (Begun []) (seven_bit s)).tail
 unfolding the_cut
 tail_is s = refl
 

@@ -1,17 +1,13 @@
 -- How long the text at the front of some bytes is.
-use Rattle.std.proofs.Common.{◌≡◌, ℕ, zero, suc, ◌+◌, ◌/◌, ◌%◌, ◌<◌, ◌≤◌, Bool, true, false, List, [], ◌∷◌, ◌++◌, length, take, drop, Some, None, refl, sym, ap, subst, ◌∙◌, arith, append_assoc, append-nil, length-append, length-drop}
-use Rattle.std.specs.Prelude.{nat_lt, encode_utf8, slice_get}
-use Rattle.std.specs.Char.{IsScalar}
-use Rattle.std.specs.Str.{IsUtf8, chars}
-use Rattle.std.proofs.lemmas.Bool.Decides.{nat_tests}
-use Rattle.std.proofs.lemmas.List.{take_at, take-append-drop, drop-drop}
-use Rattle.std.proofs.lemmas.Str.{IsUtf8-encode, IsUtf8-append, IsUtf8-nil, chars_past_char, chars-nil, encode_same}
+use Rattle.std.proofs.Common.{◌≡◌, ℕ, zero, suc, ◌+◌, ◌<◌, ◌≤◌, List, [], ◌++◌, length, take, drop, refl, sym, ap, subst, ◌∙◌, arith, append_assoc, append-nil, length-append, length-drop}
+use Rattle.std.specs.Str.{IsUtf8}
+use Rattle.std.proofs.lemmas.List.{take_at, drop-drop}
+use Rattle.std.proofs.lemmas.Str.{IsUtf8-encode, IsUtf8-append, IsUtf8-nil}
 use Rattle.std.proofs.Math.Seq.{take-add}
 use lib.Utf8.{encode}
-use Rattle.escape_framing.specs.Framed.{IsLendable, IsText, no_text, text_of, BeginsText, BeginsNoText, width, IsCharacterLen}
+use Rattle.escape_framing.specs.Framed.{IsLendable, IsText, no_text, text_of, BeginsNoText, IsCharacterLen}
 use Rattle.escape_framing.specs.Wide.{IsRunLen}
-use Rattle.escape_framing.specs.Existence.OutcomeLemmas.{first_of_text, some_bytes}
-use Rattle.escape_framing.specs.Existence.Utf8Lemmas.{Spelled, in_one, in_two, in_three, in_four, spelled}
+use Rattle.escape_framing.specs.Existence.OutcomeLemmas.{some_bytes}
 
 pub none_in_nothing : BeginsNoText []
 none_in_nothing = record { none = λ c more l e. some_bytes c more (sym e) }

@@ -25,5 +25,9 @@ pub mod BreakLemmas
 pub mod LenLemmas
 pub mod StepLemmas
 pub mod SpellLemmas
+pub mod SegmentPlaces
+pub mod ApartLemmas
 mod WideLemmas
 mod QuickLemmas
+mod NumberLemmas
+mod SkipLemmas

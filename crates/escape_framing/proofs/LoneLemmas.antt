@@ -29,7 +29,7 @@ none_alone start place (Enter h f ∷ ds) p placed = ap (λ l. Lone (Enter h f) 
 none_alone start place (Data b ∷ ds) p placed = ap (λ l. Lone (Data b) ∷ l) (none_alone start place ds p placed)
 none_alone start place (Exit ∷ ds) p placed = ap (λ l. Lone Exit ∷ l) (none_alone start place ds p placed)
 
-print_alone : (start place c : ℕ) (ds : List Dispatch) → is_lent start place c ≡ false → IsAlone start place ds → IsAlone start place (Print c ∷ ds)
+pub print_alone : (start place c : ℕ) (ds : List Dispatch) → is_lent start place c ≡ false → IsAlone start place ds → IsAlone start place (Print c ∷ ds)
 print_alone start place c ds e h placed = rw e (ap (λ l. Lone (Print c) ∷ l) (h placed))
 
 -- a character isn't lent unless it could be
@@ -72,7 +72,7 @@ ending_alone start count b h rest ds n (prints c s p e f g w) =
     let lent : is_lent start (count + 1) c ≡ false = not_lent start (count + 1) c s p (λ l. absurd (n.none c rest l (ap (λ (x : List ℕ). x ++ rest) (sym e)))) in
     record {
       alone = subst (IsAlone start (count + 1)) (sym f) (print_alone start (count + 1) c [] lent (λ placed. refl));
-      carried = carried_none start (count + 1) h rest (nothing_begun h g w);
+      carried = carried_none start (count + 1) h rest (nothing_begun h (ap begun_in g) w);
     }
 ending_alone start count b h rest ds n (quiet p g w) = record { alone = none_alone start (count + 1) ds p; carried = carried_none start (count + 1) h rest (nothing_begun h g w) }
 ending_alone start count b h rest ds n (replaces f g w) = record {
@@ -112,7 +112,7 @@ printing_alone start count b h0 h rest ds n k (whole_one (prints c s p e f g w))
         omega (arith, k.carried c rest l q z, ap length e, longer (begun_bytes h0) b)) in
         record {
           alone = subst (IsAlone start (count + 1)) (sym f) (print_alone start (count + 1) c [] lent (λ placed. refl));
-          carried = carried_none start (count + 1) h rest (nothing_begun h g w);
+          carried = carried_none start (count + 1) h rest (nothing_begun h (ap begun_in g) w);
         }
 
 -- a byte of a stream at which no text begins

@@ -44,7 +44,7 @@ none_append (Exit ∷ xs) ys p q = none_append xs ys p q
 -- What a byte behind the first bytes of a character prints, with what is held then.
 pub data Ending (p : List ℕ) (b : ℕ) (ds : List Dispatch) (kept : Kept) (waiting : Bool) : Type 0 where
   goes_on : ds ≡ [] → bytes_begun kept waiting ≡ p ++ b ∷ [] → Ending p b ds kept waiting
-  prints : (c : ℕ) → IsScalar c → IsPrintable c → encode c ≡ p ++ b ∷ [] → ds ≡ Print c ∷ [] → begun_in kept ≡ 0 → waiting ≡ false → Ending p b ds kept waiting
+  prints : (c : ℕ) → IsScalar c → IsPrintable c → encode c ≡ p ++ b ∷ [] → ds ≡ Print c ∷ [] → kept ≡ InCharacter [] → waiting ≡ false → Ending p b ds kept waiting
   quiet : PrintNone ds → begun_in kept ≡ 0 → waiting ≡ false → Ending p b ds kept waiting
   replaces : ds ≡ Print 0xFFFD ∷ [] → begun_in kept ≡ 0 → waiting ≡ false → Ending p b ds kept waiting
 
@@ -142,7 +142,7 @@ opened_quiet b = by_test (b == 0x5B) (b == 0x5D) (b == 0x50) refl refl refl
     by_test false false true e f g = rw (e, f, g) refl
     by_test false false false e f g = rw (e, f, g) refl
 
-escape_quiet : (xs : List ℕ) (b : ℕ) → PrintNone (escape_dispatch xs b)
+pub escape_quiet : (xs : List ℕ) (b : ℕ) → PrintNone (escape_dispatch xs b)
 unfolding escape_dispatch
 escape_quiet [] b = tt
 escape_quiet (x ∷ []) b = tt

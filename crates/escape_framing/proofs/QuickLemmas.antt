@@ -1,6 +1,6 @@
 -- What is read at once where nothing is unfinished.
-use Rattle.std.proofs.Common.{◌≡◌, ◌≢◌, ℕ, zero, suc, ◌+◌, ◌<◌, ◌≤◌, ◌⊎◌, inl, inr, Bool, true, false, List, [], ◌∷◌, ◌++◌, length, map, fold, take, drop, Option, Some, None, refl, sym, ap, subst, ◌∙◌, arith, append_assoc, append-nil, length-append, length-drop}
-use Rattle.std.specs.Prelude.{◌==◌, ◌&&◌, ◌||◌, not, nat_le, nat_lt}
+use Rattle.std.proofs.Common.{◌≡◌, ◌≢◌, ℕ, suc, ◌+◌, ◌<◌, ◌≤◌, ◌⊎◌, inl, inr, Bool, true, false, List, [], ◌∷◌, ◌++◌, length, map, fold, take, drop, Some, None, refl, sym, ap, subst, ◌∙◌, arith, append_assoc, append-nil, length-append, eqb-true}
+use Rattle.std.specs.Prelude.{◌==◌, ◌&&◌}
 use Rattle.std.specs.List.{prefix_len, list_all}
 use Rattle.std.proofs.lemmas.Bool.Decides.{nat_tests}
 use Rattle.std.proofs.lemmas.List.{map-append, take-append-drop, length-take-le}
@@ -8,15 +8,14 @@ use Rattle.std.proofs.lemmas.List.Sums.{prefix_len-le-length}
 use Rattle.escape_framing.specs.Bytes.{is_control, is_stop, is_embedded, is_intermediate, is_parameter, is_final, is_escape_final, is_string_opener, is_opener, is_cut}
 use Rattle.escape_framing.specs.Dispatch.{Dispatch, Print, Control, Escape, ControlSequence, OperatingSystemCommand, Enter, Data, Exit, escape_dispatch}
 use Rattle.escape_framing.specs.Parameters.{Parameters, no_parameters, with_byte}
-use Rattle.escape_framing.specs.Held.{Kept, InCharacter, InEscape, InControlSequence, InCommand, InHeader, InDevice, InString, Step, steps, Held, Handed, handed, kept_step, character_step, escape_step, final_step, opened, control_sequence_step, command_step, fresh_step, held_step, nothing_held, hand_out, held_of}
-use Rattle.escape_framing.specs.Framed.{Framed, Text, Lone, framed, at_place, placed_behind, framed_behind, begun_bytes, IsText, no_text, IsCarried, IsReached, Frames, IsTextLen}
+use Rattle.escape_framing.specs.Held.{InCharacter, InEscape, InControlSequence, InCommand, Step, before, Held, Handed, handed, escape_step, opened, control_sequence_step, command_step, fresh_step, held_step, nothing_held, hand_out}
+use Rattle.escape_framing.specs.Framed.{Framed, Lone, placed_behind, framed_behind, begun_bytes, no_text, IsReached, Frames, IsTextLen}
 use Rattle.escape_framing.specs.Dispatched.{dispatches_in}
 use Rattle.escape_framing.specs.declared.step.Step as stepped
-use Rattle.escape_framing.specs.declared.dispatch.Dispatch.TheVariants as dispatch
-use Rattle.escape_framing.specs.declared.lone.Lone.{Lone as Read}
 use Rattle.escape_framing.specs.declared.lone.Lone.TheVariants as lone
 use Rattle.escape_framing.specs.Stepped.{items_in, Reads}
-use Rattle.escape_framing.specs.Quick.{text_step, lone_step, IsLastAt, is_body_byte, IsSilent}
+use Rattle.escape_framing.specs.Quick.{text_step, lone_step, is_body_byte, IsSilent, ender_len, ReadsCommand}
+use Rattle.escape_framing.specs.Wide.{is_plain}
 use Rattle.escape_framing.proofs.HeldLemmas.{hand_append, held_append}
 use Rattle.escape_framing.proofs.PrintLemmas.{PrintNone}
 use Rattle.escape_framing.proofs.LoneLemmas.{none_alone, carried_none}
@@ -243,7 +242,7 @@ body_step : (body : List ℕ) (b : ℕ) → is_body_byte b ≡ true → held_ste
 unfolding held_step fresh_step command_step
 body_step body b h = let e = body_byte_not b h in rw (e.1, e.2, e.3, e.0) refl
 
-body_handed : (body xs : List ℕ) → list_all is_body_byte xs ≡ true → hand_out (in_command body) xs ≡ record { dispatches = []; held = in_command (body ++ xs) }
+pub body_handed : (body xs : List ℕ) → list_all is_body_byte xs ≡ true → hand_out (in_command body) xs ≡ record { dispatches = []; held = in_command (body ++ xs) }
 unfolding hand_out
 body_handed body [] h = ap (λ (l : List ℕ). record { dispatches = []; held = in_command l }) (sym (append-nil body))
 body_handed body (b ∷ xs) h =
@@ -258,7 +257,7 @@ all_body (b ∷ xs) = by_test (is_body_byte b) refl (all_body xs)
     by_test true e h = let k : 1 + prefix_len is_body_byte xs ≡ suc (prefix_len is_body_byte xs) = omega arith in rw e (rw k (rw e h))
     by_test false e h = rw e refl
 
-taken_len : (xs : List ℕ) → length (take (prefix_len is_body_byte xs) xs) ≡ prefix_len is_body_byte xs
+pub taken_len : (xs : List ℕ) → length (take (prefix_len is_body_byte xs) xs) ≡ prefix_len is_body_byte xs
 taken_len xs = length-take-le (prefix_len is_body_byte xs) xs (prefix_len-le-length is_body_byte xs)
 
 -- the body grows by them
@@ -299,3 +298,133 @@ command_reads p held after others e a =
 
 pub within_command : (body : List ℕ) (w : Bool) → body ≡ [] → w ≡ false → record { kept = InCommand body; waiting = w } ≡ in_command []
 within_command body w n e = (λ i. record { kept = InCommand (n i); waiting = e i })
+
+-- ---- how many bytes of a body stand at the front
+
+plain_body : (b : ℕ) → is_plain b ≡ true → is_body_byte b ≡ true
+unfolding is_plain is_body_byte is_control
+plain_body b h = grind (arith, nat_tests)
+
+-- the plain ones, and then others
+pub body_run : (xs : List ℕ) → prefix_len is_plain xs + prefix_len is_body_byte (drop (prefix_len is_plain xs) xs) ≡ prefix_len is_body_byte xs
+body_run [] = refl
+body_run (b ∷ xs) = by_test (is_plain b) refl (body_run xs)
+  where
+    by_test : (t : Bool) → is_plain b ≡ t → prefix_len is_plain xs + prefix_len is_body_byte (drop (prefix_len is_plain xs) xs) ≡ prefix_len is_body_byte xs
+        → prefix_len is_plain (b ∷ xs) + prefix_len is_body_byte (drop (prefix_len is_plain (b ∷ xs)) (b ∷ xs)) ≡ prefix_len is_body_byte (b ∷ xs)
+    by_test true e h = let k : 1 + prefix_len is_plain xs ≡ suc (prefix_len is_plain xs) = omega arith in rw (e, plain_body b e, k) (omega (arith, h))
+    by_test false e h = let k : 0 + prefix_len is_body_byte (b ∷ xs) ≡ prefix_len is_body_byte (b ∷ xs) = omega arith in rw e k
+
+-- ---- a command whose bytes stand there
+
+-- bytes that hand out these dispatches, none of which prints
+frames_front : (h after : Held) (bytes front rest : List ℕ) (ds : List Dispatch) (count : ℕ) → bytes ≡ front ++ rest → (hand_out h front).dispatches ≡ ds → (hand_out h front).held ≡ after → PrintNone (hand_out h front).dispatches → begun_bytes after ≡ [] → IsReached h
+    → Frames count h bytes (λ from. map Lone ds) (length front) after
+frames_front h after bytes front rest ds count e d a q z r = subst (λ (b : List ℕ). Frames count h b (λ from. map Lone ds) (length front) after) (sym e) (record {
+  within = omega (arith, length-append front rest);
+  lends = λ start.
+      front_alone start (start + count) h front rest q
+      ∙ (λ i. map Lone (d i) ++ framed_behind start (start + count + length front) (a i) (sym (drop_front front rest) i));
+  keeps = ap (λ (x : Handed). x.held) (hand_append h front rest) ∙ (λ i. (hand_out (a i) (sym (drop_front front rest) i)).held);
+  reached = (r.0 ++ front, sym a ∙ ap (λ (x : Held). (hand_out x front).held) r.1 ∙ sym (held_append r.0 front));
+  carried = carried_none 0 (count + length front) after (drop (length front) (front ++ rest)) z;
+})
+
+command_opened : (xs : List ℕ) → hand_out nothing_held (0x1B ∷ 0x5D ∷ xs) ≡ hand_out (in_command []) xs
+unfolding hand_out
+command_opened xs = rw escape_handed (rw bracket_opens refl)
+
+-- ESC ends a body, and goes on as it does where nothing is unfinished
+body_at_escape : (body : List ℕ) → held_step (in_command body) 0x1B ≡ record { dispatches = OperatingSystemCommand body ∷ []; held = record { kept = InEscape []; waiting = false } }
+unfolding held_step fresh_step command_step is_stop
+body_at_escape body = ap (λ (s : Step). handed (before (OperatingSystemCommand body ∷ []) s) false) first_escape
+
+framed_at_escape : (start k : ℕ) (body rest : List ℕ) → framed_behind start k (in_command body) (0x1B ∷ rest) ≡ Lone (OperatingSystemCommand body) ∷ framed_behind start k nothing_held (0x1B ∷ rest)
+unfolding placed_behind
+framed_at_escape start k body rest = rw (body_at_escape body, escape_handed) refl
+
+held_at_escape : (body rest : List ℕ) → (hand_out (in_command body) (0x1B ∷ rest)).held ≡ (hand_out nothing_held (0x1B ∷ rest)).held
+unfolding hand_out
+held_at_escape body rest = rw (body_at_escape body, escape_handed) refl
+
+-- BEL ends it, and is read with it
+body_at_bell : (body : List ℕ) → held_step (in_command body) 0x07 ≡ record { dispatches = OperatingSystemCommand body ∷ []; held = nothing_held }
+unfolding held_step fresh_step command_step
+body_at_bell body = refl
+
+ender_is : (b n : ℕ) → ender_len b ≡ Some n → ((b ≡ 0x07) × (n ≡ 1)) ⊎ ((b ≡ 0x1B) × (n ≡ 0))
+unfolding ender_len
+ender_is b n h = by_test (b == 0x07) (b == 0x1B) refl refl
+  where
+    by_test : (t u : Bool) → (b == 0x07) ≡ t → (b == 0x1B) ≡ u → ((b ≡ 0x07) × (n ≡ 1)) ⊎ ((b ≡ 0x1B) × (n ≡ 0))
+    by_test true u e f = let k = rw e at h in inl (eqb-true b 0x07 e, cc)
+    by_test false true e f = let k = rw (e, f) at h in inr (eqb-true b 0x1B f, cc)
+    by_test false false e f = let k = rw (e, f) at h in cc
+
+-- the body behind ESC ], and the byte behind it
+module _ (others body : List ℕ) (b : ℕ) (rest : List ℕ) (is : body ≡ take (prefix_len is_body_byte others) others) (next : drop (length body) others ≡ b ∷ rest) where
+  body_len : length body ≡ prefix_len is_body_byte others
+  body_len = ap length is ∙ taken_len others
+
+  behind_body : others ≡ body ++ b ∷ rest
+  behind_body = sym (take-append-drop (length body) others) ∙ (λ i. (ap (λ (m : ℕ). take m others) body_len ∙ sym is) i ++ next i)
+
+  behind_len : length others ≡ length body + (1 + length rest)
+  behind_len = omega (arith, ap length behind_body, length-append body (b ∷ rest))
+
+  opened_body : hand_out nothing_held (0x1B ∷ 0x5D ∷ body) ≡ record { dispatches = []; held = in_command body }
+  opened_body = command_opened body ∙ body_handed [] body (subst (λ (x : List ℕ). list_all is_body_byte x ≡ true) (sym is) (all_body others))
+
+  ended_by_bell : (held : Held) → held ≡ nothing_held → b ≡ 0x07 → ReadsCommand held (0x1B ∷ 0x5D ∷ others) body (length body + 2 + 1)
+  ended_by_bell held e c =
+      let front : List ℕ = 0x1B ∷ 0x5D ∷ body ++ 0x07 ∷ [] in
+      let h : hand_out held front ≡ record { dispatches = OperatingSystemCommand body ∷ []; held = nothing_held } =
+      ap (λ (x : Held). hand_out x front) e ∙ hand_append nothing_held (0x1B ∷ 0x5D ∷ body) (0x07 ∷ [])
+      ∙ rw opened_body (one_handed (in_command body) 0x07 (record { dispatches = OperatingSystemCommand body ∷ []; held = nothing_held }) (body_at_bell body)) in
+      let k : 0x1B ∷ 0x5D ∷ others ≡ front ++ rest = ap (λ (l : List ℕ). 0x1B ∷ 0x5D ∷ l) (behind_body ∙ ap (λ (m : ℕ). body ++ m ∷ rest) c ∙ sym (append_assoc body (0x07 ∷ []) rest)) in
+      let n : length front ≡ length body + 2 + 1 = omega (arith, length-append body (0x07 ∷ [])) in
+      record {
+        frames = λ count r z.
+            subst (λ (m : ℕ). Frames count held (0x1B ∷ 0x5D ∷ others) (λ from. Lone (OperatingSystemCommand body) ∷ []) m held) n
+            (frames_front held held (0x1B ∷ 0x5D ∷ others) front rest (OperatingSystemCommand body ∷ []) count k (ap (λ (x : Handed). x.dispatches) h) (ap (λ (x : Handed). x.held) h ∙ sym e) (subst PrintNone (ap (λ (x : Handed). x.dispatches) (sym h)) tt) (rw e refl) r);
+        within = omega (arith, behind_len);
+      }
+
+  framed_by_escape : (count : ℕ) → IsReached nothing_held → Frames count nothing_held ((0x1B ∷ 0x5D ∷ body) ++ 0x1B ∷ rest) (λ from. Lone (OperatingSystemCommand body) ∷ []) (length (0x1B ∷ 0x5D ∷ body)) nothing_held
+  framed_by_escape count r =
+      let front : List ℕ = 0x1B ∷ 0x5D ∷ body in
+      let d : drop (length front) (front ++ 0x1B ∷ rest) ≡ 0x1B ∷ rest = drop_front front (0x1B ∷ rest) in
+      record {
+        within = omega (arith, length-append front (0x1B ∷ rest));
+        lends = λ start.
+            front_alone start (start + count) nothing_held front (0x1B ∷ rest) (subst PrintNone (ap (λ (x : Handed). x.dispatches) (sym opened_body)) tt)
+            ∙ (λ i. map Lone (opened_body i).dispatches ++ framed_behind start (start + count + length front) (opened_body i).held (0x1B ∷ rest))
+            ∙ framed_at_escape start (start + count + length front) body rest
+            ∙ ap (λ (l : List ℕ). Lone (OperatingSystemCommand body) ∷ framed_behind start (start + count + length front) nothing_held l) (sym d);
+        keeps =
+            ap (λ (x : Handed). x.held) (hand_append nothing_held front (0x1B ∷ rest))
+            ∙ ap (λ (x : Handed). (hand_out x.held (0x1B ∷ rest)).held) opened_body
+            ∙ held_at_escape body rest
+            ∙ ap (λ (l : List ℕ). (hand_out nothing_held l).held) (sym d);
+        reached = r;
+        carried = carried_none 0 (count + length front) nothing_held (drop (length front) (front ++ 0x1B ∷ rest)) refl;
+      }
+
+  ended_by_escape : (held : Held) → held ≡ nothing_held → b ≡ 0x1B → ReadsCommand held (0x1B ∷ 0x5D ∷ others) body (length body + 2 + 0)
+  ended_by_escape held e c =
+      let k : 0x1B ∷ 0x5D ∷ others ≡ (0x1B ∷ 0x5D ∷ body) ++ 0x1B ∷ rest = ap (λ (l : List ℕ). 0x1B ∷ 0x5D ∷ l) (behind_body ∙ ap (λ (m : ℕ). body ++ m ∷ rest) c) in
+      let n : length (0x1B ∷ 0x5D ∷ body) ≡ length body + 2 + 0 = omega arith in
+      record {
+        frames = λ count r z.
+            subst (λ (x : Held). Frames count x (0x1B ∷ 0x5D ∷ others) (λ from. Lone (OperatingSystemCommand body) ∷ []) (length body + 2 + 0) x) (sym e)
+            (subst (λ (l : List ℕ). Frames count nothing_held l (λ from. Lone (OperatingSystemCommand body) ∷ []) (length body + 2 + 0) nothing_held) (sym k)
+            (subst (λ (m : ℕ). Frames count nothing_held ((0x1B ∷ 0x5D ∷ body) ++ 0x1B ∷ rest) (λ from. Lone (OperatingSystemCommand body) ∷ []) m nothing_held) n (framed_by_escape count (subst IsReached e r))));
+        within = omega (arith, behind_len);
+      }
+
+  pub command_ended : (held : Held) (bytes : List ℕ) (n : ℕ) → held ≡ nothing_held → bytes ≡ 0x1B ∷ 0x5D ∷ others → ender_len b ≡ Some n → ReadsCommand held bytes body (length body + 2 + n)
+  command_ended held bytes n e s d = subst (λ (l : List ℕ). ReadsCommand held l body (length body + 2 + n)) (sym s) (by_ender (ender_is b n d))
+    where
+      by_ender : ((b ≡ 0x07) × (n ≡ 1)) ⊎ ((b ≡ 0x1B) × (n ≡ 0)) → ReadsCommand held (0x1B ∷ 0x5D ∷ others) body (length body + 2 + n)
+      by_ender (inl (c, k)) = rw k (ended_by_bell held e c)
+      by_ender (inr (c, k)) = rw k (ended_by_escape held e c)

@@ -51,7 +51,7 @@ pub begun_step : (p : List ℕ) (b : ℕ) → IsUnfinished (Begun p) → IsBegun
 unfolding character_step next_byte
 begun_step p b g h = ap (λ (r : Reading). steps (flat_map dispatches_of r.segments) (kept_of r.tail)) (waits_begun p b g h)
 
-no_escape : (c : ℕ) → IsPrintable c → c ≢ 0x1B
+pub no_escape : (c : ℕ) → IsPrintable c → c ≢ 0x1B
 no_escape c (inl p) e = omega arith
 no_escape c (inr p) e = omega arith
 
@@ -167,7 +167,7 @@ held_character c more s h = ap (λ (r : Both). r.1) (reads_both 0 c more s h)
 
 -- ---- a text
 
-lent_character : (start count c : ℕ) (more : List ℕ) → IsLendable c → start ≤ count
+pub lent_character : (start count c : ℕ) (more : List ℕ) → IsLendable c → start ≤ count
     → framed_behind start count nothing_held (encode c ++ more) ≡ put_text count (encode c) (framed_behind start (count + length (encode c)) nothing_held more)
 lent_character start count c more h l =
     ap (framed start) (reads_character count c more h.0 h.1)

@@ -1,14 +1,12 @@
 -- The bytes of a character to lend, by their ranges.
-use Rattle.std.proofs.Common.{◌≡◌, ◌≢◌, ℕ, zero, suc, ◌+◌, ◌*◌, ◌-◌, ◌/◌, ◌%◌, ◌<◌, ◌≤◌, ◌⊎◌, inl, inr, ⊎_elim, Bool, true, false, List, [], ◌∷◌, ◌++◌, length, take, drop, refl, sym, ap, subst, ◌∙◌, arith, append_assoc, append-nil, length-append}
-use Rattle.std.specs.Prelude.{◌==◌, ◌&&◌, nat_le, encode_utf8}
-use Rattle.std.specs.Char.{IsScalar}
-use Rattle.std.specs.List.{prefix_len, take_while}
+use Rattle.std.proofs.Common.{◌≡◌, ◌≢◌, ℕ, suc, ◌+◌, ◌/◌, ◌%◌, ◌<◌, ◌≤◌, ◌⊎◌, inl, inr, ⊎_elim, Bool, true, false, List, [], ◌∷◌, ◌++◌, length, take, refl, sym, ap, subst, ◌∙◌, arith}
+use Rattle.std.specs.List.{prefix_len}
 use Rattle.std.proofs.lemmas.Bool.Decides.{nat_tests}
-use Rattle.std.proofs.lemmas.List.Sums.{take_while-cons, prefix_len-le-length}
+use Rattle.std.proofs.lemmas.List.Sums.{prefix_len-le-length}
 use Rattle.std.proofs.lemmas.Str.{encode_ascii}
 use lib.Utf8.{encode}
-use Rattle.escape_framing.specs.Framed.{IsLendable, IsText, no_text, text_of, BeginsNoText, IsCharacterLen, IsTextLen}
-use Rattle.escape_framing.specs.Wide.{is_plain, least_second, most_second, is_second, is_behind, IsRunLen}
+use Rattle.escape_framing.specs.Framed.{IsLendable, IsText, no_text, text_of, IsCharacterLen, IsTextLen}
+use Rattle.escape_framing.specs.Wide.{is_plain, is_second, is_behind, IsRunLen}
 use Rattle.escape_framing.specs.Existence.Utf8Lemmas.{Spelled, in_one, in_two, in_three, in_four, spelled, scalar_low, two_bytes, three_bytes, four_bytes}
 
 -- ---- what the tests say

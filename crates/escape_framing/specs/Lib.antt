@@ -7,6 +7,7 @@ pub mod Existence
 pub mod Dispatch
 pub mod Cut
 pub mod Placed
+pub mod PlacedSegments
 pub mod Parameters
 pub mod Held
 pub mod Characters

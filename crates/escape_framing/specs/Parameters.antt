@@ -1,6 +1,8 @@
 -- The tokens of a control sequence that are kept while its bytes come.
-use Rattle.std.specs.Prelude.{ℕ, pos, ◌+◌, ◌-◌, ◌*◌, min, Bool, true, false, nat_lt, List, [], ◌∷◌, ◌++◌, Option, Some, None, unwrap_or, is_some, length, take, fold, if◌then◌else◌}
+use Rattle.std.specs.Prelude.{◌≡◌, ℕ, pos, ◌+◌, ◌-◌, ◌*◌, min, Bool, true, false, nat_lt, List, [], ◌∷◌, ◌++◌, Option, Some, None, unwrap_or, is_some, length, take, fold, if◌then◌else◌}
 use Rattle.std.specs.Char.{is_ascii_digit}
+use Rattle.std.specs.List.{prefix_len}
+use Rattle.escape_framing.specs.Bytes.{is_parameter}
 use Rattle.csi_codec.specs.Texts.{largest_number}
 use Rattle.csi_codec.specs.Fronts.{most_tokens}
 use Rattle.csi_codec.specs.declared.parameters.CsiParam.{CsiParam}
@@ -40,3 +42,18 @@ with_byte p b =
 -- the parameter bytes in turn
 abbrev pub parameters_of : List ℕ → Parameters
 parameters_of bytes = fold with_byte no_parameters bytes
+
+-- ---- a short list
+
+-- a digit by its value
+abbrev pub digit_of : ℕ → Option ℕ
+digit_of b = if is_ascii_digit b then Some (b - 48) else None
+
+-- a number, whose digits may go on
+abbrev pub number_alone : ℕ → Parameters
+number_alone n = record { tokens = Integer (pos n) ∷ []; truncated = false; number = Some n }
+
+-- the parameter bytes at the front are so many, and they are the number's digits
+pub record IsNumberAlone (bytes : List ℕ) (n count : ℕ) : Type 0 where
+  pub counted : count ≡ prefix_len is_parameter bytes
+  pub is_number : number_alone n ≡ parameters_of (take count bytes)

@@ -1,18 +1,19 @@
 -- What a framer reads at once where nothing is unfinished, as a step.
-use Rattle.std.specs.Prelude.{◌≡◌, ◌≤◌, ℕ, Bool, true, not, ◌&&◌, ◌==◌, List, [], ◌∷◌, length, take, drop, Option, Some, None}
+use Rattle.std.specs.Prelude.{◌≡◌, ◌≢◌, ◌<◌, ◌≤◌, ℕ, Bool, true, not, ◌&&◌, ◌==◌, List, [], ◌∷◌, length, take, drop, Option, Some, None, if◌then◌else◌}
 use Rattle.escape_framing.specs.Bytes.{is_control, is_final}
-use Rattle.escape_framing.specs.Held.{Held, hand_out}
-use Rattle.escape_framing.specs.Framed.{begun_bytes}
+use Rattle.escape_framing.specs.Held.{Held, nothing_held, hand_out}
+use Rattle.escape_framing.specs.Dispatch.{OperatingSystemCommand}
+use Rattle.escape_framing.specs.Framed.{begun_bytes, Lone, IsReached, IsCarried, Frames}
 use Rattle.escape_framing.specs.declared.dispatch.Dispatch.TheVariants as dispatch
 use Rattle.escape_framing.specs.declared.step.Step.{Step}
-use Rattle.escape_framing.specs.declared.lone.Lone.{Lone}
+use Rattle.escape_framing.specs.declared.lone.Lone.{Lone as Read}
 use Rattle.escape_framing.specs.declared.lone.Lone.TheVariants as lone
 
 -- a text of so many bytes
 abbrev pub text_step : ℕ → Step
 text_step n = record { text = n; dispatches = []; count = n }
 
-abbrev pub lone_step : Lone → Step
+abbrev pub lone_step : Read → Step
 lone_step lone.Nothing = record { text = 0; dispatches = []; count = 0 }
 lone_step (lone.Part n) = record { text = 0; dispatches = []; count = n }
 lone_step (lone.Control b) = record { text = 0; dispatches = Some (dispatch.Control b) ∷ []; count = 1 }
@@ -34,3 +35,20 @@ pub record IsSilent (held : Held) (bytes : List ℕ) (n : ℕ) (after : Held) : 
   pub silent : (hand_out held (take n bytes)).dispatches ≡ []
   pub keeps : (hand_out held (take n bytes)).held ≡ after
   pub none : begun_bytes after ≡ []
+
+-- how many bytes of what ends a command are read with its body: BEL, and of an ESC none, since it begins what is next
+unfoldable pub ender_len : ℕ → Option ℕ
+ender_len b = if b == 0x07 then Some 1 else if b == 0x1B then Some 0 else None
+
+-- The bytes decide the command of this body, which stands at their front; so many of them are read then, and what was held
+-- is held again.
+pub record ReadsCommand (held : Held) (bytes body : List ℕ) (n : ℕ) : Type 0 where
+  pub frames : (count : ℕ) → IsReached held → IsCarried 0 count held bytes → Frames count held bytes (λ from. Lone (OperatingSystemCommand body) ∷ []) n held
+  pub within : n ≤ length bytes
+
+-- So many bytes hand nothing out, and each of them leaves something unfinished.
+pub record IsSkipped (held : Held) (bytes : List ℕ) (n : ℕ) (after : Held) : Type 0 where
+  pub within : n ≤ length bytes
+  pub keeps : (hand_out held (take n bytes)).held ≡ after
+  pub silent : (k : ℕ) → k ≤ n → (hand_out held (take k bytes)).dispatches ≡ []
+  pub unfinished : (k : ℕ) → k ≤ n → 0 < k → (hand_out held (take k bytes)).held ≢ nothing_held

@@ -173,8 +173,8 @@ fn with_intermediate(intermediates: Intermediates, byte: u8) -> Intermediates
 pub struct Framer {
     alloc: Global,
     pub(crate) state: State,
-    waiting: bool,
-    failed: bool,
+    pub(crate) waiting: bool,
+    pub(crate) failed: bool,
     characters: Characters,
     pub(crate) parameters: Parameters,
     pub(crate) text: Vec<u8>,

@@ -1,14 +1,16 @@
 //! Laws of the definitions: a stream has one cut, each dispatch has its place, and pieces join.
-ghost use Rattle.std.specs.Prelude.{◌≡◌, ◌≢◌, ℕ, List, [], ◌++◌, length, map};
+ghost use Rattle.std.specs.Prelude.{◌≡◌, ◌≢◌, ◌+◌, ℕ, Some, List, [], ◌∷◌, ◌++◌, length, map, take, drop};
 ghost use Rattle.std.specs.List.{slice_get};
-ghost use Rattle.escape_framing.specs.Segment.{Segment, Tail, Begun, IsCut};
+ghost use Rattle.escape_framing.specs.SevenBit.{seven_bit};
+ghost use Rattle.escape_framing.specs.Segment.{Segment, Tail, Begun, bytes_of, IsCut};
 ghost use Rattle.escape_framing.specs.Lengthened.{IsOpen, IsLengthened};
-ghost use Rattle.escape_framing.specs.Dispatch.{Dispatch};
+ghost use Rattle.escape_framing.specs.Dispatch.{Dispatch, dispatches_of};
 ghost use Rattle.escape_framing.specs.Cut.{the_cut, tail_of, dispatches, newly_decided};
 ghost use Rattle.escape_framing.specs.Held.{nothing_held, hand_out, held_of};
 ghost use Rattle.escape_framing.specs.Undecided.{IsUndecided};
 ghost use Rattle.escape_framing.specs.Placed.{IsPlaced, placed_from, placed_dispatches};
-ghost use Rattle.escape_framing.specs.Framed.{framed, placed_behind, Spells, AreApart};
+ghost use Rattle.escape_framing.specs.Framed.{Framed, Text, framed, placed_behind, Spells, AreApart};
+ghost use Rattle.escape_framing.specs.PlacedSegments.{placed_segments, LiesBetween};
 
 /// A law, which needs no call: each stream has a cut, and no other than the one that is read.
 pub fn one_cut()
@@ -59,4 +61,18 @@ pub fn texts_and_dispatches()
     ensures spelled { (start : ℕ) (placed : List (ℕ × Dispatch)) → Spells (framed start placed) (map (λ (p : ℕ × Dispatch). p.1) placed) }
     ensures apart { (start : ℕ) (placed : List (ℕ × Dispatch)) → AreApart (framed start placed) }
     ensures held { (stream bytes : List ℕ) → placed_behind (length stream) (held_of stream) bytes ≡ placed_from stream bytes }
+{}
+
+/// A law, which needs no call: the placed segments are those of the cut, in order, and each stands at its place in the
+/// seven-bit form of the stream, which has as many bytes as the stream.
+pub fn segment_places()
+    ensures all { (stream : List ℕ) → map (λ (p : ℕ × Segment). p.1) (placed_segments stream) ≡ (the_cut stream).segments }
+    ensures placed { (stream : List ℕ) (index place : ℕ) (segment : Segment) → slice_get (placed_segments stream) index ≡ Some (place, segment) → take (length (bytes_of segment)) (drop place (seven_bit stream)) ≡ bytes_of segment }
+    ensures same_length { (stream : List ℕ) → length (seven_bit stream) ≡ length stream }
+{}
+
+/// A law, which needs no call: where two texts of a call stand side by side, a segment that hands nothing out lies between
+/// them.
+pub fn texts_apart()
+    ensures { (stream bytes : List ℕ) (before after : List Framed) (from next : ℕ) (text more : List ℕ) → framed (length stream) (placed_from stream bytes) ≡ before ++ Text from text ∷ Text next more ∷ after → (segment : Segment) × LiesBetween (stream ++ bytes) (from + length text) next segment × (dispatches_of segment ≡ []) }
 {}

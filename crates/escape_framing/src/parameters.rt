@@ -1,9 +1,9 @@
 //! The tokens of a control sequence, as its bytes come.
-ghost use Rattle.std.specs.Prelude.{◌≡◌, ℕ, ◌<◌, ◌≤◌, Some, None, IsSome, IsTrue, false, fold, take};
+ghost use Rattle.std.specs.Prelude.{◌≡◌, ℕ, ◌<◌, ◌≤◌, Some, None, IsSome, IfSome, IsTrue, false, fold, take};
 ghost use Rattle.std.specs.List.{prefix_len};
 ghost use Rattle.escape_framing.specs.Bytes.{is_parameter as in_parameters};
 ghost use Rattle.std.specs.Char.{IsAsciiDigit};
-ghost use Rattle.escape_framing.specs.Parameters.{no_parameters, with_token, with_number, with_byte};
+ghost use Rattle.escape_framing.specs.Parameters.{no_parameters, number_alone, digit_of, with_token, with_number, with_byte, IsNumberAlone};
 ghost use Rattle.escape_framing.specs.Parameters.{next_number as number_behind};
 
 use csi_codec::CsiParam;
@@ -40,6 +40,38 @@ fn next_number(number: Option<u64>, byte: u8) -> u64
             .saturating_add(digit)
             .min(LARGEST_NUMBER)
     }
+}
+
+// A digit.
+#[inline(always)]
+fn digit(byte: u8) -> Option<u64>
+    ensures { result ≡ digit_of byte }
+{
+    if byte.is_ascii_digit() {
+        Some(u64::from(byte - b'0'))
+    } else {
+        None
+    }
+}
+
+// The number at the front, of one or two digits with another byte than a parameter's behind them; and how many it has.
+#[inline(always)]
+fn short_number(bytes: &[u8]) -> Option<(u64, usize)>
+    ensures number { IfSome result (λ n. IsNumberAlone bytes.now n.0 n.1) }
+    ensures most { IfSome result (λ n. n.0 ≤ LARGEST_NUMBER) }
+{
+    let (first, others) = bytes.split_first()?;
+    let tens = digit(*first)?;
+    let (second, behind) = others.split_first()?;
+    if !is_parameter(*second) {
+        return Some((tens, 1));
+    }
+    let ones = digit(*second)?;
+    let (third, _) = behind.split_first()?;
+    if is_parameter(*third) {
+        return None;
+    }
+    Some((tens * 10 + ones, 2))
 }
 
 /// The first tokens of a control sequence.
@@ -142,6 +174,30 @@ impl Parameters {
         } else {
             self.add(CsiParam::P(byte), None);
         }
+    }
+
+    // One token, which is a number whose digits may go on.
+    #[inline(always)]
+    fn set_number(&mut self, number: u64)
+        requires { number ≤ LARGEST_NUMBER }
+        ensures { self.new ≡ number_alone number }
+    {
+        self.clear();
+        self.add(CsiParam::Integer(number as i64), Some(number));
+    }
+
+    /// Reads the parameter bytes at the front in place of what was read before, and answers how many there are.
+    #[inline(always)]
+    pub fn read(&mut self, bytes: &[u8]) -> usize
+        ensures count { result ≡ prefix_len in_parameters bytes.now }
+        ensures tokens { self.new ≡ fold with_byte no_parameters (take result bytes.now) }
+    {
+        if let Some((number, count)) = short_number(bytes) {
+            self.set_number(number);
+            return count;
+        }
+        self.clear();
+        self.push_all(bytes)
     }
 
     /// Reads the parameter bytes at the front, and answers how many there are.

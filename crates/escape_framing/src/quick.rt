@@ -1,15 +1,20 @@
 //! What a framer reads at once where nothing is unfinished: texts, controls, and sequences whose bytes stand there.
-ghost use Rattle.std.specs.Prelude.{◌≡◌, ◌≢◌, ◌<◌, ◌≤◌, ℕ, ◌∷◌, List, length, take, drop, IfSome};
+ghost use Rattle.std.specs.Prelude.{◌≡◌, ◌≢◌, ◌↔◌, ◌<◌, ◌≤◌, ℕ, true, ◌∷◌, List, length, take, drop, IfSome, IfOk, IsErrOf, is_err};
 ghost use Rattle.std.specs.List.{prefix_len};
 ghost use Rattle.escape_framing.specs.Bytes.{is_final as in_finals, is_escape_final as in_escape_finals};
 ghost use Rattle.escape_framing.specs.Held.{nothing_held};
 ghost use Rattle.escape_framing.specs.Stepped.{Reads};
-ghost use Rattle.escape_framing.specs.Quick.{text_step, lone_step, IsLastAt, is_body_byte as in_bodies};
-ghost use Rattle.escape_framing.specs.declared.lone.Lone.TheVariants.{Nothing, Control, ControlSequence};
+ghost use Rattle.escape_framing.specs.Quick.{text_step, lone_step, IsLastAt, is_body_byte as in_bodies, ender_len as ender_read, ReadsCommand, IsSkipped};
+ghost use Rattle.escape_framing.specs.declared.lone.Lone.TheVariants.{Nothing, Control, Escape, ControlSequence};
 
+use crate::error::ParseError;
 use crate::framer::{Framer, State, is_control, is_opener};
 use crate::lone::Lone;
+use crate::plain::plain_len;
 use crate::texts::text_len;
+use std::alloc::AllocError;
+
+const BEL: u8 = 0x07;
 
 const ESCAPE: u8 = 0x1b;
 
@@ -61,6 +66,33 @@ fn behind_introducer(bytes: &[u8]) -> Option<&[u8]>
     }
 }
 
+// What stands behind ESC ].
+#[inline(always)]
+fn behind_command_introducer(bytes: &[u8]) -> Option<&[u8]>
+    ensures { IfSome result (λ others. bytes.now ≡ 0x1B ∷ 0x5D ∷ others.now) }
+{
+    match bytes {
+        [0x1b, b']', others @ ..] => Some(others),
+        _ => None,
+    }
+}
+
+// How many bytes of what ends a command are read with its body.
+#[inline(always)]
+#[tactic(auto, unfolding(crate::specs::Quick::ender_len))]
+fn ender_len(byte: u8) -> Option<usize>
+    ensures read { result ≡ ender_read byte }
+    ensures most { IfSome result (λ n. n ≤ 1) }
+{
+    if byte == BEL {
+        Some(1)
+    } else if byte == ESCAPE {
+        Some(0)
+    } else {
+        None
+    }
+}
+
 // A byte of a command's body that stands for itself.
 #[inline(always)]
 #[tactic(auto, unfolding(crate::specs::Quick::is_body_byte, crate::specs::Bytes::is_control))]
@@ -73,11 +105,19 @@ fn is_body_byte(byte: u8) -> bool
     byte != 0x7f && byte != 0xc2
 }
 
-// How many such bytes stand at the front.
-fn body_len(bytes: &[u8]) -> usize
+// How many such bytes stand at the front, one by one.
+fn few_len(bytes: &[u8]) -> usize
     ensures { result ≡ prefix_len in_bodies bytes.now }
 {
     bytes.iter().take_while(|byte| is_body_byte(**byte)).count()
+}
+
+// The same, with the plain characters at the front in runs.
+fn body_len(bytes: &[u8]) -> usize
+    ensures { result ≡ prefix_len in_bodies bytes.now }
+{
+    let plain = plain_len(bytes);
+    plain + few_len(behind(bytes, plain))
 }
 
 /// The bytes at the front that stand for themselves in the body of a command.
@@ -122,8 +162,7 @@ impl Framer {
         ensures held { self.new.held ≡ self.old.held }
         ensures failed { self.new.failed ≡ self.old.failed }
     {
-        self.parameters.clear();
-        let count = self.parameters.push_all(others);
+        let count = self.parameters.read(others);
         self.rest();
         let control = last_at(others, count)?;
         Some((control, count + 3))
@@ -145,6 +184,80 @@ impl Framer {
         self.whole_sequence(others)
     }
 
+    /// The final byte of the escape sequence of two bytes at the front of some bytes of one call, where nothing is
+    /// unfinished. It is read by this, as `next` reads it, since it leaves nothing.
+    #[inline(always)]
+    pub fn next_pair(&self, bytes: &[u8]) -> Option<u8>
+        ensures { IfSome result (λ byte. Reads self.now.parameters self.now.held bytes.now (lone_step (Escape byte)) self.now.held) }
+    {
+        let (first, others) = bytes.split_first()?;
+        if *first != ESCAPE {
+            return None;
+        }
+        let (byte, _) = others.split_first()?;
+        if is_opener(*byte) {
+            return None;
+        }
+        if !is_escape_final(*byte) {
+            return None;
+        }
+        if self.is_idle() { Some(*byte) } else { None }
+    }
+
+    /// The body of the operating system command at the front of some bytes of one call, where nothing is unfinished, the
+    /// bytes decide it, and none of the body is a control or a C2; and how many bytes are read by this: those of the
+    /// command, but for an ESC that ends it, which begins what is next. It leaves nothing.
+    #[inline(always)]
+    pub fn next_command<'a>(&self, bytes: &'a [u8]) -> Option<(&'a [u8], usize)>
+        ensures { IfSome result (λ c. ReadsCommand self.now.held bytes.now c.0.now c.1) }
+    {
+        let others = behind_command_introducer(bytes)?;
+        if !self.is_idle() {
+            return None;
+        }
+        let body = body_of(others);
+        let (byte, _) = behind(others, body.len()).split_first()?;
+        let more = ender_len(*byte)?;
+        Some((body, body.len() + 2 + more))
+    }
+
+    // Reads the bytes at the front that hand nothing out, where they are parameter bytes or bytes of a command's body.
+    fn skip_run(&mut self, bytes: &[u8]) -> Result<usize, AllocError>
+        ensures reads { IfOk result (λ n. IsSkipped self.old.held bytes.now n self.new.held) }
+        ensures failed { IfOk result (λ n. self.new.failed ≡ self.old.failed) }
+    {
+        match self.state {
+            State::ControlSequence if !self.waiting => Ok(self.parameters.push_all(bytes)),
+            State::Command if !self.waiting => {
+                let body = body_of(bytes);
+                self.text.extend_from_slice(body)?;
+                Ok(body.len())
+            }
+            _ => Ok(0),
+        }
+    }
+
+    /// Reads the bytes at the front that hand nothing out, as many as are read at once, and answers how many: parameter
+    /// bytes of a control sequence that has begun, bytes of the body of a command. Refusals are those of `feed`.
+    pub fn skip(&mut self, bytes: &[u8]) -> Result<usize, ParseError>
+        ensures reads { IfOk result (λ n. IsSkipped self.old.held bytes.now n self.new.held) }
+        // A call fails where an earlier one was refused memory, and only then is that its error.
+        ensures failed { IsErrOf result ParseError.Failed ↔ (self.old.failed ≡ true) }
+        // A framer has failed once it was refused memory.
+        ensures after { self.new.failed ≡ is_err result }
+    {
+        if self.failed {
+            return Err(ParseError::Failed);
+        }
+        match self.skip_run(bytes) {
+            Ok(count) => Ok(count),
+            Err(_) => {
+                self.failed = true;
+                Err(ParseError::Memory)
+            }
+        }
+    }
+
     // The rest of a control sequence, as far as its bytes stand there.
     fn sequence(&mut self, others: &[u8]) -> Lone
         requires { self.old.held ≡ nothing_held }
@@ -152,8 +265,7 @@ impl Framer {
         ensures some { result ≢ Nothing }
         ensures failed { self.new.failed ≡ self.old.failed }
     {
-        self.parameters.clear();
-        let count = self.parameters.push_all(others);
+        let count = self.parameters.read(others);
         match last_at(others, count) {
             Some(control) => {
                 self.rest();

@@ -1,10 +1,9 @@
 -- How an iterator of pieces goes on.
-use Rattle.std.proofs.Common.{◌≡◌, ◌≢◌, ◌<◌, ◌≤◌, ℕ, ◌+◌, ◌-◌, ◌*◌, Bool, true, false, List, [], ◌∷◌, ◌++◌, length, map, take, drop, Option, Some, None, refl, ap, subst, sym, ◌∙◌, arith, length-drop, Bor}
+use Rattle.std.proofs.Common.{◌≡◌, ◌≢◌, ◌<◌, ◌≤◌, ℕ, ◌+◌, ◌-◌, ◌*◌, Bool, true, List, [], ◌∷◌, ◌++◌, length, map, take, drop, Option, Some, None, refl, ap, subst, sym, ◌∙◌, arith, length-drop, Bor}
 use Rattle.std.proofs.Math.ListN.{drop_of_length-le}
 use Rattle.escape_framing.specs.Held.{Held, hand_out, held_of}
 use Rattle.escape_framing.specs.Parameters.{Parameters}
 use Rattle.escape_framing.specs.Framing.{Framing}
-use Rattle.escape_framing.specs.Dispatched.{dispatches_in}
 use Rattle.escape_framing.specs.Stepped.{Reads}
 use Rattle.escape_framing.specs.Quick.{text_step, lone_step}
 use Rattle.escape_stream.proofs.LoneReading.{lone_read, queue_of, queued, sequence_queued}
@@ -21,17 +20,18 @@ use Rattle.escape_framing.specs.declared.error.ParseError.{ParseError}
 use Rattle.escape_framing.specs.declared.error.ParseError.TheVariants as refusal
 use Rattle.std.specs.Prelude.{Result, Ok, Err}
 use Rattle.std.specs.Iterator.{MakesProgress, at_most}
-use Rattle.escape_stream.specs.StreamAction.{StreamAction}
+use Rattle.escape_osc.specs.Parts.{parts_of}
+use Rattle.escape_osc.specs.Reading.{osc_reading}
+use Rattle.escape_stream.specs.StreamAction.{StreamAction, command}
 use Rattle.escape_stream.specs.StreamActionView.{value_of}
-use Rattle.escape_stream.specs.StreamActions.{actions_of}
 use Rattle.escape_stream.specs.Pending.{Gives}
 use Rattle.escape_stream.specs.Queue.{queue_actions, sequence_values}
 use Rattle.escape_stream.specs.declared.queue.Queue.{Queue}
 use Rattle.escape_framing.specs.declared.lone.Lone.{Lone as Read}
 use Rattle.escape_framing.specs.declared.lone.Lone.TheVariants as lone
 use Rattle.escape_stream.specs.Pieces.{Piece, Text, Lone, pieces_of, pieces}
-use Rattle.escape_stream.specs.PiecesView.{lender_of, parser_of, open_pieces, held_at_end, items_at, items_left, ready_at, IsReady, PiecesGo, IsOpen, IsOver, IsUnderWay, HasRead, HasReadLone, HasReadSequence, lone_values, GivesPiece, HasGiven, GoesOn}
-use Rattle.escape_stream.proofs.PieceLemmas.{read_none, read_text, read_behind, if_none, comes_closer}
+use Rattle.escape_stream.specs.PiecesView.{lender_of, parser_of, open_pieces, held_at_end, items_at, items_left, ready_at, IsReady, PiecesGo, IsOpen, IsOver, IsUnderWay, HasRead, HasReadLone, HasReadSequence, IsPairAt, IsCommandAt, lone_values, GivesPiece, HasGiven, GoesOn}
+use Rattle.escape_stream.proofs.PieceLemmas.{read_none, read_text, read_command, read_behind, command_behind, if_none, comes_closer}
 
 -- only what waits has changed
 pub record SameBut (old new : Pieces) : Type 0 where
@@ -285,6 +285,36 @@ gives_control old new a byte u q r v p b n w =
     lone_gives old old old new [] (lone.Control byte) a (stays old u) (nothing_changes old) (q old.parser.now.parameters)
     (lone_read old new (drop old.count old.bytes.now) (lone.Control byte) refl (rw p r) n (λ x. rw w (q x)))
     b v
+
+-- ---- an escape sequence of two bytes at once
+
+pub gives_pair : (old new : Pieces) (a : Action) (control : ℕ) → IsUnderWay old → ((p : Parameters) → queue_actions p old.queue ≡ []) → IsPairAt old control → value_of a ∷ [] ≡ lone_values (lone.Escape control)
+    → new.parser.now ≡ old.parser.now → new.bytes ≡ old.bytes → new.count ≡ old.count + 2 → new.queue ≡ old.queue → HasGiven old (Some (code.Action a)) new
+gives_pair old new a control u q r v p b n w =
+    lone_gives old old old new [] (lone.Escape control) a (stays old u) (nothing_changes old) (q old.parser.now.parameters)
+    (lone_read old new (drop old.count old.bytes.now) (lone.Escape control) refl (rw p r) n (λ x. rw w (q x)))
+    b v
+
+-- ---- a command at once
+
+pub gives_command : (old new : Pieces) (a : Action) (body : List ℕ) (n : ℕ) → IsUnderWay old → ((p : Parameters) → queue_actions p old.queue ≡ []) → IsCommandAt old body n → value_of a ≡ command (osc_reading (parts_of body))
+    → new.parser.now ≡ old.parser.now → new.bytes ≡ old.bytes → new.count ≡ old.count + n → new.queue ≡ old.queue → HasGiven old (Some (code.Action a)) new
+gives_command old new a body n u q r v p b k w =
+    let h = old.parser.now.held in
+    let c = command_behind old.count n h old.bytes.now body u.within r u.reached u.carried in
+    record {
+      gives = λ start. (
+        Lone (value_of a),
+        refl,
+        ap (λ (l : List StreamAction). map Lone l ++ pieces_of (framed_behind start (start + old.count) h (drop old.count old.bytes.now))) (q old.parser.now.parameters)
+            ∙ read_command start old.count n h old.bytes.now body r u.reached u.carried
+            ∙ ap (λ (x : StreamAction). Lone x ∷ pieces_of (framed_behind start (start + (old.count + n)) h (drop (old.count + n) old.bytes.now))) (sym v)
+            ∙ rw (w, q new.parser.now.parameters, p, b, k) refl,
+      );
+      ready = record { within = rw (k, b) c.within; reached = rw p c.reached; carried = rw (p, k, b) c.carried };
+      ends = rw (p, k, b) c.ends;
+      done = λ z. cc;
+    }
 
 -- ---- a control sequence at once
 

@@ -1,5 +1,5 @@
 -- The reading of bytes up to a place.
-use Rattle.std.proofs.Common.{◌≡◌, ◌≢◌, ℕ, ◌+◌, ◌<◌, ◌≤◌, List, [], ◌∷◌, ◌++◌, length, get_or, take, refl, ap, subst, sym, ◌∙◌, arith, append_assoc, append-nil}
+use Rattle.std.proofs.Common.{◌≡◌, ◌≢◌, ℕ, zero, suc, ◌+◌, ◌-◌, ◌<◌, ◌≤◌, ◌⊎◌, inl, inr, List, [], ◌∷◌, ◌++◌, length, get_or, take, drop, refl, ap, subst, sym, ◌∙◌, arith, append_assoc, append-nil, length-drop}
 use Rattle.std.specs.Prelude.{Option, Some, None}
 use Rattle.std.specs.Option.{option_or}
 use Rattle.std.proofs.lemmas.Grind.{flat_map-append}
@@ -10,9 +10,11 @@ use Rattle.escape_framing.specs.Dispatched.{optional, dispatches_in}
 use Rattle.escape_framing.specs.Parameters.{Parameters}
 use Rattle.escape_framing.specs.declared.dispatch.Dispatch.{Dispatch}
 use Rattle.escape_framing.specs.Cut.{newly_decided}
-use Rattle.escape_framing.specs.Held.{Held, held_of, nothing_held}
+use Rattle.escape_framing.specs.Held.{Held, hand_out, held_of, nothing_held}
+use Rattle.escape_framing.specs.Quick.{IsSkipped}
+use Rattle.escape_framing.specs.Framed.{IsReached}
 use Rattle.escape_framing.specs.Decides.{Decides}
-use Rattle.escape_framing.proofs.HeldLemmas.{newly_handed}
+use Rattle.escape_framing.proofs.HeldLemmas.{newly_handed, held_append}
 use Rattle.escape_framing.proofs.PlacedLemmas.{newly_join}
 use Rattle.escape_framing.proofs.IdleLemmas.{idle_is_whole, whole_is_idle}
 use Rattle.escape_stream.specs.declared.action.Action.{Action}
@@ -100,6 +102,73 @@ shortest P stream bytes held i below r holds = record { within = omega arith; ho
 
 pub nowhere : (P : List ℕ → Type 0) (stream bytes : List ℕ) (held : Held) (i : ℕ) → length bytes ≤ i → IsReadTo P stream bytes held i → IsNowhere P bytes
 nowhere P stream bytes held i above r = λ count within. r.none count (omega arith)
+
+-- ---- Bytes that decide nothing
+
+take_none : (n : ℕ) (xs : List ℕ) → xs ≡ [] → take n xs ≡ xs
+take_none zero xs e = sym e
+take_none (suc n) [] e = refl
+take_none (suc n) (x ∷ xs) e = cc
+
+take_behind : (i j : ℕ) (xs : List ℕ) → take (i + j) xs ≡ take i xs ++ take j (drop i xs)
+take_behind zero j xs = let k : 0 + j ≡ j = omega arith in ap (λ (n : ℕ). take n xs) k
+take_behind (suc i) j [] = let k : suc i + j ≡ suc (i + j) = omega arith in rw k (sym (take_none j [] refl))
+take_behind (suc i) j (x ∷ xs) = let k : suc i + j ≡ suc (i + j) = omega arith in rw k (ap (λ (l : List ℕ). x ∷ l) (take_behind i j xs))
+
+module _ (stream bytes : List ℕ) (before after : Held) (i n : ℕ) (is : before ≡ held_of (stream ++ take i bytes)) (s : IsSkipped before (drop i bytes) n after) where
+  -- what is held behind each of them
+  held_within : (j : ℕ) → held_of (stream ++ take (i + j) bytes) ≡ (hand_out before (take j (drop i bytes))).held
+  held_within j =
+      ap (λ (l : List ℕ). held_of (stream ++ l)) (take_behind i j bytes) ∙ ap held_of (sym (append_assoc stream (take i bytes) (take j (drop i bytes))))
+      ∙ held_append (stream ++ take i bytes) (take j (drop i bytes)) ∙ ap (λ (h : Held). (hand_out h (take j (drop i bytes))).held) (sym is)
+
+  nothing_within : (j : ℕ) → j ≤ n → newly_decided_actions stream (take (i + j) bytes) ≡ newly_decided_actions stream (take i bytes)
+  nothing_within j l =
+      ap (newly_decided_actions stream) (take_behind i j bytes)
+      ∙ ap actions_of (newly_join stream (take i bytes) (take j (drop i bytes)))
+      ∙ flat_map-append actions_of_dispatch (newly_decided stream (take i bytes)) (newly_decided (stream ++ take i bytes) (take j (drop i bytes)))
+      ∙ ap (λ (d : List framing.Dispatch). newly_decided_actions stream (take i bytes) ++ actions_of d)
+      (newly_handed (stream ++ take i bytes) (take j (drop i bytes)) ∙ ap (λ (h : Held). (hand_out h (take j (drop i bytes))).dispatches) (sym is) ∙ s.silent j l)
+      ∙ append-nil (newly_decided_actions stream (take i bytes))
+
+  -- none of them is so, where none is that decides nothing and leaves something unfinished
+  skipped_to : (P : List ℕ → Type 0) → IsReadTo P stream bytes before i → ((j : ℕ) → j ≤ n → 0 < j → P (take (i + j) bytes) → ⊥) → IsReadTo P stream bytes after (i + n)
+  skipped_to P r not = record {
+    held_is = sym (held_within n ∙ s.keeps);
+    none = λ k l. by_order k l (order k i);
+  }
+    where
+      order : (k m : ℕ) → (k < m + 1) ⊎ (m < k)
+      order k m = grind arith
+
+      by_order : (k : ℕ) → k < i + n + 1 → (k < i + 1) ⊎ (i < k) → P (take k bytes) → ⊥
+      by_order k l (inl m) = r.none k m
+      by_order k l (inr m) = λ p. not (k - i) (omega arith) (omega arith) (let e : i + (k - i) ≡ k = omega arith in rw e p)
+
+  pub skipped_first : IsReadTo (DecidesAction stream) stream bytes before i → IsReadTo (DecidesAction stream) stream bytes after (i + n)
+  skipped_first r = skipped_to (DecidesAction stream) r (λ j l z some. r.none i (omega arith) (λ e. some (nothing_within j l ∙ e)))
+
+  pub skipped_settled : IsReadTo (Settles stream) stream bytes before i → IsReadTo (Settles stream) stream bytes after (i + n)
+  skipped_settled r = skipped_to (Settles stream) r (λ j l z settles. s.unfinished j l z (sym (held_within j) ∙ whole_is_idle (stream ++ take (i + j) bytes) settles.1))
+
+  pub skipped_actions : (us : List StreamAction) → us ≡ newly_decided_actions stream (take i bytes) → us ≡ newly_decided_actions stream (take (i + n) bytes)
+  skipped_actions us e = e ∙ sym (nothing_within n (omega arith))
+
+pub skip_first : (stream bytes rest : List ℕ) (before after : Held) (i n : ℕ) → rest ≡ drop i bytes → IsSkipped before rest n after → IsReadTo (DecidesAction stream) stream bytes before i → IsReadTo (DecidesAction stream) stream bytes after (i + n)
+skip_first stream bytes rest before after i n e s r = skipped_first stream bytes before after i n r.held_is (subst (λ (l : List ℕ). IsSkipped before l n after) e s) r
+
+pub skip_settled : (stream bytes rest : List ℕ) (before after : Held) (i n : ℕ) (us : List StreamAction) → rest ≡ drop i bytes → IsSkipped before rest n after → IsReadTo (Settles stream) stream bytes before i × (us ≡ newly_decided_actions stream (take i bytes))
+    → IsReadTo (Settles stream) stream bytes after (i + n) × (us ≡ newly_decided_actions stream (take (i + n) bytes))
+skip_settled stream bytes rest before after i n us e s r =
+    let t = subst (λ (l : List ℕ). IsSkipped before l n after) e s in
+    (skipped_settled stream bytes before after i n r.0.held_is t r.0, skipped_actions stream bytes before after i n r.0.held_is t us r.1)
+
+pub before_end : (i n : ℕ) (bytes rest : List ℕ) → rest ≡ drop i bytes → n ≤ length rest → i < length bytes → i + n ≢ length bytes → i + n < length bytes
+before_end i n bytes rest e l m d = omega (arith, ap length e, length-drop i bytes)
+
+-- what is held is held of some stream still
+pub skip_reached : (before after : Held) (bytes : List ℕ) (n : ℕ) → IsReached before → IsSkipped before bytes n after → IsReached after
+skip_reached before after bytes n r s = (r.0 ++ take n bytes, sym (held_append r.0 (take n bytes) ∙ ap (λ (h : Held). (hand_out h (take n bytes)).held) (sym r.1) ∙ s.keeps))
 
 -- ---- The first action
 

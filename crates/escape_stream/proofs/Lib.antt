@@ -13,7 +13,10 @@ pub mod QueueLemmas
 pub mod PieceLemmas
 pub mod AdvanceLemmas
 pub mod SpellLemmas
+mod ApartPieces
 pub mod SpokenLemmas
 pub mod JoinLemmas
 pub mod WalkLemmas
 pub mod LoneReading
+mod EqualActions
+mod PartLemmas

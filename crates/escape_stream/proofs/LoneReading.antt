@@ -1,5 +1,5 @@
 -- A control or a sequence that is read at once.
-use Rattle.std.proofs.Common.{◌≡◌, ◌≢◌, ℕ, ◌+◌, List, [], ◌∷◌, ◌++◌, drop, Option, Some, None, refl, ap, sym, subst, ◌∙◌, append-nil}
+use Rattle.std.proofs.Common.{◌≡◌, ℕ, ◌+◌, List, [], ◌++◌, drop, Option, Some, None, refl, ap, sym, subst, ◌∙◌, append-nil}
 use Rattle.escape_framing.specs.Dispatch as stream
 use Rattle.escape_framing.specs.Parameters.{Parameters}
 use Rattle.escape_framing.specs.declared.dispatch.Dispatch.{Dispatch}
@@ -14,7 +14,7 @@ use Rattle.escape_stream.specs.declared.queue.Queue.{Queue}
 use Rattle.escape_stream.specs.StreamAction.{StreamAction}
 use Rattle.escape_stream.specs.StreamActions.{actions_of, actions_of_dispatch}
 use Rattle.escape_stream.specs.Queue.{queue_actions}
-use Rattle.escape_stream.specs.PiecesView.{lone_values, HasRead, HasReadLone}
+use Rattle.escape_stream.specs.PiecesView.{lone_values, HasReadLone}
 
 first_of : Read → Option Dispatch
 first_of lone.Nothing = None

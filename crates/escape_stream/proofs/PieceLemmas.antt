@@ -1,7 +1,6 @@
 -- Steps of an iterator of pieces, over plain variables.
-use Rattle.std.proofs.Common.{◌≡◌, ◌≢◌, ◌<◌, ◌≤◌, ℕ, zero, suc, ◌+◌, ◌-◌, ◌*◌, Bool, true, false, List, [], ◌∷◌, ◌++◌, length, map, take, drop, Option, Some, None, refl, ap, subst, sym, ◌∙◌, arith, append_assoc, append-nil, add_assoc, length-drop}
+use Rattle.std.proofs.Common.{◌≡◌, ◌≢◌, ◌<◌, ◌≤◌, ℕ, zero, suc, ◌+◌, ◌-◌, ◌*◌, false, List, [], ◌∷◌, ◌++◌, length, map, take, drop, refl, ap, subst, sym, ◌∙◌, arith, add_assoc, length-drop}
 use Rattle.std.specs.Prelude.{◌==◌}
-use Rattle.std.specs.List.{flat_map}
 use Rattle.std.proofs.lemmas.Bool.Decides.{nat_tests}
 use Rattle.std.proofs.lemmas.Grind.{flat_map-append}
 use Rattle.std.proofs.lemmas.List.{drop-drop, map-append}
@@ -13,7 +12,10 @@ use Rattle.escape_framing.specs.Framed as framing
 use Rattle.escape_framing.specs.Framed.{Framed, framed_behind, IsReached, IsCarried, Frames}
 use Rattle.escape_framing.specs.Stepped.{items_in, Reads}
 use Rattle.escape_framing.specs.declared.step.Step.{Step}
-use Rattle.escape_stream.specs.StreamAction.{StreamAction, print}
+use Rattle.escape_framing.specs.Quick.{ReadsCommand}
+use Rattle.escape_osc.specs.Parts.{parts_of}
+use Rattle.escape_osc.specs.Reading.{osc_reading}
+use Rattle.escape_stream.specs.StreamAction.{StreamAction, print, command}
 use Rattle.escape_stream.specs.StreamActions.{actions_of_dispatch, actions_of}
 use Rattle.escape_stream.specs.Pieces.{Piece, Text, Lone, pieces_of_framed, pieces_of}
 
@@ -62,6 +64,24 @@ read_behind k p h after bytes s l r reached carried =
       reached = f.reached;
       carried = subst (λ (b : List ℕ). IsCarried 0 (k + s.count) after b) d f.carried;
       ends = ap (λ (b : List ℕ). (hand_out after b).held) (sym d) ∙ sym f.keeps;
+    }
+
+-- a command that is read at once
+pub read_command : (start k n : ℕ) (h : Held) (bytes body : List ℕ) → ReadsCommand h (drop k bytes) body n → IsReached h → IsCarried 0 k h (drop k bytes)
+    → pieces_of (framed_behind start (start + k) h (drop k bytes)) ≡ Lone (command (osc_reading (parts_of body))) ∷ pieces_of (framed_behind start (start + (k + n)) h (drop (k + n) bytes))
+read_command start k n h bytes body r reached carried =
+    let f = r.frames k reached carried in
+    ap pieces_of (f.lends start) ∙ ap (λ (l : List Framed). Lone (command (osc_reading (parts_of body))) ∷ pieces_of l) (left_behind start k n h bytes)
+
+pub command_behind : (k n : ℕ) (h : Held) (bytes body : List ℕ) → k ≤ length bytes → ReadsCommand h (drop k bytes) body n → IsReached h → IsCarried 0 k h (drop k bytes) → Behind k n h h bytes
+command_behind k n h bytes body l r reached carried =
+    let f = r.frames k reached carried in
+    let d : drop n (drop k bytes) ≡ drop (k + n) bytes = drop-drop n k bytes in
+    record {
+      within = omega (arith, f.within, length-drop k bytes);
+      reached = f.reached;
+      carried = subst (λ (b : List ℕ). IsCarried 0 (k + n) h b) d f.carried;
+      ends = ap (λ (b : List ℕ). (hand_out h b).held) (sym d) ∙ sym f.keeps;
     }
 
 -- 1 where there is none, else 0

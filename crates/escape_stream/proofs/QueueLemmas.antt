@@ -1,8 +1,7 @@
 -- Steps of a queue of dispatches.
-use Rattle.std.proofs.Common.{◌≡◌, ◌<◌, ℕ, List, [], ◌∷◌, ◌++◌, length, Option, Some, None, refl, ap, subst, sym, ◌∙◌, arith, append_assoc, append-nil, length-append}
+use Rattle.std.proofs.Common.{◌≡◌, ◌<◌, List, [], ◌∷◌, ◌++◌, length, Option, Some, None, refl, ap, sym, ◌∙◌, arith, append_assoc, append-nil}
 use Rattle.std.specs.Prelude.{IsTrue, is_some, false}
 use Rattle.std.proofs.lemmas.Grind.{flat_map-append}
-use Rattle.escape_framing.specs.Dispatch as stream
 use Rattle.escape_framing.specs.Dispatched.{optional, dispatch_of}
 use Rattle.escape_framing.specs.Parameters.{Parameters, no_parameters}
 use Rattle.escape_framing.specs.declared.dispatch.Dispatch.{Dispatch}

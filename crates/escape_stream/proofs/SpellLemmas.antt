@@ -7,7 +7,7 @@ use Rattle.escape_framing.specs.Placed.{placed_from}
 use Rattle.escape_framing.proofs.SpellLemmas.{framed_spells}
 use Rattle.escape_stream.specs.StreamAction.{StreamAction, print}
 use Rattle.escape_stream.specs.StreamActions.{actions_of_dispatch, actions_of}
-use Rattle.escape_stream.specs.Pieces.{Piece, Text, Lone, pieces_of, pieces, Spells, nothing, alone, in_text}
+use Rattle.escape_stream.specs.Pieces.{Piece, Lone, pieces_of, pieces, Spells, nothing, alone, in_text}
 
 all_alone : (actions : List StreamAction) (items : List Piece) (others : List StreamAction) → Spells items others → Spells (map Lone actions ++ items) (actions ++ others)
 all_alone [] items others h = h

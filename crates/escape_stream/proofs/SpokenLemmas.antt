@@ -1,12 +1,12 @@
 -- Pieces, their texts by their characters, are the actions that bytes newly decide; and how they are joined.
-use Rattle.std.proofs.Common.{◌≡◌, ◌≢◌, ℕ, ◌+◌, ◌<◌, ◌≤◌, Bool, true, false, Option, Some, None, List, [], ◌∷◌, ◌++◌, length, map, drop, filter, fold, zero, suc, refl, ap, sym, subst, ◌∙◌, arith, append_assoc, append-nil}
-use Rattle.std.specs.Prelude.{◌==◌, ◌||◌, ◌&&◌, encode_utf8}
+use Rattle.std.proofs.Common.{◌≡◌, ℕ, ◌+◌, Bool, true, false, List, [], ◌∷◌, ◌++◌, length, map, drop, zero, suc, refl, ap, sym, subst, ◌∙◌, append_assoc, append-nil}
+use Rattle.std.specs.Prelude.{◌==◌, ◌||◌, encode_utf8}
 use Rattle.std.specs.Char.{IsScalar}
 use Rattle.std.specs.List.{flat_map}
 use Rattle.std.specs.Str.{IsUtf8, chars}
 use Rattle.std.proofs.lemmas.Grind.{flat_map-append}
 use Rattle.std.proofs.lemmas.List.{map-append}
-use Rattle.std.proofs.lemmas.Str.{IsUtf8-encode, chars-append, chars-encodes, chars_past_char, chars-nil, encodes-chars}
+use Rattle.std.proofs.lemmas.Str.{IsUtf8-encode, chars-append, chars_past_char, chars-nil}
 use Rattle.escape_framing.specs.Segment.{Segment, Character, IllFormed, CutOff, Tail, Begun, OpenEscape, OpenControlSequence, OpenCommand, OpenHeader, OpenDevice, OpenString, IsSegment, StandInRow, bytes_of_tail}
 use Rattle.escape_framing.specs.Segment as segment
 use Rattle.escape_framing.specs.Bytes.{taken}
@@ -16,10 +16,9 @@ use Rattle.escape_framing.specs.Placed.{placed_from}
 use Rattle.escape_framing.specs.Framed as framing
 use Rattle.escape_framing.specs.Framed.{Framed, framed, is_lent, put_text, put_character}
 use Rattle.escape_framing.proofs.PlacedLemmas.{newly_join}
-use Rattle.escape_stream.specs.declared.action.Action.{Action}
 use Rattle.escape_stream.specs.StreamAction.{StreamAction, print}
 use Rattle.escape_stream.specs.StreamActions.{actions_of_dispatch, actions_of, newly_decided_actions}
-use Rattle.escape_stream.specs.Pieces.{Piece, Text, Lone, pieces_of_framed, pieces_of, pieces, actions_of_piece, actions_of_pieces}
+use Rattle.escape_stream.specs.Pieces.{Piece, Lone, pieces_of, pieces, actions_of_piece, actions_of_pieces}
 
 -- ---- a character that is printed is a scalar value
 

@@ -1,8 +1,5 @@
 -- Walks over lists of actions: their texts, and an action that joins the last of them.
 use Rattle.std.proofs.Common.{◌≡◌, ℕ, zero, suc, ◌+◌, ◌<◌, ◌≤◌, Bool, true, false, cond, ◌&&◌, List, [], ◌∷◌, ◌++◌, length, get_or, set, drop, map, arith, refl, ap, subst, sym, ◌∙◌, append_assoc, append-nil}
-use Rattle.std.specs.Fmt.{WritesInCalls}
-use Rattle.std.proofs.lemmas.Fmt.{contents_after_writes}
-use Rattle.escape_stream.specs.declared.encoding.Bytes.{Bytes}
 use Rattle.std.proofs.lemmas.List.{at_drop_more, at_drop_all}
 use Rattle.escape_stream.specs.declared.action.Action.{Action}
 use Rattle.escape_stream.specs.StreamAction.{StreamAction, print_string, printed}
@@ -63,10 +60,3 @@ pub kept_at : (actions : List Action) (n : ℕ) (last after : Action) → last �
 kept_at [] n last after item h = refl
 kept_at (a ∷ actions) zero last after item h = ap (λ v. v ∷ map value_of actions) (h ∙ ap value_of item)
 kept_at (a ∷ actions) (suc n) last after item h = ap (λ rest. value_of a ∷ rest) (kept_at actions n last after item h)
-
-abbrev Written : Bytes → List ℕ → Bytes → Type 0
-Written old text new = new.bytes.items ≡ old.bytes.items ++ text
-
--- bytes that a text was written to end in it
-pub text_written : (old new : Bytes) (bytes text : List ℕ) → WritesInCalls Written old text new → old.bytes.items ≡ bytes → new.bytes.items ≡ bytes ++ text
-text_written old new bytes text w e = contents_after_writes Written (λ (b : Bytes). b.bytes.items) (λ a t b k. k) old text new w ∙ ap (λ (l : List ℕ). l ++ text) e

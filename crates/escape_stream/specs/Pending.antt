@@ -1,6 +1,7 @@
 -- What a private reader of actions hands out.
-use Rattle.std.specs.Prelude.{◌≡◌, List, [], ◌∷◌, map, Option, Some, None}
+use Rattle.std.specs.Prelude.{◌≡◌, ℕ, Bool, not, ◌==◌, List, [], ◌∷◌, map, Option, Some, None}
 use Rattle.csi_codec.specs.Actions as codec
+use Rattle.escape_osc.specs.Parts.{semicolon}
 use Rattle.escape_stream.specs.declared.action.Action.{Action}
 use Rattle.escape_stream.specs.StreamAction.{StreamAction, csi}
 use Rattle.escape_stream.specs.StreamActionView.{value_of}
@@ -21,3 +22,7 @@ Gives before None after = before ≡ []
 abbrev pub Begins : Option Action → List StreamAction → Type 0
 Begins None values = values ≡ []
 Begins (Some a) values = (others : List StreamAction) × (values ≡ value_of a ∷ others)
+
+-- a byte of a part of a command's body
+abbrev pub is_in_part : ℕ → Bool
+is_in_part b = not (b == semicolon)

@@ -1,12 +1,15 @@
 -- What `pieces` hands out: texts, lent from the bytes of one call, and actions by themselves.
-use Rattle.std.specs.Prelude.{◌≡◌, ℕ, List, [], ◌∷◌, ◌++◌, length, map, encode_utf8_all}
+use Rattle.std.specs.Prelude.{◌≡◌, ℕ, ◌+◌, List, [], ◌∷◌, ◌++◌, length, map, encode_utf8_all}
 use Rattle.std.specs.List.{flat_map}
 use Rattle.std.specs.Str.{chars}
 use Rattle.escape_framing.specs.Framed as framing
 use Rattle.escape_framing.specs.Framed.{Framed, framed}
+use Rattle.escape_framing.specs.Segment.{Segment}
+use Rattle.escape_framing.specs.Dispatch.{dispatches_of}
 use Rattle.escape_framing.specs.Placed.{placed_from}
+use Rattle.escape_framing.specs.PlacedSegments.{LiesBetween}
 use Rattle.escape_stream.specs.StreamAction.{StreamAction, print}
-use Rattle.escape_stream.specs.StreamActions.{actions_of_dispatch}
+use Rattle.escape_stream.specs.StreamActions.{actions_of_dispatch, actions_of}
 
 -- a text, with the count of the stream's bytes before it; or an action
 pub data Piece : Type 0 where
@@ -40,3 +43,8 @@ pub data Spells : List Piece → List StreamAction → Type 0 where
   alone : (a : StreamAction) (items : List Piece) (actions : List StreamAction) → Spells items actions → Spells (Lone a ∷ items) (a ∷ actions)
   in_text : (from c : ℕ) (cs text : List ℕ) (items : List Piece) (actions all : List StreamAction) → text ≡ encode_utf8_all (c ∷ cs) → all ≡ map print (c ∷ cs) ++ actions → Spells items actions
       → Spells (Text from text ∷ items) all
+
+-- wherever two texts stand side by side, a segment of the stream without an action lies between them
+abbrev pub AreApart : List ℕ → List Piece → Type 0
+AreApart stream items = (before after : List Piece) (from next : ℕ) (text more : List ℕ) → items ≡ before ++ Text from text ∷ Text next more ∷ after
+    → (segment : Segment) × LiesBetween stream (from + length text) next segment × (actions_of (dispatches_of segment) ≡ [])

@@ -1,20 +1,19 @@
 -- What an iterator of pieces has yet to hand out, and of the parser that it borrows.
-use Rattle.std.specs.Prelude.{◌≡◌, ◌≢◌, ◌≤◌, ℕ, ◌+◌, Bool, true, false, List, [], ◌∷◌, ◌++◌, length, drop, map, Option, Some, None, Result, Ok, Err}
+use Rattle.std.specs.Prelude.{◌≡◌, ◌≢◌, ◌≤◌, ℕ, ◌+◌, true, false, List, [], ◌∷◌, ◌++◌, length, drop, map, Option, Some, None, Result, Ok, Err}
 use base.Fml.{GName}
 use Rattle.std.specs.Str.{chars}
 use Rattle.escape_stream.specs.StreamAction.{StreamAction, print, esc}
-use Rattle.std.specs.declared.alloc.AllocError.{AllocError}
 use Rattle.escape_framing.specs.Held.{Held, hand_out}
 use Rattle.escape_framing.specs.Framing.{Framing}
 use Rattle.escape_framing.specs.Framed.{framed_behind, IsReached, IsCarried}
 use Rattle.escape_framing.specs.Dispatched.{dispatches_in}
 use Rattle.escape_framing.specs.Stepped.{Reads}
-use Rattle.escape_framing.specs.Quick.{lone_step}
+use Rattle.escape_framing.specs.Quick.{lone_step, ReadsCommand}
 use Rattle.escape_stream.specs.declared.control.ControlCode.{ControlCode}
 use Rattle.escape_framing.specs.declared.step.Step.{Step}
 use Rattle.escape_stream.specs.StreamActions.{actions_of, named_control}
 use Rattle.escape_stream.specs.Pieces.{Piece, Text, Lone, pieces_of}
-use Rattle.escape_stream.specs.Queue.{queue_actions, IsEmpty}
+use Rattle.escape_stream.specs.Queue.{queue_actions}
 use Rattle.escape_stream.specs.declared.queue.Queue.{Queue}
 use Rattle.escape_framing.specs.Parameters.{Parameters}
 use Rattle.escape_framing.specs.declared.lone.Lone.{Lone as Read}
@@ -119,6 +118,14 @@ pub record IsControlAt (it : Pieces) (control : ControlCode) : Type 0 where
   pub byte : ℕ
   pub named : control_named byte ≡ Some control
   pub reads : Reads it.parser.now.parameters it.parser.now.held (drop it.count it.bytes.now) (lone_step (lone.Control byte)) it.parser.now.held
+
+-- an escape sequence of two bytes with this final byte stands there
+abbrev pub IsPairAt : Pieces → ℕ → Type 0
+IsPairAt it control = Reads it.parser.now.parameters it.parser.now.held (drop it.count it.bytes.now) (lone_step (lone.Escape control)) it.parser.now.held
+
+-- the command of this body stands at the front of the bytes that are left, and so many of them are read with it
+abbrev pub IsCommandAt : Pieces → List ℕ → ℕ → Type 0
+IsCommandAt it body n = ReadsCommand it.parser.now.held (drop it.count it.bytes.now) body n
 
 -- what one call has handed out, and how it goes on
 pub record HasGiven (old : Pieces) (piece : Option PieceCode) (new : Pieces) : Type 0 where

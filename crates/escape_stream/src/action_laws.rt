@@ -1,11 +1,14 @@
 //! Laws of the actions of a stream: functions without a body, each ensuring one.
-ghost use Rattle.std.specs.Prelude.{◌≡◌, ℕ, ◌<◌, List, ◌++◌, Some, length, map, filter, nat_lt};
+ghost use Rattle.std.specs.Prelude.{◌≡◌, ◌↔◌, IsTrue, ℕ, ◌<◌, List, ◌++◌, Some, length, map, filter, nat_lt};
 ghost use Rattle.std.specs.List.{slice_get};
 ghost use Rattle.escape_stream.specs.StreamAction.{StreamAction};
+ghost use Rattle.escape_stream.specs.StreamActionView.{value_of};
 ghost use Rattle.escape_framing.specs.Dispatch.{Dispatch};
 ghost use Rattle.escape_framing.specs.Placed.{placed_from};
-ghost use Rattle.escape_stream.specs.Pieces.{pieces, Spells, actions_of_pieces};
+ghost use Rattle.escape_stream.specs.Pieces.{pieces, Spells, actions_of_pieces, AreApart};
 ghost use Rattle.escape_stream.specs.StreamActions.{actions_of, stream_actions, newly_decided_actions, placed_actions, IsPlacedAction, IsUndecidedAction};
+
+use crate::action::Action;
 
 /// The placed actions are the stream's actions, in order, each with the least count of bytes that decides it however
 /// the stream goes on. Bytes behind a stream newly decide the actions whose places lie in them.
@@ -27,8 +30,17 @@ pub fn actions_of_pieces_join()
 {}
 
 /// A law, which needs no call: the pieces of a call, their texts character by character, are the actions of the
-/// dispatches that have their places in it, in order, and so those that its bytes newly decide; no text is empty.
+/// dispatches that have their places in it, in order, and so those that its bytes newly decide; no text is empty, and two
+/// stand side by side only where a segment of the stream without an action lies between them.
 pub fn pieces_are_actions()
     ensures placed { (stream bytes : List ℕ) → Spells (pieces stream bytes) (actions_of (map (λ (p : ℕ × Dispatch). p.1) (placed_from stream bytes))) }
     ensures decided { (stream bytes : List ℕ) → actions_of_pieces (pieces stream bytes) ≡ newly_decided_actions stream bytes }
+    ensures apart { (stream bytes : List ℕ) → AreApart (stream ++ bytes) (pieces stream bytes) }
 {}
+
+/// Two actions are equal where their values are, wherever these lie in memory.
+pub fn equality_is_by_value(a: &Action, b: &Action) -> bool
+    ensures { IsTrue result ↔ (value_of a.now ≡ value_of b.now) }
+{
+    *a == *b
+}

@@ -1,5 +1,5 @@
 //! The parser: from bytes to actions.
-ghost use Rattle.std.specs.Prelude.{◌≡◌, ◌≢◌, ◌↔◌, IsTrue, ℕ, ◌≤◌, ◌<◌, Bool, true, false, IsErrOf, IfOk, OnOk, Option, Some, None, IfSome, List, [], ◌∷◌, ◌++◌, map, fold, take, length, is_err};
+ghost use Rattle.std.specs.Prelude.{◌≡◌, ◌≢◌, ◌↔◌, IsTrue, ℕ, ◌≤◌, ◌<◌, Bool, true, false, IsErrOf, IfOk, OnOk, Option, Some, None, IfSome, List, [], ◌∷◌, ◌++◌, map, fold, take, drop, length, is_err};
 ghost use Rattle.escape_framing.specs.Decides.{Decides};
 ghost use Rattle.escape_framing.specs.Dispatched.{optional, dispatches_in};
 ghost use Rattle.escape_framing.specs.Held.{Held, held_step, hand_out, held_of, nothing_held};
@@ -11,8 +11,8 @@ ghost use Rattle.escape_stream.specs.Parsing.{IsCalledAt, IsFirst, IsFirstSettle
 ghost use Rattle.escape_stream.specs.Pending.{Begins, Gives};
 ghost use Rattle.escape_framing.specs.Framed.{IsReached};
 ghost use Rattle.escape_framing.specs.Stepped.{Reads};
-ghost use Rattle.escape_framing.specs.Quick.{text_step, lone_step};
-ghost use Rattle.escape_framing.specs.declared.lone.Lone.TheVariants.{Nothing, Control, ControlSequence};
+ghost use Rattle.escape_framing.specs.Quick.{text_step, lone_step, ReadsCommand, IsSkipped};
+ghost use Rattle.escape_framing.specs.declared.lone.Lone.TheVariants.{Nothing, Control, Escape, ControlSequence};
 ghost use Rattle.escape_stream.specs.PiecesView.{lender_of, parser_of, open_pieces, held_at_end, IsUnderWay, IsOpen, HadFailed, IsReady};
 ghost use Rattle.escape_stream.specs.Pieces.{pieces};
 ghost use Rattle.escape_stream.specs.Queue.{queue_actions, sequence_values, IsEmpty};
@@ -55,6 +55,14 @@ fn is_nothing(dispatches: &[Option<Dispatch>; 4]) -> bool
     ensures { IsTrue result → (p : Parameters) → dispatches_in p dispatches.now ≡ [] }
 {
     matches!(dispatches, [None, None, None, None])
+}
+
+// The bytes behind so many.
+fn behind(bytes: &[u8], count: usize) -> &[u8]
+    requires { count ≤ length bytes.now }
+    ensures { result.now ≡ drop count bytes.now }
+{
+    &bytes[count..]
 }
 
 impl Parser {
@@ -148,6 +156,22 @@ impl Parser {
         self.framer.next_sequence(bytes)
     }
 
+    // The final byte of the escape sequence of two bytes at the front, where nothing is unfinished.
+    #[inline(always)]
+    pub(crate) fn read_pair(&self, bytes: &[u8]) -> Option<u8>
+        ensures { IfSome result (λ byte. Reads self.now.parameters self.now.held bytes.now (lone_step (Escape byte)) self.now.held) }
+    {
+        self.framer.next_pair(bytes)
+    }
+
+    // The body of the command at the front, where nothing is unfinished and the bytes decide it, and how many bytes are read.
+    #[inline(always)]
+    pub(crate) fn read_command<'a>(&self, bytes: &'a [u8]) -> Option<(&'a [u8], usize)>
+        ensures { IfSome result (λ c. ReadsCommand self.now.held bytes.now c.0.now c.1) }
+    {
+        self.framer.next_command(bytes)
+    }
+
     // The first action of the control sequence that was read last; the others wait in an empty queue.
     #[inline(always)]
     pub(crate) fn first_action(
@@ -213,6 +237,20 @@ impl Parser {
         }
     }
 
+    // Reads the bytes at the front that decide nothing, as many as are read at once.
+    fn skip(&mut self, bytes: &[u8]) -> Result<usize, AllocError>
+        ensures reads { IfOk result (λ n. IsSkipped self.old.held bytes.now n self.new.held) }
+        ensures failed { IfOk result (λ n. self.new.failed ≡ self.old.failed) }
+    {
+        match self.framer.skip(bytes) {
+            Ok(count) => Ok(count),
+            Err(_) => {
+                self.failed = true;
+                Err(AllocError)
+            }
+        }
+    }
+
     // The dispatches of one byte more.
     fn feed(&mut self, byte: u8) -> Result<[Option<Dispatch>; 4], AllocError>
         ensures dispatches { IfOk result (λ ds. dispatches_in self.new.parameters ds ≡ (held_step self.old.held byte).dispatches) }
@@ -271,11 +309,17 @@ impl Parser {
         ensures held { IfOk result (λ found. (stream : List ℕ) → self.old.held ≡ held_of stream → self.new.held ≡ held_of (stream ++ bytes_read found bytes.now)) }
         ensures failed { IfOk result (λ _. self.new.failed ≡ self.old.failed) }
     {
-        for i in 0..bytes.len() {
+        let mut i = 0;
+        while i < bytes.len() {
+            i += self.skip(behind(bytes, i))?;
+            if i == bytes.len() {
+                return Ok(None);
+            }
             let dispatches = self.feed(bytes[i])?;
             if let Some(action) = self.first_of(dispatches)? {
                 return Ok(Some((action, i + 1)));
             }
+            i += 1;
         }
         Ok(None)
     }
@@ -340,12 +384,18 @@ impl Parser {
         ensures failed { IfOk result (λ _. self.new.failed ≡ self.old.failed) }
     {
         let mut actions = Vec::new(self.alloc);
-        for i in 0..bytes.len() {
+        let mut i = 0;
+        while i < bytes.len() {
+            i += self.skip(behind(bytes, i))?;
+            if i == bytes.len() {
+                return Ok(None);
+            }
             let dispatches = self.feed(bytes[i])?;
             self.push_dispatches(dispatches, &mut actions)?;
             if self.is_settled(&actions) {
                 return Ok(Some((actions, i + 1)));
             }
+            i += 1;
         }
         Ok(None)
     }

@@ -1,5 +1,6 @@
 //! The actions of one dispatch, one by one.
-ghost use Rattle.std.specs.Prelude.{◌≡◌, IfOk, None, ◌++◌, map, fold};
+ghost use Rattle.std.specs.Prelude.{◌≡◌, IfOk, IfSome, None, [], ◌∷◌, ◌++◌, map, fold};
+ghost use Rattle.escape_osc.specs.CommandView.{command_of};
 ghost use Rattle.escape_osc.specs.Parts.{parts_of};
 ghost use Rattle.escape_osc.specs.Reading.{osc_reading};
 ghost use Rattle.escape_framing.specs.Dispatch.{ControlSequence};
@@ -9,7 +10,8 @@ ghost use Rattle.escape_stream.specs.StreamActionView.{value_of};
 ghost use Rattle.escape_stream.specs.StreamActions.{actions_of_dispatch, actions_of, named_control};
 ghost use Rattle.escape_stream.specs.Controls.{control_named};
 ghost use Rattle.escape_stream.specs.StreamAction.{appended, command, enter};
-ghost use Rattle.escape_stream.specs.Pending.{Gives, pending_values};
+ghost use Rattle.escape_stream.specs.Pending.{Gives, pending_values, is_in_part};
+ghost use Rattle.std.specs.List.{prefix_len};
 ghost use Rattle.escape_stream.specs.Parsing.{IsCalledAt};
 
 use crate::action::Action;
@@ -141,12 +143,54 @@ fn parts(alloc: Global, body: &[u8]) -> Result<Vec<&[u8]>, AllocError>
     body.split(|byte| *byte == b';').collect(alloc)
 }
 
-// The command of a body.
+// How many bytes stand before the first `;` of a body.
+fn first_len(body: &[u8]) -> usize
+    ensures { result ≡ prefix_len is_in_part body.now }
+{
+    body.iter().take_while(|byte| **byte != b';').count()
+}
+
+// What stands before the first `;` of a body, and behind it.
+fn cut(body: &[u8]) -> Option<(&[u8], &[u8])>
+    ensures some { IfSome result (λ c. parts_of body.now ≡ c.0.now ∷ parts_of c.1.now) }
+    ensures none { result ≡ None → parts_of body.now ≡ body.now ∷ [] }
+{
+    let len = first_len(body);
+    let (first, others) = body.split_at(len);
+    let (_, rest) = others.split_first()?;
+    Some((first, rest))
+}
+
+// The command of a body of any parts.
+#[inline(never)]
+fn command_of_all(alloc: Global, body: &[u8]) -> Result<OperatingSystemCommand, AllocError>
+    ensures { IfOk result (λ c. command_of c ≡ osc_reading (parts_of body.now)) }
+{
+    let parts = parts(alloc, body)?;
+    OperatingSystemCommand::parse(alloc, &parts)
+}
+
+// The command of a body, without a list of its parts where they are two or three.
+fn command_of_body(alloc: Global, body: &[u8]) -> Result<OperatingSystemCommand, AllocError>
+    ensures { IfOk result (λ c. command_of c ≡ osc_reading (parts_of body.now)) }
+{
+    let Some((first, others)) = cut(body) else {
+        return command_of_all(alloc, body);
+    };
+    let Some((second, third)) = cut(others) else {
+        return OperatingSystemCommand::parse(alloc, &[first, others]);
+    };
+    if cut(third).is_some() {
+        return command_of_all(alloc, body);
+    }
+    OperatingSystemCommand::parse(alloc, &[first, second, third])
+}
+
+// The command of a body, as an action.
 pub(crate) fn command_action(alloc: Global, body: &[u8]) -> Result<Action, AllocError>
     ensures { IfOk result (λ action. value_of action ≡ command (osc_reading (parts_of body.now))) }
 {
-    let parts = parts(alloc, body)?;
-    let command = OperatingSystemCommand::parse(alloc, &parts)?;
+    let command = command_of_body(alloc, body)?;
     Ok(Action::OperatingSystemCommand(Box::new(alloc, command)?))
 }
 

@@ -3,7 +3,7 @@ ghost use Rattle.std.specs.Prelude.{◌≡◌, ◌≢◌, ◌↔◌, ◌+◌, �
 ghost use Rattle.escape_framing.specs.Framed.{IsText};
 ghost use Rattle.escape_framing.specs.Stepped.{Reads};
 ghost use Rattle.escape_framing.specs.Quick.{text_step};
-ghost use Rattle.escape_stream.specs.PiecesView.{IsUnderWay, IsOpen, lender_of, parser_of, lone_values, IsUnread, HasGiven, HasRead, HasReadLone, HasReadSequence, IsControlAt, GoesOn, PiecesGo};
+ghost use Rattle.escape_stream.specs.PiecesView.{IsUnderWay, IsOpen, lender_of, parser_of, lone_values, IsUnread, HasGiven, HasRead, HasReadLone, HasReadSequence, IsControlAt, IsPairAt, IsCommandAt, GoesOn, PiecesGo};
 ghost use Rattle.escape_stream.specs.Pending.{Gives, pending_values};
 ghost use Rattle.escape_stream.specs.Queue.{queue_actions, sequence_values, IsEmpty};
 ghost use Rattle.escape_framing.specs.declared.lone.Lone.TheVariants.{Nothing};
@@ -11,7 +11,7 @@ ghost use Rattle.escape_framing.specs.declared.lone.Lone.TheVariants.{Nothing};
 use crate::action::Action;
 use crate::control::ControlCode;
 use crate::parser::Parser;
-use crate::pending::control_action;
+use crate::pending::{command_action, control_action};
 use crate::queue::Queue;
 use csi_codec::Esc;
 use escape_framing::{Lone, ParseError, Step};
@@ -388,7 +388,92 @@ impl<'a> Pieces<'a> {
         }
     }
 
-    // Whether ESC [ stands at the front of the bytes that are left.
+    // The body of the command at the front of the bytes that are left, where nothing is unfinished and they decide it, and
+    // how many of them are read with it.
+    #[inline(always)]
+    fn command(&self) -> Option<(&'a [u8], usize)>
+        requires within { self.now.count ≤ length self.now.bytes.now }
+        ensures { IfSome result (λ c. IsCommandAt self.now c.0.now c.1) }
+    {
+        let bytes = self.bytes;
+        self.parser.read_command(behind(bytes, self.count))
+    }
+
+    // Hands out the command of this body, which is read with so many bytes.
+    #[inline(always)]
+    fn take_command(&mut self, body: &[u8], count: usize) -> Result<Piece<'a>, AllocError>
+        requires within { self.old.count ≤ length self.old.bytes.now }
+        requires empty { IsEmpty self.old.queue }
+        requires stands { IsCommandAt self.old body.now count }
+        ensures same { lender_of self.new ≡ lender_of self.old }
+        ensures stage { self.new.stage ≡ self.old.stage }
+        ensures parser { self.new.parser.now ≡ self.old.parser.now }
+        ensures gives { IfOk result (λ piece. IsUnderWay self.old → HasGiven self.old (Some piece) self.new) }
+    {
+        let action = command_action(self.parser.alloc(), body)?;
+        self.count += count;
+        Ok(Piece::Action(action))
+    }
+
+    // The final byte of the escape sequence of two bytes at the front of the bytes that are left, where nothing is unfinished.
+    #[inline(always)]
+    fn pair(&self) -> Option<u8>
+        requires within { self.now.count ≤ length self.now.bytes.now }
+        ensures { IfSome result (λ control. IsPairAt self.now control) }
+    {
+        let bytes = self.bytes;
+        self.parser.read_pair(behind(bytes, self.count))
+    }
+
+    // Hands out an escape sequence of two bytes.
+    #[inline(always)]
+    fn take_pair(&mut self, control: u8) -> Piece<'a>
+        requires within { self.old.count ≤ length self.old.bytes.now }
+        requires empty { IsEmpty self.old.queue }
+        requires stands { IsPairAt self.old control }
+        ensures same { lender_of self.new ≡ lender_of self.old }
+        ensures stage { self.new.stage ≡ self.old.stage }
+        ensures parser { self.new.parser.now ≡ self.old.parser.now }
+        ensures gives { IsUnderWay self.old → HasGiven self.old (Some result) self.new }
+    {
+        self.count += 2;
+        Piece::Action(Action::Esc(Esc::parse(None, control)))
+    }
+
+    // The next item of pieces that are open, where nothing waits: of an escape sequence of two bytes or a command at once.
+    #[inline(never)]
+    fn next_by_command(&mut self) -> Option<Result<Piece<'a>, ParseError>>
+        requires open { IsOpen self.old }
+        requires ready { IsUnderWay self.old }
+        requires failed { self.old.parser.now.failed ≡ true }
+        requires empty { IsEmpty self.old.queue }
+        ensures { PiecesGo self.old result self.new }
+    {
+        if let Some(control) = self.pair() {
+            return Some(Ok(self.take_pair(control)));
+        }
+        let Some((body, count)) = self.command() else {
+            return self.next_by_loop();
+        };
+        match self.take_command(body, count) {
+            Ok(piece) => Some(Ok(piece)),
+            Err(_) => {
+                self.stage = Stage::Over;
+                Some(Err(ParseError::Memory))
+            }
+        }
+    }
+
+    // Whether ESC stands at the front of the bytes that are left.
+    #[inline(always)]
+    fn is_at_escape(&self) -> bool
+        requires { self.now.count ≤ length self.now.bytes.now }
+    {
+        let bytes = self.bytes;
+        matches!(behind(bytes, self.count), [0x1b, ..])
+    }
+
+    // Whether ESC [ stands there.
     #[inline(always)]
     fn is_at_sequence(&self) -> bool
         requires { self.now.count ≤ length self.now.bytes.now }
@@ -397,25 +482,50 @@ impl<'a> Pieces<'a> {
         matches!(behind(bytes, self.count), [0x1b, b'[', ..])
     }
 
-    // The next item where it is neither: a control sequence at once, if one begins there and nothing waits.
+    // The next item where ESC stands at the front, and nothing waits.
     #[inline(always)]
-    fn next_other(&mut self) -> Option<Result<Piece<'a>, ParseError>>
+    fn next_of_escape(&mut self) -> Option<Result<Piece<'a>, ParseError>>
         requires open { IsOpen self.old }
         requires ready { IsUnderWay self.old }
         requires failed { self.old.parser.now.failed ≡ true }
+        requires empty { IsEmpty self.old.queue }
         ensures { PiecesGo self.old result self.new }
     {
-        if self.queue.is_waiting() {
-            return self.next_by_loop();
-        }
         if self.is_at_sequence() {
             self.next_by_step()
         } else {
-            self.next_by_loop()
+            self.next_by_command()
         }
     }
 
-    // The next item of pieces that are open: a control or a text at once.
+    // Whether a C0 control stands at the front of the bytes that are left.
+    #[inline(always)]
+    fn is_at_control(&self) -> bool
+        requires { self.now.count ≤ length self.now.bytes.now }
+    {
+        let bytes = self.bytes;
+        matches!(behind(bytes, self.count), [0x00..=0x1f, ..])
+    }
+
+    // The next item where such a control stands there, and nothing waits: a sequence or the control at once.
+    #[inline(always)]
+    fn next_of_control(&mut self) -> Option<Result<Piece<'a>, ParseError>>
+        requires open { IsOpen self.old }
+        requires ready { IsUnderWay self.old }
+        requires failed { self.old.parser.now.failed ≡ true }
+        requires empty { IsEmpty self.old.queue }
+        ensures { PiecesGo self.old result self.new }
+    {
+        if self.is_at_escape() {
+            return self.next_of_escape();
+        }
+        if let Some(control) = self.control() {
+            return Some(Ok(self.take_control(control)));
+        }
+        self.next_by_loop()
+    }
+
+    // The next item of pieces that are open: a text, a sequence or a control at once.
     #[inline(always)]
     fn next_open(&mut self) -> Option<Result<Piece<'a>, ParseError>>
         requires open { IsOpen self.old }
@@ -424,14 +534,14 @@ impl<'a> Pieces<'a> {
         ensures { PiecesGo self.old result self.new }
     {
         if self.queue.is_waiting() {
-            return self.next_other();
+            return self.next_by_loop();
         }
-        if let Some(control) = self.control() {
-            return Some(Ok(self.take_control(control)));
+        if self.is_at_control() {
+            return self.next_of_control();
         }
         let len = self.text_len();
         if len == 0 {
-            return self.next_other();
+            return self.next_by_loop();
         }
         Some(Ok(self.take_text(len)))
     }

@@ -1,4 +1,4 @@
-use Rattle.std.proofs.Common.{◌≡◌, ◌∷◌, true, false, rules, length}
+use Rattle.std.proofs.Common.{◌≡◌, ◌∷◌, true, rules}
 use Rattle.escape_framing.specs.Wide.{is_second, is_behind}
 use Rattle.escape_framing.proofs.WideLemmas.{none_of_four, no_second_of_four, short_four, no_third_of_four, shorter_four, no_fourth_of_four, above_four, whole_four, no_first}
 use Rattle.escape_framing.proofs.texts.four_len.Goals as goal

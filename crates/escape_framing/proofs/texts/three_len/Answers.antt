@@ -1,4 +1,4 @@
-use Rattle.std.proofs.Common.{◌≡◌, ◌∷◌, true, false, rules, length}
+use Rattle.std.proofs.Common.{◌≡◌, ◌∷◌, true, rules}
 use Rattle.escape_framing.specs.Wide.{is_second, is_behind}
 use Rattle.escape_framing.proofs.WideLemmas.{none_of_three, no_second_of_three, short_three, no_third_of_three, replacement_of_three, whole_three, no_first}
 use Rattle.escape_framing.proofs.texts.three_len.Goals as goal

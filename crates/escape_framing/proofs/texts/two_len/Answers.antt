@@ -1,5 +1,4 @@
-use Rattle.std.proofs.Common.{◌≡◌, ◌∷◌, true, false, rules, length}
-use Rattle.escape_framing.specs.Wide.{is_second, is_behind}
+use Rattle.std.proofs.Common.{◌≡◌, ◌∷◌, rules}
 use Rattle.escape_framing.proofs.WideLemmas.{is_two, none_of_two, no_second_of_two, no_first}
 use Rattle.escape_framing.proofs.texts.two_len.Goals as goal
 

@@ -1,7 +1,6 @@
-use Rattle.std.proofs.Common.{◌≡◌, ◌∙◌, Some, None, rules, map, fold, sym}
+use Rattle.std.proofs.Common.{◌∙◌, rules, map}
 use Rattle.escape_stream.specs.StreamActionView.{value_of}
-use Rattle.escape_stream.specs.PiecesView.{PiecesGo}
-use Rattle.escape_stream.proofs.WalkLemmas.{Walked, walked, joined_piece, joined_end}
+use Rattle.escape_stream.proofs.WalkLemmas.{walked, joined_piece}
 use Rattle.escape_stream.proofs.parse.append_pieces.Goals as goal
 
 pub loop-piece-preserved : goal.loop-piece-preserved

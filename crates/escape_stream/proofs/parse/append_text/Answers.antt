@@ -1,4 +1,4 @@
-use Rattle.std.proofs.Common.{◌≡◌, ◌≢◌, refl, [], length, map, fold, sym, ap, ◌∙◌, rules}
+use Rattle.std.proofs.Common.{◌≢◌, refl, [], map, fold, sym, ap, rules}
 use Rattle.escape_stream.specs.StreamAction.{print, appended}
 use Rattle.escape_stream.specs.StreamActionView.{value_of}
 use Rattle.escape_stream.proofs.JoinLemmas.{no_chars, appended_text}

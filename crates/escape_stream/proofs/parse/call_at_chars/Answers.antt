@@ -1,6 +1,4 @@
-use Rattle.std.proofs.Common.{◌≡◌, [], ◌∷◌, length, map, ap, sym, rules, of_calls}
-use Rattle.std.specs.Str.{chars}
-use Rattle.std.specs.Str.Iter.{chars_rest}
+use Rattle.std.proofs.Common.{map, ap, rules, of_calls}
 use Rattle.std.proofs.lemmas.Str.{IsUtf8-past_char, chars_past_char}
 use Rattle.escape_stream.specs.declared.action.Action.TheVariants.{Print}
 use Rattle.escape_stream.specs.StreamAction.{print}

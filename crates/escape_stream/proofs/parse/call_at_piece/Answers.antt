@@ -1,5 +1,3 @@
-use Rattle.std.proofs.Common.{sym}
-use Rattle.escape_stream.specs.PiecesView.{actions_in}
 use Rattle.escape_stream.proofs.parse.call_at_piece.Goals as goal
 
 pub returns-in-Text-clause-called : goal.returns-in-Text-clause-called

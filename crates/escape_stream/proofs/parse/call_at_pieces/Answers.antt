@@ -1,6 +1,5 @@
-use Rattle.std.proofs.Common.{◌≡◌, ◌∙◌, Some, None, rules, of_calls, map, fold, sym}
-use Rattle.escape_stream.specs.PiecesView.{PiecesGo}
-use Rattle.escape_stream.proofs.WalkLemmas.{Walked, walked, called_piece, called_end}
+use Rattle.std.proofs.Common.{◌∙◌, rules}
+use Rattle.escape_stream.proofs.WalkLemmas.{walked, called_piece, called_end}
 use Rattle.escape_stream.proofs.parse.call_at_pieces.Goals as goal
 
 pub loop-piece-preserved : goal.loop-piece-preserved

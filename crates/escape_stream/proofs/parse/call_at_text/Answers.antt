@@ -1,8 +1,6 @@
-use Rattle.std.proofs.Common.{◌≡◌, map, List, ℕ, rules, subst, ap, sym, ◌∙◌}
-use Rattle.std.specs.Str.{chars, IsAscii}
+use Rattle.std.proofs.Common.{◌≡◌, rules}
+use Rattle.std.specs.Str.{IsAscii}
 use Rattle.std.proofs.lemmas.Str.{chars-IsAscii}
-use Rattle.escape_stream.specs.StreamAction.{print}
-use Rattle.escape_stream.specs.Parsing.{IsCalledAt}
 use Rattle.escape_stream.proofs.parse.call_at_text.Goals as goal
 
 pub returns-then-is_ascii-clause-called : goal.returns-then-is_ascii-clause-called

@@ -1,4 +1,4 @@
-use Rattle.std.proofs.Common.{◌≡◌, ◌∷◌, true, ap, rules}
+use Rattle.std.proofs.Common.{◌≡◌, ◌∷◌, true, rules}
 use Rattle.escape_framing.specs.Bytes.{is_control}
 use Rattle.escape_framing.specs.Held.{nothing_held}
 use Rattle.escape_framing.proofs.QuickLemmas.{control_reads}

@@ -1,6 +1,5 @@
 use Rattle.std.proofs.Common.{◌≡◌, ◌++◌, ◌∙◌, false, refl, ap, sym, rules}
 use Rattle.escape_framing.specs.Framing.{Framing}
-use Rattle.escape_framing.specs.Held.{InCommand}
 use Rattle.escape_framing.proofs.QuickLemmas.{body_silent}
 use Rattle.escape_framing.proofs.framer.Framer.read_body.Goals as goal
 

@@ -1,6 +1,5 @@
 use Rattle.std.proofs.Common.{◌≡◌, ◌∷◌, ◌∙◌, true, rules}
 use Rattle.escape_framing.specs.Bytes.{is_parameter}
-use Rattle.escape_framing.specs.Parameters.{with_byte}
 use Rattle.escape_framing.proofs.QuickLemmas.{fold_more, count_more}
 use Rattle.escape_framing.proofs.parameters.Parameters.push_all.Goals as goal
 

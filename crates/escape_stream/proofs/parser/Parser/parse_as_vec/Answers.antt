@@ -1,7 +1,5 @@
-use Rattle.std.proofs.Common.{length, [], map, fold, ap, ◌∙◌}
-use Rattle.escape_stream.specs.StreamAction.{StreamAction, appended}
+use Rattle.std.proofs.Common.{length, map, ap}
 use Rattle.escape_stream.specs.StreamActionView.{value_of}
-use Rattle.escape_stream.specs.Pieces.{actions_of_pieces}
 use Rattle.escape_stream.proofs.WalkLemmas.{joined_whole}
 use Rattle.escape_stream.proofs.parser.Parser.parse_as_vec.Goals as goal
 

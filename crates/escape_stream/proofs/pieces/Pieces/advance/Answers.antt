@@ -1,4 +1,4 @@
-use Rattle.std.proofs.Common.{rules, refl, ◌≡◌, ◌≢◌, ◌∷◌, [], ◌∙◌, sym, ap, Option, Some, None, subst, length, arith}
+use Rattle.std.proofs.Common.{rules, ◌≡◌, ◌≢◌, [], ◌∙◌, Option, None, subst, length}
 use Rattle.escape_framing.specs.declared.lone.Lone.TheVariants.{Nothing}
 use Rattle.escape_stream.specs.declared.action.Action.{Action}
 use Rattle.escape_stream.specs.Pending.{Gives, pending_values}

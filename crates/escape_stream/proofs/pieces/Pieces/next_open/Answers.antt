@@ -2,11 +2,6 @@ use Rattle.std.proofs.Common.{ap, ◌∙◌}
 use Rattle.escape_framing.specs.Framing.{Framing}
 use Rattle.escape_stream.proofs.pieces.Pieces.next_open.Goals as goal
 
-pub returns-in-Some : goal.returns-in-Some
-returns-in-Some c =
-    let t = c.take_control.ensures in
-    record { same = t.same; items = (c.requires.open, t.stage ∙ c.requires.open, t.gives c.requires.ready); parser = ap (λ (f : Framing). f.failed) t.parser ∙ c.requires.failed }
-
 pub returns : goal.returns
 returns c =
     let t = c.take_text.ensures in

@@ -1,7 +1,6 @@
 use Rattle.std.proofs.Common.{refl, ap, sym, ◌+◌, ◌∙◌}
 use Rattle.escape_framing.specs.Quick.{lone_step}
 use Rattle.escape_framing.specs.declared.lone.Lone.TheVariants as lone
-use Rattle.escape_stream.specs.Queue.{queue_actions}
 use Rattle.escape_stream.proofs.LoneReading.{lone_read, values_behind}
 use Rattle.escape_stream.proofs.pieces.Pieces.read_lone.Goals as goal
 

@@ -1,10 +1,8 @@
-use Rattle.std.proofs.Common.{rules, ◌≡◌, List, [], ◌++◌, ap, sym, ◌∙◌, false, None}
+use Rattle.std.proofs.Common.{rules, ◌≡◌, ap, sym, ◌∙◌, false}
 use Rattle.std.specs.Prelude.{IsTrue, is_some}
-use Rattle.escape_framing.specs.Parameters.{Parameters}
 use Rattle.escape_stream.specs.declared.queue.Waiting.{Waiting}
 use Rattle.escape_stream.specs.StreamActions.{actions_of}
-use Rattle.escape_stream.specs.Pending.{pending_values}
-use Rattle.escape_stream.specs.Queue.{waiting_dispatches, queue_actions}
+use Rattle.escape_stream.specs.Queue.{waiting_dispatches}
 use Rattle.escape_stream.proofs.QueueLemmas.{sequence_is_done, begun_actions, gives_begun, none_begun, empty_behind}
 use Rattle.escape_stream.proofs.queue.Queue.next_of_waiting.Goals as goal
 

@@ -1,0 +1,78 @@
+-- Between two texts that stand side by side lies a segment without an action.
+use Rattle.std.proofs.Common.{◌≡◌, ℕ, List, [], ◌∷◌, ◌++◌, length, map, refl, sym, ap, ◌∙◌, arith}
+use Rattle.std.proofs.lemmas.Grind.{flat_map-append}
+use Rattle.escape_framing.specs.Dispatch.{Dispatch, dispatches_of}
+use Rattle.escape_framing.specs.Framed as framing
+use Rattle.escape_framing.specs.Framed.{Framed, framed}
+use Rattle.escape_framing.specs.Placed.{placed_from}
+use Rattle.escape_framing.proofs.ApartLemmas.{texts_between}
+use Rattle.escape_stream.specs.StreamAction.{StreamAction}
+use Rattle.escape_stream.specs.StreamActions.{actions_of_dispatch, actions_of}
+use Rattle.escape_stream.specs.Pieces.{Piece, Text, Lone, pieces_of, pieces, AreApart}
+
+no_pieces : (before : List Piece) (i : Piece) (others : List Piece) → [] ≡ before ++ i ∷ others → ⊥
+no_pieces [] i others e = cc
+no_pieces (x ∷ before) i others e = cc
+
+-- behind actions by themselves
+behind_actions : (actions : List StreamAction) (rest before : List Piece) (from : ℕ) (text : List ℕ) (others : List Piece) → map Lone actions ++ rest ≡ before ++ Text from text ∷ others
+    → (front : List Piece) × (rest ≡ front ++ Text from text ∷ others)
+behind_actions [] rest before from text others e = (before, e)
+behind_actions (a ∷ actions) rest [] from text others e = cc
+behind_actions (a ∷ actions) rest (p ∷ before) from text others e = behind_actions actions rest before from text others (let k : map Lone actions ++ rest ≡ before ++ Text from text ∷ others = cc in k)
+
+-- a text of pieces is one of the items that they are of
+record IsItem (items : List Framed) (from : ℕ) (text : List ℕ) (others : List Piece) : Type 0 where
+  before : List Framed
+  behind : List Framed
+  are : items ≡ before ++ framing.Text from text ∷ behind
+  rest : others ≡ pieces_of behind
+
+is_item : (items : List Framed) (before : List Piece) (from : ℕ) (text : List ℕ) (others : List Piece) → pieces_of items ≡ before ++ Text from text ∷ others → IsItem items from text others
+is_item [] before from text others e = absurd (no_pieces before (Text from text) others e)
+is_item (framing.Text first shown ∷ items) [] from text others e =
+    let f : first ≡ from = cc in
+    let t : shown ≡ text = cc in
+    let r : pieces_of items ≡ others = cc in
+    record { before = []; behind = items; are = (λ i. framing.Text (f i) (t i) ∷ items); rest = sym r }
+is_item (framing.Text first shown ∷ items) (p ∷ before) from text others e =
+    let k = is_item items before from text others (let m : pieces_of items ≡ before ++ Text from text ∷ others = cc in m) in
+    record { before = framing.Text first shown ∷ k.before; behind = k.behind; are = (λ i. framing.Text first shown ∷ k.are i); rest = k.rest }
+is_item (framing.Lone d ∷ items) before from text others e =
+    let b = behind_actions (actions_of_dispatch d) (pieces_of items) before from text others e in
+    let k = is_item items b.0 from text others b.1 in
+    record { before = framing.Lone d ∷ k.before; behind = k.behind; are = (λ i. framing.Lone d ∷ k.are i); rest = k.rest }
+
+-- a text that stands first stands behind dispatches without an action
+record IsFirst (items : List Framed) (next : ℕ) (more : List ℕ) : Type 0 where
+  silent : List Dispatch
+  others : List Framed
+  are : items ≡ map framing.Lone silent ++ framing.Text next more ∷ others
+  none : actions_of silent ≡ []
+
+is_first : (items : List Framed) (next : ℕ) (more : List ℕ) (after : List Piece) → pieces_of items ≡ Text next more ∷ after → IsFirst items next more
+is_first [] next more after e = cc
+is_first (framing.Text first shown ∷ items) next more after e =
+    let f : first ≡ next = cc in
+    let t : shown ≡ more = cc in
+    record { silent = []; others = items; are = (λ i. framing.Text (f i) (t i) ∷ items); none = refl }
+is_first (framing.Lone d ∷ items) next more after e = by_actions (actions_of_dispatch d) refl (λ k. is_first items next more after k)
+  where
+    by_actions : (actions : List StreamAction) → actions_of_dispatch d ≡ actions → (pieces_of items ≡ Text next more ∷ after → IsFirst items next more) → IsFirst (framing.Lone d ∷ items) next more
+    by_actions [] k later =
+        let r = later (sym (ap (λ (l : List StreamAction). map Lone l ++ pieces_of items) k) ∙ e) in
+        record { silent = d ∷ r.silent; others = r.others; are = (λ i. framing.Lone d ∷ r.are i); none = ap (λ (l : List StreamAction). l ++ actions_of r.silent) k ∙ r.none }
+    by_actions (a ∷ actions) k later =
+        let m : Lone a ∷ (map Lone actions ++ pieces_of items) ≡ Text next more ∷ after = sym (ap (λ (l : List StreamAction). map Lone l ++ pieces_of items) k) ∙ e in cc
+
+none_first : (xs ys : List StreamAction) → xs ++ ys ≡ [] → xs ≡ []
+none_first [] ys e = refl
+none_first (x ∷ xs) ys e = cc
+
+pub pieces_apart : (stream bytes : List ℕ) → AreApart (stream ++ bytes) (pieces stream bytes)
+pieces_apart stream bytes before after from next text more e =
+    let i = is_item (framed (length stream) (placed_from stream bytes)) before from text (Text next more ∷ after) e in
+    let f = is_first i.behind next more after (sym i.rest) in
+    let b = texts_between bytes stream (length stream) i.before from text f.silent next more f.others (omega arith) (i.are ∙ ap (λ (l : List Framed). i.before ++ framing.Text from text ∷ l) f.are) in
+    let none : actions_of (dispatches_of b.segment) ++ actions_of b.rest ≡ [] = sym (flat_map-append actions_of_dispatch (dispatches_of b.segment) b.rest) ∙ ap actions_of (sym b.first) ∙ f.none in
+    (b.segment, b.lies, none_first (actions_of (dispatches_of b.segment)) (actions_of b.rest) none)
