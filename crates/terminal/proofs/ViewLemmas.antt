@@ -20,7 +20,7 @@ use Rattle.terminal.proofs.LawLemmas.{idle_view}
 use Rattle.terminal_render.specs.Effects.{IsReady, RenderedTextsHaveTheEffect, RenderedTextsLeaveIdle}
 use Rattle.terminal_render.specs.Lists.{all_rendered}
 use Rattle.terminal_render.specs.Rendering.{rendering}
-use Rattle.terminal_spelling.specs.Sizes.{all_sent_size, prints_in, runs_in}
+use Rattle.terminal_spelling.specs.Sizes.{AreShort, all_sent_size, prints_in, runs_in}
 use Rattle.terminal_spelling.specs.Spelling.{HaveSpellings, IsSpelledScreen}
 use Rattle.terminal_spelling.proofs.ViewLemmas.{display_on_is}
 use Rattle.terminal_table.specs.Alone as alone
@@ -193,6 +193,13 @@ module _ {W : Type 0} (width_of : W → List ℕ → ℕ) where
         let lawful = (state_is t s).lawful in
         subst (λ o. length (bytes_of o) ≤ all_sent_size (changes_for t number)) (sym found.1)
         (size screen.width (height screen) (changes_for t number) found.0 lawful.wide_enough s.spelled.surface.wide (omega (arith, lawful.row_in)) s.spelled.surface.tall spelled found.1)
+
+    pub each_short : ((x : Screen) (log : Sized) (n : ℕ) → IsDisplay (display_on x) → IsSpelledScreen x → HaveSpellings x.width (height x) log.log.entries → HaveSpellings x.width (height x) (update_changes x log n))
+        → ((w h : ℕ) (changes : List ChangeValue) → 0 < w → w < 2 ^ 32 → 0 < h → h < 2 ^ 32 → HaveSpellings w h changes → AreShort w h changes)
+        → AreShort screen.width (height screen) (changes_for t number)
+    each_short law size =
+        let lawful = (state_is t s).lawful in
+        size screen.width (height screen) (changes_for t number) lawful.wide_enough s.spelled.surface.wide (omega (arith, lawful.row_in)) s.spelled.surface.tall (spelled_update law)
 
     pub prints : ((x : Screen) (log : Sized) (n : ℕ) → IsDisplay (display_on x) → IsSpelledScreen x → HaveSpellings x.width (height x) log.log.entries → HaveSpellings x.width (height x) (update_changes x log n))
         → ((w h : ℕ) (changes : List ChangeValue) → HaveSpellings w h changes → all_rendered changes w h ≡ None → ⊥)

@@ -11,7 +11,7 @@ ghost use Rattle.screen_effects.specs.Effect.{effect};
 ghost use Rattle.terminal.specs.Terminal.{Terminal, StandsAt, GoesBy, IsIdle, state_in};
 ghost use Rattle.terminal.specs.Viewing.{Prints, ShowsAt, changes_for, update_for};
 ghost use Rattle.terminal_render.specs.Rendering.{rendering};
-ghost use Rattle.terminal_spelling.specs.Sizes.{all_sent_size, runs_in};
+ghost use Rattle.terminal_spelling.specs.Sizes.{AreShort, all_sent_size, runs_in};
 ghost use Rattle.terminal_table.specs.History.{History, Piece, Forget};
 ghost use Rattle.terminal_table.specs.Meaning.{new_view};
 ghost use Rattle.terminal_table.specs.Turns.{AreSizes};
@@ -24,7 +24,9 @@ use cell_base::Widths;
 use cell_surface::laws::{forgotten_changes_are_not_due, surfaces_stay_lawful};
 use terminal_render::laws::rendered_texts_have_the_effect;
 use terminal_spelling::laws::spelled_changes_are_rendered;
-use terminal_spelling::sizes::{deltas_print_each_run_once, sent_lists_are_short};
+use terminal_spelling::sizes::{
+    deltas_print_each_run_once, sent_changes_are_short, sent_lists_are_short,
+};
 use terminal_update::laws::{updates_are_counted, updates_have_spellings};
 use terminal_update::viewers::{
     updates_show_the_input, viewers_go_on_showing, viewers_read_updates,
@@ -79,11 +81,13 @@ pub fn first_updates_tell_screens<W: Widths + Drop>(one: &Terminal<W>, other: &T
     viewers_read_updates();
 }
 
-/// An update has at most 2wh + 2h + 11 changes on a screen of w columns and h rows, and no more bytes than
-/// what is sent for each of them at most: 320 beside its text, its title or its link. Where changes are due it
-/// prints their texts, each once and in turn.
+/// An update has at most 2wh + 2h + 11 changes on a screen of w columns and h rows. For each of them at most
+/// 320 bytes are sent beside its text, its title, or its link's parameters and URI, and an update has no more
+/// bytes than what is sent for each at most. Where changes are due it prints their texts, each once and in
+/// turn.
 pub fn updates_are_small<W: Widths + Drop>(terminal: &Terminal<W>)
     ensures count { (number : ℕ) → terminal.now.is_failed ≡ false → length (changes_for terminal.now number) ≤ 2 * (state_in terminal.now).screen.width * height (state_in terminal.now).screen + 2 * height (state_in terminal.now).screen + 11 }
+    ensures each { (number : ℕ) → terminal.now.is_failed ≡ false → AreShort (state_in terminal.now).screen.width (height (state_in terminal.now).screen) (changes_for terminal.now number) }
     ensures bytes { (number : ℕ) → terminal.now.is_failed ≡ false → length (update_for terminal.now number) ≤ all_sent_size (changes_for terminal.now number) }
     ensures printed { (number : ℕ) → terminal.now.is_failed ≡ false → Prints (update_for terminal.now number) (runs_in (changes_for terminal.now number)) }
 {
@@ -92,6 +96,7 @@ pub fn updates_are_small<W: Widths + Drop>(terminal: &Terminal<W>)
     updates_are_counted();
     updates_have_spellings();
     spelled_changes_are_rendered();
+    sent_changes_are_short();
     sent_lists_are_short();
     deltas_print_each_run_once();
 }

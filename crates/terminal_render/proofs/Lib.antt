@@ -12,3 +12,5 @@ pub mod WritableLemmas
 pub mod FedLemmas
 pub mod SizeLemmas
 pub mod ListLemmas
+pub mod OpeningLemmas
+pub mod SentLemmas

@@ -1,12 +1,14 @@
 -- Links that read back from their texts.
-use Rattle.std.proofs.Common.{◌≡◌, ℕ, Bool, true, false, List, [], ◌∷◌, refl, sym, ap, ◌∙◌}
-use Rattle.std.specs.Prelude.{◌&&◌, ◌↔◌, IsTrue, not, Option, Some, None, Result, Ok, Err}
+use Rattle.std.proofs.Common.{◌≡◌, ℕ, Bool, true, false, List, [], ◌∷◌, ◌++◌, length, refl, sym, ap, ◌∙◌, arith}
+use Rattle.std.specs.Prelude.{◌&&◌, ◌↔◌, IsTrue, not, Option, Some, None, Result, Ok, Err, String}
 use Rattle.std.specs.Str.{bytes_eq}
 use Rattle.std.proofs.lemmas.Bool.{and_parts, and_from, false≢true}
 use Rattle.std.proofs.lemmas.Slice.Eq.{bytes_eq-Decides}
 use Rattle.cell_base.specs.declared.link_error.LinkError.{LinkError}
-use Rattle.cell_base.specs.Link.{Link, Param}
-use Rattle.cell_base.specs.LinkText.{link_text, link_reading, pieces, IsReadBack}
+use Rattle.cell_base.specs.Link.{Link, Param, texts_of}
+use Rattle.cell_base.specs.LinkText.{link_text, link_reading, params_text, pieces, IsReadBack}
+use Rattle.escape_osc.specs.Command.{set_hyperlink}
+use Rattle.escape_osc.specs.Text.{framed, text_of}
 use Rattle.cell_base.proofs.LinkLaws.{back_is_given}
 use Rattle.terminal_render.specs.Links.{same_params, is_reading_of, reads_back}
 
@@ -66,3 +68,13 @@ same_answer false false f g = refl
 -- an answer that tells it
 pub told : (answer : Bool) (link : Link) → IsTrue answer ↔ IsReadBack link → answer ≡ reads_back link
 told answer link tells = same_answer answer (reads_back link) (λ e. is_read_back link (tells.0 e)) (λ e. tells.1 (reads_back_is link e))
+
+-- ---- links without parameters
+
+pub no_params : {Z : Type 0} (entries : List (String Z × String Z)) (params : List Param) → length entries ≡ 0 → texts_of entries ≡ params → params ≡ []
+no_params [] params none e = sym e
+no_params (entry ∷ entries) params none e = absurd (omega (arith, none))
+
+pub bare_text : (link : Link) → link.params ≡ [] → text_of (set_hyperlink (Some link)) ≡ framed (56 ∷ 59 ∷ 59 ∷ link.uri)
+unfolding link_text
+bare_text link e = ap (λ (params : List Param). framed (56 ∷ 59 ∷ (params_text params ++ 59 ∷ link.uri))) e

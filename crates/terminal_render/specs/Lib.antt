@@ -9,3 +9,4 @@ pub mod Effects
 pub mod Carried
 pub mod Sizes
 pub mod Lists
+pub mod SentView

@@ -1,6 +1,9 @@
 -- What a `Way` and a pair of moves of the code show.
 use Rattle.std.specs.Prelude.{⊤, ◌≤◌, List, [], ◌∷◌, ◌++◌, Option, Some, None}
 use Rattle.csi_codec.specs.declared.cursors.Cursor.{Cursor}
+use Rattle.csi_codec.specs.declared.cursors.Cursor.TheVariants as cursor
+use Rattle.terminal_render.specs.declared.moves.Move.{Move}
+use Rattle.terminal_render.specs.declared.moves.Move.TheVariants as move
 use Rattle.terminal_render.specs.declared.places.Way.{Way}
 use Rattle.terminal_render.specs.declared.places.Way.TheVariants as code
 use Rattle.terminal_render.specs.Places as to
@@ -16,10 +19,18 @@ IsCounted (to.At place) = 1 ≤ place
 IsCounted (to.Back count) = ⊤
 IsCounted (to.On count) = ⊤
 
-abbrev pub listed : Option Cursor → List Cursor
+abbrev pub move_cursor : Move → Cursor
+move_cursor (move.To line col) = cursor.Position line.number col.number
+move_cursor (move.ToColumn col) = cursor.CharacterAbsolute col.number
+move_cursor (move.ToLine line) = cursor.LinePositionAbsolute line
+move_cursor (move.Up rows) = cursor.Up rows
+move_cursor (move.Down rows) = cursor.Down rows
+move_cursor (move.Right columns) = cursor.Right columns
+
+abbrev pub listed : Option Move → List Cursor
 listed None = []
-listed (Some move) = move ∷ []
+listed (Some one) = move_cursor one ∷ []
 
 -- the one, and then the other
-abbrev pub both_listed : Option Cursor × Option Cursor → List Cursor
+abbrev pub both_listed : Option Move × Option Move → List Cursor
 both_listed moves = listed moves.0 ++ listed moves.1

@@ -1,5 +1,5 @@
 -- What is sent for a change, so that a terminal of a size does to its screen what the change does.
-use Rattle.std.specs.Prelude.{ℕ, Bool, ◌&&◌, ◌==◌, nat_le, min, List, [], ◌∷◌, map, Option, Some, None, option_map, if◌then◌else◌}
+use Rattle.std.specs.Prelude.{ℕ, Bool, ◌&&◌, ◌==◌, nat_le, min, List, [], ◌∷◌, ◌++◌, map, Option, Some, None, option_map, if◌then◌else◌}
 use Rattle.cell_base.specs.declared.attributes.CursorVisibility.{CursorVisibility as Visibility}
 use Rattle.cell_base.specs.declared.attributes.CursorVisibility.TheVariants.{Hidden, Visible}
 use Rattle.cell_change.specs.ChangeValue.{ChangeValue, Attribute, AllAttributes, Text, ClearScreen, ClearToEndOfLine, ClearToEndOfScreen, CursorPosition, CursorColor, CursorShape, CursorVisibility, LineAttribute, ScrollRegionUp, ScrollRegionDown, Title}
@@ -56,3 +56,7 @@ rendering (ScrollRegionDown first size count) width height = scroll_rendering ed
 rendering (CursorColor color) width height = None
 rendering (CursorShape shape) width height = None
 rendering (LineAttribute size) width height = None
+
+-- what is sent, behind other actions
+abbrev pub behind : List StreamAction → Option (List StreamAction) → Option (List StreamAction)
+behind before found = option_map (λ actions. before ++ actions) found

@@ -1,43 +1,44 @@
 //! Lists of actions that are being made.
-ghost use Rattle.std.specs.Prelude.{◌≡◌, ◌++◌, ◌∷◌, [], map, IfOk, OnOk, List};
-ghost use Rattle.std.specs.Prelude.{option_map};
+ghost use Rattle.std.specs.Prelude.{◌≡◌, ◌++◌, ◌∷◌, [], map, IfOk, OnOk, option_map};
 ghost use Rattle.csi_codec.specs.Actions as codec;
-ghost use Rattle.escape_osc.specs.CommandView.{command_of};
+ghost use Rattle.escape_osc.specs.Command.{set_window_title};
 ghost use Rattle.escape_stream.specs.Controls.{control_number};
 ghost use Rattle.escape_stream.specs.StreamAction.{command, control, csi};
 ghost use Rattle.escape_stream.specs.StreamActionView.{value_of};
-ghost use Rattle.terminal_render.specs.Links.{is_carried};
+ghost use Rattle.escape_stream.specs.StreamText.{stream_text};
 ghost use Rattle.terminal_render.specs.Pen.{link_action, set};
+ghost use Rattle.terminal_render.specs.PlacesView.{move_cursor};
 ghost use Rattle.terminal_render.specs.Texts.{run_actions};
 
+use crate::moves::Move;
+use crate::sent::Sent;
 use cell_base::Hyperlink;
-use csi_codec::{CSI, Cursor, Edit, Sgr};
-use escape_osc::OperatingSystemCommand;
+use csi_codec::{Edit, Mode, Sgr};
 use escape_stream::{Action, ControlCode};
 use std::alloc::{AllocError, Global};
 use std::marker::Model;
 use std::rc::Rc;
 
-/// Actions in the order in which they are sent.
+/// Actions in the order in which they are sent, lent from the changes that they are sent for.
 #[derive(Drop)]
-pub(crate) struct Actions {
-    list: Vec<Action>,
+pub(crate) struct Actions<'a> {
+    list: Vec<Sent<'a>>,
 }
 
-impl Model for Actions {
-    ghost use Rattle.std.specs.Prelude.{List, map};
+impl<'a> Model for Actions<'a> {
+    ghost use Rattle.std.specs.Prelude.{List};
     ghost use Rattle.escape_stream.specs.StreamAction.{StreamAction};
 
     ghost Value = { List StreamAction };
 
-    ghost use Rattle.escape_stream.specs.StreamActionView.{value_of};
+    ghost use Rattle.terminal_render.specs.SentView.{sent_values};
 
-    ghost view = { λ actions. map value_of actions.list.items };
+    ghost view = { λ actions. sent_values actions.list.items };
 }
 
-impl Actions {
+impl<'a> Actions<'a> {
     /// None yet.
-    pub(crate) fn new(alloc: Global) -> Actions
+    pub(crate) fn new(alloc: Global) -> Actions<'a>
         ensures { result ≡ [] }
     {
         Actions {
@@ -45,12 +46,11 @@ impl Actions {
         }
     }
 
-    /// One more.
-    pub(crate) fn push(&mut self, action: Action) -> Result<(), AllocError>
-        ensures { OnOk result (self.new ≡ self.old ++ value_of action ∷ []) }
+    /// None any more.
+    pub(crate) fn clear(&mut self)
+        ensures { self.new ≡ [] }
     {
-        self.list.push(action)?;
-        Ok(())
+        self.list.clear();
     }
 
     /// An SGR, if there is one.
@@ -58,66 +58,89 @@ impl Actions {
         ensures { OnOk result (self.new ≡ self.old ++ set value) }
     {
         match value {
-            Some(value) => self.push(Action::CSI(CSI::Sgr(value))),
+            Some(value) => {
+                self.list.push(Sent::Setting(value))?;
+                Ok(())
+            }
             None => Ok(()),
         }
     }
 
     /// A move of the cursor.
-    pub(crate) fn push_move(&mut self, cursor: Cursor) -> Result<(), AllocError>
-        ensures { OnOk result (self.new ≡ self.old ++ csi (codec.cursor cursor) ∷ []) }
+    pub(crate) fn push_move(&mut self, step: Move) -> Result<(), AllocError>
+        ensures { OnOk result (self.new ≡ self.old ++ csi (codec.cursor (move_cursor step)) ∷ []) }
     {
-        self.push(Action::CSI(CSI::Cursor(cursor)))
+        self.list.push(Sent::Move(step))?;
+        Ok(())
     }
 
     /// An edit.
     pub(crate) fn push_edit(&mut self, edit: Edit) -> Result<(), AllocError>
         ensures { OnOk result (self.new ≡ self.old ++ csi (codec.edit edit) ∷ []) }
     {
-        self.push(Action::CSI(CSI::Edit(edit)))
+        self.list.push(Sent::Edit(edit))?;
+        Ok(())
+    }
+
+    /// A mode.
+    pub(crate) fn push_mode(&mut self, mode: Mode) -> Result<(), AllocError>
+        ensures { OnOk result (self.new ≡ self.old ++ csi (codec.mode mode) ∷ []) }
+    {
+        self.list.push(Sent::Mode(mode))?;
+        Ok(())
     }
 
     /// A control.
     pub(crate) fn push_control(&mut self, code: ControlCode) -> Result<(), AllocError>
         ensures { OnOk result (self.new ≡ self.old ++ control (control_number code) ∷ []) }
     {
-        self.push(Action::Control(code))
-    }
-
-    /// A text that is printed, and NUL, which ends the run.
-    pub(crate) fn push_run(&mut self, text: &str) -> Result<(), AllocError>
-        ensures { OnOk result (self.new ≡ self.old ++ run_actions text.now) }
-    {
-        let text = String::from_str(*self.list.allocator(), text)?;
-        self.push(Action::PrintString(text))?;
-        self.push_control(ControlCode::Null)?;
+        self.list.push(Sent::Control(code))?;
         Ok(())
     }
 
-    /// An operating system command.
-    pub(crate) fn push_command(&mut self, value: OperatingSystemCommand) -> Result<(), AllocError>
-        ensures { OnOk result (self.new ≡ self.old ++ command (command_of value) ∷ []) }
+    /// A text that is printed, and NUL, which ends the run.
+    pub(crate) fn push_run(&mut self, text: &'a str) -> Result<(), AllocError>
+        ensures { OnOk result (self.new ≡ self.old ++ run_actions text.now) }
     {
-        let value = Box::new(*self.list.allocator(), value)?;
-        self.push(Action::OperatingSystemCommand(value))
+        self.list.push(Sent::Text(text))?;
+        self.push_control(ControlCode::Null)
+    }
+
+    /// OSC 2.
+    pub(crate) fn push_title(&mut self, title: &'a str) -> Result<(), AllocError>
+        ensures { OnOk result (self.new ≡ self.old ++ command (set_window_title title.now) ∷ []) }
+    {
+        self.list.push(Sent::Title(title))?;
+        Ok(())
     }
 
     /// OSC 8: a link, or the end of one.
-    pub(crate) fn push_link(&mut self, link: Option<&Rc<Hyperlink>>) -> Result<(), AllocError>
+    pub(crate) fn push_link(&mut self, link: Option<&'a Rc<Hyperlink>>) -> Result<(), AllocError>
         ensures { OnOk result (self.new ≡ self.old ++ link_action (option_map (λ l. l.now.value) link.entry) ∷ []) }
     {
-        let link = match link {
-            Some(link) => Some(link.clone()?),
-            None => None,
-        };
-        self.push_command(OperatingSystemCommand::SetHyperlink(link))
+        self.list.push(Sent::Link(link))?;
+        Ok(())
     }
 
-    /// All of them.
-    pub(crate) fn into_vec(self) -> Vec<Action>
-        ensures { map value_of result.items ≡ self }
+    /// The actions by themselves.
+    pub(crate) fn to_vec(&self, alloc: Global) -> Result<Vec<Action>, AllocError>
+        ensures { IfOk result (λ actions. map value_of actions.items ≡ self.now) }
     {
-        let Actions { list } = self;
-        list
+        let mut actions = Vec::new(alloc);
+        for sent in &self.list {
+            actions.push(sent.to_action(alloc)?)?;
+        }
+        Ok(actions)
+    }
+
+    /// Appends the bytes of the actions.
+    #[tactic(auto, using(crate::proofs::SentLemmas::text_next, crate::proofs::SentLemmas::text_end))]
+    pub(crate) fn append_to(&self, bytes: &mut Vec<u8>) -> Result<(), AllocError>
+        ensures { OnOk result (bytes.new.items ≡ bytes.old.items ++ stream_text self.now) }
+    {
+        for sent in &self.list {
+            sent.append_to(bytes)?;
+        }
+        Ok(())
     }
 }

@@ -6,14 +6,14 @@ mod error;
 pub mod examples;
 pub mod laws;
 mod links;
-mod lists;
+mod moves;
 mod pen;
+mod place;
 mod places;
 mod rendering;
-#[cfg(test)]
-mod tests;
+mod sent;
 mod texts;
 mod values;
 
 pub use error::RenderError;
-pub use rendering::render;
+pub use rendering::{append_renderings, render};

@@ -1,5 +1,5 @@
 //! Attributes, pens and clears.
-ghost use Rattle.std.specs.Prelude.{◌≡◌, ◌++◌, ◌∷◌, [], map, not, IfOk, OnOk, None, Some, true, if◌then◌else◌, ◌||◌, option_map};
+ghost use Rattle.std.specs.Prelude.{◌≡◌, ◌++◌, ◌∷◌, [], not, OnOk, None, Some, true, if◌then◌else◌, ◌||◌, option_map};
 ghost use Rattle.std.specs.List.{flat_map};
 ghost use Rattle.cell_base.specs.AttributeValueOf.{attribute_value};
 ghost use Rattle.csi_codec.specs.Actions as codec;
@@ -8,18 +8,18 @@ ghost use Rattle.csi_codec.specs.declared.edits.Edit.TheVariants as edit;
 ghost use Rattle.csi_codec.specs.declared.edits.EraseInDisplay.TheVariants as display;
 ghost use Rattle.csi_codec.specs.declared.rendition.Sgr.TheVariants as sgr;
 ghost use Rattle.escape_stream.specs.StreamAction.{csi};
-ghost use Rattle.escape_stream.specs.StreamActionView.{value_of};
 ghost use Rattle.terminal_render.specs.Pen.{attribute_setting, colour_setting, is_unsaid, link_action, pen_actions, pen_settings, plain_pen, rendition, set, settings, unless_base_line, unless_default, unless_none, unless_normal, unless_off, unless_steady};
 
 use crate::actions::Actions;
 use crate::links::is_carried;
+use crate::moves::Move;
+use crate::place::Place;
 use cell_base::{
     AttributeChange, Blink, CellAttributes, ColorAttribute, ColorSpec, Hyperlink, Intensity,
     SemanticType, Underline, VerticalAlign,
 };
-use csi_codec::{Cursor, Edit, EraseInDisplay, OneBased, Sgr};
-use escape_stream::Action;
-use std::alloc::{AllocError, Global};
+use csi_codec::{Edit, EraseInDisplay, Sgr};
+use std::alloc::AllocError;
 use std::rc::Rc;
 
 /// A colour as SGR sets it: none that falls back to the palette.
@@ -154,20 +154,19 @@ pub(crate) fn is_unsaid(a: &CellAttributes) -> bool
 }
 
 /// A reset, what is set behind it, and the link or its end.
-pub(crate) fn pen_actions(
-    alloc: Global,
+pub(crate) fn push_pen<'a>(
+    actions: &mut Actions<'a>,
     values: [Option<Sgr>; 12],
-    link: Option<&Rc<Hyperlink>>,
-) -> Result<Vec<Action>, AllocError>
-    ensures { IfOk result (λ actions. map value_of actions.items ≡ pen_actions values (option_map (λ l. l.now.value) link.entry)) }
+    link: Option<&'a Rc<Hyperlink>>,
+) -> Result<(), AllocError>
+    ensures { OnOk result (actions.new ≡ actions.old ++ pen_actions values (option_map (λ l. l.now.value) link.entry)) }
 {
-    let mut actions = Actions::new(alloc);
     actions.push_setting(Some(Sgr::Reset))?;
     for value in values {
         actions.push_setting(value)?;
     }
     actions.push_link(link)?;
-    Ok(actions.into_vec())
+    Ok(())
 }
 
 /// The SGR of one attribute, if it isn't the link and can be told.
@@ -188,8 +187,8 @@ pub(crate) fn attribute_setting(change: &AttributeChange) -> Option<Sgr>
     }
 }
 
-/// A plain pen on a background, set before an erasure.
-pub(crate) fn push_plain_pen(actions: &mut Actions, color: ColorSpec) -> Result<(), AllocError>
+// A plain pen on a background, set before an erasure.
+fn push_plain_pen(actions: &mut Actions<'_>, color: ColorSpec) -> Result<(), AllocError>
     ensures { OnOk result (actions.new ≡ actions.old ++ plain_pen color) }
 {
     actions.push_setting(Some(Sgr::Reset))?;
@@ -199,32 +198,25 @@ pub(crate) fn push_plain_pen(actions: &mut Actions, color: ColorSpec) -> Result<
 }
 
 /// An erasure on a background.
-pub(crate) fn clear_actions(
-    alloc: Global,
+pub(crate) fn push_clear(
+    actions: &mut Actions<'_>,
     color: ColorSpec,
     erasure: Edit,
-) -> Result<Vec<Action>, AllocError>
-    ensures { IfOk result (λ actions. map value_of actions.items ≡ plain_pen color ++ csi (codec.edit erasure) ∷ []) }
+) -> Result<(), AllocError>
+    ensures { OnOk result (actions.new ≡ actions.old ++ (plain_pen color ++ csi (codec.edit erasure) ∷ [])) }
 {
-    let mut actions = Actions::new(alloc);
-    push_plain_pen(&mut actions, color)?;
-    actions.push_edit(erasure)?;
-    Ok(actions.into_vec())
+    push_plain_pen(actions, color)?;
+    actions.push_edit(erasure)
 }
 
 /// An erasure of the whole screen, and the cursor goes home.
-pub(crate) fn clear_screen_actions(
-    alloc: Global,
+pub(crate) fn push_clear_screen(
+    actions: &mut Actions<'_>,
     color: ColorSpec,
-) -> Result<Vec<Action>, AllocError>
-    ensures { IfOk result (λ actions. map value_of actions.items ≡ plain_pen color ++ (csi (codec.edit (edit.EraseInDisplay display.EraseDisplay)) ∷ csi (codec.cursor (cursor.Position 1 1)) ∷ [])) }
+) -> Result<(), AllocError>
+    ensures { OnOk result (actions.new ≡ actions.old ++ (plain_pen color ++ (csi (codec.edit (edit.EraseInDisplay display.EraseDisplay)) ∷ csi (codec.cursor (cursor.Position 1 1)) ∷ []))) }
 {
-    let mut actions = Actions::new(alloc);
-    push_plain_pen(&mut actions, color)?;
+    push_plain_pen(actions, color)?;
     actions.push_edit(Edit::EraseInDisplay(EraseInDisplay::EraseDisplay))?;
-    actions.push_move(Cursor::Position {
-        line: OneBased::new(1),
-        col: OneBased::new(1),
-    })?;
-    Ok(actions.into_vec())
+    actions.push_move(Move::To(Place::new(1), Place::new(1)))
 }

@@ -1,17 +1,16 @@
 //! Positions as moves of the cursor.
-ghost use Rattle.std.specs.Prelude.{◌≡◌, ◌+◌, ◌-◌, min, ◌<◌, ◌≤◌, ◌^◌, ◌∷◌, ◌++◌, [], map, IfOk, OnOk, option_map};
+ghost use Rattle.std.specs.Prelude.{◌≡◌, ◌+◌, ◌-◌, min, ◌<◌, ◌≤◌, ◌^◌, ◌++◌, map, OnOk, option_map};
 ghost use Rattle.csi_codec.specs.Parameters.{word_max};
 ghost use Rattle.csi_codec.specs.declared.cursors.Cursor.TheVariants as cursor;
-ghost use Rattle.escape_stream.specs.StreamActionView.{value_of};
 ghost use Rattle.terminal_render.specs.Places.{is_past, move_by, moves, position_moves, way_of};
-ghost use Rattle.terminal_render.specs.PlacesView.{IsCounted, both_listed, listed, way_value};
+ghost use Rattle.terminal_render.specs.PlacesView.{IsCounted, both_listed, listed, move_cursor, way_value};
 ghost use Rattle.terminal_render.specs.Rendering.{moved};
 
 use crate::actions::Actions;
+use crate::moves::Move;
+use crate::place::Place;
 use cell_base::Position;
-use csi_codec::{Cursor, OneBased};
-use escape_stream::Action;
-use std::alloc::{AllocError, Global};
+use std::alloc::AllocError;
 
 /// A known place, counted from 1, or so many before or behind the current one.
 #[derive(Clone, Copy)]
@@ -63,61 +62,58 @@ fn count_of(count: usize) -> u32
 }
 
 // CUP.
-fn place_at(line: u32, col: u32) -> Cursor
+fn place_at(line: u32, col: u32) -> Move
     requires line { 1 ≤ line }
     requires column { 1 ≤ col }
-    ensures { result ≡ cursor.Position line col }
+    ensures { move_cursor result ≡ cursor.Position line col }
 {
-    Cursor::Position {
-        line: OneBased::new(line),
-        col: OneBased::new(col),
-    }
+    Move::To(Place::new(line), Place::new(col))
 }
 
 // CHA.
-fn column_at(col: u32) -> Cursor
+fn column_at(col: u32) -> Move
     requires { 1 ≤ col }
-    ensures { result ≡ cursor.CharacterAbsolute col }
+    ensures { move_cursor result ≡ cursor.CharacterAbsolute col }
 {
-    Cursor::CharacterAbsolute(OneBased::new(col))
+    Move::ToColumn(Place::new(col))
 }
 
 // CUU; none by 0.
-fn up(rows: usize) -> Option<Cursor>
+fn up(rows: usize) -> Option<Move>
     ensures { listed result ≡ move_by cursor.Up rows }
 {
     if rows == 0 {
         None
     } else {
-        Some(Cursor::Up(count_of(rows)))
+        Some(Move::Up(count_of(rows)))
     }
 }
 
 // CUD.
-fn down(rows: usize) -> Option<Cursor>
+fn down(rows: usize) -> Option<Move>
     ensures { listed result ≡ move_by cursor.Down rows }
 {
     if rows == 0 {
         None
     } else {
-        Some(Cursor::Down(count_of(rows)))
+        Some(Move::Down(count_of(rows)))
     }
 }
 
 // CUF.
-fn right(columns: usize) -> Option<Cursor>
+fn right(columns: usize) -> Option<Move>
     ensures { listed result ≡ move_by cursor.Right columns }
 {
     if columns == 0 {
         None
     } else {
-        Some(Cursor::Right(count_of(columns)))
+        Some(Move::Right(count_of(columns)))
     }
 }
 
 // The moves that lead the column one way and the row another.
 #[tactic(auto, unfolding(crate::specs::Places::moves))]
-fn moves(column: Way, row: Way) -> Option<(Option<Cursor>, Option<Cursor>)>
+fn moves(column: Way, row: Way) -> Option<(Option<Move>, Option<Move>)>
     requires column { IsCounted (way_value column) }
     requires row { IsCounted (way_value row) }
     ensures { option_map both_listed result ≡ moves (way_value column) (way_value row) }
@@ -126,9 +122,7 @@ fn moves(column: Way, row: Way) -> Option<(Option<Cursor>, Option<Cursor>)>
         (Way::At(col), Way::At(line)) => Some((Some(place_at(line, col)), None)),
         (Way::At(col), Way::Back(rows)) => Some((up(rows), Some(column_at(col)))),
         (Way::At(col), Way::On(rows)) => Some((down(rows), Some(column_at(col)))),
-        (Way::On(columns), Way::At(line)) => {
-            Some((right(columns), Some(Cursor::LinePositionAbsolute(line))))
-        }
+        (Way::On(columns), Way::At(line)) => { Some((right(columns), Some(Move::ToLine(line)))) }
         (Way::On(columns), Way::Back(rows)) => Some((right(columns), up(rows))),
         (Way::On(0), Way::On(0)) => None,
         (Way::On(columns), Way::On(rows)) => Some((right(columns), down(rows))),
@@ -143,7 +137,7 @@ pub(crate) fn position_moves(
     height: usize,
     x: Position,
     y: Position,
-) -> Option<(Option<Cursor>, Option<Cursor>)>
+) -> Option<(Option<Move>, Option<Move>)>
     requires columns { 0 < width }
     requires width { width < 2 ^ 32 }
     requires rows { 0 < height }
@@ -157,25 +151,24 @@ pub(crate) fn position_moves(
 }
 
 /// The moves, in turn.
-pub(crate) fn move_actions(
-    alloc: Global,
-    first: Option<Cursor>,
-    second: Option<Cursor>,
-) -> Result<Vec<Action>, AllocError>
-    ensures { IfOk result (λ actions. map value_of actions.items ≡ map moved (both_listed (first, second))) }
+pub(crate) fn push_moves(
+    actions: &mut Actions<'_>,
+    first: Option<Move>,
+    second: Option<Move>,
+) -> Result<(), AllocError>
+    ensures { OnOk result (actions.new ≡ actions.old ++ map moved (both_listed (first, second))) }
 {
-    let mut actions = Actions::new(alloc);
-    push_optional(&mut actions, first)?;
-    push_optional(&mut actions, second)?;
-    Ok(actions.into_vec())
+    push_optional(actions, first)?;
+    push_optional(actions, second)?;
+    Ok(())
 }
 
 // A move, if there is one.
-fn push_optional(actions: &mut Actions, cursor: Option<Cursor>) -> Result<(), AllocError>
-    ensures { OnOk result (actions.new ≡ actions.old ++ map moved (listed cursor)) }
+fn push_optional(actions: &mut Actions<'_>, step: Option<Move>) -> Result<(), AllocError>
+    ensures { OnOk result (actions.new ≡ actions.old ++ map moved (listed step)) }
 {
-    match cursor {
-        Some(cursor) => actions.push_move(cursor),
+    match step {
+        Some(step) => actions.push_move(step),
         None => Ok(()),
     }
 }

@@ -1,5 +1,5 @@
 -- Changes that have a spelling, and those of control functions.
-use Rattle.std.proofs.Common.{◌≡◌, ◌≢◌, ℕ, ◌+◌, ◌-◌, ◌<◌, true, false, List, [], ◌∷◌, ◌++◌, map, refl, sym, ap, subst, arith}
+use Rattle.std.proofs.Common.{◌≡◌, ◌≢◌, ℕ, ◌+◌, ◌-◌, ◌<◌, inl, inr, true, false, List, [], ◌∷◌, ◌++◌, map, refl, sym, ap, subst, arith}
 use Rattle.std.specs.Prelude.{⊤, ◌==◌, min, nat_le, Option, Some, None, option_map, if◌then◌else◌}
 use Rattle.std.specs.List.{AllByRecursion, flat_map}
 use Rattle.std.proofs.lemmas.Bool.{cond_both}
@@ -24,7 +24,7 @@ use Rattle.terminal_render.specs.Pen.{colour_setting, rendition, link_action, at
 use Rattle.terminal_render.specs.Places.{Way, At, Back, On, moves, way_of, position_moves}
 use Rattle.terminal_render.specs.Rendering.{edited, moved, is_whole, scroll_rendering, rendering}
 use Rattle.terminal_render.specs.Texts.{part_actions, text_rendering, title_rendering}
-use Rattle.terminal_spelling.specs.Spelling.{IsToldColor, IsSpelledPen, IsSpelledText, IsSpelledTitle, IsSpelledValue, IsSpelledChange, HasSpelling, HaveSpellings, IsSpelledScreen, IsSpelledSaved, IsSpelledFunction}
+use Rattle.terminal_spelling.specs.Spelling.{IsToldColor, IsSpelledPen, IsSpelledText, IsSpelledTitle, IsSpelledValue, IsSpelledChange, HasSpelling, HaveSpellings, IsLinePart, IsSpelledScreen, IsSpelledSaved, IsSpelledFunction}
 use Rattle.terminal_spelling.proofs.DisplayLemmas.{AreSpelledChanges, plain_spelled}
 use Rattle.cell_base.specs.declared.color.ColorSpec.TheVariants as spec
 use Rattle.cell_base.specs.Color.{attribute_of}
@@ -109,12 +109,15 @@ change_of_code (ClearToEndOfScreen color) u = told_color color u
 change_of_code (Title title) u = u.utf8
 change_of_code _ u = tt
 
-pub has_spelling : (width height : ℕ) (change : ChangeValue) → IsSpelledChange change → IsPlaced width height change → HasSpelling width height change
-has_spelling width height change u g = record { of_code = change_of_code change u; sent = change_some width height change u g }
+pub has_spelling : (width height : ℕ) (change : ChangeValue) → IsSpelledChange change → IsPlaced width height change → IsLinePart change → HasSpelling width height change
+has_spelling width height change u g k = record { of_code = change_of_code change u; part = k; sent = change_some width height change u g }
 
-pub have_spellings : (width height : ℕ) (cs : List ChangeValue) → AreSpelledChanges cs → ArePlaced width height cs → HaveSpellings width height cs
-have_spellings width height [] u g = tt
-have_spellings width height (change ∷ cs) u g = (has_spelling width height change u.0 g.0, have_spellings width height cs u.1 g.1)
+abbrev pub AreLineParts : List ChangeValue → Type 0
+AreLineParts = AllByRecursion IsLinePart
+
+pub have_spellings : (width height : ℕ) (cs : List ChangeValue) → AreSpelledChanges cs → ArePlaced width height cs → AreLineParts cs → HaveSpellings width height cs
+have_spellings width height [] u g k = tt
+have_spellings width height (change ∷ cs) u g k = (has_spelling width height change u.0 g.0 k.0, have_spellings width height cs u.1 g.1 k.1)
 
 pub spellings_append : (width height : ℕ) (xs ys : List ChangeValue) → HaveSpellings width height xs → HaveSpellings width height ys → HaveSpellings width height (xs ++ ys)
 spellings_append width height [] ys p q = q
@@ -170,6 +173,37 @@ changes_placed table.RestoreCursor saved s h = (position_placed _ s h, (tt, tt))
 changes_placed table.FullReset saved s h = (tt, (tt, tt))
 changes_placed table.ReportStatus saved s h = tt
 changes_placed table.ReportPosition saved s h = tt
+
+-- ---- print nothing, and end lines
+
+rendition_part : (value : Sgr) (pen : Attributes) → AreLineParts (rendition_changes value pen)
+rendition_part (sgr.Font value) pen = tt
+rendition_part _ pen = (tt, tt)
+
+reverse_part : (s : Screen) → IsLinePart (if s.row == 0 then ScrollRegionDown 0 (height s) 1 else move_change (table.Up 1) s)
+reverse_part s = cond_both (s.row == 0) (ScrollRegionDown 0 (height s) 1) (move_change (table.Up 1) s) IsLinePart (λ e. tt) (λ e. tt)
+
+pub changes_are_parts : (function : ControlFunction) (saved : Option SavedCursor) (s : Screen) → AreLineParts (changes function saved s)
+changes_are_parts (table.Moves move) saved s = (tt, tt)
+changes_are_parts table.LineFeed saved s = (inr (inr (inl refl)), tt)
+changes_are_parts table.CarriageReturn saved s = (inr (inl refl), tt)
+changes_are_parts table.NextRow saved s = (inr (inr (inr refl)), tt)
+changes_are_parts table.ReverseIndex saved s = (reverse_part s, tt)
+changes_are_parts table.EraseToEndOfDisplay saved s = (tt, (tt, tt))
+changes_are_parts table.EraseDisplay saved s = (tt, (tt, (tt, tt)))
+changes_are_parts table.EraseToEndOfLine saved s = (tt, (tt, tt))
+changes_are_parts table.EraseLine saved s = (tt, (tt, (tt, (tt, tt))))
+changes_are_parts (table.ScrollUp n) saved s = (tt, tt)
+changes_are_parts (table.ScrollDown n) saved s = (tt, tt)
+changes_are_parts (table.Rendition value) saved s = rendition_part value s.pen
+changes_are_parts (table.Hyperlink link) saved s = (tt, tt)
+changes_are_parts (table.Title text) saved s = (tt, tt)
+changes_are_parts (table.ShowCursor shown) saved s = (tt, tt)
+changes_are_parts table.SaveCursor saved s = tt
+changes_are_parts table.RestoreCursor saved s = (tt, (tt, tt))
+changes_are_parts table.FullReset saved s = (tt, (tt, tt))
+changes_are_parts table.ReportStatus saved s = tt
+changes_are_parts table.ReportPosition saved s = tt
 
 -- ---- and bring nothing that has no spelling
 

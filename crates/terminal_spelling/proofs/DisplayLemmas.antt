@@ -22,7 +22,7 @@ use Rattle.screen_effects.proofs.EffectLaws.{effect_is}
 use Rattle.screen_effects.proofs.StrokeLaws.{stroke_is}
 use Rattle.escape_osc.specs.Parts.{holds_c1}
 use Rattle.terminal_render.specs.Links.{is_carried}
-use Rattle.terminal_spelling.specs.Spelling.{IsToldColor, IsSpelledPen, IsSpelledText, IsSpelledTitle, IsSpelledRow, IsSpelledScreen, IsSpelledValue, IsSpelledChange}
+use Rattle.terminal_spelling.specs.Spelling.{IsToldColor, IsSpelledPen, IsSpelledRun, IsSpelledTitle, IsSpelledRow, IsSpelledScreen, IsSpelledValue, IsSpelledChange}
 use Rattle.terminal_spelling.proofs.TextLemmas.{AreSpelledStrokes, spelled_space, strokes_spelled}
 
 -- ---- pens
@@ -92,15 +92,15 @@ spelled-set_columns row at columns p q =
 
 -- ---- clusters
 
-spelled-columns : (text : List ℕ) (wide : Bool) (attributes : Attributes) → IsSpelledText text → IsSpelledPen attributes → IsSpelledRow (columns_of text wide attributes)
+spelled-columns : (text : List ℕ) (wide : Bool) (attributes : Attributes) → IsSpelledRun text → IsSpelledPen attributes → IsSpelledRow (columns_of text wide attributes)
 spelled-columns text true attributes t p = (t, p, (p, tt))
 spelled-columns text false attributes t p = (t, p, tt)
 
-space_or : (b : Bool) (text : List ℕ) → IsSpelledText text → IsSpelledText (if b then space else text)
+space_or : (b : Bool) (text : List ℕ) → IsSpelledRun text → IsSpelledRun (if b then space else text)
 space_or true text t = spelled_space
 space_or false text t = t
 
-cluster_spelled : (width_of : List ℕ → ℕ) (s : Screen) (cluster : List ℕ) → IsSpelledPen s.pen → IsSpelledText cluster → IsSpelledRow (cluster_columns width_of s cluster)
+cluster_spelled : (width_of : List ℕ → ℕ) (s : Screen) (cluster : List ℕ) → IsSpelledPen s.pen → IsSpelledRun cluster → IsSpelledRow (cluster_columns width_of s cluster)
 cluster_spelled width_of s cluster p t =
     spelled-columns _ (nat_le 2 (width_of cluster) && nat_lt 1 s.width) s.pen (space_or (nat_le 2 (width_of cluster) && s.width == 1) cluster t) p
 
@@ -125,7 +125,7 @@ written_spelled s columns h p q = record {
   title = p.title;
 }
 
-put_spelled : (width_of : List ℕ → ℕ) (s : Screen) (cluster : List ℕ) → IsScreen s → IsSpelledText cluster → IsSpelledScreen s → IsSpelledScreen (put width_of s cluster)
+put_spelled : (width_of : List ℕ → ℕ) (s : Screen) (cluster : List ℕ) → IsScreen s → IsSpelledRun cluster → IsSpelledScreen s → IsSpelledScreen (put width_of s cluster)
 put_spelled width_of s cluster h t p =
     let columns = cluster_columns width_of s cluster in
     let q = cluster_spelled width_of s cluster p.pen t in

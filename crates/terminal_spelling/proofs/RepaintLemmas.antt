@@ -23,14 +23,14 @@ use Rattle.cell_line.specs.VisibleCells.{visible_from, contents}
 use Rattle.escape_framing.specs.Existence.Utf8Lemmas.{order}
 use Rattle.screen_effects.specs.Display.{Display, IsDisplay}
 use Rattle.screen_repaint.specs.Repaint.{pen_left, row_cells, go_with_blanks, end_cleared, row_painted, in_next_row, rows_painted, are_some, cursor_placed, cursor_shown, title_due, repaint}
-use Rattle.terminal_spelling.specs.Spelling.{IsToldColor, IsSpelledPen, IsSpelledText, IsSpelledRow, IsSpelledScreen, HasSpelling, HaveSpellings, IsLeftOut, HaveOtherSpellings}
-use Rattle.terminal_spelling.proofs.TextLemmas.{AreSpelledTexts, spelled_append, spelled_nil}
+use Rattle.terminal_spelling.specs.Spelling.{IsToldColor, IsSpelledPen, IsSpelledRun, IsSpelledRow, IsSpelledScreen, HasSpelling, HaveSpellings, IsLeftOut, HaveOtherSpellings}
+use Rattle.terminal_spelling.proofs.TextLemmas.{AreSpelledRuns, run_append, run_nil}
 use Rattle.terminal_spelling.proofs.ChangeLemmas.{has_spelling, spellings_append, place_some}
 
 -- ---- cells
 
 abbrev AreSpelledCells : List CellContent → Type 0
-AreSpelledCells = AllByRecursion (λ cell. IsSpelledText cell.text × IsSpelledPen cell.attributes)
+AreSpelledCells = AllByRecursion (λ cell. IsSpelledRun cell.text × IsSpelledPen cell.attributes)
 
 visible_spelled : (at : ℕ) (row : Row) → IsSpelledRow row → AreSpelledCells (contents (visible_from at row))
 visible_spelled at [] p = tt
@@ -62,23 +62,23 @@ background_told cells p = background_from None cells tt p
 
 -- ---- runs
 
-concat_spelled : (ts : List (List ℕ)) → AreSpelledTexts ts → IsSpelledText (concat ts)
-concat_spelled [] p = spelled_nil
-concat_spelled (t ∷ ts) p = spelled_append t (concat ts) p.0 (concat_spelled ts p.1)
+concat_spelled : (ts : List (List ℕ)) → AreSpelledRuns ts → IsSpelledRun (concat ts)
+concat_spelled [] p = run_nil
+concat_spelled (t ∷ ts) p = run_append t (concat ts) p.0 (concat_spelled ts p.1)
 
-texts_spelled : (cells : List (List ℕ)) → AreSpelledTexts cells → AreSpelledTexts (texts cells)
+texts_spelled : (cells : List (List ℕ)) → AreSpelledRuns cells → AreSpelledRuns (texts cells)
 unfolding texts
 texts_spelled [] p = tt
-texts_spelled (cell ∷ cells) p = cond_both (stay_apart (cell ∷ cells)) _ _ AreSpelledTexts (λ e. (concat_spelled (cell ∷ cells) p, tt)) (λ e. p)
+texts_spelled (cell ∷ cells) p = cond_both (stay_apart (cell ∷ cells)) _ _ AreSpelledRuns (λ e. (concat_spelled (cell ∷ cells) p, tt)) (λ e. p)
 
-abbrev AreSpelledRuns : List CellRun → Type 0
-AreSpelledRuns = AllByRecursion (λ run. IsSpelledPen run.attributes × AreSpelledTexts run.cells)
+abbrev AreSpelledCellRuns : List CellRun → Type 0
+AreSpelledCellRuns = AllByRecursion (λ run. IsSpelledPen run.attributes × AreSpelledRuns run.cells)
 
-before_spelled : (cell : CellContent) (runs : List CellRun) → IsSpelledText cell.text → IsSpelledPen cell.attributes → AreSpelledRuns runs → AreSpelledRuns (before_runs cell runs)
+before_spelled : (cell : CellContent) (runs : List CellRun) → IsSpelledRun cell.text → IsSpelledPen cell.attributes → AreSpelledCellRuns runs → AreSpelledCellRuns (before_runs cell runs)
 before_spelled cell [] t a p = ((a, (t, tt)), tt)
-before_spelled cell (run ∷ runs) t a p = cond_both (same_attributes cell.attributes run.attributes) _ _ AreSpelledRuns (λ e. ((p.0.0, (t, p.0.1)), p.1)) (λ e. ((a, (t, tt)), p))
+before_spelled cell (run ∷ runs) t a p = cond_both (same_attributes cell.attributes run.attributes) _ _ AreSpelledCellRuns (λ e. ((p.0.0, (t, p.0.1)), p.1)) (λ e. ((a, (t, tt)), p))
 
-runs_spelled : (cells : List CellContent) → AreSpelledCells cells → AreSpelledRuns (cell_runs cells)
+runs_spelled : (cells : List CellContent) → AreSpelledCells cells → AreSpelledCellRuns (cell_runs cells)
 runs_spelled [] p = tt
 runs_spelled (cell ∷ cells) p = before_spelled cell (cell_runs cells) p.0.0 p.0.1 (runs_spelled cells p.1)
 
@@ -89,13 +89,13 @@ module _ (width tall : ℕ) (some : 0 < width) where
   Sent changes = HaveSpellings width tall changes
 
   pub due_sent : (pen a : Attributes) → IsSpelledPen a → Sent (attributes_due pen a)
-  due_sent pen a p = cond_both (same_attributes a pen) _ _ Sent (λ e. tt) (λ e. (has_spelling width tall (AllAttributes a) p tt, tt))
+  due_sent pen a p = cond_both (same_attributes a pen) _ _ Sent (λ e. tt) (λ e. (has_spelling width tall (AllAttributes a) p tt tt, tt))
 
-  texts_sent : (ts : List (List ℕ)) → AreSpelledTexts ts → Sent (map Text ts)
+  texts_sent : (ts : List (List ℕ)) → AreSpelledRuns ts → Sent (map Text ts)
   texts_sent [] p = tt
-  texts_sent (t ∷ ts) p = (has_spelling width tall (Text t) p.0 tt, texts_sent ts p.1)
+  texts_sent (t ∷ ts) p = (has_spelling width tall (Text t) p.0.spelled tt (inl p.0.printed), texts_sent ts p.1)
 
-  runs_sent : (pen : Attributes) (runs : List CellRun) → AreSpelledRuns runs → Sent (runs_written pen runs)
+  runs_sent : (pen : Attributes) (runs : List CellRun) → AreSpelledCellRuns runs → Sent (runs_written pen runs)
   runs_sent pen [] p = tt
   runs_sent pen (run ∷ runs) p =
       spellings_append width tall (attributes_due pen run.attributes ++ map Text (texts run.cells)) (runs_written run.attributes runs)
@@ -104,13 +104,13 @@ module _ (width tall : ℕ) (some : 0 < width) where
 
   clear_sent : (color : ColorAttribute) → IsToldColor color → Sent (clear_due color)
   clear_sent (attribute.TrueColorWithPaletteFallback c index) h = absurd h
-  clear_sent (attribute.TrueColorWithDefaultFallback c) h = (has_spelling width tall (ClearToEndOfLine (attribute.TrueColorWithDefaultFallback c)) h tt, tt)
-  clear_sent (attribute.PaletteIndex index) h = (has_spelling width tall (ClearToEndOfLine (attribute.PaletteIndex index)) h tt, tt)
+  clear_sent (attribute.TrueColorWithDefaultFallback c) h = (has_spelling width tall (ClearToEndOfLine (attribute.TrueColorWithDefaultFallback c)) h tt tt, tt)
+  clear_sent (attribute.PaletteIndex index) h = (has_spelling width tall (ClearToEndOfLine (attribute.PaletteIndex index)) h tt tt, tt)
   clear_sent attribute.Default h = tt
 
   end_sent : (background : Option ColorAttribute) (below_too : Bool) → IsToldOption background → Sent (end_cleared background below_too)
   end_sent None below_too h = tt
-  end_sent (Some color) true h = (has_spelling width tall (ClearToEndOfScreen color) h tt, tt)
+  end_sent (Some color) true h = (has_spelling width tall (ClearToEndOfScreen color) h tt tt, tt)
   end_sent (Some color) false h = clear_sent color h
 
   row_sent : (pen : Attributes) (cells : List CellContent) (below_too : Bool) → AreSpelledCells cells → Sent (row_painted pen cells below_too)
@@ -122,7 +122,7 @@ module _ (width tall : ℕ) (some : 0 < width) where
 
   next_sent : (changes : List ChangeValue) → Sent changes → Sent (in_next_row changes)
   next_sent [] p = tt
-  next_sent (change ∷ changes) p = (has_spelling width tall (CursorPosition (Absolute 0) (Relative (pos 1))) tt (place_some width tall 0 (Relative (pos 1)) some), p)
+  next_sent (change ∷ changes) p = (has_spelling width tall (CursorPosition (Absolute 0) (Relative (pos 1))) tt (place_some width tall 0 (Relative (pos 1)) some) tt, p)
 
   pub rows_sent : (pen : Attributes) (rows : List Row) → All IsSpelledRow rows → Sent (rows_painted pen rows)
   rows_sent pen [] p = tt
@@ -158,17 +158,17 @@ front_sent d h p =
     let begin = CursorVisibility Hidden ∷ ClearScreen attribute.Default ∷ [] in
     spellings_append w n (begin ++ title_due d.screen.title) (rows_painted plain d.screen.rows)
     (spellings_append w n begin (title_due d.screen.title)
-    (has_spelling w n (CursorVisibility Hidden) tt tt, (has_spelling w n (ClearScreen attribute.Default) tt tt, tt))
-    (title_sent w n h.lawful.wide_enough d.screen.title (has_spelling w n (Title d.screen.title) p.title tt, tt)))
+    (has_spelling w n (CursorVisibility Hidden) tt tt tt, (has_spelling w n (ClearScreen attribute.Default) tt tt tt, tt))
+    (title_sent w n h.lawful.wide_enough d.screen.title (has_spelling w n (Title d.screen.title) p.title tt tt, tt)))
     (rows_sent w n h.lawful.wide_enough plain d.screen.rows p.rows)
 
 pub placed_sent : (width tall : ℕ) (painted : Bool) (column row : ℕ) → column < width → HaveSpellings width tall (cursor_placed painted column row)
 placed_sent width tall painted column row h =
     cond_both (not painted && (column == 0 && row == 0)) _ _ (HaveSpellings width tall) (λ e. tt)
-    (λ e. (has_spelling width tall (CursorPosition (Absolute column) (Absolute row)) tt (place_some width tall column (Absolute row) h), tt))
+    (λ e. (has_spelling width tall (CursorPosition (Absolute column) (Absolute row)) tt (place_some width tall column (Absolute row) h) tt, tt))
 
 pub shown_sent : (width tall : ℕ) (visible : Bool) → HaveSpellings width tall (cursor_shown visible None)
-shown_sent width tall true = (has_spelling width tall (CursorVisibility Visible) tt tt, tt)
+shown_sent width tall true = (has_spelling width tall (CursorVisibility Visible) tt tt tt, tt)
 shown_sent width tall false = tt
 
 pub repaint_sent : (d : Display) → IsDisplay d → IsSpelledScreen d.screen → d.screen.column < d.screen.width → d.shape ≡ None → HaveSpellings d.screen.width (height d.screen) (repaint d)
@@ -187,12 +187,12 @@ place_or : (s : Screen) (painted : Bool) → IsScreen s → HaveOtherSpellings s
 place_or s painted h = cond_both (not painted && (s.column == 0 && s.row == 0)) _ _ (HaveOtherSpellings s) (λ e. tt) (λ e. (either (order s.column s.width), tt))
   where
     either : (s.column < s.width) ⊎ (s.width ≤ s.column) → HasSpelling s.width (height s) (CursorPosition (Absolute s.column) (Absolute s.row)) ⊎ IsLeftOut s (CursorPosition (Absolute s.column) (Absolute s.row))
-    either (inl l) = inl (has_spelling s.width (height s) (CursorPosition (Absolute s.column) (Absolute s.row)) tt (place_some s.width (height s) s.column (Absolute s.row) l))
+    either (inl l) = inl (has_spelling s.width (height s) (CursorPosition (Absolute s.column) (Absolute s.row)) tt (place_some s.width (height s) s.column (Absolute s.row) l) tt)
     either (inr l) = let k = h.column_in in inr (inl (omega arith, refl))
 
 shape_or : (s : Screen) (visible : Bool) (shape : Option Shape) → HaveOtherSpellings s (cursor_shown visible shape)
-shape_or s true None = (inl (has_spelling s.width (height s) (CursorVisibility Visible) tt tt), tt)
-shape_or s true (Some shape) = (inl (has_spelling s.width (height s) (CursorVisibility Visible) tt tt), (inr (inr (shape, refl)), tt))
+shape_or s true None = (inl (has_spelling s.width (height s) (CursorVisibility Visible) tt tt tt), tt)
+shape_or s true (Some shape) = (inl (has_spelling s.width (height s) (CursorVisibility Visible) tt tt tt), (inr (inr (shape, refl)), tt))
 shape_or s false shape = tt
 
 pub repaint_others : (d : Display) → IsDisplay d → IsSpelledScreen d.screen → HaveOtherSpellings d.screen (repaint d)

@@ -1,6 +1,6 @@
 -- How many bytes are sent for changes in turn at most.
-use Rattle.std.proofs.Common.{◌≡◌, ℕ, ◌+◌, ◌*◌, ◌^◌, ◌<◌, ◌≤◌, Bool, false, List, [], ◌∷◌, ◌++◌, length, refl, sym, subst, arith, length-append}
-use Rattle.std.specs.Prelude.{not, Some}
+use Rattle.std.proofs.Common.{◌≡◌, ℕ, ◌+◌, ◌*◌, ◌^◌, ◌<◌, ◌≤◌, inl, inr, Bool, false, List, [], ◌∷◌, ◌++◌, length, refl, sym, ap, subst, arith, length-append}
+use Rattle.std.specs.Prelude.{not, IfSome, Option, None, Some}
 use Rattle.std.specs.List.{list_all}
 use Rattle.std.proofs.lemmas.Bool.{cond_both}
 use Rattle.std.proofs.lemmas.List.Sums.{sum_by-cons}
@@ -14,8 +14,8 @@ use Rattle.terminal_render.specs.Rendering.{rendering}
 use Rattle.terminal_render.specs.Sizes.{RenderingsAreShort, TextsAreShort, RunsAreShort}
 use Rattle.terminal_render.proofs.ListLemmas.{parts}
 use Rattle.terminal_render.proofs.SizeLemmas.{behind_short}
-use Rattle.terminal_spelling.specs.Sizes.{sent_size, all_sent_size}
-use Rattle.terminal_spelling.specs.Spelling.{HaveSpellings}
+use Rattle.terminal_spelling.specs.Sizes.{AreShort, IsShort, all_sent_size, own_size, sent_size}
+use Rattle.terminal_spelling.specs.Spelling.{HasSpelling, HaveSpellings, IsLinePart}
 
 -- ---- joined lists: only a string terminator behind the end of a string is left out
 
@@ -44,3 +44,25 @@ module _ (others : RenderingsAreShort) (texts : TextsAreShort) (runs : RunsAreSh
       let p = parts (rendering change width height) (all_rendered changes width height) actions e in
       subst (λ (xs : List StreamAction). length (stream_text xs) ≤ all_sent_size (change ∷ changes)) (sym p.are)
       (omega (arith, sum_by-cons sent_size change changes, joined_short false p.first p.others, change_short change width height p.first s.0.of_code w wide h tall p.found_is, lists_short width height changes p.others w wide h tall s.1 p.rest_is))
+
+  -- ---- each by itself
+
+  if_sent : (most : ℕ) (sent : Option (List StreamAction)) → ((actions : List StreamAction) → sent ≡ Some actions → length (stream_text actions) ≤ most) → IfSome sent (λ actions. length (stream_text actions) ≤ most)
+  if_sent most None h = tt
+  if_sent most (Some actions) h = h actions refl
+
+  -- the end of a line has at most two bytes
+  text_short : (text : List ℕ) (width height : ℕ) (actions : List StreamAction) → IsLinePart (Text text) → rendering (Text text) width height ≡ Some actions → length (stream_text actions) ≤ length text + 320
+  text_short text width height actions (inl printed) e = omega (arith, runs text width height actions printed e)
+  text_short text width height actions (inr (inl is)) e = omega (arith, texts text width height actions e, ap length is)
+  text_short text width height actions (inr (inr (inl is))) e = omega (arith, texts text width height actions e, ap length is)
+  text_short text width height actions (inr (inr (inr is))) e = omega (arith, texts text width height actions e, ap length is)
+
+  one_short : (change : ChangeValue) (width height : ℕ) (actions : List StreamAction) → 0 < width → width < 2 ^ 32 → 0 < height → height < 2 ^ 32 → HasSpelling width height change → rendering change width height ≡ Some actions → length (stream_text actions) ≤ own_size change + 320
+  one_short (Text text) width height actions w wide h tall s e = text_short text width height actions s.part e
+  one_short change width height actions w wide h tall s e = others change width height actions s.of_code w wide h tall refl e
+
+  pub each_short : (width height : ℕ) (changes : List ChangeValue) → 0 < width → width < 2 ^ 32 → 0 < height → height < 2 ^ 32 → HaveSpellings width height changes → AreShort width height changes
+  each_short width height [] w wide h tall s = tt
+  each_short width height (change ∷ changes) w wide h tall s =
+      (if_sent (own_size change + 320) (rendering change width height) (λ actions. one_short change width height actions w wide h tall s.0), each_short width height changes w wide h tall s.1)

@@ -1,15 +1,17 @@
--- Texts without U+0080 to U+009F: what is joined of them is one, and so is each of their clusters.
+-- Texts without U+0080 to U+009F: what is joined of them is one, and so is each cluster of those without C0 controls and DEL.
 use Rattle.std.proofs.Common.{◌≡◌, ℕ, zero, suc, ◌+◌, ◌/◌, ◌%◌, ◌<◌, ◌≤◌, inl, inr, Bool, true, false, List, [], ◌∷◌, ◌++◌, length, map, refl, sym, ap, subst, ◌∙◌, arith, append_assoc, append-nil, length-append}
-use Rattle.std.specs.Prelude.{⊤, ◌⊎◌, ◌==◌, ◌&&◌, ◌||◌, nat_le, All, encode_utf8, encode_utf8_all, if◌then◌else◌}
+use Rattle.std.specs.Prelude.{⊤, ◌⊎◌, ◌==◌, ◌&&◌, ◌||◌, not, nat_le, All, encode_utf8, encode_utf8_all, if◌then◌else◌}
 use Rattle.std.specs.Char.{IsScalar}
-use Rattle.std.specs.List.{AllByRecursion, flat_map}
+use Rattle.std.specs.List.{AllByRecursion, flat_map, list_all}
 use Rattle.std.proofs.lemmas.Bool.{or_parts}
 use Rattle.std.proofs.lemmas.Bool.Decides.{nat_tests}
 use Rattle.std.proofs.lemmas.List.Elements.{All-cons, All-head, All-nil, All-tail}
+use Rattle.std.proofs.lemmas.List.Folds.{list_all-append}
 use Rattle.std.proofs.lemmas.Str.{IsUtf8-append, IsUtf8-from_ascii, IsUtf8-nil, encodes-append}
 use Rattle.std.proofs.lemmas.Str.Ascii.{IsAscii-cons, IsAscii-nil}
 use lib.Utf8.{encode, scalar, scalars}
 use Rattle.unicode_segmentation.specs.Grapheme.{graphemes}
+use Rattle.cell_base.specs.CellContent.{is_control}
 use Rattle.cell_base.specs.Cluster.{clusters}
 use Rattle.cell_base.specs.Row.{space}
 use Rattle.cell_base.proofs.Pieces.{all_joined}
@@ -22,8 +24,10 @@ use Rattle.escape_osc.proofs.C1Lemmas.{holds_c1-cons}
 use Rattle.screen_effects.specs.Strokes.{Stroke, CarriageReturn, LineFeed, Cluster, TextPart, Control, Plain, text_parts, part_strokes, strokes}
 use Rattle.terminal_render.proofs.CharacterLemmas.{IsGood, AreGood, above, no_c1_behind, parts_good}
 use Rattle.text_clusters.proofs.CutLemmas.{pieces, first, pieces-nil}
+use Rattle.terminal_table.specs.Turns.{IsPrinted}
+use Rattle.terminal_table.proofs.RunLemmas.{character_printed, printed_append}
 use Rattle.text_clusters.proofs.TextLemmas.{graphemes_of}
-use Rattle.terminal_spelling.specs.Spelling.{IsSpelledText}
+use Rattle.terminal_spelling.specs.Spelling.{IsSpelledText, IsSpelledRun}
 
 -- ---- the bytes of characters
 
@@ -126,19 +130,37 @@ pub spelled_ascii : (b : ℕ) → b < 128 → IsSpelledText (b ∷ [])
 unfolding holds_c1
 spelled_ascii b l = record { utf8 = IsUtf8-from_ascii (b ∷ []) (IsAscii-cons b [] l IsAscii-nil); no_c1 = refl }
 
-pub spelled_space : IsSpelledText space
-spelled_space = spelled_ascii 32 (omega arith)
+pub spelled_space : IsSpelledRun space
+spelled_space = record { spelled = spelled_ascii 32 (omega arith); printed = refl }
+
+pub run_nil : IsSpelledRun []
+run_nil = record { spelled = spelled_nil; printed = refl }
+
+pub run_append : (a b : List ℕ) → IsSpelledRun a → IsSpelledRun b → IsSpelledRun (a ++ b)
+run_append a b p q = record { spelled = spelled_append a b p.spelled q.spelled; printed = printed_append a b p.printed q.printed }
 
 printable_spelled : (cs : List ℕ) → scalars cs ≡ true → All IsPrintable cs → IsSpelledText (encode_utf8_all cs)
 printable_spelled cs s h = record { utf8 = (cs, (s, refl)); no_c1 = printable_free cs s h }
+
+printable_printed : (cs : List ℕ) → scalars cs ≡ true → All IsPrintable cs → IsPrinted (encode_utf8_all cs)
+printable_printed [] s h = refl
+printable_printed (c ∷ cs) s h =
+    let p = both (scalar c) (scalars cs) s in
+    printed_append (encode_utf8 c) (encode_utf8_all cs) (character_printed c p.0 (All-head IsPrintable c cs h)) (printable_printed cs p.1 (All-tail IsPrintable c cs h))
+
+printable_run : (cs : List ℕ) → scalars cs ≡ true → All IsPrintable cs → IsSpelledRun (encode_utf8_all cs)
+printable_run cs s h = record { spelled = printable_spelled cs s h; printed = printable_printed cs s h }
 
 pub spelled_character : (c : ℕ) → IsScalar c → IsPrintable c → IsSpelledText (encode_utf8 c)
 spelled_character c s p = subst IsSpelledText (append-nil (encode_utf8 c)) (printable_spelled (c ∷ []) (ap (λ b. b && true) s) (All-cons IsPrintable c [] p (All-nil IsPrintable)))
 
 -- ---- clusters
 
-abbrev pub AreSpelledTexts : List (List ℕ) → Type 0
-AreSpelledTexts = AllByRecursion IsSpelledText
+abbrev pub AreSpelledRuns : List (List ℕ) → Type 0
+AreSpelledRuns = AllByRecursion IsSpelledRun
+
+printed_parts : (front rest : List ℕ) → IsPrinted (front ++ rest) → IsPrinted front × IsPrinted rest
+printed_parts front rest h = both (list_all (λ b. not (is_control b)) front) (list_all (λ b. not (is_control b)) rest) (sym (list_all-append (λ b. not (is_control b)) front rest) ∙ h)
 
 scalars_parts : (xs ys : List ℕ) → scalars (xs ++ ys) ≡ true → (scalars xs ≡ true) × (scalars ys ≡ true)
 scalars_parts [] ys h = (refl, h)
@@ -147,40 +169,43 @@ scalars_parts (c ∷ xs) ys h =
     let rest = scalars_parts xs ys p.1 in
     ((λ i. p.0 i && rest.0 i), rest.1)
 
-each_piece : (n : ℕ) (cs : List ℕ) → scalars cs ≡ true → holds_c1 (encode_utf8_all cs) ≡ false → length cs ≤ n → AreSpelledTexts (map encode_utf8_all (pieces [] cs))
-each_piece n [] s h l = subst (λ (ps : List (List ℕ)). AreSpelledTexts (map encode_utf8_all ps)) (sym (pieces-nil [])) tt
-each_piece zero (c ∷ cs) s h l = absurd (omega arith)
-each_piece (suc n) (c ∷ cs) s h l =
+each_piece : (n : ℕ) (cs : List ℕ) → scalars cs ≡ true → holds_c1 (encode_utf8_all cs) ≡ false → IsPrinted (encode_utf8_all cs) → length cs ≤ n → AreSpelledRuns (map encode_utf8_all (pieces [] cs))
+each_piece n [] s h k l = subst (λ (ps : List (List ℕ)). AreSpelledRuns (map encode_utf8_all ps)) (sym (pieces-nil [])) tt
+each_piece zero (c ∷ cs) s h k l = absurd (omega arith)
+each_piece (suc n) (c ∷ cs) s h k l =
     let f = first [] c cs in
     let front = encode_utf8_all (c ∷ f.others) in
     let p = scalars_parts (c ∷ f.others) f.rest (ap (λ (xs : List ℕ). scalars (c ∷ xs)) (sym f.whole) ∙ s) in
-    let free : holds_c1 (front ++ encode_utf8_all f.rest) ≡ false = ap holds_c1 (sym (ap (λ (xs : List ℕ). encode_utf8_all (c ∷ xs)) f.whole ∙ encodes-append (c ∷ f.others) f.rest)) ∙ h in
-    subst (λ (ps : List (List ℕ)). AreSpelledTexts (map encode_utf8_all ps)) (sym f.cut) (
-      record { utf8 = (c ∷ f.others, (p.0, refl)); no_c1 = front_free front (encode_utf8_all f.rest) free },
-      each_piece n f.rest p.1 (no_c1_behind front (encode_utf8_all f.rest) free) (omega (arith, ap length f.whole, length-append f.others f.rest)),
+    let whole : front ++ encode_utf8_all f.rest ≡ encode_utf8_all (c ∷ cs) = sym (ap (λ (xs : List ℕ). encode_utf8_all (c ∷ xs)) f.whole ∙ encodes-append (c ∷ f.others) f.rest) in
+    let free : holds_c1 (front ++ encode_utf8_all f.rest) ≡ false = ap holds_c1 whole ∙ h in
+    let plain = printed_parts front (encode_utf8_all f.rest) (subst IsPrinted (sym whole) k) in
+    subst (λ (ps : List (List ℕ)). AreSpelledRuns (map encode_utf8_all ps)) (sym f.cut) (
+      record { spelled = record { utf8 = (c ∷ f.others, (p.0, refl)); no_c1 = front_free front (encode_utf8_all f.rest) free }; printed = plain.0 },
+      each_piece n f.rest p.1 (no_c1_behind front (encode_utf8_all f.rest) free) plain.1 (omega (arith, ap length f.whole, length-append f.others f.rest)),
     )
 
-spelled_graphemes : (text : List ℕ) → IsSpelledText text → AreSpelledTexts (graphemes true text)
+spelled_graphemes : (text : List ℕ) → IsSpelledRun text → AreSpelledRuns (graphemes true text)
 spelled_graphemes text p =
-    let cs = p.utf8.0 in
-    let s = p.utf8.1.0 in
-    subst (λ (t : List ℕ). AreSpelledTexts (graphemes true t)) p.utf8.1.1
-    (subst AreSpelledTexts (sym (graphemes_of cs s)) (each_piece (length cs) cs s (ap holds_c1 p.utf8.1.1 ∙ p.no_c1) (omega arith)))
+    let cs = p.spelled.utf8.0 in
+    let s = p.spelled.utf8.1.0 in
+    let e = p.spelled.utf8.1.1 in
+    subst (λ (t : List ℕ). AreSpelledRuns (graphemes true t)) e
+    (subst AreSpelledRuns (sym (graphemes_of cs s)) (each_piece (length cs) cs s (ap holds_c1 e ∙ p.spelled.no_c1) (subst IsPrinted (sym e) p.printed) (omega arith)))
 
-pub spelled_clusters : (text : List ℕ) → IsSpelledText text → AreSpelledTexts (clusters text)
-spelled_clusters text p = subst AreSpelledTexts (sym (clusters_are text p.utf8)) (spelled_graphemes text p)
+spelled_clusters : (text : List ℕ) → IsSpelledRun text → AreSpelledRuns (clusters text)
+spelled_clusters text p = subst AreSpelledRuns (sym (clusters_are text p.spelled.utf8)) (spelled_graphemes text p)
 
 -- ---- strokes
 
 abbrev pub IsSpelledStroke : Stroke → Type 0
 IsSpelledStroke CarriageReturn = ⊤
 IsSpelledStroke LineFeed = ⊤
-IsSpelledStroke (Cluster text) = IsSpelledText text
+IsSpelledStroke (Cluster text) = IsSpelledRun text
 
 abbrev pub AreSpelledStrokes : List Stroke → Type 0
 AreSpelledStrokes = AllByRecursion IsSpelledStroke
 
-cluster_strokes : (ts : List (List ℕ)) → AreSpelledTexts ts → AreSpelledStrokes (map Cluster ts)
+cluster_strokes : (ts : List (List ℕ)) → AreSpelledRuns ts → AreSpelledStrokes (map Cluster ts)
 cluster_strokes [] p = tt
 cluster_strokes (t ∷ ts) p = (p.0, cluster_strokes ts p.1)
 
@@ -191,7 +216,7 @@ part_spelled (Control byte) g = by_tests (byte == 13) (byte == 10)
     by_tests true feeds = (tt, tt)
     by_tests false true = (tt, tt)
     by_tests false false = (spelled_space, tt)
-part_spelled (Plain text) g = cluster_strokes (clusters text) (spelled_clusters text (subst IsSpelledText g.spell (printable_spelled g.cs g.are g.printable)))
+part_spelled (Plain text) g = cluster_strokes (clusters text) (spelled_clusters text (subst IsSpelledRun g.spell (printable_run g.cs g.are g.printable)))
 
 parts_spelled : (parts : List TextPart) → AreGood parts → AreSpelledStrokes (flat_map part_strokes parts)
 parts_spelled [] g = tt

@@ -1,5 +1,5 @@
 -- Events leave views whose parts have a spelling, and so have the changes that are logged for them.
-use Rattle.std.proofs.Common.{◌≡◌, ℕ, List, [], ◌∷◌, ◌++◌, length, map, replicate, refl, subst, ◌∙◌}
+use Rattle.std.proofs.Common.{◌≡◌, ℕ, inl, List, [], ◌∷◌, ◌++◌, length, map, replicate, refl, subst, ◌∙◌}
 use Rattle.std.specs.Prelude.{⊤, ◌==◌, Option, Some, None}
 use Rattle.std.specs.List.{AllByRecursion}
 use Rattle.std.proofs.lemmas.Bool.{cond_both}
@@ -31,7 +31,7 @@ use Rattle.terminal_table.proofs.EventLemmas.{event_is, event_turns}
 use Rattle.terminal_spelling.specs.Spelling.{IsSpelledText, IsSpelledScreen, IsSpelledSaved, IsSpelledState, IsSpelledView, IsSpelledRequest, IsSpelledEvent, HasSpelling, HaveSpellings}
 use Rattle.terminal_spelling.proofs.TextLemmas.{spelled_append, spelled_nil}
 use Rattle.terminal_spelling.proofs.DisplayLemmas.{effect_spelled, replay_spelled, size_spelled, screen_spelled}
-use Rattle.terminal_spelling.proofs.ChangeLemmas.{has_spelling, have_spellings, changes_spelled, changes_placed}
+use Rattle.terminal_spelling.proofs.ChangeLemmas.{has_spelling, have_spellings, changes_are_parts, changes_spelled, changes_placed}
 
 -- ---- steps and runs
 
@@ -139,14 +139,14 @@ sent_have width tall (Logged change ∷ steps) h = (h.0, sent_have width tall st
 sent_have width tall (log.Forgotten number ∷ steps) h = sent_have width tall steps h.1
 sent_have width tall (log.Resized most ∷ steps) h = sent_have width tall steps h.1
 
-run_sent : (width tall : ℕ) (v : View) → IsSpelledView v → AreSent width tall (run_logged v)
-run_sent width tall v p = cond_both (length v.held == 0) _ _ (AreSent width tall) (λ e. tt) (λ e. (has_spelling width tall (Text v.held) p.held tt, tt))
+run_sent : (width tall : ℕ) (v : View) → IsView v → IsSpelledView v → AreSent width tall (run_logged v)
+run_sent width tall v h p = cond_both (length v.held == 0) _ _ (AreSent width tall) (λ e. tt) (λ e. (has_spelling width tall (Text v.held) p.held tt (inl h.plain), tt))
 
 pub request_has : (request : Option ControlFunction) (state : State) → IsState state → IsSpelledRequest request → IsSpelledState state → HaveSpellings state.screen.width (height state.screen) (changes_of request state)
 request_has None state h f p = tt
 request_has (Some function) state h f p =
     have_spellings state.screen.width (height state.screen) (changes function state.saved state.screen)
-    (changes_spelled function state.saved state.screen f p.saved p.screen) (changes_placed function state.saved state.screen h.lawful.wide_enough)
+    (changes_spelled function state.saved state.screen f p.saved p.screen) (changes_placed function state.saved state.screen h.lawful.wide_enough) (changes_are_parts function state.saved state.screen)
 
 -- at the size of the screen before the event
 pub event_sent : (width_of : List ℕ → ℕ) (v : View) (event : Event) → IsView v → IsSpelledView v → IsSpelledEvent event → AreSent v.state.screen.width (height v.state.screen) (event_logged width_of v event)
@@ -157,11 +157,11 @@ event_sent width_of v (Act action) h p q =
     let has = request_has (function_of action) own.state (settled_is width_of v h).lawful q.1 (settled_spelled width_of v h p).state in
     cond_both (is_print action) [] (run_logged v ++ map Logged changes) (AreSent v.state.screen.width (height v.state.screen)) (λ e. tt)
     (λ e.
-    all_joined sent (run_logged v) (map Logged changes) (run_sent v.state.screen.width (height v.state.screen) v p)
+    all_joined sent (run_logged v) (map Logged changes) (run_sent v.state.screen.width (height v.state.screen) v h p)
     (logged_sent v.state.screen.width (height v.state.screen) changes (moved_has own.state.screen v.state.screen changes (settled_size width_of v h) has)))
-event_sent width_of v Looked h p q = run_sent v.state.screen.width (height v.state.screen) v p
+event_sent width_of v Looked h p q = run_sent v.state.screen.width (height v.state.screen) v h p
 event_sent width_of v (Resized width tall) h p q =
-    all_joined (IsSent v.state.screen.width (height v.state.screen)) (run_logged v) (log.Resized (most_due width tall) ∷ []) (run_sent v.state.screen.width (height v.state.screen) v p) (tt, tt)
+    all_joined (IsSent v.state.screen.width (height v.state.screen)) (run_logged v) (log.Resized (most_due width tall) ∷ []) (run_sent v.state.screen.width (height v.state.screen) v h p) (tt, tt)
 event_sent width_of v (Forgot number) h p q = (tt, tt)
 
 pub event_has : (width_of : List ℕ → ℕ) (v : View) (event : Event) → IsView v → IsSpelledView v → IsSpelledEvent event → HaveSpellings v.state.screen.width (height v.state.screen) (changes_in (event_logged width_of v event))

@@ -1,10 +1,12 @@
 -- How many bytes are sent for changes at most, and what they print.
-use Rattle.std.specs.Prelude.{ℕ, ◌+◌, ◌*◌, not, ◌==◌, ◌||◌, List, [], ◌∷◌, length, flat_map, sum_by, if◌then◌else◌}
-use Rattle.std.specs.List.{list_all}
+use Rattle.std.specs.Prelude.{ℕ, ◌+◌, ◌*◌, ◌≤◌, not, ◌==◌, ◌||◌, IfSome, List, [], ◌∷◌, length, flat_map, sum_by, if◌then◌else◌}
+use Rattle.std.specs.List.{AllByRecursion, list_all}
 use Rattle.cell_base.specs.CellContent.{is_control}
 use Rattle.cell_base.specs.Row.{space}
 use Rattle.cell_change.specs.ChangeValue.{ChangeValue, Text}
 use Rattle.escape_stream.specs.StreamAction.{StreamAction, printed}
+use Rattle.escape_stream.specs.StreamText.{stream_text}
+use Rattle.terminal_render.specs.Rendering.{rendering}
 use Rattle.terminal_render.specs.Sizes.{carried_size}
 
 -- at most so many bytes are sent for a change: for a text twice its bytes, or one more than it has where it holds no C0 control
@@ -15,6 +17,18 @@ sent_size change = carried_size change + 320
 
 abbrev pub all_sent_size : List ChangeValue → ℕ
 all_sent_size changes = sum_by sent_size changes
+
+-- the bytes of a change's text, its title, or its link's parameters and URI
+abbrev pub own_size : ChangeValue → ℕ
+own_size (Text text) = length text
+own_size change = carried_size change
+
+-- at most 320 bytes beside those are sent for a change to a terminal of a width and a height
+abbrev pub IsShort : ℕ → ℕ → ChangeValue → Type 0
+IsShort width height change = IfSome (rendering change width height) (λ actions. length (stream_text actions) ≤ own_size change + 320)
+
+abbrev pub AreShort : ℕ → ℕ → List ChangeValue → Type 0
+AreShort width height = AllByRecursion (IsShort width height)
 
 -- what a byte of a text prints: itself; a C0 control or DEL a space, but for CR and LF, which print nothing
 abbrev pub byte_printed : ℕ → List ℕ

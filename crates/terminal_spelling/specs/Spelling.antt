@@ -23,6 +23,7 @@ use Rattle.terminal_table.specs.Functions as table
 use Rattle.terminal_table.specs.Functions.{ControlFunction, function_of}
 use Rattle.terminal_table.specs.History.{Event, Act}
 use Rattle.terminal_table.specs.Meaning.{View}
+use Rattle.terminal_table.specs.Turns.{IsPrinted}
 
 -- a colour of bytes that SGR sets: any but one that falls back to the palette
 abbrev pub IsToldColor : ColorAttribute → Type 0
@@ -45,6 +46,11 @@ pub record IsSpelledText (text : List ℕ) : Type 0 where
   pub utf8 : IsUtf8 text
   pub no_c1 : holds_c1 text ≡ false
 
+-- such a text without C0 controls and DEL
+pub record IsSpelledRun (text : List ℕ) : Type 0 where
+  pub spelled : IsSpelledText text
+  pub printed : IsPrinted text
+
 -- a title in UTF-8 without controls of any kind
 pub record IsSpelledTitle (title : List ℕ) : Type 0 where
   pub utf8 : IsUtf8 title
@@ -53,8 +59,8 @@ pub record IsSpelledTitle (title : List ℕ) : Type 0 where
 -- each column has such a text and such attributes
 abbrev pub IsSpelledRow : Row → Type 0
 IsSpelledRow [] = ⊤
-IsSpelledRow (Narrow text attributes ∷ row) = IsSpelledText text × IsSpelledPen attributes × IsSpelledRow row
-IsSpelledRow (LeftHalf text attributes ∷ row) = IsSpelledText text × IsSpelledPen attributes × IsSpelledRow row
+IsSpelledRow (Narrow text attributes ∷ row) = IsSpelledRun text × IsSpelledPen attributes × IsSpelledRow row
+IsSpelledRow (LeftHalf text attributes ∷ row) = IsSpelledRun text × IsSpelledPen attributes × IsSpelledRow row
 IsSpelledRow (RightHalf attributes ∷ row) = IsSpelledPen attributes × IsSpelledRow row
 
 -- each row, the pen and the title
@@ -118,9 +124,19 @@ IsSpelledChange (ClearToEndOfScreen color) = IsToldColor color
 IsSpelledChange (Title title) = IsSpelledTitle title
 IsSpelledChange _ = ⊤
 
--- a change of the code (colours of bytes, texts in UTF-8) for which something can be sent to a terminal of a width and a height
+-- CR, LF, or CR LF
+abbrev pub IsLineEnd : List ℕ → Type 0
+IsLineEnd text = (text ≡ 13 ∷ []) ⊎ (text ≡ 10 ∷ []) ⊎ (text ≡ 13 ∷ 10 ∷ [])
+
+-- a text without C0 controls and DEL, or the end of a line; any other change
+abbrev pub IsLinePart : ChangeValue → Type 0
+IsLinePart (Text text) = IsPrinted text ⊎ IsLineEnd text
+IsLinePart _ = ⊤
+
+-- a change of the code (colours of bytes, texts in UTF-8), of a text only such a one, for which something can be sent to a terminal of a width and a height
 pub record HasSpelling (width height : ℕ) (change : ChangeValue) : Type 0 where
   pub of_code : IsChange change
+  pub part : IsLinePart change
   pub sent : rendering change width height ≢ None
 
 abbrev pub HaveSpellings : ℕ → ℕ → List ChangeValue → Type 0

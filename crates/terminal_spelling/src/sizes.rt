@@ -4,7 +4,7 @@ ghost use Rattle.cell_change.specs.ChangeValue.{ChangeValue};
 ghost use Rattle.escape_stream.specs.StreamAction.{StreamAction};
 ghost use Rattle.escape_stream.specs.StreamText.{stream_text};
 ghost use Rattle.terminal_render.specs.Lists.{all_rendered};
-ghost use Rattle.terminal_spelling.specs.Sizes.{all_sent_size, prints_in, runs_in};
+ghost use Rattle.terminal_spelling.specs.Sizes.{AreShort, all_sent_size, prints_in, runs_in};
 ghost use Rattle.terminal_spelling.specs.Spelling.{HaveSpellings};
 
 use terminal_render::laws::renderings_are_short;
@@ -14,6 +14,13 @@ use terminal_render::laws::renderings_are_short;
 /// control or DEL.
 pub fn sent_lists_are_short()
     ensures { (width : ℕ) (height : ℕ) (changes : List ChangeValue) (actions : List StreamAction) → 0 < width → width < 2 ^ 32 → 0 < height → height < 2 ^ 32 → HaveSpellings width height changes → all_rendered changes width height ≡ Some actions → length (stream_text actions) ≤ all_sent_size changes }
+{
+    renderings_are_short();
+}
+
+/// And no more than 320 bytes are sent for each, beside its text, its title, or its link's parameters and URI.
+pub fn sent_changes_are_short()
+    ensures { (width : ℕ) (height : ℕ) (changes : List ChangeValue) → 0 < width → width < 2 ^ 32 → 0 < height → height < 2 ^ 32 → HaveSpellings width height changes → AreShort width height changes }
 {
     renderings_are_short();
 }

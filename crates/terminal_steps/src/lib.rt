@@ -15,8 +15,6 @@ mod replying;
 mod saved;
 mod state;
 mod taking;
-#[cfg(test)]
-mod tests;
 
 pub use applying::{apply, print};
 pub use error::TerminalError;

@@ -1,14 +1,18 @@
 -- What is sent for changes in turn.
-use Rattle.std.proofs.Common.{◌≡◌, ◌≢◌, ℕ, zero, suc, ◌<◌, List, [], ◌∷◌, ◌++◌, length, get_or, map, refl, sym, ap, subst, arith}
-use Rattle.std.specs.Prelude.{Option, Some, None, option_map, option_and_then}
+use Rattle.std.proofs.Common.{◌≡◌, ◌≢◌, ℕ, zero, suc, ◌<◌, false, List, [], ◌∷◌, ◌++◌, length, get_or, map, refl, sym, ap, subst, ◌∙◌, arith, append-nil}
+use Rattle.std.specs.Prelude.{Option, Some, None, IfSome, option_map, option_and_then}
 use Rattle.std.specs.List.{flat_map}
+use Rattle.cell_change.specs.declared.change.Change.{Change}
 use Rattle.cell_change.specs.ChangeValue.{ChangeValue}
+use Rattle.cell_change.specs.ValueOf.{value_of}
 use Rattle.escape_stream.specs.StreamAction.{StreamAction}
+use Rattle.escape_stream.specs.StreamText.{begins_terminated, stream_text, TextsJoin}
+use Rattle.terminal_render.proofs.OpeningLemmas.{bytes_behind, joined_open, rendering_opens}
 use Rattle.terminal_render.specs.Lists.{all_rendered}
 use Rattle.terminal_render.specs.Rendering.{rendering}
 use Rattle.terminal_spelling.specs.Spelling.{HasSpelling, HaveSpellings}
 use Rattle.terminal_spelling.proofs.LogLemmas.{all_some}
-use Rattle.terminal_update.specs.Sending.{actions_or_none, all_sent, sent_for}
+use Rattle.terminal_update.specs.Sending.{actions_or_none, all_sent, sent_for, text_for, texts_sent}
 
 -- ---- changes with a spelling
 
@@ -30,10 +34,38 @@ all_are_sent width tall [] h = refl
 all_are_sent width tall (change ∷ changes) h =
     λ i. option_and_then (λ first. option_map (λ others. first ++ others) (all_are_sent width tall changes h.1 i)) (one_is_sent width tall change h.0 i)
 
--- what was rendered is sent
-pub rendered_sent : (width tall : ℕ) (change : ChangeValue) (actions : List StreamAction) → rendering change width tall ≡ Some actions → actions ≡ sent_for width tall change
+-- ---- their bytes
+
+or_open : (found : Option (List StreamAction)) → IfSome found (λ actions. begins_terminated actions ≡ false) → begins_terminated (actions_or_none found) ≡ false
+or_open None h = refl
+or_open (Some actions) h = h
+
+sent_opens : (width tall : ℕ) (change : ChangeValue) → begins_terminated (sent_for width tall change) ≡ false
 unfolding sent_for
-rendered_sent width tall change actions e = sym (ap actions_or_none e)
+sent_opens width tall change = or_open (rendering change width tall) (rendering_opens change width tall)
+
+all_open : (width tall : ℕ) (changes : List ChangeValue) → begins_terminated (all_sent width tall changes) ≡ false
+all_open width tall [] = refl
+all_open width tall (change ∷ changes) = joined_open (sent_for width tall change) (all_sent width tall changes) (sent_opens width tall change) (all_open width tall changes)
+
+-- the bytes of all are those of each
+pub texts_are : TextsJoin → (width tall : ℕ) (changes : List ChangeValue) → stream_text (all_sent width tall changes) ≡ texts_sent width tall changes
+unfolding text_for
+texts_are join width tall [] = refl
+texts_are join width tall (change ∷ changes) =
+    bytes_behind join (sent_for width tall change) (all_sent width tall changes) (all_open width tall changes) ∙ ap (λ rest. stream_text (sent_for width tall change) ++ rest) (texts_are join width tall changes)
+
+-- what was appended was sent
+pub appended_sent : TextsJoin → (width tall : ℕ) (changes : List ChangeValue) (before after : List ℕ) → HaveSpellings width tall changes
+    → option_map (λ actions. before ++ stream_text actions) (all_rendered changes width tall) ≡ Some after → after ≡ before ++ texts_sent width tall changes
+appended_sent join width tall changes before after h e =
+    let same : Some (before ++ stream_text (all_sent width tall changes)) ≡ Some after = ap (option_map (λ actions. before ++ stream_text actions)) (sym (all_are_sent width tall changes h)) ∙ e in
+    let k : before ++ stream_text (all_sent width tall changes) ≡ after = cc same in
+    sym k ∙ ap (λ text. before ++ text) (texts_are join width tall changes)
+
+-- one change by itself
+pub one_spelled : (width tall : ℕ) (change : Change) (changes : List Change) → changes ≡ change ∷ [] → HasSpelling width tall (value_of change) → HaveSpellings width tall (map value_of changes)
+one_spelled width tall change changes e h = subst (λ (cs : List Change). HaveSpellings width tall (map value_of cs)) (sym e) (h, tt)
 
 -- ---- lists of them
 

@@ -1,5 +1,5 @@
 -- The changes of an update have a spelling.
-use Rattle.std.proofs.Common.{◌≡◌, ℕ, ◌+◌, ◌<◌, ◌≤◌, List, [], ◌∷◌, ◌++◌, length, sym, subst, arith}
+use Rattle.std.proofs.Common.{◌≡◌, ℕ, ◌+◌, ◌<◌, ◌≤◌, inl, List, [], ◌∷◌, ◌++◌, length, sym, subst, arith}
 use Rattle.std.specs.Prelude.{◌==◌, ⊤, IfSome, Option, Some, None, fold}
 use Rattle.std.specs.List.{flat_map}
 use Rattle.std.proofs.lemmas.Bool.Decides.{nat_tests}
@@ -17,7 +17,7 @@ use Rattle.change_log.specs.LogSteps.{Sized}
 use Rattle.screen_effects.specs.Display.{IsDisplay}
 use Rattle.screen_effects.specs.Effect.{cursor_row}
 use Rattle.screen_repaint.specs.Repaint.{are_some, cursor_shown, pen_left}
-use Rattle.terminal_spelling.specs.Spelling.{HaveSpellings, IsSpelledPen, IsSpelledRow, IsSpelledScreen, IsSpelledText}
+use Rattle.terminal_spelling.specs.Spelling.{HaveSpellings, IsSpelledPen, IsSpelledRow, IsSpelledRun, IsSpelledScreen}
 use Rattle.terminal_spelling.proofs.ChangeLemmas.{has_spelling, place_some, spellings_append}
 use Rattle.terminal_spelling.proofs.LogLemmas.{due_has}
 use Rattle.terminal_spelling.proofs.RepaintLemmas.{due_sent, placed_sent, rows_sent, shown_sent}
@@ -29,7 +29,7 @@ use Rattle.terminal_update.proofs.PaintLemmas.{due_of, front_of, painted_rows, p
 -- a cell with such a text and such attributes, before a column, if there is one
 abbrev IsSpelledCell : ℕ → Option VisibleCell → Type 0
 IsSpelledCell bound None = ⊤
-IsSpelledCell bound (Some v) = IsSpelledText v.cell.text × IsSpelledPen v.cell.attributes × (v.column < bound)
+IsSpelledCell bound (Some v) = IsSpelledRun v.cell.text × IsSpelledPen v.cell.attributes × (v.column < bound)
 
 last_from : (bound at : ℕ) (row : Row) (start : Option VisibleCell) → at + length row ≤ bound → IsSpelledRow row → IsSpelledCell bound start → IsSpelledCell bound (fold (λ _ v. Some v) start (visible_from at row))
 last_from bound at [] start h p q = q
@@ -42,8 +42,8 @@ written_sent s p None q = tt
 written_sent s p (Some v) q =
     let w = s.width in
     let n = height s in (
-      has_spelling w n (CursorPosition (Absolute v.column) (Absolute s.row)) tt (place_some w n v.column (Absolute s.row) q.2),
-      (has_spelling w n (AllAttributes v.cell.attributes) q.1 tt, (has_spelling w n (Text v.cell.text) q.0 tt, (has_spelling w n (AllAttributes s.pen) p.pen tt, tt))),
+      has_spelling w n (CursorPosition (Absolute v.column) (Absolute s.row)) tt (place_some w n v.column (Absolute s.row) q.2) tt,
+      (has_spelling w n (AllAttributes v.cell.attributes) q.1 tt tt, (has_spelling w n (Text v.cell.text) q.0.spelled tt (inl q.0.printed), (has_spelling w n (AllAttributes s.pen) p.pen tt tt, tt))),
     )
 
 -- ---- the screen painted anew
@@ -68,7 +68,7 @@ painted_has s d p =
     let h : IsScreen s = d.lawful in
     let place : List ChangeValue = flat_map (told s) (place_of s) in
     let begin : HaveSpellings w n ((CursorVisibility Hidden ∷ ClearScreen attribute.Default ∷ []) ++ (Title s.title ∷ [])) =
-    (has_spelling w n (CursorVisibility Hidden) tt tt, (has_spelling w n (ClearScreen attribute.Default) tt tt, (has_spelling w n (Title s.title) p.title tt, tt))) in
+    (has_spelling w n (CursorVisibility Hidden) tt tt tt, (has_spelling w n (ClearScreen attribute.Default) tt tt tt, (has_spelling w n (Title s.title) p.title tt tt, tt))) in
     let front : HaveSpellings w n (front_of s) =
     spellings_append w n ((CursorVisibility Hidden ∷ ClearScreen attribute.Default ∷ []) ++ (Title s.title ∷ [])) (painted_rows s) begin (rows_sent w n h.wide_enough plain s.rows p.rows) in
     subst (HaveSpellings w n) (sym (told_is s h.wide_enough))

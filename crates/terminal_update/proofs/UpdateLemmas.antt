@@ -13,17 +13,14 @@ use Rattle.cell_change.specs.ValueOf.{value_of}
 use Rattle.cell_surface.specs.Surface.{Answers}
 use Rattle.change_log.specs.Log.{due}
 use Rattle.change_log.specs.LogSteps.{Sized}
-use Rattle.escape_stream.specs.declared.action.Action.{Action}
-use Rattle.escape_stream.specs.StreamAction.{StreamAction}
-use Rattle.escape_stream.specs.StreamActionView.{value_of as action_value}
-use Rattle.escape_stream.specs.StreamText.{stream_text}
+use Rattle.escape_stream.specs.StreamText.{TextsJoin}
 use Rattle.screen_effects.specs.Display.{Display, IsDisplay}
 use Rattle.screen_repaint.specs.Repaint.{repaint}
 use Rattle.terminal_spelling.specs.Spelling.{HaveSpellings, IsSpelledScreen}
 use Rattle.terminal_spelling.proofs.LogLemmas.{due_has}
-use Rattle.terminal_update.specs.Sending.{all_sent, retold}
+use Rattle.terminal_update.specs.Sending.{retold, texts_sent}
 use Rattle.terminal_update.specs.Update.{bytes_of, display_on, due_or, painted_anew, update_changes, update_of}
-use Rattle.terminal_update.proofs.SentLemmas.{all_are_sent}
+use Rattle.terminal_update.proofs.SentLemmas.{all_are_sent, texts_are}
 use Rattle.terminal_update.proofs.SpellLemmas.{painted_has}
 use Rattle.terminal_update.proofs.WalkLemmas.{retold_is}
 
@@ -66,10 +63,10 @@ module _ (Z : Type 0) (d : Display) (log : Sized) (number : ℕ) (answer : CowSl
     made_update : update_changes d.screen log number ≡ flat_map (retold d.screen) (map value_of made.items)
     made_update = ap (due_or (painted_anew d.screen)) (none_due Z (repaint d) (due log.most log.log number) made owned) ∙ sym retold_anew
 
-    pub made_sent : (width tall : ℕ) (before after : List StreamAction) (changes : List Change) → changes ≡ made.items → after ≡ before ++ all_sent width tall (flat_map (retold d.screen) (map value_of changes))
-        → after ≡ before ++ all_sent width tall (update_changes d.screen log number)
+    pub made_sent : (width tall : ℕ) (before after : List ℕ) (changes : List Change) → changes ≡ made.items → after ≡ before ++ texts_sent width tall (flat_map (retold d.screen) (map value_of changes))
+        → after ≡ before ++ texts_sent width tall (update_changes d.screen log number)
     made_sent width tall before after changes e sent =
-        sent ∙ ap (λ (cs : List ChangeValue). before ++ all_sent width tall cs) (ap (λ (l : List Change). flat_map (retold d.screen) (map value_of l)) e ∙ sym made_update)
+        sent ∙ ap (λ (cs : List ChangeValue). before ++ texts_sent width tall cs) (ap (λ (l : List Change). flat_map (retold d.screen) (map value_of l)) e ∙ sym made_update)
 
     pub made_spelled : (width tall : ℕ) → width ≡ d.screen.width → tall ≡ height d.screen → IsSpelledScreen d.screen → HaveSpellings width tall (flat_map (retold d.screen) (map value_of made.items))
     made_spelled width tall w t p =
@@ -79,10 +76,8 @@ module _ (Z : Type 0) (d : Display) (log : Sized) (number : ℕ) (answer : CowSl
 
 -- ---- the bytes
 
-pub sent_bytes : (d : Display) (log : Sized) (number : ℕ) (lent made start : List Action) (bytes : List ℕ) (width tall : ℕ) → width ≡ d.screen.width → tall ≡ height d.screen → HaveSpellings d.screen.width (height d.screen) (update_changes d.screen log number)
-    → start ≡ [] → map action_value made ≡ map action_value start ++ all_sent width tall (update_changes d.screen log number) → lent ≡ made → bytes ≡ stream_text (map action_value lent) → bytes ≡ update_of d.screen log number
-sent_bytes d log number lent made start bytes width tall w t h none sent same b =
+pub sent_bytes : TextsJoin → (d : Display) (log : Sized) (number : ℕ) (made start : List ℕ) (width tall : ℕ) → width ≡ d.screen.width → tall ≡ height d.screen → HaveSpellings d.screen.width (height d.screen) (update_changes d.screen log number)
+    → start ≡ [] → made ≡ start ++ texts_sent width tall (update_changes d.screen log number) → made ≡ update_of d.screen log number
+sent_bytes join d log number made start width tall w t h none sent =
     let changes : List ChangeValue = update_changes d.screen log number in
-    let actions : map action_value lent ≡ all_sent d.screen.width (height d.screen) changes =
-    ap (map action_value) same ∙ sent ∙ (λ i. map action_value (none i) ++ all_sent (w i) (t i) changes) in
-    b ∙ ap stream_text actions ∙ sym (ap bytes_of (all_are_sent d.screen.width (height d.screen) changes h))
+    sent ∙ (λ i. none i ++ texts_sent (w i) (t i) changes) ∙ sym (texts_are join d.screen.width (height d.screen) changes) ∙ sym (ap bytes_of (all_are_sent d.screen.width (height d.screen) changes h))

@@ -5,6 +5,7 @@ use Rattle.cell_base.specs.declared.attributes.Position.TheVariants.{Absolute}
 use Rattle.cell_base.specs.Screen.{Screen}
 use Rattle.cell_change.specs.ChangeValue.{ChangeValue, ClearScreen, CursorPosition, Title}
 use Rattle.escape_stream.specs.StreamAction.{StreamAction}
+use Rattle.escape_stream.specs.StreamText.{stream_text}
 use Rattle.terminal_render.specs.Rendering.{rendering}
 use Rattle.terminal_update.specs.Update.{told}
 
@@ -19,6 +20,13 @@ sent_for width height change = actions_or_none (rendering change width height)
 
 abbrev pub all_sent : ℕ → ℕ → List ChangeValue → List StreamAction
 all_sent width height changes = flat_map (sent_for width height) changes
+
+-- the bytes of one, and of each in turn
+unfoldable pub text_for : ℕ → ℕ → ChangeValue → List ℕ
+text_for width height change = stream_text (sent_for width height change)
+
+abbrev pub texts_sent : ℕ → ℕ → List ChangeValue → List ℕ
+texts_sent width height changes = flat_map (text_for width height) changes
 
 -- whether a change leads to the place of a wrap that is pending
 abbrev pub is_pending : ℕ → ChangeValue → Bool

@@ -9,13 +9,12 @@ ghost use Rattle.cell_change.specs.ValueOf.{value_of};
 ghost use Rattle.cell_line.specs.CellRefView.{shown_by as cell_shown};
 ghost use Rattle.cell_surface.specs.Surface.{Answers, shown_by};
 ghost use Rattle.change_log.specs.Log.{due};
-ghost use Rattle.escape_stream.specs.StreamActionView.{value_of as action_value};
 ghost use Rattle.screen_effects.specs.Display.{IsDisplay};
 ghost use Rattle.screen_effects.specs.Effect.{cursor_row};
 ghost use Rattle.screen_repaint.specs.Repaint.{repaint};
 ghost use Rattle.terminal_spelling.specs.Spelling.{HasSpelling, HaveSpellings};
 ghost use Rattle.terminal_update.specs.Sendable.{CanBeSent};
-ghost use Rattle.terminal_update.specs.Sending.{all_sent, is_pending, retold, sent_for};
+ghost use Rattle.terminal_update.specs.Sending.{is_pending, retold, text_for, texts_sent};
 ghost use Rattle.terminal_update.specs.Update.{last_cell, update_changes, update_of, written_again};
 
 use crate::laws::updates_have_spellings;
@@ -24,10 +23,11 @@ use cell_change::Change;
 use cell_line::{CellRef, Line};
 use cell_surface::laws::surfaces_stay_lawful;
 use cell_surface::{Surface, SurfaceError};
-use escape_stream::{Action, encode};
+use escape_stream::encoding_laws::encoded_lists_join;
 use std::alloc::{AllocError, Global};
 use std::borrow::CowSlice;
-use terminal_render::{RenderError, render};
+use std::slice;
+use terminal_render::{RenderError, append_renderings};
 
 // The last visible cell of a line, if there is one.
 fn last_cell(line: &Line) -> Option<CellRef<'_>>
@@ -91,126 +91,109 @@ struct Receiver {
 }
 
 impl Receiver {
-    // The actions of a change.
-    fn rendered(&self, change: &Change) -> Result<Vec<Action>, AllocError>
-        requires { HasSpelling self.now.width self.now.height (value_of change.now) }
-        ensures { IfOk result (λ actions. map action_value actions.items ≡ sent_for self.now.width self.now.height (value_of change.now)) }
+    // Sends changes in turn.
+    fn send_all(&self, bytes: &mut Vec<u8>, changes: &[Change]) -> Result<(), AllocError>
+        requires { HaveSpellings self.now.width self.now.height (map value_of changes.now) }
+        ensures { OnOk result (bytes.new.items ≡ bytes.old.items ++ texts_sent self.now.width self.now.height (map value_of changes.now)) }
     {
-        match render(self.alloc, change, self.width, self.height) {
-            Ok(actions) => Ok(actions),
+        encoded_lists_join();
+        match append_renderings(self.alloc, changes, self.width, self.height, bytes) {
+            Ok(()) => Ok(()),
             Err(RenderError::Memory) => Err(AllocError),
             Err(RenderError::NoSpelling) => unreachable!(),
         }
     }
 
     // Sends a change.
-    fn send(&self, actions: &mut Vec<Action>, change: &Change) -> Result<(), AllocError>
+    fn send(&self, bytes: &mut Vec<u8>, change: &Change) -> Result<(), AllocError>
         requires { HasSpelling self.now.width self.now.height (value_of change.now) }
-        ensures { OnOk result (map action_value actions.new.items ≡ map action_value actions.old.items ++ sent_for self.now.width self.now.height (value_of change.now)) }
+        ensures { OnOk result (bytes.new.items ≡ bytes.old.items ++ text_for self.now.width self.now.height (value_of change.now)) }
     {
-        let mut rendered = self.rendered(change)?;
-        actions.append(&mut rendered)?;
-        Ok(())
-    }
-
-    // Sends changes in turn.
-    fn send_all(&self, actions: &mut Vec<Action>, changes: &[Change]) -> Result<(), AllocError>
-        requires { HaveSpellings self.now.width self.now.height (map value_of changes.now) }
-        ensures { OnOk result (map action_value actions.new.items ≡ map action_value actions.old.items ++ all_sent self.now.width self.now.height (map value_of changes.now)) }
-    {
-        for change in changes {
-            self.send(actions, change)?;
-        }
-        Ok(())
+        self.send_all(bytes, slice::from_ref(change))
     }
 
     // Sends a title.
-    fn send_title(&self, actions: &mut Vec<Action>, title: &str) -> Result<(), AllocError>
+    fn send_title(&self, bytes: &mut Vec<u8>, title: &str) -> Result<(), AllocError>
         requires { HasSpelling self.now.width self.now.height (Title title.now) }
-        ensures { OnOk result (map action_value actions.new.items ≡ map action_value actions.old.items ++ sent_for self.now.width self.now.height (Title title.now)) }
+        ensures { OnOk result (bytes.new.items ≡ bytes.old.items ++ text_for self.now.width self.now.height (Title title.now)) }
     {
         let title = String::from_str(self.alloc, title)?;
-        self.send(actions, &Change::Title(title))
+        self.send(bytes, &Change::Title(title))
     }
 
     // Sends a text.
-    fn send_text(&self, actions: &mut Vec<Action>, text: &str) -> Result<(), AllocError>
+    fn send_text(&self, bytes: &mut Vec<u8>, text: &str) -> Result<(), AllocError>
         requires { HasSpelling self.now.width self.now.height (Text text.now) }
-        ensures { OnOk result (map action_value actions.new.items ≡ map action_value actions.old.items ++ sent_for self.now.width self.now.height (Text text.now)) }
+        ensures { OnOk result (bytes.new.items ≡ bytes.old.items ++ text_for self.now.width self.now.height (Text text.now)) }
     {
         let text = String::from_str(self.alloc, text)?;
-        self.send(actions, &Change::Text(text))
+        self.send(bytes, &Change::Text(text))
     }
 
     // Sends attributes.
-    fn send_pen(&self, actions: &mut Vec<Action>, pen: &CellAttributes) -> Result<(), AllocError>
+    fn send_pen(&self, bytes: &mut Vec<u8>, pen: &CellAttributes) -> Result<(), AllocError>
         requires { HasSpelling self.now.width self.now.height (AllAttributes pen.now) }
-        ensures { OnOk result (map action_value actions.new.items ≡ map action_value actions.old.items ++ sent_for self.now.width self.now.height (AllAttributes pen.now)) }
+        ensures { OnOk result (bytes.new.items ≡ bytes.old.items ++ text_for self.now.width self.now.height (AllAttributes pen.now)) }
     {
         let pen = pen.try_clone()?;
-        self.send(actions, &Change::AllAttributes(pen))
+        self.send(bytes, &Change::AllAttributes(pen))
     }
 
     // Sends a place.
-    fn send_place(
-        &self,
-        actions: &mut Vec<Action>,
-        column: usize,
-        row: usize,
-    ) -> Result<(), AllocError>
+    fn send_place(&self, bytes: &mut Vec<u8>, column: usize, row: usize) -> Result<(), AllocError>
         requires { HasSpelling self.now.width self.now.height (CursorPosition (place.Absolute column) (place.Absolute row)) }
-        ensures { OnOk result (map action_value actions.new.items ≡ map action_value actions.old.items ++ sent_for self.now.width self.now.height (CursorPosition (place.Absolute column) (place.Absolute row))) }
+        ensures { OnOk result (bytes.new.items ≡ bytes.old.items ++ text_for self.now.width self.now.height (CursorPosition (place.Absolute column) (place.Absolute row))) }
     {
         let place = Change::CursorPosition {
             x: Position::Absolute(column),
             y: Position::Absolute(row),
         };
-        self.send(actions, &place)
+        self.send(bytes, &place)
     }
 
     // Sends the last cell of the cursor's row once more, and the pen.
     fn send_again<W: Widths + Drop>(
         &self,
-        actions: &mut Vec<Action>,
+        bytes: &mut Vec<u8>,
         surface: &Surface<W>,
     ) -> Result<(), AllocError>
         requires stays { surface.now.is_failed ≡ false }
         requires spelled { HaveSpellings self.now.width self.now.height (written_again (shown_by surface.now).screen (last_cell (cursor_row (shown_by surface.now).screen))) }
-        ensures { OnOk result (map action_value actions.new.items ≡ map action_value actions.old.items ++ all_sent self.now.width self.now.height (written_again (shown_by surface.now).screen (last_cell (cursor_row (shown_by surface.now).screen)))) }
+        ensures { OnOk result (bytes.new.items ≡ bytes.old.items ++ texts_sent self.now.width self.now.height (written_again (shown_by surface.now).screen (last_cell (cursor_row (shown_by surface.now).screen)))) }
     {
         let Some(cell) = last_cell(cursor_line(surface)) else {
             return Ok(());
         };
         let (_, row) = surface.cursor_position();
-        self.send_place(actions, cell.cell_index(), row)?;
-        self.send_pen(actions, cell.attrs())?;
-        self.send_text(actions, cell.str())?;
-        self.send_pen(actions, surface.pen())?;
+        self.send_place(bytes, cell.cell_index(), row)?;
+        self.send_pen(bytes, cell.attrs())?;
+        self.send_text(bytes, cell.str())?;
+        self.send_pen(bytes, surface.pen())?;
         Ok(())
     }
 
     // Sends a change of a repaint.
     fn send_painted<W: Widths + Drop>(
         &self,
-        actions: &mut Vec<Action>,
+        bytes: &mut Vec<u8>,
         surface: &Surface<W>,
         change: &Change,
     ) -> Result<(), AllocError>
         requires stays { surface.now.is_failed ≡ false }
         requires width { self.now.width ≡ (shown_by surface.now).screen.width }
         requires spelled { HaveSpellings self.now.width self.now.height (retold (shown_by surface.now).screen (value_of change.now)) }
-        ensures { OnOk result (map action_value actions.new.items ≡ map action_value actions.old.items ++ all_sent self.now.width self.now.height (retold (shown_by surface.now).screen (value_of change.now))) }
+        ensures { OnOk result (bytes.new.items ≡ bytes.old.items ++ texts_sent self.now.width self.now.height (retold (shown_by surface.now).screen (value_of change.now))) }
     {
         if is_pending(change, self.width) {
-            return self.send_again(actions, surface);
+            return self.send_again(bytes, surface);
         }
         match change {
             Change::Title(_) => {}
             Change::ClearScreen(_) => {
-                self.send(actions, change)?;
-                self.send_title(actions, surface.title())?;
+                self.send(bytes, change)?;
+                self.send_title(bytes, surface.title())?;
             }
-            _ => self.send(actions, change)?,
+            _ => self.send(bytes, change)?,
         }
         Ok(())
     }
@@ -218,17 +201,17 @@ impl Receiver {
     // Sends the changes of a repaint in turn.
     fn send_repaint<W: Widths + Drop>(
         &self,
-        actions: &mut Vec<Action>,
+        bytes: &mut Vec<u8>,
         surface: &Surface<W>,
         changes: &[Change],
     ) -> Result<(), AllocError>
         requires stays { surface.now.is_failed ≡ false }
         requires width { self.now.width ≡ (shown_by surface.now).screen.width }
         requires spelled { HaveSpellings self.now.width self.now.height (flat_map (retold (shown_by surface.now).screen) (map value_of changes.now)) }
-        ensures { OnOk result (map action_value actions.new.items ≡ map action_value actions.old.items ++ all_sent self.now.width self.now.height (flat_map (retold (shown_by surface.now).screen) (map value_of changes.now))) }
+        ensures { OnOk result (bytes.new.items ≡ bytes.old.items ++ texts_sent self.now.width self.now.height (flat_map (retold (shown_by surface.now).screen) (map value_of changes.now))) }
     {
         for change in changes {
-            self.send_painted(actions, surface, change)?;
+            self.send_painted(bytes, surface, change)?;
         }
         Ok(())
     }
@@ -236,7 +219,7 @@ impl Receiver {
     // Sends an update.
     fn send_update<W: Widths + Drop>(
         &self,
-        actions: &mut Vec<Action>,
+        bytes: &mut Vec<u8>,
         surface: &Surface<W>,
         number: SequenceNo,
     ) -> Result<(), AllocError>
@@ -244,11 +227,11 @@ impl Receiver {
         requires sendable { CanBeSent surface.now }
         requires width { self.now.width ≡ (shown_by surface.now).screen.width }
         requires height { self.now.height ≡ height (shown_by surface.now).screen }
-        ensures { OnOk result (map action_value actions.new.items ≡ map action_value actions.old.items ++ all_sent self.now.width self.now.height (update_changes (shown_by surface.now).screen surface.now.log number)) }
+        ensures { OnOk result (bytes.new.items ≡ bytes.old.items ++ texts_sent self.now.width self.now.height (update_changes (shown_by surface.now).screen surface.now.log number)) }
     {
         match due_changes(surface, number)? {
-            CowSlice::Borrowed(changes) => self.send_all(actions, changes)?,
-            CowSlice::Owned(changes) => self.send_repaint(actions, surface, changes.as_slice())?,
+            CowSlice::Borrowed(changes) => self.send_all(bytes, changes)?,
+            CowSlice::Owned(changes) => self.send_repaint(bytes, surface, changes.as_slice())?,
         }
         Ok(())
     }
@@ -260,7 +243,7 @@ impl Receiver {
 /// from a clear on, with the title, also an empty one, and with a wrap that is pending, by the last cell
 /// of the cursor's row, which is written once more.
 ///
-/// Want of memory is the only refusal. Changes are lent from the log and rendered one by one.
+/// Want of memory is the only refusal. Changes are lent from the log, and each one's bytes are appended as it is rendered.
 pub fn update<W: Widths + Drop>(
     alloc: Global,
     surface: &Surface<W>,
@@ -271,14 +254,14 @@ pub fn update<W: Widths + Drop>(
 {
     surfaces_stay_lawful(surface);
     updates_have_spellings();
+    encoded_lists_join();
     let (width, height) = surface.dimensions();
     let receiver = Receiver {
         alloc,
         width,
         height,
     };
-    let mut actions = Vec::new(alloc);
-    receiver.send_update(&mut actions, surface, number)?;
-    let bytes = encode(alloc, &actions)?;
+    let mut bytes = Vec::new(alloc);
+    receiver.send_update(&mut bytes, surface, number)?;
     Ok(bytes)
 }

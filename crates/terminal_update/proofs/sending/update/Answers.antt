@@ -8,7 +8,7 @@ pub returns : goal.returns
 returns g c =
     let d = shown_by c.args.surface.now in
     let log = c.args.surface.now.log in
-    sent_bytes d log c.args.number c.deref.result.now c.send_update.new.actions.items c.new-actions.result.items c.in_ok-bytes.bytes.items c.dimensions-width.result.0 c.dimensions-width.result.1
+    sent_bytes c.encoded_lists_join.ensures d log c.args.number c.send_update.new.bytes.items c.new-bytes.result.items c.dimensions-width.result.0 c.dimensions-width.result.1
     c.dimensions-width.ensures.width (c.dimensions-width.ensures.height ∙ sym (length-map c.args.surface.now.canvas.lines (λ l. l.columns)))
     (c.updates_have_spellings.ensures.update d.screen log c.args.number (on_display d (c.surfaces_stay_lawful.ensures.lawful c.requires.stays)) c.requires.spelled c.requires.kept)
-    c.new-actions.ensures.items c.in_ok-send_update.ensures c.deref.ensures.value c.in_ok-bytes.ensures
+    c.new-bytes.ensures.items c.in_ok-send_update.ensures

@@ -1,6 +1,4 @@
-use Rattle.std.proofs.Common.{map}
 use Rattle.cell_surface.specs.Surface.{shown_by}
-use Rattle.escape_stream.specs.StreamActionView.{value_of as action_value}
 use Rattle.terminal_update.proofs.UpdateLemmas.{lent_spelled, made_sent, made_spelled}
 use Rattle.terminal_update.proofs.sending.Receiver.send_update.Goals as goal
 
@@ -17,4 +15,4 @@ send_repaint-requires-clause-spelled g c =
 pub returns-in_ok-send_repaint-in-Owned : goal.returns-in_ok-send_repaint-in-Owned
 returns-in_ok-send_repaint-in-Owned g c =
     made_sent _ (shown_by c.args.surface.now) c.args.surface.now.log c.args.number c.in_ok-changes.field-0 c.in_ok-changes.ensures c.requires.lawful c.requires.sendable.shapeless c.in-Owned.changes c.in-Owned.is
-    c.args.self.now.width c.args.self.now.height (map action_value c.args.actions.now.items) (map action_value c.send_repaint.new.actions.items) c.as_slice.result.now c.as_slice.ensures.value c.in_ok-send_repaint-in-Owned.ensures
+    c.args.self.now.width c.args.self.now.height c.args.bytes.now.items c.send_repaint.new.bytes.items c.as_slice.result.now c.as_slice.ensures.value c.in_ok-send_repaint-in-Owned.ensures

@@ -6,11 +6,11 @@ use Rattle.std.specs.List.{flat_map}
 use Rattle.screen_canvas.specs.Parts.{IsAtControl}
 use Rattle.screen_effects.specs.Strokes.{text_parts}
 use Rattle.terminal_render.specs.Texts.{part_actions}
-use Rattle.terminal_render.proofs.texts.text_actions.Given as goal
+use Rattle.terminal_render.proofs.texts.push_text.Given as goal
 
 abbrev pub invariant-loop-control : goal.invariant-loop-control
 invariant-loop-control l = record {
-  same : l.actions ++ flat_map part_actions (text_parts l.rest) ≡ flat_map part_actions (text_parts l.text);
+  same : l.actions ++ flat_map part_actions (text_parts l.rest) ≡ l.fn.actions ++ flat_map part_actions (text_parts l.text);
   control : IsAtControl l.rest;
   text : shadow (Utf8 l.rest);
 }
