@@ -1,3 +1,9 @@
 pub mod Numbers
 pub mod Flags
 mod OutputLemmas
+mod SettingFaults
+mod SettingLemmas
+mod SettingNumbers
+mod SettingRows
+mod SettingWalk
+mod SettingWords

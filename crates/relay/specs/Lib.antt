@@ -1,3 +1,4 @@
 pub mod CommandLine
 pub mod Lent
 pub mod Output
+pub mod Settings

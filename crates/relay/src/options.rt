@@ -58,7 +58,9 @@ fn named_command<'a>(alloc: Global) -> Command<'a>
     ensures { app_of result ≡ named }
 {
     Command::new(alloc, "relay")
-        .about("Keeps the screen of an application from the bytes on standard input")
+        .about(
+            "Keeps the screen of an application from the bytes on standard input, and writes what a viewer has to be sent so that it shows that screen",
+        )
         .version("0.1.0")
 }
 

@@ -62,6 +62,7 @@ fn explain<T: Write, F: Write>(alloc: Global, error: &Error, writer: &mut T, fau
     ensures asked { result ≡ 0 → (kind_of error.now ≡ ErrorKind.DisplayHelp) ⊎ (kind_of error.now ≡ ErrorKind.DisplayVersion) }
     ensures quiet { result ≡ 0 → Keeps (F.contents faults.old) (F.contents faults.new) }
     ensures nothing { kind_of error.now ≡ ErrorKind.OutOfMemory → Keeps (T.contents writer.old) (T.contents writer.new) }
+    ensures refused { result ≡ BAD_WORDS → Keeps (T.contents writer.old) (T.contents writer.new) }
 {
     if error.kind() == ErrorKind::OutOfMemory {
         return tell(faults, "out of memory");
@@ -126,9 +127,13 @@ fn relay<R: Read, T: Write>(
     result
 }
 
-/// The program on its words, of which the first is its name, and on its streams. It answers the
-/// status: 0, or 1 with one line on `faults`, or 2 with a text on `faults` for a bad command line.
-/// Help and the version are written to `writer`, with status 0.
+/// The program on its words, of which the first is its name, and on its streams. What the words ask
+/// for is written to `writer`: the updates of what the reader gives, one behind each so many bytes and
+/// one at the end, or with `--show` the rows of the screen at the end; or help, or the version.
+///
+/// It answers the status: 0; or 1 with one line on `faults`, where reading, writing, memory or numbers
+/// failed or the input was too long, and then the first bytes may have been written; or 2 with a text on
+/// `faults` for a bad command line, and then none were.
 #[tactic(auto, using(crate::proofs::OutputLemmas::none_of))]
 pub fn serve<S: AsStr, R: Read, T: Write, F: Write>(
     alloc: Global,
@@ -144,6 +149,8 @@ pub fn serve<S: AsStr, R: Read, T: Write, F: Write>(
     ensures asked { result ≡ 0 → faults_in (map S.text words.now) ≢ []
         → IsAmong ErrorKind.DisplayHelp (faults_in (map S.text words.now)) ⊎ IsAmong ErrorKind.DisplayVersion (faults_in (map S.text words.now)) }
     ensures quiet { result ≡ 0 → Keeps (F.contents faults.old) (F.contents faults.new) }
+    // Behind a bad command line nothing was written.
+    ensures refused { result ≡ BAD_WORDS → Keeps (T.contents writer.old) (T.contents writer.new) }
     // A command line that can be run writes the updates of the input, or with `--show` its rows, of its size, where the
     // status is 0, and else the first bytes of them.
     ensures shows { faults_in (map S.text words.now) ≡ [] → result ≡ 0 → IfSome (R.remaining reader.old) (λ input.

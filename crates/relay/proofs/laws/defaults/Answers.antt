@@ -1,6 +1,6 @@
 use Rattle.std.proofs.Common.{refl}
 use Rattle.clap.proofs.OnLiterals.{clap_on_literals}
-use Rattle.relay.specs.CommandLine.{command_line, faults_in, text_in, number_or}
+use Rattle.relay.specs.CommandLine.{command_line, faults_in, is_true, text_in, number_or}
 use Rattle.relay.proofs.laws.defaults.Goals as goal
 
 pub returns-clause-taken : goal.returns-clause-taken
@@ -18,3 +18,7 @@ returns-clause-height c = refl
 pub returns-clause-every : goal.returns-clause-every
 unfolding clap_on_literals command_line faults_in text_in number_or
 returns-clause-every c = refl
+
+pub returns-clause-show : goal.returns-clause-show
+unfolding clap_on_literals command_line faults_in text_in is_true
+returns-clause-show c = refl

@@ -1,0 +1,269 @@
+-- The parser's walk over words that give options.
+use Rattle.std.proofs.Common.{◌≡◌, ◌∙◌, ◌⊎◌, inl, inr, List, [], ◌∷◌, ◌++◌, Option, Some, None, false, refl, ap, ap₂, arith, subst, sym, codes, map}
+use Rattle.std.specs.Prelude.{fold}
+use Rattle.std.specs.List.{AllByRecursion, IsDistinct}
+use Rattle.std.specs.Str.{bytes_eq}
+use Rattle.std.proofs.lemmas.List.{append-nil, append_assoc}
+use Rattle.std.proofs.lemmas.List.Sums.{fold-append}
+use Rattle.clap.specs.Faults.{settle_fault, turn_fault, walk_fault}
+use Rattle.clap.specs.Kinds.{Kinds, or_else}
+use Rattle.clap.specs.Simple.{Shape, built}
+use Rattle.clap.specs.Walk.{Held, Row, Text, Walk, has_row, idle, option, settled_rows, walked}
+use Rattle.clap.specs.declared.builder.value_parser.Reading.TheVariants as reading
+use Rattle.relay.specs.CommandLine.{command_line}
+use Rattle.relay.specs.Settings.{Setting, Width, Height, Every, Show, Give, GiveAll, IsInRange, name_of}
+use Rattle.relay.proofs.SettingNumbers.{plain_number}
+use Rattle.relay.proofs.SettingRows.{has_more, row_for, used_once}
+
+-- the options that take a number
+pub data Numbered : Type 0 where
+  Columns : Numbered
+  Rows : Numbered
+  Bytes : Numbered
+
+abbrev pub with_number : Numbered → Text → Setting
+with_number Columns text = Width text
+with_number Rows text = Height text
+with_number Bytes text = Every text
+
+abbrev pub name_for : Numbered → Text
+name_for Columns = codes "width"
+name_for Rows = codes "height"
+name_for Bytes = codes "every"
+
+-- the command line as the parser completes it
+abbrev pub line : Shape
+line = (built command_line).top
+
+abbrev pub held : List Row → Option (Text × List Text) → Held
+held rows pending = record { rows = rows; pending = pending; skip = 0 }
+
+-- between two options: what is pending was given last
+abbrev pub between : List Row → Option (Text × List Text) → Walk
+between rows pending = record { held = held rows pending; waiting = idle; position = 1; is_trailing = false; stopped = None }
+
+-- an option's number is to come
+abbrev pub awaiting : Numbered → List Row → Walk
+awaiting k rows = record { held = held rows (Some (name_for k, [])); waiting = option (name_for k); position = 1; is_trailing = false; stopped = None }
+
+-- the rows with what is pending
+abbrev pub rows_at : List Row → Option (Text × List Text) → List Row
+rows_at rows pending = settled_rows line.rules pending rows
+
+-- the faults of what is pending
+abbrev pub settling : List Row → Option (Text × List Text) → Kinds
+settling rows pending = settle_fault line.rules false (held rows pending)
+
+-- the option isn't among the rows
+abbrev pub IsNew : List Row → Setting → Type 0
+IsNew rows s = has_row (name_of s) rows ≡ false
+
+abbrev pub walked_over : Walk → List Text → Walk
+walked_over = fold (walked line.rules [])
+
+-- the words are walked over without a fault, and then these rows are there, or pending
+pub record LeadsTo (from : Walk) (words : List Text) (found : List Row) : Type 0 where
+  pub rows : List Row
+  pub pending : Option (Text × List Text)
+  pub walk : walked_over from words ≡ between rows pending
+  pub fault : walk_fault line [] from words ≡ []
+  pub settles : settling rows pending ≡ []
+  pub rows_are : rows_at rows pending ≡ found
+
+-- ---- one option
+
+-- a number that is pending
+pub number_settles : (k : Numbered) (text : Text) (rows : List Row) → IsInRange (with_number k text) → IsNew rows (with_number k text)
+    → (settling rows (Some (name_for k, text ∷ [])) ≡ []) × (rows_at rows (Some (name_for k, text ∷ [])) ≡ rows ++ row_for (with_number k text) ∷ [])
+unfolding command_line
+number_settles Columns text rows range new = (rw (new, (plain_number 4096 text (omega arith) range).signed) refl, used_once (codes "width") reading.WithoutMinus text rows new)
+number_settles Rows text rows range new = (rw (new, (plain_number 4096 text (omega arith) range).signed) refl, used_once (codes "height") reading.WithoutMinus text rows new)
+number_settles Bytes text rows range new = (rw (new, (plain_number 4294967295 text (omega arith) range).signed) refl, used_once (codes "every") reading.WithoutMinus text rows new)
+
+-- `--name text`
+apart_walk : (k : Numbered) (text : Text) (rows : List Row) (pending : Option (Text × List Text)) → IsInRange (with_number k text)
+    → walked_over (between rows pending) ((codes "--" ++ name_for k) ∷ text ∷ []) ≡ between (rows_at rows pending) (Some (name_for k, text ∷ []))
+unfolding command_line walked
+apart_walk Columns text rows pending range = let plain = plain_number 4096 text (omega arith) range in rw (plain.rest, plain.long, plain.short) refl
+apart_walk Rows text rows pending range = let plain = plain_number 4096 text (omega arith) range in rw (plain.rest, plain.long, plain.short) refl
+apart_walk Bytes text rows pending range = let plain = plain_number 4294967295 text (omega arith) range in rw (plain.rest, plain.long, plain.short) refl
+
+apart_fault : (k : Numbered) (text : Text) (rows : List Row) (pending : Option (Text × List Text)) → settling rows pending ≡ [] → IsInRange (with_number k text)
+    → walk_fault line [] (between rows pending) ((codes "--" ++ name_for k) ∷ text ∷ []) ≡ []
+unfolding command_line walked walk_fault
+apart_fault Columns text rows pending settles range = let plain = plain_number 4096 text (omega arith) range in rw (settles, plain.rest, plain.long, plain.short) refl
+apart_fault Rows text rows pending settles range = let plain = plain_number 4096 text (omega arith) range in rw (settles, plain.rest, plain.long, plain.short) refl
+apart_fault Bytes text rows pending settles range = let plain = plain_number 4294967295 text (omega arith) range in rw (settles, plain.rest, plain.long, plain.short) refl
+
+-- `--name=text`
+abbrev pub joined : Numbered → Text → Text
+joined k text = codes "--" ++ (name_for k ++ (codes "=" ++ text))
+
+pub joined_walk : (k : Numbered) (text : Text) (rows : List Row) (pending : Option (Text × List Text)) → IsNew (rows_at rows pending) (with_number k text)
+    → walked line.rules [] (between rows pending) (joined k text) ≡ between (rows_at rows pending ++ row_for (with_number k text) ∷ []) None
+unfolding command_line walked
+joined_walk Columns text rows pending new = ap (λ rs. between rs None) (used_once (codes "width") reading.WithoutMinus text (rows_at rows pending) new)
+joined_walk Rows text rows pending new = ap (λ rs. between rs None) (used_once (codes "height") reading.WithoutMinus text (rows_at rows pending) new)
+joined_walk Bytes text rows pending new = ap (λ rs. between rs None) (used_once (codes "every") reading.WithoutMinus text (rows_at rows pending) new)
+
+joined_fault : (k : Numbered) (text : Text) (rows : List Row) (pending : Option (Text × List Text)) → settling rows pending ≡ []
+    → IsInRange (with_number k text) → IsNew (rows_at rows pending) (with_number k text) → turn_fault line [] (between rows pending) (joined k text) ≡ []
+unfolding command_line
+joined_fault Columns text rows pending settles range new = rw (settles, new, (plain_number 4096 text (omega arith) range).signed) refl
+joined_fault Rows text rows pending settles range new = rw (settles, new, (plain_number 4096 text (omega arith) range).signed) refl
+joined_fault Bytes text rows pending settles range new = rw (settles, new, (plain_number 4294967295 text (omega arith) range).signed) refl
+
+-- `--show`
+pub show_walk : (rows : List Row) (pending : Option (Text × List Text)) → IsNew (rows_at rows pending) Show
+    → walked line.rules [] (between rows pending) (codes "--show") ≡ between (rows_at rows pending ++ row_for Show ∷ []) None
+unfolding command_line walked
+show_walk rows pending new = ap (λ rs. between rs None) (used_once (codes "show") reading.AsWritten (codes "true") (rows_at rows pending) new)
+
+show_fault : (rows : List Row) (pending : Option (Text × List Text)) → settling rows pending ≡ [] → IsNew (rows_at rows pending) Show
+    → turn_fault line [] (between rows pending) (codes "--show") ≡ []
+unfolding command_line
+show_fault rows pending settles new = rw (settles, new) refl
+
+one_fault : (w : Walk) (word : Text) → turn_fault line [] w word ≡ [] → walk_fault line [] w (word ∷ []) ≡ []
+unfolding walk_fault
+one_fault w word none = ap (λ kinds. or_else kinds []) none
+
+-- the words lead to the option's row
+abbrev Leads : List Row → Option (Text × List Text) → Setting → List Text → Type 0
+Leads rows pending s words = LeadsTo (between rows pending) words (rows_at rows pending ++ row_for s ∷ [])
+
+number_leads : (k : Numbered) (text : Text) (words : List Text) (rows : List Row) (pending : Option (Text × List Text)) → settling rows pending ≡ []
+    → IsInRange (with_number k text) → IsNew (rows_at rows pending) (with_number k text)
+    → (words ≡ (codes "--" ++ name_for k) ∷ text ∷ []) ⊎ (words ≡ joined k text ∷ []) → Leads rows pending (with_number k text) words
+number_leads k text words rows pending settles range new (inl is) =
+    let last = number_settles k text (rows_at rows pending) range new in
+    subst (Leads rows pending (with_number k text)) (sym is) (record {
+      rows = rows_at rows pending;
+      pending = Some (name_for k, text ∷ []);
+      walk = apart_walk k text rows pending range;
+      fault = apart_fault k text rows pending settles range;
+      settles = last.0;
+      rows_are = last.1;
+    })
+number_leads k text words rows pending settles range new (inr is) =
+    subst (Leads rows pending (with_number k text)) (sym is) (record {
+      rows = rows_at rows pending ++ row_for (with_number k text) ∷ [];
+      pending = None;
+      walk = joined_walk k text rows pending new;
+      fault = one_fault (between rows pending) (joined k text) (joined_fault k text rows pending settles range new);
+      settles = refl;
+      rows_are = refl;
+    })
+
+option_leads : (s : Setting) (words : List Text) (rows : List Row) (pending : Option (Text × List Text)) → settling rows pending ≡ []
+    → IsInRange s → IsNew (rows_at rows pending) s → Give s words → Leads rows pending s words
+option_leads (Width text) words rows pending settles range new give = number_leads Columns text words rows pending settles range new give
+option_leads (Height text) words rows pending settles range new give = number_leads Rows text words rows pending settles range new give
+option_leads (Every text) words rows pending settles range new give = number_leads Bytes text words rows pending settles range new give
+option_leads Show words rows pending settles range new is =
+    subst (Leads rows pending Show) (sym is) (record {
+      rows = rows_at rows pending ++ row_for Show ∷ [];
+      pending = None;
+      walk = show_walk rows pending new;
+      fault = one_fault (between rows pending) (codes "--show") (show_fault rows pending settles new);
+      settles = refl;
+      rows_are = refl;
+    })
+
+-- ---- all of them
+
+or_else_assoc : (a b c : Kinds) → or_else (or_else a b) c ≡ or_else a (or_else b c)
+or_else_assoc [] b c = refl
+or_else_assoc (k ∷ ks) b c = refl
+
+faults_in_turn : (w : Walk) (first rest : List Text)
+    → walk_fault line [] w (first ++ rest) ≡ or_else (walk_fault line [] w first) (walk_fault line [] (walked_over w first) rest)
+unfolding walk_fault
+faults_in_turn w [] rest = refl
+faults_in_turn w (word ∷ first) rest =
+    let next = walked line.rules [] w word in
+    ap (or_else (turn_fault line [] w word)) (faults_in_turn next first rest)
+    ∙ sym (or_else_assoc (turn_fault line [] w word) (walk_fault line [] next first) (walk_fault line [] (walked_over next first) rest))
+
+-- the words are walked over without a fault, at their end these rows are there, or pending, and no subcommand was met
+pub record EndsWith (from : Walk) (words : List Text) (found : List Row) : Type 0 where
+  pub rows : List Row
+  pub pending : Option (Text × List Text)
+  pub held_is : (walked_over from words).held ≡ held rows pending
+  pub stopped_is : (walked_over from words).stopped ≡ None
+  pub fault : walk_fault line [] from words ≡ []
+  pub settles : settling rows pending ≡ []
+  pub rows_are : rows_at rows pending ≡ found
+
+ends_here : (words : List Text) (rows : List Row) (pending : Option (Text × List Text)) → settling rows pending ≡ [] → GiveAll [] words
+    → EndsWith (between rows pending) words (rows_at rows pending ++ [])
+unfolding walked walk_fault
+ends_here words rows pending settles (inl is) = subst (λ ws. EndsWith (between rows pending) ws (rows_at rows pending ++ [])) (sym is) (record {
+  rows = rows;
+  pending = pending;
+  held_is = refl;
+  stopped_is = refl;
+  fault = refl;
+  settles = settles;
+  rows_are = sym (append-nil (rows_at rows pending));
+})
+ends_here words rows pending settles (inr is) = subst (λ ws. EndsWith (between rows pending) ws (rows_at rows pending ++ [])) (sym is) (record {
+  rows = rows;
+  pending = pending;
+  held_is = refl;
+  stopped_is = refl;
+  fault = refl;
+  settles = settles;
+  rows_are = sym (append-nil (rows_at rows pending));
+})
+
+ends_later : (from : Walk) (first rest : List Text) (before found : List Row) (lead : LeadsTo from first before)
+    → EndsWith (between lead.rows lead.pending) rest found → EndsWith from (first ++ rest) found
+ends_later from first rest before found lead end =
+    let walk : walked_over from (first ++ rest) ≡ walked_over (between lead.rows lead.pending) rest =
+    fold-append (walked line.rules []) from first rest ∙ ap (λ w. walked_over w rest) lead.walk in
+    record {
+      rows = end.rows;
+      pending = end.pending;
+      held_is = ap (λ (w : Walk). w.held) walk ∙ end.held_is;
+      stopped_is = ap (λ (w : Walk). w.stopped) walk ∙ end.stopped_is;
+      fault = faults_in_turn from first rest ∙ ap₂ or_else lead.fault (ap (λ w. walk_fault line [] w rest) lead.walk ∙ end.fault);
+      settles = end.settles;
+      rows_are = end.rows_are;
+    }
+
+pub row_named : (s : Setting) → (row_for s).id ≡ name_of s
+row_named (Width text) = refl
+row_named (Height text) = refl
+row_named (Every text) = refl
+row_named Show = refl
+
+still_new : (s : Setting) (rows : List Row) (others : List Setting) → AllByRecursion (λ name. bytes_eq (name_of s) name ≡ false) (map name_of others)
+    → AllByRecursion (IsNew rows) others → AllByRecursion (IsNew (rows ++ row_for s ∷ [])) others
+still_new s rows [] differ new = tt
+still_new s rows (other ∷ others) differ new =
+    let other_name : bytes_eq (row_for s).id (name_of other) ≡ false = ap (λ name. bytes_eq name (name_of other)) (row_named s) ∙ differ.0 in
+    (has_more (name_of other) rows (row_for s) new.0 other_name, still_new s rows others differ.1 new.1)
+
+ends_with : (settings : List Setting) (words : List Text) (rows : List Row) (pending : Option (Text × List Text)) → settling rows pending ≡ []
+    → AllByRecursion IsInRange settings → IsDistinct bytes_eq (map name_of settings) → AllByRecursion (IsNew (rows_at rows pending)) settings → GiveAll settings words
+    → EndsWith (between rows pending) words (rows_at rows pending ++ map row_for settings)
+unfolding IsDistinct
+ends_with [] words rows pending settles range distinct new give = ends_here words rows pending settles give
+ends_with (s ∷ others) words rows pending settles range distinct new give =
+    let before = rows_at rows pending in
+    let lead = option_leads s give.0 rows pending settles range.0 new.0 give.3 in
+    let still = subst (λ rs. AllByRecursion (IsNew rs) others) (sym lead.rows_are) (still_new s before others distinct.0 new.1) in
+    let end = ends_with others give.1 lead.rows lead.pending lead.settles range.1 distinct.1 still give.4 in
+    let found = ap (λ rs. rs ++ map row_for others) lead.rows_are ∙ append_assoc before (row_for s ∷ []) (map row_for others) in
+    let all = ends_later (between rows pending) give.0 give.1 _ _ lead end in
+    subst (EndsWith (between rows pending) words) found
+    (subst (λ ws. EndsWith (between rows pending) ws (rows_at lead.rows lead.pending ++ map row_for others)) (sym give.2) all)
+
+all_new : (settings : List Setting) → AllByRecursion (IsNew []) settings
+all_new [] = tt
+all_new (s ∷ others) = (refl, all_new others)
+
+pub walk_ends : (settings : List Setting) (words : List Text) → AllByRecursion IsInRange settings → IsDistinct bytes_eq (map name_of settings) → GiveAll settings words
+    → EndsWith (between [] None) words (map row_for settings)
+walk_ends settings words range distinct give = ends_with settings words [] None refl range distinct (all_new settings) give

@@ -1,0 +1,83 @@
+-- Which words are a command line that can be run, and what they give.
+use Rattle.std.specs.Prelude.{◌≡◌, ◌<◌, ◌≤◌, ◌⊎◌, ⊤, ℕ, Bool, true, false, List, [], ◌∷◌, ◌++◌, codes, map}
+use Rattle.std.specs.List.{AllByRecursion, IsDistinct}
+use Rattle.std.specs.Str.{bytes_eq}
+use Rattle.std.specs.Str.Parse.{IsNumeral, digits_value, without_leading_plus}
+use Rattle.clap.specs.Words.{Text}
+
+-- an option that is given, with the text of its number where it takes one
+pub data Setting : Type 0 where
+  Width : Text → Setting
+  Height : Text → Setting
+  Every : Text → Setting
+  Show : Setting
+
+abbrev pub name_of : Setting → Text
+name_of (Width text) = codes "width"
+name_of (Height text) = codes "height"
+name_of (Every text) = codes "every"
+name_of Show = codes "show"
+
+-- the words are `--name text`, or the one word `--name=text`
+abbrev pub GiveNumber : Text → Text → List Text → Type 0
+GiveNumber name text words =
+    (words ≡ (codes "--" ++ name) ∷ text ∷ []) ⊎ (words ≡ (codes "--" ++ (name ++ (codes "=" ++ text))) ∷ [])
+
+-- the words give the option
+abbrev pub Give : Setting → List Text → Type 0
+Give (Width text) words = GiveNumber (codes "width") text words
+Give (Height text) words = GiveNumber (codes "height") text words
+Give (Every text) words = GiveNumber (codes "every") text words
+Give Show words = words ≡ codes "--show" ∷ []
+
+-- the words give these options, one after the other; `--` may stand behind them
+abbrev pub GiveAll : List Setting → List Text → Type 0
+GiveAll [] words = (words ≡ []) ⊎ (words ≡ codes "--" ∷ [])
+GiveAll (setting ∷ others) words =
+    (first : List Text) × (rest : List Text) × (words ≡ first ++ rest) × Give setting first × GiveAll others rest
+
+-- the number that a text writes in decimal digits, which may stand behind a plus sign
+abbrev pub number_of : Text → ℕ
+number_of text = digits_value 10 (without_leading_plus text)
+
+-- the text writes a number from 1 to the most
+abbrev pub IsNumberTo : ℕ → Text → Type 0
+IsNumberTo most text = IsNumeral 10 (without_leading_plus text) × (0 < number_of text) × (number_of text ≤ most)
+
+abbrev pub IsInRange : Setting → Type 0
+IsInRange (Width text) = IsNumberTo 4096 text
+IsInRange (Height text) = IsNumberTo 4096 text
+IsInRange (Every text) = IsNumberTo 4294967295 text
+IsInRange Show = ⊤
+
+-- the words, those behind the program's name, are a command line that can be run
+pub record IsCommandLine (words : List Text) : Type 0 where
+  pub settings : List Setting
+  pub given : GiveAll settings words
+  pub in_range : AllByRecursion IsInRange settings
+  -- no option is given twice
+  pub once : IsDistinct bytes_eq (map name_of settings)
+
+-- the columns of the screen that are given, or the default
+abbrev pub width_given : List Setting → ℕ
+width_given [] = 80
+width_given (Width text ∷ others) = number_of text
+width_given (_ ∷ others) = width_given others
+
+-- its rows
+abbrev pub height_given : List Setting → ℕ
+height_given [] = 24
+height_given (Height text ∷ others) = number_of text
+height_given (_ ∷ others) = height_given others
+
+-- behind how many bytes an update is written
+abbrev pub every_given : List Setting → ℕ
+every_given [] = 4096
+every_given (Every text ∷ others) = number_of text
+every_given (_ ∷ others) = every_given others
+
+-- whether the rows are to be shown
+abbrev pub show_given : List Setting → Bool
+show_given [] = false
+show_given (Show ∷ others) = true
+show_given (_ ∷ others) = show_given others
