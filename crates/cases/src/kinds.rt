@@ -61,6 +61,7 @@ fn answer_stream(kind: &str, row: &Row<'_>, sheet: &mut Sheet) -> Result<(), Fau
         "joined" => streams::joined(row, sheet),
         "first" => streams::first(row, sheet),
         "first settled" => streams::first_settled(row, sheet),
+        "pieces" => streams::pieces(row, sheet),
         _ => answer_value(kind, row, sheet),
     }
 }

@@ -274,3 +274,31 @@ pub fn first_settled(row: &Row<'_>, sheet: &mut Sheet) -> Result<(), Fault> {
     }
     Ok(())
 }
+
+// What `pieces` lends of some bytes: texts between quotes, and the actions between them.
+fn say_pieces(
+    alloc: Global,
+    parser: &mut Parser,
+    bytes: &[u8],
+    sheet: &mut Sheet,
+) -> Result<(), Fault> {
+    for piece in parser.pieces(bytes) {
+        match piece? {
+            Piece::Text(text) => sheet.quoted(text),
+            Piece::Action(action) => say_action(alloc, &action, sheet),
+        }
+    }
+    sheet.word("+");
+    Ok(())
+}
+
+/// `PIECES => ITEMS`: what `pieces` lends of each piece, all handed to one parser: texts between quotes and the actions between
+/// them, with a `+` behind the items of each piece.
+pub fn pieces(row: &Row<'_>, sheet: &mut Sheet) -> Result<(), Fault> {
+    let mut parser = Parser::new(row.alloc());
+    for piece in row.column(0).split(" + ") {
+        let bytes = escapes::read(row.alloc(), piece.trim())?;
+        say_pieces(row.alloc(), &mut parser, &bytes, sheet)?;
+    }
+    Ok(())
+}

@@ -25,6 +25,8 @@ mod pieces;
 #[cfg(test)]
 mod places;
 #[cfg(test)]
+mod renderings;
+#[cfg(test)]
 mod scripts;
 #[cfg(test)]
 mod sequences;

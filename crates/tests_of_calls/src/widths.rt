@@ -1,7 +1,7 @@
 //! Width values of a caller's own, in cells and on screens, and terminals that are fed nothing.
 use cell_base::{Cell, CellAttributes};
 use std::process::Abort;
-use terminal::{ProgramWidth, Terminal, Widths};
+use terminal::{ProgramWidth, Step, Terminal, Widths, play};
 
 // The program's widths, by another value.
 struct OwnWidth;
@@ -102,4 +102,16 @@ fn nothing_fed_changes_nothing(rt: HostRuntime) {
     let (width, height) = terminal.surface().dimensions();
     assert_eq!(rt; width, 4);
     assert_eq!(rt; height, 3);
+}
+
+#[test]
+fn steps_are_played_in_turn(rt: HostRuntime) {
+    let steps = [Step::Feed(b"ab"), Step::Resize(3, 2)];
+    let terminal = play(rt.alloc(), &steps, 4, 2, ProgramWidth).expect(&rt, "memory");
+    let rows = terminal
+        .surface()
+        .screen_chars_to_string()
+        .expect(&rt, "memory");
+    assert!(rt; rows.as_str() == "ab \n   \n");
+    assert!(rt; terminal.surface().cursor_position() == (2, 0));
 }
