@@ -242,6 +242,9 @@ impl<W: Widths + Drop> Canvas<W> {
         requires stands { stand (clusters text.now) ≡ true }
         ensures { OnOk result (Shows self.old self.new (clusters_done (W.width_of self.old.widths) (display_of self.old) (clusters text.now))) }
     {
+        if text.is_empty() {
+            return Ok(());
+        }
         let mut left = self.put_in_row(text)?;
         while let Some((cluster, behind)) = next_cluster(left) {
             self.put(cluster)?;

@@ -1,8 +1,18 @@
-use Rattle.std.proofs.Common.{◌≡◌, refl, [], ap, sym, ◌∙◌, map}
+use Rattle.std.proofs.Common.{◌≡◌, refl, [], ap, sym, ◌∙◌, map, length}
+use Rattle.std.proofs.lemmas.List.{nil_from_length}
+use Rattle.std.specs.Cmp.{unsigned_Decides}
 use Rattle.text_clusters.proofs.PlainLemmas.{graphemes-nil}
 use Rattle.cell_base.specs.Cluster.{clusters, read_cluster}
 use Rattle.screen_canvas.specs.Canvas.{clusters_done, display_of}
 use Rattle.screen_canvas.proofs.canvas.Canvas.put_run.Goals as goal
+
+pub returns-then-is_empty : goal.returns-then-is_empty
+returns-then-is_empty g c =
+    let none : clusters c.args.text.now ≡ [] = ap clusters (nil_from_length c.args.text.now ((unsigned_Decides (length c.args.text.now) 0).0 (sym c.if-is_empty.ensures))) ∙ ap (map read_cluster) graphemes-nil in record {
+      same = sym (ap (clusters_done (g.W.Widths.width_of c.args.self.now.widths) (display_of c.args.self.now)) none);
+      widths = refl;
+      drawn = c.requires.drawn;
+    }
 
 pub returns : goal.returns
 returns g c =
