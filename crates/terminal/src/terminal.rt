@@ -93,6 +93,7 @@ impl<W: Widths + Drop> Terminal<W> {
         ensures done { OnOk result (GoesBy (λ w. W.width_of w) self.old self.new (Look ∷ [])) }
         ensures failed { IsErrOf result TerminalError.Failed ↔ IsTrue self.old.is_failed }
         ensures number { IsErrOf result TerminalError.Number → NeedsNumber (λ w. W.width_of w) self.old (Look ∷ []) }
+        ensures memory { IsErrOf result TerminalError.Memory → self.new.surface.is_failed ≡ true }
         ensures err { OnErr result (IsTrue self.new.is_failed) }
         ensures nothing { self.old.run ≡ [] → self.old.is_failed ≡ false → IsOk result }
     {
@@ -150,6 +151,7 @@ impl<W: Widths + Drop> Terminal<W> {
         ensures number { IsErrOf result TerminalError.Number → NeedsNumber (λ w. W.width_of w) self.old (Look ∷ []) }
         ensures err { OnErr result (self.new.is_failed ≡ false → GoesBy (λ w. W.width_of w) self.old self.new (Look ∷ [])) }
         ensures fails { IsErrOf result TerminalError.Number → IsTrue self.new.is_failed }
+        ensures memory { IsErrOf result TerminalError.Memory → self.new.is_failed ≡ true → self.new.surface.is_failed ≡ true }
         ensures stays { IsTrue self.old.is_failed → IsTrue self.new.is_failed }
         ensures nothing { self.old.run ≡ [] → self.old.is_failed ≡ false → self.new.is_failed ≡ false }
     {

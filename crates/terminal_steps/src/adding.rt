@@ -18,6 +18,7 @@ pub(crate) fn add<W: Widths + Drop>(
     ensures added { IfOk result (λ _. AddsAll (λ w. W.width_of w) surface.old surface.new (value_of change ∷ [])) }
     ensures failed { IsErrOf result SurfaceError.Failed → surface.old.is_failed ≡ true }
     ensures numbers { IsErrOf result SurfaceError.Number → 2 ^ 64 ≤ number_of surface.old + 1 }
+    ensures memory { IsErrOf result SurfaceError.Memory → surface.new.is_failed ≡ true }
 {
     surface.add_change(change)?;
     Ok(())

@@ -145,6 +145,7 @@ pub fn print<W: Widths + Drop>(surface: &mut Surface<W>, text: String) -> Result
     ensures added { IfOk result (λ _. AddsAll (λ w. W.width_of w) surface.old surface.new (run_change (string_bytes text) ∷ [])) }
     ensures failed { IsErrOf result SurfaceError.Failed ↔ (surface.old.is_failed ≡ true) }
     ensures numbers { IsErrOf result SurfaceError.Number → 2 ^ 64 ≤ number_of surface.old + 1 }
+    ensures memory { IsErrOf result SurfaceError.Memory → surface.new.is_failed ≡ true }
 {
     if surface.is_failed() {
         return Err(SurfaceError::Failed);

@@ -1,5 +1,5 @@
 //! What a terminal keeps beside its parser, and what events make of it.
-ghost use Rattle.std.specs.Prelude.{◌≡◌, ◌<◌, ◌^◌, false, IsOk, IfOk, OnOk, IsErrOf, None, [], ◌∷◌};
+ghost use Rattle.std.specs.Prelude.{◌≡◌, ◌<◌, ◌^◌, true, false, IsOk, IfOk, OnOk, IsErrOf, None, [], ◌∷◌};
 ghost use Rattle.escape_stream.specs.StreamAction.{is_print, print_string};
 ghost use Rattle.escape_stream.specs.StreamActionView.{value_of};
 ghost use Rattle.cell_surface.specs.Surface.{shown_by};
@@ -83,6 +83,7 @@ impl<W: Widths + Drop> TerminalState<W> {
         ensures done { OnOk result (Does (λ w. W.width_of w) self.old self.new (Looked ∷ [])) }
         ensures failed { IsErrOf result SurfaceError.Failed → IsReady self.old → ⊥ }
         ensures numbers { IsErrOf result SurfaceError.Number → NeedsNumber (λ w. W.width_of w) self.old (Looked ∷ []) }
+        ensures memory { IsErrOf result SurfaceError.Memory → (surface_in self.new).is_failed ≡ true }
         ensures nothing { (view_of self.old).held ≡ [] → IsOk result }
     {
         if self.held.is_empty() {
