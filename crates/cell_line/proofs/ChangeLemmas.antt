@@ -13,10 +13,10 @@ use Rattle.cell_change.specs.UpToLast.{up_to_last}
 use Rattle.cell_change.specs.Written.{Written, begun, finished, with_attributes, with_cells}
 use Rattle.cell_change.proofs.RunLemmas.{cells_are_written, pen_is_behind, attributes_written}
 use Rattle.cell_line.specs.OpenChanges.{last_beside, written_with_clear}
-use Rattle.cell_line.specs.OpenZones.{is_kept_by}
-use Rattle.cell_line.specs.VisibleCells.{VisibleCell, contents}
-use Rattle.cell_line.proofs.CellLemmas.{by_test}
-use Rattle.cell_line.proofs.KeptLemmas.{AreInOrder, kept, kept_some, some_up_to, up_to_none, last_of_none, all_pass}
+use Rattle.cell_views.specs.OpenZones.{is_kept_by}
+use Rattle.cell_edits.specs.VisibleCells.{VisibleCell, contents}
+use Rattle.cell_edits.proofs.CellLemmas.{by_test}
+use Rattle.cell_views.proofs.KeptLemmas.{AreInOrder, kept, kept_some, some_up_to, up_to_none, last_of_none, all_pass}
 
 pub clear_of : (color : ColorAttribute) → (color ≡ Default → ⊥) → clear_due color ≡ ClearToEndOfLine color ∷ []
 clear_of (TrueColorWithPaletteFallback color index) other = refl

@@ -42,7 +42,7 @@ use Rattle.cell_line.specs.LentCells.{LendsCells}
 use Rattle.cell_line.specs.contracts.line.Line.{the_row as line}
 use Rattle.cell_line.specs.contracts.line.Line.lent_cells as callee
 use Rattle.cell_line.specs.contracts.line.Line.cells_mut as own
-use Rattle.cell_line.proofs.CellLemmas.{length-row}
+use Rattle.cell_edits.proofs.CellLemmas.{length-row}
 use Rattle.cell_line.proofs.LentLemmas.{refilled}
 
 abbrev pub stayed : Stays own.ended.signature.params own.ended.kept

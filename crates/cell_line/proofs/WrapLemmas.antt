@@ -6,15 +6,15 @@ use Rattle.std.proofs.lemmas.Bool.{lt-ltb}
 use Rattle.std.proofs.lemmas.List.{append-nil, length-append, length-map}
 use Rattle.std.proofs.lemmas.Grind.{flat_map-append}
 use Rattle.cell_base.specs.Row.{Row}
-use Rattle.cell_line.specs.Groups.{joined}
-use Rattle.cell_line.specs.LineContent.{cell_columns}
-use Rattle.cell_line.specs.VisibleCells.{VisibleCell, is_space, contents, row_of_visible, row_end_wrapped}
+use Rattle.cell_views.specs.Groups.{joined}
+use Rattle.cell_edits.specs.CellList.{cell_columns}
+use Rattle.cell_edits.specs.VisibleCells.{VisibleCell, is_space, contents, row_of_visible, row_end_wrapped}
 use Rattle.cell_line.specs.Wrapped.{begins_row, continued, rows_of, texts_kept}
 use Rattle.cell_line.specs.OpenRows.{breaks, rows_from}
-use Rattle.cell_line.proofs.CellLemmas.{by_test}
-use Rattle.cell_line.proofs.CutLemmas.{length-cell_columns}
-use Rattle.cell_line.proofs.GroupLemmas.{some_groups, fold_behind}
-use Rattle.cell_line.proofs.KeptLemmas.{some_up_to}
+use Rattle.cell_edits.proofs.CellLemmas.{by_test}
+use Rattle.cell_edits.proofs.CutLemmas.{length-cell_columns}
+use Rattle.cell_views.proofs.GroupLemmas.{some_groups, fold_behind}
+use Rattle.cell_views.proofs.KeptLemmas.{some_up_to}
 
 -- ---- rows
 

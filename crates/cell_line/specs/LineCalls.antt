@@ -9,16 +9,17 @@ use Rattle.cell_base.specs.SameCell.{same_cell}
 use Rattle.cell_base.specs.Row.{blank, plain_row, set_columns}
 use Rattle.cell_change.specs.CellChanges.{row_written}
 use Rattle.cell_change.specs.ChangeValue.{ChangeValue}
-use Rattle.cell_line.specs.LineContent.{LineContent, line_of, changed, changed_unless_empty, with_bits, same_bits, text_cells, text_row}
-use Rattle.cell_line.specs.Region.{region}
-use Rattle.cell_line.specs.RowEdits.{cut, cut_front, resized, with_cell, overlaid, with_inserted, removed, erased, erased_within, pruned_row, filled}
-use Rattle.cell_line.specs.TextRuns.{fitting_cells, place_behind, text_on}
-use Rattle.cell_line.specs.VisibleCells.{VisibleCell, contents, visible_cells as visible, texts_joined, cells_between, row_of_visible, cell_at, has_link, is_whitespace_row, ends_wrapped, row_end_wrapped}
+use Rattle.cell_line.specs.LineContent.{LineContent, line_of, changed, changed_unless_empty, with_bits, same_bits}
+use Rattle.cell_edits.specs.CellList.{text_cells, text_row}
+use Rattle.cell_views.specs.Region.{region}
+use Rattle.cell_edits.specs.RowEdits.{cut, cut_front, resized, with_cell, overlaid, with_inserted, removed, erased, erased_within, pruned_row, filled}
+use Rattle.cell_edits.specs.TextRuns.{fitting_cells, place_behind, text_on}
+use Rattle.cell_edits.specs.VisibleCells.{VisibleCell, contents, visible_cells as visible, texts_joined, cells_between, row_of_visible, cell_at, has_link, is_whitespace_row, ends_wrapped, row_end_wrapped}
 use Rattle.cell_line.specs.Wrapped.{rows_of, texts_kept}
-use Rattle.cell_line.specs.Zones.{zones}
-use Rattle.cell_line.specs.Links.{has_implicit_link, without_implicit, column_with}
-use Rattle.cell_line.specs.Words.{double_click_range}
-use Rattle.cell_line.specs.Clusters.{ClusterContent, cell_clusters}
+use Rattle.cell_views.specs.Zones.{zones}
+use Rattle.cell_edits.specs.Links.{has_implicit_link, without_implicit, column_with}
+use Rattle.cell_views.specs.Words.{double_click_range}
+use Rattle.cell_views.specs.Clusters.{ClusterContent, cell_clusters}
 
 -- ---- makers: each line has the number that is given, and no bits
 

@@ -1,12 +1,8 @@
 -- A line as a value: its number, its bits and its columns.
-use Rattle.std.specs.Prelude.{◌≡◌, ℕ, Bool, true, false, nat_le, max, List, [], ◌∷◌, map}
-use Rattle.std.specs.List.{flat_map}
+use Rattle.std.specs.Prelude.{◌≡◌, ℕ, Bool, true, false, max, [], ◌∷◌}
 use Rattle.cell_base.specs.declared.attributes.LineAttribute.{LineAttribute}
 use Rattle.cell_base.specs.declared.attributes.LineAttribute.TheVariants.{SingleWidthLine, DoubleWidthLine, DoubleHeightTopHalfLine, DoubleHeightBottomHalfLine}
-use Rattle.cell_base.specs.Attributes.{Attributes}
-use Rattle.cell_base.specs.CellContent.{CellContent, cell_of}
-use Rattle.cell_base.specs.Cluster.{clusters}
-use Rattle.cell_base.specs.Row.{Row, columns_of}
+use Rattle.cell_base.specs.Row.{Row}
 
 -- the number of its last change, its bits (a line of single width has none), and its columns
 pub record LineContent : Type 0 where
@@ -31,18 +27,6 @@ changed_unless_empty line number (column ∷ row) = changed line number (column 
 pub record IsRefused (before after : LineContent) : Type 0 where
   pub number : after.number ≡ before.number
   pub bits : after.bits ≡ before.bits
-
--- the columns of a cell: two where it is wide
-abbrev pub cell_columns : CellContent → Row
-cell_columns cell = columns_of cell.text (nat_le 2 cell.width) cell.attributes
-
--- a cell for each cluster of a text
-abbrev pub text_cells : (List ℕ → ℕ) → List ℕ → Attributes → List CellContent
-text_cells width_of text attributes = map (λ cluster. cell_of cluster (width_of cluster) attributes) (clusters text)
-
--- their columns, side by side
-abbrev pub text_row : (List ℕ → ℕ) → List ℕ → Attributes → Row
-text_row width_of text attributes = flat_map cell_columns (text_cells width_of text attributes)
 
 -- whether bits are these
 abbrev pub same_bits : LineAttribute → LineAttribute → Bool

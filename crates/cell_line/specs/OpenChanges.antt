@@ -6,7 +6,7 @@ use Rattle.cell_base.specs.CellContent.{CellContent}
 use Rattle.cell_change.specs.CellChanges.{attributes_due, cells_written, pen_behind, clear_due}
 use Rattle.cell_change.specs.CellRuns.{is_blank_of}
 use Rattle.cell_change.specs.ChangeValue.{ChangeValue}
-use Rattle.cell_line.specs.VisibleCells.{VisibleCell}
+use Rattle.cell_edits.specs.VisibleCells.{VisibleCell}
 
 -- the background of a cell that is a blank of it
 abbrev pub background_of : CellContent → Option ColorAttribute

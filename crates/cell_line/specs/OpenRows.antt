@@ -2,9 +2,9 @@
 use Rattle.std.specs.Prelude.{ℕ, ◌+◌, Bool, ◌&&◌, true, nat_lt, List, [], ◌∷◌, ◌++◌, length, Option, Some, None, filter, fold, if◌then◌else◌}
 use Rattle.cell_base.specs.CellContent.{CellContent}
 use Rattle.cell_base.specs.Row.{Row}
-use Rattle.cell_line.specs.LineContent.{cell_columns}
-use Rattle.cell_line.specs.VisibleCells.{VisibleCell, is_space, row_end_wrapped}
-use Rattle.cell_line.specs.OpenZones.{is_kept_by}
+use Rattle.cell_edits.specs.CellList.{cell_columns}
+use Rattle.cell_edits.specs.VisibleCells.{VisibleCell, is_space, row_end_wrapped}
+use Rattle.cell_views.specs.OpenZones.{is_kept_by}
 
 -- whether a cell doesn't fit behind the columns that are there
 abbrev pub breaks : ℕ → ℕ → CellContent → Bool

@@ -1,9 +1,9 @@
 -- Rows that fit a width.
 use Rattle.std.specs.Prelude.{ℕ, ◌+◌, Bool, true, nat_lt, List, [], ◌∷◌, length, map, not}
 use Rattle.cell_base.specs.Row.{Row}
-use Rattle.cell_line.specs.LineContent.{cell_columns}
-use Rattle.cell_line.specs.Groups.{groups_by}
-use Rattle.cell_line.specs.VisibleCells.{VisibleCell, is_space, row_of_visible, row_end_wrapped}
+use Rattle.cell_edits.specs.CellList.{cell_columns}
+use Rattle.cell_views.specs.Groups.{groups_by}
+use Rattle.cell_edits.specs.VisibleCells.{VisibleCell, is_space, row_of_visible, row_end_wrapped}
 use Rattle.cell_change.specs.UpToLast.{up_to_last}
 
 -- whether a cell begins a new row behind the cells of the last one: the row would pass the width

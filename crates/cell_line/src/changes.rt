@@ -6,17 +6,16 @@ ghost use Rattle.cell_change.specs.CellChanges.{cells_written, clear_due, row_wr
 ghost use Rattle.cell_change.specs.CellRuns.{is_blank_of, background_at_end};
 ghost use Rattle.cell_change.specs.ValueOf.{value_of};
 ghost use Rattle.cell_change.specs.Written.{finished, with_cells};
-ghost use Rattle.cell_line.specs.CellRefView.{shown_by};
+ghost use Rattle.cell_views.specs.CellRefView.{shown_by};
 ghost use Rattle.cell_line.specs.OpenChanges.{background_of, last_beside, written_with_clear};
-ghost use Rattle.cell_line.specs.OpenZones.{is_kept_by};
-ghost use Rattle.cell_line.specs.VisibleCells.{visible_cells, contents};
+ghost use Rattle.cell_views.specs.OpenZones.{is_kept_by};
+ghost use Rattle.cell_edits.specs.VisibleCells.{visible_cells, contents};
 
-use crate::cell_ref::CellRef;
-use crate::query::is_space;
-use crate::visible_cells::VisibleCellIter;
-use crate::zones::is_kept;
 use cell_base::{Cell, CellAttributes, ColorAttribute};
 use cell_change::{CellWriter, Change};
+use cell_views::{CellRef, VisibleCellIter};
+use cell_views::query::is_space;
+use cell_views::zones::is_kept;
 use std::alloc::{AllocError, Global};
 
 // Plain attributes on a background.

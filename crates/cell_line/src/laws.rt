@@ -7,12 +7,13 @@ ghost use Rattle.cell_base.specs.CellContent.{CellContent};
 ghost use Rattle.cell_base.specs.Row.{Narrow, Row, set_columns};
 ghost use Rattle.cell_rows.specs.WholeRow.{IsWhole};
 ghost use Rattle.cell_base.specs.declared.ranges.DoubleClickRange.TheVariants.{Range, RangeWithWrap};
-ghost use Rattle.cell_line.specs.LineContent.{line_of, cell_columns};
-ghost use Rattle.cell_line.specs.RowEdits.{cut, cut_front, with_cell, overlaid, filled};
+ghost use Rattle.cell_line.specs.LineContent.{line_of};
+ghost use Rattle.cell_edits.specs.CellList.{cell_columns};
+ghost use Rattle.cell_edits.specs.RowEdits.{cut, cut_front, with_cell, overlaid, filled};
 ghost use Rattle.cell_line.specs.LineCalls.{new, resize, wrap, split_off_kept, split_off, append_line, compute_double_click_range, columns_as_str, columns_as_line, set_cell, insert_cell, remove_cell, erase_cell, erase_cell_with_margin, prune_trailing_blanks, fill_range, as_str};
-ghost use Rattle.cell_line.specs.Groups.{groups_by, AreGroupsOf};
-ghost use Rattle.cell_line.specs.VisibleCells.{VisibleCell, visible_cells, visible_from, row_of_visible};
-ghost use Rattle.cell_line.specs.Words.{columns_between};
+ghost use Rattle.cell_views.specs.Groups.{groups_by, AreGroupsOf};
+ghost use Rattle.cell_edits.specs.VisibleCells.{VisibleCell, visible_cells, visible_from, row_of_visible};
+ghost use Rattle.cell_views.specs.Words.{columns_between};
 ghost use Rattle.cell_line.specs.Samples.{letters, wide_letter, letter_cell, is_word};
 
 use crate::line::Line;

@@ -11,27 +11,26 @@ ghost use Rattle.std.specs.Borrow.{sem};
 ghost use Rattle.cell_change.specs.ValueOf.{value_of};
 ghost use Rattle.cell_line.specs.LineContent.{changed, IsRefused};
 ghost use Rattle.cell_line.specs.LineCalls.{with_width_and_cell, with_width, from_cells, new, from_text, from_text_with_wrapped_last_col, try_from_text, resize, resize_and_clear, wrap, changed_since, update_last_change_seqno, set_single_width, set_double_width, set_double_height_top, set_double_height_bottom, is_single_width, is_double_width, is_double_height_top, is_double_height_bottom, semantic_zone_ranges, invalidate_implicit_hyperlinks, split_off_kept, split_off, append_line, compute_double_click_range, columns_as_str, columns_as_line, set_cell, set_cell_clearing_image_placements, set_cell_grapheme, set_blanks, set_text, set_clusters, set_text_end, overlay_text_with_attribute, insert_cell, remove_cell, erase_cell, erase_cell_with_margin, prune_trailing_blanks, fill_range, len, current_seqno, as_str, has_hyperlink, visible_cells, visible_cells_between, cluster, changes, get_cell, is_whitespace, compress_for_scrollback, last_cell_was_wrapped, set_last_cell_was_wrapped};
-ghost use Rattle.cell_line.specs.RowEdits.{filled};
-ghost use Rattle.cell_line.specs.Links.{without_implicit, column_with};
-ghost use Rattle.cell_line.specs.Words.{Answers};
+ghost use Rattle.cell_edits.specs.RowEdits.{filled};
+ghost use Rattle.cell_edits.specs.Links.{without_implicit, column_with};
+ghost use Rattle.cell_views.specs.Words.{Answers};
 ghost use Rattle.cell_line.specs.LentCells.{LendsCells, LendsSlice};
-ghost use Rattle.cell_line.specs.CellRefView.{shown_by, cells_left};
-ghost use Rattle.cell_line.specs.Region.{region_left};
-ghost use Rattle.cell_line.specs.TextRuns.{text_behind};
-ghost use Rattle.cell_line.specs.VisibleCells.{row_of_visible};
+ghost use Rattle.cell_views.specs.CellRefView.{shown_by, cells_left};
+ghost use Rattle.cell_views.specs.Region.{region_left};
+ghost use Rattle.cell_edits.specs.TextRuns.{text_behind};
+ghost use Rattle.cell_edits.specs.VisibleCells.{row_of_visible};
 ghost use Rattle.cell_base.specs.Cluster.{clusters};
 ghost use Rattle.cell_rows.specs.WholeRow.{IsWhole};
 
-use crate::cell_ref::CellRef;
-use crate::clusters::CellCluster;
+use crate::{changes, wrap};
 use crate::line_bits::LineBits;
-use crate::region::RegionIter;
-use crate::visible_cells::VisibleCellIter;
-use crate::{changes, query, row, runs, text, words, wrap, zones};
 use cell_base::{
     Cell, CellAttributes, DoubleClickRange, LineAttribute, SEQ_ZERO, SequenceNo, Widths, ZoneRange,
 };
 use cell_change::Change;
+use cell_edits::{row, runs, text};
+use cell_views::{CellCluster, CellRef, RegionIter, VisibleCellIter};
+use cell_views::{query, words, zones};
 use std::alloc::{AllocError, Global};
 use std::borrow::CowStr;
 use std::marker::Model;
@@ -98,7 +97,7 @@ impl Line {
     }
 
     /// A line of plain blanks.
-    #[tactic(auto, using(crate::proofs::CutLemmas::row_of_blanks))]
+    #[tactic(auto, using(cell_edits::proofs::CutLemmas::row_of_blanks))]
     pub fn with_width(alloc: Global, width: usize, seqno: SequenceNo) -> Result<Line, AllocError>
         ensures { IfOk result (λ line. line ≡ with_width width seqno) }
     {
@@ -118,7 +117,7 @@ impl Line {
     }
 
     /// Makes the line so many blanks with these attributes, at normal size.
-    #[tactic(auto, using(crate::proofs::CutLemmas::row_of_blanks_with))]
+    #[tactic(auto, using(cell_edits::proofs::CutLemmas::row_of_blanks_with))]
     pub fn resize_and_clear(
         &mut self,
         width: usize,
@@ -582,7 +581,7 @@ impl Line {
     }
 
     /// Removes the plain blanks at the end, unless no column would be left: then nothing changes.
-    #[tactic(auto, using(crate::proofs::EndLemmas::left_none, crate::proofs::EndLemmas::left_some))]
+    #[tactic(auto, using(crate::proofs::NumberLemmas::left_none, crate::proofs::NumberLemmas::left_some))]
     pub fn prune_trailing_blanks(&mut self, seqno: SequenceNo) -> Result<(), AllocError>
         ensures done { OnOk result (self.new ≡ prune_trailing_blanks self.old seqno) }
         ensures refused { OnErr result (IsRefused self.old self.new) }
@@ -596,7 +595,7 @@ impl Line {
     /// Sets a cell at each column of a range in turn, and then removes the plain blanks at the end,
     /// unless no column would be left.
     /// Nothing changes where a plain blank is set on a line of no columns.
-    #[tactic(auto, using(crate::proofs::EndLemmas::numbered_last))]
+    #[tactic(auto, using(crate::proofs::NumberLemmas::numbered_last))]
     pub fn fill_range(
         &mut self,
         cols: Range<usize>,

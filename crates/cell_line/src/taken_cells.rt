@@ -36,7 +36,7 @@ impl Iterator for TakenCells {
 
     ghost remaining = { item_count taken_left };
 
-    #[tactic(auto, using(crate::proofs::ReadLemmas::read_narrow, crate::proofs::ReadLemmas::read_wide_any))]
+    #[tactic(auto, using(cell_views::proofs::ReadLemmas::read_narrow, cell_views::proofs::ReadLemmas::read_wide_any))]
     fn next(&mut self) -> Option<(usize, Cell)> {
         let cell = self.cells.next()?;
         let cell_index = self.cell_index;

@@ -1,19 +1,18 @@
 //! Parts of a line: its cells in a range, and its cells in rows of a width.
 ghost use Rattle.std.specs.Prelude.{◌≡◌, ◌++◌, [], ◌∷◌, length, map, false, true, vec_len, IfOk, OnOk, filter, if◌then◌else◌};
 ghost use Rattle.cell_base.specs.CellContent.{row_of_cells};
-ghost use Rattle.cell_line.specs.CellList.{ends_halved};
-ghost use Rattle.cell_line.specs.LineContent.{line_of, cell_columns};
-ghost use Rattle.cell_line.specs.VisibleCells.{visible_cells, cells_between, row_of_visible, row_end_wrapped, contents};
+ghost use Rattle.cell_edits.specs.CellList.{ends_halved, cell_columns};
+ghost use Rattle.cell_line.specs.LineContent.{line_of};
+ghost use Rattle.cell_edits.specs.VisibleCells.{visible_cells, cells_between, row_of_visible, row_end_wrapped, contents};
 ghost use Rattle.cell_line.specs.OpenRows.{breaks, rows_from, last_text, texts_up_to};
 
 use crate::line::Line;
-use crate::query::is_space;
-use crate::read_cells::ReadCells;
-use crate::row::{close_end, column_count, copy, is_halved, push_cell, set_end_wrapped};
 use crate::taken_cells::TakenCells;
-use crate::visible_cells::VisibleCellIter;
-use crate::zones::is_kept;
 use cell_base::{Cell, SequenceNo};
+use cell_edits::row::{close_end, column_count, copy, is_halved, push_cell, set_end_wrapped};
+use cell_views::{ReadCells, VisibleCellIter};
+use cell_views::query::is_space;
+use cell_views::zones::is_kept;
 use std::alloc::{AllocError, Global};
 use std::mem;
 

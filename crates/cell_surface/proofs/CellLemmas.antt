@@ -3,7 +3,7 @@ use Rattle.std.proofs.Common.{◌≡◌, ℕ, ◌+◌, List, [], ◌∷◌, refl
 use Rattle.std.specs.List.{flat_map}
 use Rattle.cell_base.specs.CellContent.{CellContent, blank_cell}
 use Rattle.cell_base.specs.Row.{Row, Narrow, LeftHalf, RightHalf}
-use Rattle.cell_line.specs.VisibleCells.{VisibleCell, visible_from, visible_cells, row_of_visible}
+use Rattle.cell_edits.specs.VisibleCells.{VisibleCell, visible_from, visible_cells, row_of_visible}
 use Rattle.cell_surface.specs.Cells.{column_cell, column_cells, cells_of}
 
 by_columns : (at : ℕ) (row : Row) → flat_map (λ (v : VisibleCell). cells_of v.cell) (visible_from at row) ≡ column_cells (row_of_visible (visible_from at row))

@@ -2,7 +2,7 @@
 use Rattle.std.specs.Prelude.{◌==◌, List, [], ◌∷◌, map, if◌then◌else◌}
 use Rattle.cell_base.specs.CellContent.{CellContent, blank_cell, cell_of}
 use Rattle.cell_base.specs.Row.{Row, Column, Narrow, LeftHalf, RightHalf}
-use Rattle.cell_line.specs.CellRefView.{copy_of}
+use Rattle.cell_views.specs.CellRefView.{copy_of}
 
 -- at the right half of a wide cell stands a blank with its attributes
 abbrev pub column_cell : Column → CellContent

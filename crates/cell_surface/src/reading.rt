@@ -4,7 +4,7 @@ ghost use Rattle.std.specs.String.{string_bytes};
 ghost use Rattle.std.specs.List.{flat_map};
 ghost use Rattle.cell_base.specs.Row.{row_text};
 ghost use Rattle.cell_base.specs.Screen.{screen_text};
-ghost use Rattle.cell_line.specs.CellRefView.{shown_by as cell_shown};
+ghost use Rattle.cell_views.specs.CellRefView.{shown_by as cell_shown};
 ghost use Rattle.cell_surface.specs.Surface.{shown_by};
 ghost use Rattle.cell_surface.specs.Cells.{cells_of, column_cells};
 

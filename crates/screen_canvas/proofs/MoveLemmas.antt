@@ -1,7 +1,7 @@
 -- Lines that are changed one after another, and moved.
 use Rattle.std.proofs.Common.{◌≡◌, ℕ, zero, suc, ◌+◌, ◌-◌, ◌<◌, ◌≤◌, List, [], ◌∷◌, ◌++◌, length, get_or, take, drop, set, map, replicate, refl, sym, ap, ◌∙◌, arith, append_assoc, length-append, length-drop}
 use Rattle.std.proofs.lemmas.List.{take_at, drop_at, length-map, length-take-le, map-append}
-use Rattle.cell_line.proofs.RunLemmas.{written_more}
+use Rattle.cell_edits.proofs.RunLemmas.{written_more}
 
 take_next : {X : Type 0} (k : ℕ) (ys : List X) (d : X) → k < length ys → take (suc k) ys ≡ take k ys ++ get_or ys k d ∷ []
 take_next k [] d h = absurd (omega arith)

@@ -11,8 +11,9 @@ use Rattle.cell_base.specs.CellContent.{cell_of, shows_as_space}
 use Rattle.cell_base.specs.Row.{Row, space, columns_of, set_columns}
 use Rattle.cell_base.specs.Screen.{height, scrolled, line_feed, carriage_return, cluster_columns, write_columns}
 use Rattle.cell_line.specs.LineCalls.{set_cell_grapheme as grapheme_set}
-use Rattle.cell_line.specs.LineContent.{LineContent, line_of, cell_columns}
-use Rattle.cell_line.proofs.RowLaws.{set_within}
+use Rattle.cell_line.specs.LineContent.{LineContent, line_of}
+use Rattle.cell_edits.specs.CellList.{cell_columns}
+use Rattle.cell_edits.proofs.RowLaws.{set_within}
 use Rattle.screen_canvas.specs.Canvas.{Canvas, IsDrawn, Shows, display_of, line_at, line_with, canvas_with}
 use Rattle.screen_canvas.proofs.LineLemmas.{same_display, row_shown, row_in, line_width, shows_by}
 use Rattle.screen_effects.specs.Display.{Display}

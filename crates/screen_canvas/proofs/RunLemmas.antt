@@ -8,11 +8,12 @@ use Rattle.std.proofs.lemmas.List.{set-get_or, get_or-set_same}
 use Rattle.cell_base.specs.Attributes.{Attributes}
 use Rattle.cell_base.specs.CellContent.{CellContent, cell_of, shows_as_space}
 use Rattle.cell_base.specs.Row.{Row, space, columns_of}
-use Rattle.cell_line.specs.LineContent.{LineContent, line_of, cell_columns}
-use Rattle.cell_line.specs.RowEdits.{overlaid}
-use Rattle.cell_line.specs.TextRuns.{fitting}
-use Rattle.cell_line.proofs.RowLaws.{overlaid_next}
-use Rattle.cell_line.proofs.RunLemmas.{fitting_cell, fitting_stops}
+use Rattle.cell_line.specs.LineContent.{LineContent, line_of}
+use Rattle.cell_edits.specs.CellList.{cell_columns}
+use Rattle.cell_edits.specs.RowEdits.{overlaid}
+use Rattle.cell_edits.specs.TextRuns.{fitting}
+use Rattle.cell_edits.proofs.RowLaws.{overlaid_next}
+use Rattle.cell_edits.proofs.RunLemmas.{fitting_cell, fitting_stops}
 use Rattle.screen_canvas.specs.Canvas.{Canvas, IsDrawn, Shows, LeadsOn, clusters_done, stand, canvas_with, display_of, line_at, line_with}
 use Rattle.screen_canvas.proofs.LineLemmas.{line_width, row_in}
 use Rattle.screen_canvas.proofs.PutLemmas.{put_here}

@@ -15,7 +15,7 @@ use Rattle.cell_change.specs.ChangeValue.{ClearScreen, ClearToEndOfLine, ClearTo
 use Rattle.cell_line.specs.LineCalls.{set_blanks as blanks_set}
 use Rattle.cell_line.specs.LineContent.{LineContent, line_of, with_bits}
 use Rattle.screen_canvas.specs.Canvas.{Canvas, IsDrawn, Shows, display_of, line_at}
-use Rattle.cell_line.specs.RowEdits.{cut, padded, resized as row_resized}
+use Rattle.cell_edits.specs.RowEdits.{cut, padded, resized as row_resized}
 use Rattle.cell_rows.specs.WholeRow.{IsWhole}
 use Rattle.cell_rows.proofs.RowLemmas.{whole_ends}
 use Rattle.screen_canvas.specs.Rows.{blanked, cleared, rows_up, rows_down, widened}

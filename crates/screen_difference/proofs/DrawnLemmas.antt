@@ -12,7 +12,7 @@ use Rattle.cell_base.specs.Screen.{Screen, IsScreen, height, write_columns}
 use Rattle.cell_change.specs.CellChanges.{cells_written, pen_behind}
 use Rattle.cell_change.specs.ChangeValue.{AllAttributes}
 use Rattle.cell_change.proofs.TextLemmas.{by_test}
-use Rattle.cell_line.specs.LineContent.{cell_columns}
+use Rattle.cell_edits.specs.CellList.{cell_columns}
 use Rattle.cell_rows.proofs.LawfulScreens.{write_columns_is}
 use Rattle.screen_difference.specs.Difference.{Stretch, cells_of, alone, longer, before_stretches, stretches, position, stretch_written, stretches_written, difference}
 use Rattle.screen_difference.specs.DrawnCells.{drawn, all_drawn, HasPlace, HavePlaces}

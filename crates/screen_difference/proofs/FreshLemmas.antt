@@ -8,10 +8,10 @@ use Rattle.cell_base.specs.Row.{Narrow, LeftHalf, RightHalf, Row, closed_end, cl
 use Rattle.cell_base.specs.SameCell.{same_cell}
 use Rattle.cell_change.proofs.TextLemmas.{by_test}
 use Rattle.cell_line.specs.LineContent.{LineContent}
-use Rattle.cell_line.specs.Region.{region}
-use Rattle.cell_line.specs.RowEdits.{cut, cut_front}
-use Rattle.cell_line.specs.VisibleCells.{VisibleCell, visible_at, visible_from}
-use Rattle.cell_line.proofs.KeptLemmas.{AreInOrder, in_order}
+use Rattle.cell_views.specs.Region.{region}
+use Rattle.cell_edits.specs.RowEdits.{cut, cut_front}
+use Rattle.cell_edits.specs.VisibleCells.{VisibleCell, visible_at, visible_from}
+use Rattle.cell_views.proofs.KeptLemmas.{AreInOrder, in_order}
 use Rattle.cell_rows.proofs.RowLemmas.{length-closed_start}
 use Rattle.screen_difference.specs.FreshCells.{columns_from, fresh, is_shown, row_fresh, rows_fresh, rows_of, shared_width}
 use Rattle.screen_difference.specs.ShownCells.{begins_with, from_column, moved, passed_fresh, Fit}

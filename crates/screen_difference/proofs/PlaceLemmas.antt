@@ -5,8 +5,8 @@ use Rattle.std.proofs.lemmas.Bool.Decides.{nat_tests}
 use Rattle.std.proofs.lemmas.List.{length-drop, length-take-le}
 use Rattle.cell_base.specs.Row.{Narrow, LeftHalf, RightHalf, Row, space, columns_of, closed_end, closed_start, set_columns}
 use Rattle.cell_change.proofs.TextLemmas.{by_test}
-use Rattle.cell_line.specs.LineContent.{cell_columns}
-use Rattle.cell_line.specs.VisibleCells.{VisibleCell, visible_from}
+use Rattle.cell_edits.specs.CellList.{cell_columns}
+use Rattle.cell_edits.specs.VisibleCells.{VisibleCell, visible_from}
 use Rattle.cell_rows.specs.WholeRow.{IsWhole}
 use Rattle.cell_rows.proofs.RowLemmas.{length-closed_end, length-closed_start, length-set_columns, whole-front, whole-behind}
 use Rattle.screen_difference.specs.DrawnCells.{HavePlaces}

@@ -9,8 +9,8 @@ use Rattle.std.proofs.Math.Seq.{get_or-append_seam, set-append_seam}
 use Rattle.cell_base.specs.Row.{Row, space, closed_end, set_columns}
 use Rattle.cell_base.specs.Screen.{Screen, IsScreen, height}
 use Rattle.cell_change.proofs.TextLemmas.{by_test}
-use Rattle.cell_line.specs.LineContent.{cell_columns}
-use Rattle.cell_line.specs.VisibleCells.{VisibleCell, visible_from}
+use Rattle.cell_edits.specs.CellList.{cell_columns}
+use Rattle.cell_edits.specs.VisibleCells.{VisibleCell, visible_from}
 use Rattle.cell_rows.specs.WholeRow.{IsWhole}
 use Rattle.cell_rows.proofs.RowLemmas.{whole_ends, whole_starts}
 use Rattle.screen_difference.specs.Difference.{difference}

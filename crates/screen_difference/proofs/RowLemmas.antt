@@ -9,9 +9,9 @@ use Rattle.cell_base.specs.CellContent.{CellContent}
 use Rattle.cell_base.specs.Row.{Column, Narrow, LeftHalf, RightHalf, Row, closed_end, closed_start, set_columns}
 use Rattle.cell_base.specs.SameCell.{same_cell, same_cell_decides}
 use Rattle.cell_change.proofs.TextLemmas.{by_test}
-use Rattle.cell_line.specs.LineContent.{cell_columns}
-use Rattle.cell_line.specs.VisibleCells.{VisibleCell, visible_at, visible_from}
-use Rattle.cell_line.proofs.KeptLemmas.{in_order}
+use Rattle.cell_edits.specs.CellList.{cell_columns}
+use Rattle.cell_edits.specs.VisibleCells.{VisibleCell, visible_at, visible_from}
+use Rattle.cell_views.proofs.KeptLemmas.{in_order}
 use Rattle.cell_rows.specs.WholeRow.{IsWhole}
 use Rattle.cell_rows.proofs.RowLemmas.{length-closed_start, whole_ends, whole-append, whole-behind}
 use Rattle.screen_difference.specs.FreshCells.{fresh, is_shown}

@@ -4,7 +4,7 @@ use Rattle.std.specs.List.{flat_map}
 use Rattle.unicode_segmentation.specs.Grapheme.{graphemes}
 use Rattle.cell_base.specs.Screen.{Screen, write_columns}
 use Rattle.cell_change.specs.ChangeValue.{ChangeValue, Text}
-use Rattle.cell_line.specs.LineContent.{cell_columns}
+use Rattle.cell_edits.specs.CellList.{cell_columns}
 use Rattle.screen_difference.specs.FreshCells.{PlacedCell}
 use Rattle.screen_effects.specs.Effect.{with_pen}
 use Rattle.screen_replay.specs.WrittenCells.{IsSoundText}

@@ -6,8 +6,8 @@ use Rattle.cell_base.specs.Row.{Row}
 use Rattle.cell_base.specs.SameCell.{same_cell}
 use Rattle.cell_base.specs.Screen.{Screen, height}
 use Rattle.cell_line.specs.LineContent.{LineContent}
-use Rattle.cell_line.specs.RowEdits.{cut, cut_front}
-use Rattle.cell_line.specs.VisibleCells.{VisibleCell, visible_from}
+use Rattle.cell_edits.specs.RowEdits.{cut, cut_front}
+use Rattle.cell_edits.specs.VisibleCells.{VisibleCell, visible_from}
 
 -- a visible cell with its row and first column
 pub record PlacedCell : Type 0 where

@@ -2,11 +2,11 @@
 use Rattle.std.specs.Prelude.{ℕ, ◌+◌, ◌-◌, ◌<◌, ◌≤◌, ◌^◌, ⊤, Bool, false, ◌&&◌, ◌==◌, nat_lt, List, [], ◌∷◌, Option, Some, None, if◌then◌else◌}
 use Rattle.cell_base.specs.CellContent.{CellContent}
 use Rattle.cell_base.specs.SameCell.{same_cell}
-use Rattle.cell_line.specs.CellRefView.{shown_by}
-use Rattle.cell_line.specs.Region.{region_left}
-use Rattle.cell_line.specs.VisibleCells.{VisibleCell}
-use Rattle.cell_line.specs.declared.cell_ref.CellRef.{CellRef}
-use Rattle.cell_line.specs.declared.region.RegionIter.{RegionIter}
+use Rattle.cell_views.specs.CellRefView.{shown_by}
+use Rattle.cell_views.specs.Region.{region_left}
+use Rattle.cell_edits.specs.VisibleCells.{VisibleCell}
+use Rattle.cell_views.specs.declared.cell_ref.CellRef.{CellRef}
+use Rattle.cell_views.specs.declared.region.RegionIter.{RegionIter}
 use Rattle.screen_difference.specs.declared.shown_cells.ShownCells.{ShownCells}
 
 -- a cell, and those that are left behind it; none where there is no such cell

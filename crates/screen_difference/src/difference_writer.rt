@@ -2,7 +2,7 @@
 ghost use Rattle.std.specs.Prelude.{◌≡◌, ◌+◌, ◌<◌, ◌^◌, List, map, OnOk, IfOk};
 ghost use Rattle.cell_base.specs.Attributes.{Attributes};
 ghost use Rattle.cell_change.specs.ValueOf.{value_of};
-ghost use Rattle.cell_line.specs.CellRefView.{shown_by};
+ghost use Rattle.cell_views.specs.CellRefView.{shown_by};
 ghost use Rattle.screen_difference.specs.Difference.{difference, position};
 ghost use Rattle.screen_difference.specs.Drawing.{first_moved, moved_to, new_drawing, with_all, with_placed};
 ghost use Rattle.screen_difference.specs.FreshCells.{PlacedCell};

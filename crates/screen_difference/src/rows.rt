@@ -1,6 +1,6 @@
 //! Rows that are compared.
 ghost use Rattle.std.specs.Prelude.{◌≡◌, map, OnOk};
-ghost use Rattle.cell_line.specs.Region.{region_left};
+ghost use Rattle.cell_views.specs.Region.{region_left};
 ghost use Rattle.screen_difference.specs.Drawing.{with_all};
 ghost use Rattle.screen_difference.specs.FreshCells.{placed, row_fresh};
 ghost use Rattle.screen_difference.specs.ShownCells.{moved, passed_fresh, shown_left, Fit};

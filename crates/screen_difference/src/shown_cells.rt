@@ -1,7 +1,7 @@
 //! Cells that are passed while others are compared with them.
 ghost use Rattle.std.specs.Prelude.{◌≡◌, ◌↔◌, IsTrue};
-ghost use Rattle.cell_line.specs.CellRefView.{shown_by};
-ghost use Rattle.cell_line.specs.Region.{region_left};
+ghost use Rattle.cell_views.specs.CellRefView.{shown_by};
+ghost use Rattle.cell_views.specs.Region.{region_left};
 ghost use Rattle.screen_difference.specs.ShownCells.{begins_before, begins_with, from_column, shown_left};
 
 use cell_line::{CellRef, RegionIter};

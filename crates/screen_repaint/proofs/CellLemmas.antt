@@ -11,7 +11,7 @@ use Rattle.cell_base.specs.Row.{Row, Narrow, LeftHalf, RightHalf, space, blank, 
 use Rattle.cell_change.specs.CellRuns.{is_blank_of}
 use Rattle.cell_change.specs.UpToLast.{up_to_last}
 use Rattle.cell_change.proofs.TextLemmas.{by_test}
-use Rattle.cell_line.specs.VisibleCells.{visible_from, contents}
+use Rattle.cell_edits.specs.VisibleCells.{visible_from, contents}
 use Rattle.cell_rows.specs.WholeRow.{IsWhole}
 use Rattle.cell_rows.proofs.RowLemmas.{whole-append, whole_ends}
 use Rattle.screen_effects.specs.Effect.{blank_row, cleared_behind}

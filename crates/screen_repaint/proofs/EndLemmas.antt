@@ -1,7 +1,7 @@
 -- How rows end.
 use Rattle.std.proofs.Common.{◌≡◌, ℕ, zero, suc, ◌+◌, ◌-◌, ◌<◌, ◌≤◌, Bool, true, false, List, [], ◌∷◌, ◌++◌, length, take, Option, Some, None, refl, sym, ap, subst, ◌∙◌, arith, append-nil, append_assoc, length-append}
 use Rattle.std.specs.Prelude.{fold, ◌&&◌, ◌||◌, not, nat_le, if◌then◌else◌}
-use Rattle.std.specs.List.{list_all, list_any}
+use Rattle.std.specs.List.{list_all, list_any, slice_get}
 use Rattle.std.specs.Str.{bytes_eq}
 use Rattle.std.proofs.lemmas.Bool.{false≢true, and_parts}
 use Rattle.std.proofs.lemmas.List.Folds.{list_any-append}
@@ -16,9 +16,8 @@ use Rattle.cell_base.specs.Row.{Row, Narrow, LeftHalf, RightHalf, space}
 use Rattle.cell_base.specs.SameAttributes.{same_attributes, same_attributes_decides}
 use Rattle.cell_change.specs.CellRuns.{is_blank_of, background_at_end, less_blanks}
 use Rattle.cell_change.specs.UpToLast.{up_to_last}
-use Rattle.cell_line.specs.VisibleCells.{visible_from, contents}
+use Rattle.cell_edits.specs.VisibleCells.{visible_from, contents}
 use Rattle.std.proofs.lemmas.Bool.Decides.{nat_tests}
-use Rattle.std.specs.List.{slice_get}
 use Rattle.std.proofs.lemmas.List.{length-map}
 use Rattle.cell_line.specs.LineContent.{LineContent}
 use Rattle.cell_rows.specs.WholeRow.{IsWhole}

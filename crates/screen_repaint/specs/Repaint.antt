@@ -12,7 +12,7 @@ use Rattle.cell_base.specs.Row.{Row}
 use Rattle.cell_change.specs.CellChanges.{attributes_due, cells_written, clear_due}
 use Rattle.cell_change.specs.CellRuns.{is_blank_of, background_at_end, less_blanks}
 use Rattle.cell_change.specs.ChangeValue.{ChangeValue, Attribute, AllAttributes, ClearScreen, ClearToEndOfLine, ClearToEndOfScreen, CursorPosition, CursorShape, CursorVisibility, Title}
-use Rattle.cell_line.specs.VisibleCells.{visible_cells, contents}
+use Rattle.cell_edits.specs.VisibleCells.{visible_cells, contents}
 use Rattle.screen_effects.specs.Display.{Display}
 use Rattle.screen_effects.specs.Pen.{with_attribute}
 

@@ -6,7 +6,7 @@ ghost use Rattle.std.specs.Str.{bytes_eq};
 ghost use Rattle.cell_base.specs.Row.{space};
 ghost use Rattle.cell_base.specs.SameAttributes.{same_attributes};
 ghost use Rattle.cell_change.specs.CellRuns.{is_blank_of};
-ghost use Rattle.cell_line.specs.CellRefView.{shown_by};
+ghost use Rattle.cell_views.specs.CellRefView.{shown_by};
 ghost use Rattle.screen_repaint.specs.PaintedRows.{AreFilled, IsTail, rows_of};
 ghost use Rattle.screen_repaint.specs.Repaint.{row_cells};
 ghost use Rattle.screen_repaint.specs.Ends.{are_blanks_with, end_of, passing_at_end, with_cell, ends_in};

@@ -20,7 +20,7 @@ use Rattle.cell_change.specs.ChangeValue.{ChangeValue, AllAttributes, CursorPosi
 use Rattle.cell_change.specs.Texts.{stay_apart, texts}
 use Rattle.cell_change.specs.UpToLast.{up_to_last}
 use Rattle.cell_change.proofs.TextLemmas.{by_test}
-use Rattle.cell_line.specs.VisibleCells.{VisibleCell, contents, visible_from}
+use Rattle.cell_edits.specs.VisibleCells.{VisibleCell, contents, visible_from}
 use Rattle.change_log.specs.Log.{Log, due, first_number, most_due}
 use Rattle.change_log.specs.LogSteps.{Sized}
 use Rattle.screen_effects.specs.Effect.{cursor_row}

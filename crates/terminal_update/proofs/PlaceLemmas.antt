@@ -12,7 +12,7 @@ use Rattle.cell_change.specs.CellChanges.{attributes_due}
 use Rattle.cell_change.specs.ChangeValue.{ChangeValue, AllAttributes, CursorPosition, Text}
 use Rattle.cell_change.specs.Texts.{stay_apart, texts}
 use Rattle.cell_change.proofs.TextLemmas.{by_test, each_text, one_text}
-use Rattle.cell_line.specs.VisibleCells.{VisibleCell, visible_at, visible_from}
+use Rattle.cell_edits.specs.VisibleCells.{VisibleCell, visible_at, visible_from}
 use Rattle.cell_rows.specs.WholeRow.{IsWhole}
 use Rattle.cell_rows.proofs.RowLemmas.{whole_ends}
 use Rattle.screen_effects.specs.Display.{Display, IsDisplay}

@@ -11,7 +11,7 @@ use Rattle.cell_base.specs.Row.{Row, Narrow, LeftHalf, RightHalf}
 use Rattle.cell_base.specs.Screen.{Screen, IsScreen, height}
 use Rattle.cell_change.specs.ChangeValue.{ChangeValue, AllAttributes, ClearScreen, CursorPosition, CursorVisibility, Text, Title}
 use Rattle.cell_change.proofs.TextLemmas.{by_test}
-use Rattle.cell_line.specs.VisibleCells.{VisibleCell, visible_at, visible_from}
+use Rattle.cell_edits.specs.VisibleCells.{VisibleCell, visible_at, visible_from}
 use Rattle.change_log.specs.Log.{due}
 use Rattle.change_log.specs.LogSteps.{Sized}
 use Rattle.screen_effects.specs.Display.{IsDisplay}

@@ -6,7 +6,7 @@ use Rattle.cell_base.specs.declared.attributes.Position.TheVariants.{Absolute}
 use Rattle.cell_base.specs.Row.{Row}
 use Rattle.cell_base.specs.Screen.{Screen, height}
 use Rattle.cell_change.specs.ChangeValue.{ChangeValue, AllAttributes, CursorPosition, Text, Title}
-use Rattle.cell_line.specs.VisibleCells.{VisibleCell, visible_cells}
+use Rattle.cell_edits.specs.VisibleCells.{VisibleCell, visible_cells}
 use Rattle.change_log.specs.Log.{due}
 use Rattle.change_log.specs.LogSteps.{Sized}
 use Rattle.escape_stream.specs.StreamAction.{StreamAction}

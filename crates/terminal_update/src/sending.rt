@@ -6,7 +6,7 @@ ghost use Rattle.cell_base.specs.declared.attributes.Position.TheVariants as pla
 ghost use Rattle.cell_base.specs.Screen.{height};
 ghost use Rattle.cell_change.specs.ChangeValue.{AllAttributes, CursorPosition, Text, Title};
 ghost use Rattle.cell_change.specs.ValueOf.{value_of};
-ghost use Rattle.cell_line.specs.CellRefView.{shown_by as cell_shown};
+ghost use Rattle.cell_views.specs.CellRefView.{shown_by as cell_shown};
 ghost use Rattle.cell_surface.specs.Surface.{Answers, shown_by};
 ghost use Rattle.change_log.specs.Log.{due};
 ghost use Rattle.screen_effects.specs.Display.{IsDisplay};

@@ -3,7 +3,7 @@
 ghost use Rattle.std.specs.Prelude.{◌≡◌, not};
 ghost use Rattle.std.specs.Str.{bytes_eq};
 ghost use Rattle.cell_base.specs.Row.{space};
-ghost use Rattle.cell_line.specs.Words.{double_click_range};
+ghost use Rattle.cell_views.specs.Words.{double_click_range};
 
 use cell_base::{Cell, CellAttributes, DoubleClickRange, ProgramWidth};
 use cell_line::{CellRef, Line};

@@ -4,8 +4,8 @@ use Rattle.cell_base.specs.CellContent.{CellContent, row_of_cells}
 use Rattle.cell_change.specs.CellChanges.{cells_written}
 use Rattle.cell_change.specs.Written.{Written, begun, finished, with_cells}
 use Rattle.cell_change.proofs.RunLemmas.{cells_are_written}
-use Rattle.cell_line.specs.OpenZones.{is_kept_by}
-use Rattle.cell_line.specs.VisibleCells.{VisibleCell, visible_cells, contents}
+use Rattle.cell_views.specs.OpenZones.{is_kept_by}
+use Rattle.cell_edits.specs.VisibleCells.{VisibleCell, visible_cells, contents}
 use Rattle.cell_line.proofs.ChangeLemmas.{all_kept}
 use Rattle.cell_line.proofs.changes.all_written.Goals as goal
 

@@ -1,9 +1,9 @@
 use Rattle.std.proofs.Common.{◌∙◌, sym}
 use Rattle.cell_base.specs.CellContent.{row_of_cells}
 use Rattle.cell_base.specs.Row.{Row}
-use Rattle.cell_line.specs.VisibleCells.{visible_cells}
+use Rattle.cell_edits.specs.VisibleCells.{visible_cells}
 use Rattle.cell_line.proofs.ChangeLemmas.{row_of_blanks, row_before_blanks}
-use Rattle.cell_line.proofs.KeptLemmas.{in_order}
+use Rattle.cell_views.proofs.KeptLemmas.{in_order}
 use Rattle.cell_line.proofs.changes.changes.Goals as goal
 
 pub returns-in_ok-changes-in-None : goal.returns-in_ok-changes-in-None

@@ -1,8 +1,8 @@
 use Rattle.std.proofs.Common.{ℕ, Option, Some, ◌∙◌, sym, ap}
 use Rattle.std.specs.Prelude.{fold, if◌then◌else◌}
 use Rattle.cell_change.specs.CellRuns.{is_blank_of}
-use Rattle.cell_line.specs.CellRefView.{cells_left}
-use Rattle.cell_line.specs.VisibleCells.{VisibleCell}
+use Rattle.cell_views.specs.CellRefView.{cells_left}
+use Rattle.cell_edits.specs.VisibleCells.{VisibleCell}
 use Rattle.cell_line.proofs.changes.last_beside.Goals as goal
 
 pub loop-cell-preserved : goal.loop-cell-preserved

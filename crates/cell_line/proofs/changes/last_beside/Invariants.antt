@@ -2,9 +2,9 @@ use Rattle.std.proofs.Common.{◌≡◌, Some}
 use Rattle.std.specs.Prelude.{fold, if◌then◌else◌}
 use Rattle.cell_base.specs.CellContent.{row_of_cells}
 use Rattle.cell_change.specs.CellRuns.{is_blank_of}
-use Rattle.cell_line.specs.CellRefView.{cells_left}
+use Rattle.cell_views.specs.CellRefView.{cells_left}
 use Rattle.cell_line.specs.OpenChanges.{last_beside}
-use Rattle.cell_line.specs.VisibleCells.{visible_cells}
+use Rattle.cell_edits.specs.VisibleCells.{visible_cells}
 use Rattle.cell_line.proofs.changes.last_beside.Given as goal
 
 -- the answer so far, and then what is left, are the whole

@@ -2,9 +2,9 @@ use Rattle.std.proofs.Common.{◌≡◌}
 use Rattle.std.specs.Prelude.{filter}
 use Rattle.cell_base.specs.CellContent.{row_of_cells}
 use Rattle.cell_change.specs.Written.{with_cells}
-use Rattle.cell_line.specs.CellRefView.{cells_left}
-use Rattle.cell_line.specs.OpenZones.{is_kept_by}
-use Rattle.cell_line.specs.VisibleCells.{visible_cells, contents}
+use Rattle.cell_views.specs.CellRefView.{cells_left}
+use Rattle.cell_views.specs.OpenZones.{is_kept_by}
+use Rattle.cell_edits.specs.VisibleCells.{visible_cells, contents}
 use Rattle.cell_line.proofs.changes.write_cells.Given as goal
 
 -- what is written, and then what is left, are the whole

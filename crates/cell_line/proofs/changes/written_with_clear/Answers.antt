@@ -4,8 +4,8 @@ use Rattle.cell_base.specs.Attributes.{Attributes}
 use Rattle.cell_base.specs.CellContent.{CellContent, row_of_cells}
 use Rattle.cell_change.specs.CellChanges.{clear_due}
 use Rattle.cell_change.specs.Written.{Written, finished, with_attributes, with_cells}
-use Rattle.cell_line.specs.OpenZones.{is_kept_by}
-use Rattle.cell_line.specs.VisibleCells.{VisibleCell, visible_cells, contents}
+use Rattle.cell_views.specs.OpenZones.{is_kept_by}
+use Rattle.cell_edits.specs.VisibleCells.{VisibleCell, visible_cells, contents}
 use Rattle.cell_line.proofs.ChangeLemmas.{with_clear}
 use Rattle.cell_line.proofs.changes.written_with_clear.Goals as goal
 

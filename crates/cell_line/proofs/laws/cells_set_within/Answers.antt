@@ -1,4 +1,4 @@
-use Rattle.cell_line.proofs.RowLaws.{set_within, overlaid_next, overlaid_within, length-overlaid, filled_within}
+use Rattle.cell_edits.proofs.RowLaws.{set_within, overlaid_next, overlaid_within, length-overlaid, filled_within}
 use Rattle.cell_line.proofs.laws.cells_set_within.Goals as goal
 
 pub returns-clause-one : goal.returns-clause-one

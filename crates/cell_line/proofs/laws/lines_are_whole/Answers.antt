@@ -1,4 +1,4 @@
-use Rattle.cell_line.proofs.RowLaws.{row_again}
+use Rattle.cell_edits.proofs.RowLaws.{row_again}
 use Rattle.cell_line.proofs.laws.lines_are_whole.Goals as goal
 
 pub returns-clause-row : goal.returns-clause-row

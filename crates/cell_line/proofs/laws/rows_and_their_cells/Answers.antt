@@ -1,4 +1,4 @@
-use Rattle.cell_line.proofs.RowLaws.{row_again, visible-append, visible-set}
+use Rattle.cell_edits.proofs.RowLaws.{row_again, visible-append, visible-set}
 use Rattle.cell_line.proofs.laws.rows_and_their_cells.Goals as goal
 
 pub returns-clause-row : goal.returns-clause-row

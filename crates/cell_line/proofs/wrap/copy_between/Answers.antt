@@ -2,8 +2,8 @@ use Rattle.std.proofs.Common.{ℕ, Bool, List, ◌∙◌, ◌++◌, sym, ap}
 use Rattle.std.specs.Prelude.{filter, nat_le, nat_lt, ◌&&◌}
 use Rattle.std.proofs.lemmas.List.{append-nil}
 use Rattle.cell_base.specs.CellContent.{row_of_cells}
-use Rattle.cell_line.specs.VisibleCells.{VisibleCell, row_of_visible}
-use Rattle.cell_line.proofs.ReadLemmas.{row_picked}
+use Rattle.cell_edits.specs.VisibleCells.{VisibleCell, row_of_visible}
+use Rattle.cell_views.proofs.ReadLemmas.{row_picked}
 use Rattle.cell_line.proofs.wrap.copy_between.Goals as goal
 
 pub returns : goal.returns

@@ -1,9 +1,9 @@
 use Rattle.std.proofs.Common.{◌≡◌, ◌++◌, false}
 use Rattle.std.specs.Prelude.{filter, nat_le, nat_lt, ◌&&◌}
 use Rattle.cell_base.specs.CellContent.{row_of_cells}
-use Rattle.cell_line.specs.CellList.{ends_halved}
-use Rattle.cell_line.specs.ReadCells.{read_from, read_left}
-use Rattle.cell_line.specs.VisibleCells.{row_of_visible}
+use Rattle.cell_edits.specs.CellList.{ends_halved}
+use Rattle.cell_views.specs.ReadCells.{read_from, read_left}
+use Rattle.cell_edits.specs.VisibleCells.{row_of_visible}
 use Rattle.cell_line.proofs.wrap.copy_between.Given as goal
 
 -- the columns so far, and then those that are left, are the whole

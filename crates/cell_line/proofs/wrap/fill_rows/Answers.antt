@@ -2,14 +2,15 @@ use Rattle.std.proofs.Common.{◌≡◌, ℕ, Bool, List, Option, ◌∙◌, ◌
 use Rattle.std.specs.Prelude.{map, filter, vec_len, if◌then◌else◌}
 use Rattle.cell_base.specs.CellContent.{CellContent, row_of_cells}
 use Rattle.cell_base.specs.Row.{Row}
-use Rattle.cell_line.specs.LineContent.{LineContent, line_of, cell_columns}
-use Rattle.cell_line.specs.ReadCells.{read_from}
+use Rattle.cell_line.specs.LineContent.{LineContent, line_of}
+use Rattle.cell_edits.specs.CellList.{cell_columns}
+use Rattle.cell_views.specs.ReadCells.{read_from}
 use Rattle.cell_line.specs.TakenCells.{taken_left}
-use Rattle.cell_line.specs.VisibleCells.{VisibleCell, visible_cells, contents, row_end_wrapped}
+use Rattle.cell_edits.specs.VisibleCells.{VisibleCell, visible_cells, contents, row_end_wrapped}
 use Rattle.cell_line.specs.OpenRows.{breaks, rows_from, last_text}
-use Rattle.cell_line.specs.OpenZones.{is_kept_by}
-use Rattle.cell_line.proofs.CellLemmas.{length-row}
-use Rattle.cell_line.proofs.ReadLemmas.{placed, rows_read}
+use Rattle.cell_views.specs.OpenZones.{is_kept_by}
+use Rattle.cell_edits.proofs.CellLemmas.{length-row}
+use Rattle.cell_line.proofs.PlacedLemmas.{placed, rows_read}
 use Rattle.cell_line.proofs.wrap.fill_rows.Goals as goal
 
 pub loop-column-preserved-in-Continue-1 : goal.loop-column-preserved-in-Continue-1

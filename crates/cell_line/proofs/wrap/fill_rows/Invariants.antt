@@ -1,13 +1,13 @@
 use Rattle.std.proofs.Common.{◌≡◌, ◌++◌, [], false}
 use Rattle.std.specs.Prelude.{map, filter}
 use Rattle.cell_base.specs.CellContent.{row_of_cells}
-use Rattle.cell_line.specs.CellList.{ends_halved}
+use Rattle.cell_edits.specs.CellList.{ends_halved}
 use Rattle.cell_line.specs.LineContent.{line_of}
-use Rattle.cell_line.specs.ReadCells.{read_from}
+use Rattle.cell_views.specs.ReadCells.{read_from}
 use Rattle.cell_line.specs.TakenCells.{taken_left}
-use Rattle.cell_line.specs.VisibleCells.{contents}
+use Rattle.cell_edits.specs.VisibleCells.{contents}
 use Rattle.cell_line.specs.OpenRows.{rows_from}
-use Rattle.cell_line.specs.OpenZones.{is_kept_by}
+use Rattle.cell_views.specs.OpenZones.{is_kept_by}
 use Rattle.cell_line.proofs.wrap.fill_rows.Given as goal
 
 -- the lines so far, and then those of the open row and what is left, are the whole

@@ -1,8 +1,8 @@
 use Rattle.std.proofs.Common.{◌≡◌, Some}
 use Rattle.std.specs.Prelude.{fold, if◌then◌else◌}
 use Rattle.cell_base.specs.CellContent.{row_of_cells}
-use Rattle.cell_line.specs.CellRefView.{cells_left}
-use Rattle.cell_line.specs.VisibleCells.{visible_cells, is_space}
+use Rattle.cell_views.specs.CellRefView.{cells_left}
+use Rattle.cell_edits.specs.VisibleCells.{visible_cells, is_space}
 use Rattle.cell_line.specs.OpenRows.{last_text}
 use Rattle.cell_line.proofs.wrap.last_text.Given as goal
 

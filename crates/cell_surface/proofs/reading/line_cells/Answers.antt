@@ -1,8 +1,8 @@
 use Rattle.std.proofs.Common.{rules, ◌≡◌, ◌++◌, List, ap, ◌∙◌}
 use Rattle.std.specs.List.{flat_map}
 use Rattle.cell_base.specs.CellContent.{CellContent}
-use Rattle.cell_line.specs.CellRefView.{cells_left}
-use Rattle.cell_line.specs.VisibleCells.{VisibleCell, visible_cells, row_of_visible}
+use Rattle.cell_views.specs.CellRefView.{cells_left}
+use Rattle.cell_edits.specs.VisibleCells.{VisibleCell, visible_cells, row_of_visible}
 use Rattle.cell_surface.specs.Cells.{cells_of}
 use Rattle.cell_surface.proofs.CellLemmas.{cells_by_column}
 use Rattle.cell_surface.proofs.reading.line_cells.Goals as goal

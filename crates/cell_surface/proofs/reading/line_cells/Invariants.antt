@@ -1,6 +1,6 @@
 use Rattle.std.proofs.Common.{◌≡◌, ◌++◌}
 use Rattle.std.specs.List.{flat_map}
-use Rattle.cell_line.specs.CellRefView.{cells_left}
+use Rattle.cell_views.specs.CellRefView.{cells_left}
 use Rattle.cell_surface.specs.Cells.{cells_of, column_cells}
 use Rattle.cell_surface.proofs.reading.line_cells.Given as goal
 

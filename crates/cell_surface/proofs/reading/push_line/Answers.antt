@@ -1,8 +1,8 @@
 use Rattle.std.proofs.Common.{rules, ◌≡◌, ◌++◌, ℕ, List, ap, ◌∙◌}
 use Rattle.std.specs.String.{string_bytes}
-use Rattle.cell_line.specs.CellRefView.{cells_left}
-use Rattle.cell_line.specs.VisibleCells.{visible_cells, texts_joined}
-use Rattle.cell_line.proofs.VisibleLemmas.{texts_of_visible}
+use Rattle.cell_views.specs.CellRefView.{cells_left}
+use Rattle.cell_edits.specs.VisibleCells.{visible_cells, texts_joined}
+use Rattle.cell_views.proofs.VisibleLemmas.{texts_of_visible}
 use Rattle.cell_surface.proofs.reading.push_line.Goals as goal
 
 pub loop-cell-init : goal.loop-cell-init

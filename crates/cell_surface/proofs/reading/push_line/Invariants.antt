@@ -1,8 +1,8 @@
 use Rattle.std.proofs.Common.{◌≡◌, ◌++◌}
 use Rattle.std.specs.String.{string_bytes}
 use Rattle.cell_base.specs.Row.{row_text}
-use Rattle.cell_line.specs.CellRefView.{cells_left}
-use Rattle.cell_line.specs.VisibleCells.{texts_joined}
+use Rattle.cell_views.specs.CellRefView.{cells_left}
+use Rattle.cell_edits.specs.VisibleCells.{texts_joined}
 use Rattle.cell_surface.proofs.reading.push_line.Given as goal
 
 -- the text so far, and then what is left, are the whole

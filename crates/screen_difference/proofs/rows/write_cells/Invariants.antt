@@ -1,5 +1,5 @@
 use Rattle.std.proofs.Common.{◌≡◌, map}
-use Rattle.cell_line.specs.Region.{region_left}
+use Rattle.cell_views.specs.Region.{region_left}
 use Rattle.screen_difference.specs.Drawing.{with_all}
 use Rattle.screen_difference.specs.FreshCells.{placed}
 use Rattle.screen_difference.specs.ShownCells.{moved, passed_fresh, shown_left, Fit}

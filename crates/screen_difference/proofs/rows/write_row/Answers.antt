@@ -1,12 +1,11 @@
 use Rattle.std.proofs.Common.{◌≡◌, ◌-◌, ◌∙◌, List, length, map, ap, sym, subst, arith}
 use Rattle.std.specs.Prelude.{min}
 use Rattle.cell_base.specs.Row.{Row}
-use Rattle.cell_line.specs.VisibleCells.{VisibleCell}
+use Rattle.cell_edits.specs.VisibleCells.{VisibleCell, visible_from}
 use Rattle.screen_difference.specs.Drawing.{with_all}
 use Rattle.screen_difference.specs.FreshCells.{columns_from, fresh, placed}
 use Rattle.screen_difference.specs.ShownCells.{moved, passed_fresh, Fit}
 use Rattle.screen_difference.proofs.FreshLemmas.{region_fits, row_is_fresh}
-use Rattle.cell_line.specs.VisibleCells.{visible_from}
 use Rattle.screen_difference.proofs.rows.write_row.Goals as goal
 
 pub write_cells-requires : goal.write_cells-requires

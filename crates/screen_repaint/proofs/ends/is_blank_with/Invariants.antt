@@ -1,6 +1,6 @@
 use Rattle.std.proofs.Common.{◌≡◌}
-use Rattle.cell_line.specs.CellRefView.{cells_left}
-use Rattle.cell_line.specs.VisibleCells.{contents}
+use Rattle.cell_views.specs.CellRefView.{cells_left}
+use Rattle.cell_edits.specs.VisibleCells.{contents}
 use Rattle.screen_repaint.specs.Ends.{are_blanks_with}
 use Rattle.screen_repaint.specs.Repaint.{row_cells}
 use Rattle.screen_repaint.proofs.ends.is_blank_with.Given as goal

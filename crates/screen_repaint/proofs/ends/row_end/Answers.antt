@@ -1,6 +1,6 @@
 use Rattle.std.proofs.Common.{rules, ◌≡◌, ◌+◌, ◌≤◌, List, length, fold, ap, subst, sym, arith}
-use Rattle.cell_line.specs.CellRefView.{cells_left}
-use Rattle.cell_line.specs.VisibleCells.{VisibleCell, contents, visible_cells}
+use Rattle.cell_views.specs.CellRefView.{cells_left}
+use Rattle.cell_edits.specs.VisibleCells.{VisibleCell, contents, visible_cells}
 use Rattle.screen_repaint.specs.Ends.{no_cells, with_cell}
 use Rattle.screen_repaint.proofs.EndLemmas.{visible_count}
 use Rattle.screen_repaint.proofs.ends.row_end.Goals as goal

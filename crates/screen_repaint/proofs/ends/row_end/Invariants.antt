@@ -1,6 +1,6 @@
 use Rattle.std.proofs.Common.{◌≡◌, ◌+◌, ◌≤◌, fold, length}
-use Rattle.cell_line.specs.CellRefView.{cells_left}
-use Rattle.cell_line.specs.VisibleCells.{contents}
+use Rattle.cell_views.specs.CellRefView.{cells_left}
+use Rattle.cell_edits.specs.VisibleCells.{contents}
 use Rattle.screen_repaint.specs.Ends.{end_of, with_cell}
 use Rattle.screen_repaint.specs.Repaint.{row_cells}
 use Rattle.screen_repaint.proofs.ends.row_end.Given as goal

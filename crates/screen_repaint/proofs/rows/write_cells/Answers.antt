@@ -1,7 +1,7 @@
 use Rattle.std.proofs.Common.{rules, ◌≡◌, ◌+◌, ◌-◌, List, take, sym, ap, ◌∙◌}
 use Rattle.cell_change.specs.Written.{with_cells}
-use Rattle.cell_line.specs.CellRefView.{cells_left, shown_by}
-use Rattle.cell_line.specs.VisibleCells.{VisibleCell, contents}
+use Rattle.cell_views.specs.CellRefView.{cells_left, shown_by}
+use Rattle.cell_edits.specs.VisibleCells.{VisibleCell, contents}
 use Rattle.screen_repaint.proofs.PaintLemmas.{cell_more}
 use Rattle.screen_repaint.proofs.rows.write_cells.Goals as goal
 

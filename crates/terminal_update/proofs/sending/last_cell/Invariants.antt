@@ -1,7 +1,7 @@
 use Rattle.std.proofs.Common.{◌≡◌}
 use Rattle.std.specs.Prelude.{Some, fold}
 use Rattle.std.specs.Option.{option_map}
-use Rattle.cell_line.specs.CellRefView.{cells_left, shown_by}
+use Rattle.cell_views.specs.CellRefView.{cells_left, shown_by}
 use Rattle.terminal_update.specs.Update.{last_cell}
 use Rattle.terminal_update.proofs.sending.last_cell.Given as goal
 

@@ -2,9 +2,9 @@ use Rattle.std.proofs.Common.{◌∙◌, ap}
 use Rattle.std.proofs.lemmas.Result.{IfOk-weaker}
 use Rattle.std.proofs.lemmas.Iterator.{items_from_drains}
 use Rattle.std.proofs.lemmas.Iterator.Consumers.{YieldsList-from_first}
-use Rattle.cell_line.specs.VisibleCells.{visible_cells}
-use Rattle.cell_line.specs.Clusters.{cell_clusters}
-use Rattle.cell_line.specs.CellRefView.{shown_by, cells_left}
+use Rattle.cell_edits.specs.VisibleCells.{visible_cells}
+use Rattle.cell_views.specs.Clusters.{cell_clusters}
+use Rattle.cell_views.specs.CellRefView.{shown_by, cells_left}
 use Rattle.cell_line.proofs.line.Line.cluster.Goals as goal
 
 pub returns : goal.returns

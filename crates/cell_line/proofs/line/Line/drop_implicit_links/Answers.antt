@@ -2,8 +2,8 @@ use Rattle.std.proofs.Common.{◌≡◌, ◌∙◌, List, ap, length}
 use Rattle.std.specs.Prelude.{map}
 use Rattle.cell_base.specs.CellContent.{CellContent, row_of_cells}
 use Rattle.cell_line.specs.LineContent.{LineContent}
-use Rattle.cell_line.specs.Links.{cell_without_implicit, column_with, without_implicit}
-use Rattle.cell_line.proofs.LinkLemmas.{written, row_without}
+use Rattle.cell_edits.specs.Links.{cell_without_implicit, column_with, without_implicit}
+use Rattle.cell_edits.proofs.LinkLemmas.{written, row_without}
 use Rattle.cell_line.proofs.line.Line.drop_implicit_links.Goals as goal
 
 pub returns : goal.returns

@@ -1,6 +1,6 @@
 use Rattle.std.proofs.Common.{ap, length, arith}
 use Rattle.cell_line.specs.LineContent.{LineContent}
-use Rattle.cell_line.proofs.CellLemmas.{length-row}
+use Rattle.cell_edits.proofs.CellLemmas.{length-row}
 use Rattle.cell_line.proofs.line.Line.erase_cell.Goals as goal
 
 pub erase_column-requires : goal.erase_column-requires

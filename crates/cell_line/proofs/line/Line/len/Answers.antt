@@ -1,6 +1,6 @@
 use Rattle.std.proofs.Common.{◌≡◌, ◌∙◌, ap, sym, length}
 use Rattle.cell_line.specs.LineContent.{LineContent}
-use Rattle.cell_line.proofs.CellLemmas.{length-row}
+use Rattle.cell_edits.proofs.CellLemmas.{length-row}
 use Rattle.cell_line.proofs.line.Line.len.Goals as goal
 
 pub returns : goal.returns

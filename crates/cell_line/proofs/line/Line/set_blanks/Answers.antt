@@ -1,6 +1,6 @@
 use Rattle.std.proofs.Common.{ap, length, arith}
 use Rattle.cell_line.specs.LineContent.{LineContent}
-use Rattle.cell_line.proofs.CellLemmas.{length-row}
+use Rattle.cell_edits.proofs.CellLemmas.{length-row}
 use Rattle.cell_line.proofs.line.Line.set_blanks.Goals as goal
 
 pub set_blanks-requires : goal.set_blanks-requires

@@ -1,7 +1,7 @@
 use Rattle.std.proofs.Common.{ap, length, arith}
 use Rattle.cell_line.specs.LineContent.{LineContent}
-use Rattle.cell_line.proofs.CellLemmas.{length-row}
-use Rattle.cell_line.proofs.RegionLemmas.{clusters_left}
+use Rattle.cell_edits.proofs.CellLemmas.{length-row}
+use Rattle.cell_views.proofs.RegionLemmas.{clusters_left}
 use Rattle.cell_line.proofs.line.Line.set_text.Goals as goal
 
 pub set_text-requires-clause-within : goal.set_text-requires-clause-within

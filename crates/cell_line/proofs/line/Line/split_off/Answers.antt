@@ -1,7 +1,7 @@
 use Rattle.std.proofs.Common.{◌≡◌, ◌∙◌, ap, sym, length, min}
 use Rattle.cell_line.specs.LineContent.{LineContent}
-use Rattle.cell_line.specs.RowEdits.{cut, cut_front}
-use Rattle.cell_line.proofs.CellLemmas.{length-row}
+use Rattle.cell_edits.specs.RowEdits.{cut, cut_front}
+use Rattle.cell_edits.proofs.CellLemmas.{length-row}
 use Rattle.cell_line.proofs.line.Line.split_off.Goals as goal
 
 pub returns-clause-kept : goal.returns-clause-kept

@@ -1,8 +1,8 @@
 use Rattle.std.proofs.Common.{◌∙◌, ap}
 use Rattle.cell_base.specs.CellContent.{row_of_cells}
 use Rattle.cell_line.specs.LineContent.{LineContent}
-use Rattle.cell_line.specs.VisibleCells.{visible_from, row_of_visible}
-use Rattle.cell_line.proofs.VisibleLemmas.{rejoined}
+use Rattle.cell_edits.specs.VisibleCells.{visible_from, row_of_visible}
+use Rattle.cell_views.proofs.VisibleLemmas.{rejoined}
 use Rattle.cell_line.proofs.line.Line.visible_cells.Goals as goal
 
 pub returns-clause-row : goal.returns-clause-row

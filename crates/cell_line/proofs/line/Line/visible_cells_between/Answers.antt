@@ -1,8 +1,8 @@
 use Rattle.std.proofs.Common.{◌∙◌, ap, length, arith}
 use Rattle.cell_base.specs.CellContent.{row_of_cells}
 use Rattle.cell_line.specs.LineContent.{LineContent}
-use Rattle.cell_line.specs.Region.{region}
-use Rattle.cell_line.proofs.CellLemmas.{length-row}
+use Rattle.cell_views.specs.Region.{region}
+use Rattle.cell_edits.proofs.CellLemmas.{length-row}
 use Rattle.cell_line.proofs.line.Line.visible_cells_between.Goals as goal
 
 pub new-requires-clause-within : goal.new-requires-clause-within

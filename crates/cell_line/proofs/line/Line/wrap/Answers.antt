@@ -4,10 +4,10 @@ use Rattle.std.proofs.lemmas.Result.{IfOk-weaker}
 use Rattle.cell_base.specs.CellContent.{row_of_cells}
 use Rattle.cell_base.specs.Row.{Row}
 use Rattle.cell_line.specs.LineContent.{LineContent, line_of}
-use Rattle.cell_line.specs.VisibleCells.{visible_cells, contents, is_space, is_whitespace_row}
+use Rattle.cell_edits.specs.VisibleCells.{visible_cells, contents, is_space, is_whitespace_row}
 use Rattle.cell_line.specs.Wrapped.{rows_of, texts_kept}
 use Rattle.cell_line.specs.OpenRows.{rows_from, texts_up_to}
-use Rattle.cell_line.proofs.KeptLemmas.{in_order, kept_some}
+use Rattle.cell_views.proofs.KeptLemmas.{in_order, kept_some}
 use Rattle.cell_line.proofs.WrapLemmas.{rows_filled, texts_are_kept}
 use Rattle.cell_line.proofs.line.Line.wrap.Goals as goal
 

@@ -1,8 +1,8 @@
 use Rattle.std.proofs.Common.{◌+◌, ◌∙◌, List, ◌∷◌, ap, sym, length, arith}
 use Rattle.std.specs.Vec.Iter.{into_iter_items}
 use Rattle.cell_base.specs.CellContent.{CellContent}
-use Rattle.cell_line.specs.ReadCells.{read_from}
-use Rattle.cell_line.proofs.ReadLemmas.{read_wide_any}
+use Rattle.cell_views.specs.ReadCells.{read_from}
+use Rattle.cell_views.proofs.ReadLemmas.{read_wide_any}
 use Rattle.cell_line.proofs.taken_cells.TakenCellsIterator.next.Goals as goal
 
 pub returns-clause-steps : goal.returns-clause-steps

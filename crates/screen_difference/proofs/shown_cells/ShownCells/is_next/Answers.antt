@@ -5,8 +5,8 @@ use Rattle.std.specs.Cmp.{unsigned_Decides}
 use Rattle.std.proofs.lemmas.Bool.{and_parts, and_from}
 use Rattle.cell_base.specs.CellContent.{CellContent}
 use Rattle.cell_base.specs.SameCell.{same_cell, same_cell_decides}
-use Rattle.cell_line.specs.CellRefView.{shown_by}
-use Rattle.cell_line.specs.declared.cell_ref.CellRef.{CellRef}
+use Rattle.cell_views.specs.CellRefView.{shown_by}
+use Rattle.cell_views.specs.declared.cell_ref.CellRef.{CellRef}
 use Rattle.screen_difference.specs.ShownCells.{behind_next, begins_with}
 use Rattle.screen_difference.proofs.shown_cells.ShownCells.is_next.Goals as goal
 

@@ -1,0 +1,6 @@
+pub mod CellLemmas
+pub mod CutLemmas
+pub mod EndLemmas
+pub mod LinkLemmas
+pub mod RowLaws
+pub mod RunLemmas

@@ -1,0 +1,12 @@
+use Rattle.std.proofs.Common.{◌∙◌, sym, ap}
+use Rattle.std.specs.Prelude.{map}
+use Rattle.unicode_segmentation.specs.Iter.{graphemes_left}
+use Rattle.cell_base.specs.CellContent.{cell_of, row_of_cells}
+use Rattle.cell_base.proofs.PlainClusters.{clusters_are}
+use Rattle.cell_edits.specs.RowEdits.{overlaid}
+use Rattle.cell_edits.proofs.text.overlay.Goals as goal
+
+pub loop-cluster-init : goal.loop-cluster-init
+loop-cluster-init g c =
+    let left = ap graphemes_left c.into_iter-cluster-iterator.ensures.into_iter_gives ∙ c.graphemes-cluster-items.ensures.left ∙ sym (clusters_are c.args.text.now c.utf8.text) in
+    λ i. overlaid (row_of_cells c.args.cells.now.items) c.args.start (map (λ cluster. cell_of cluster (g.W.Widths.width_of c.args.w.now cluster) c.args.attrs.now) (left i))

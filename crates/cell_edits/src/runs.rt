@@ -1,0 +1,360 @@
+//! Columns of a row that are set at once: blanks, and the cells of a text as far as they fit.
+ghost use Rattle.std.specs.Prelude.{◌≡◌, ◌+◌, ◌-◌, ◌≤◌, ◌<◌, ◌++◌, [], ◌∷◌, true, None, length, take, drop, map, replicate, slice_set, vec_len, OnOk, IfOk, MatchOption};
+ghost use Rattle.std.specs.List.{list_all};
+ghost use Rattle.text_clusters.specs.Plain.{is_printable};
+ghost use Rattle.cell_base.specs.Attributes.{Attributes};
+ghost use Rattle.cell_base.specs.CellContent.{row_of_cells, blank_cell, cell_of};
+ghost use Rattle.cell_base.specs.Row.{set_columns, blank};
+ghost use Rattle.cell_edits.specs.CellList.{cell_columns};
+ghost use Rattle.cell_edits.specs.RowEdits.{overlaid};
+ghost use Rattle.cell_edits.specs.TextRuns.{place_behind, plain_cells, text_on, text_left, Leads, Stops};
+
+use crate::row::{open, push_blanks_with};
+use cell_base::{Cell, CellAttributes, Widths};
+use text_clusters::{split_first_cluster, split_plain};
+use std::alloc::{AllocError, Global};
+
+// The cell at a place becomes that of a printable character.
+#[inline(always)]
+fn put_ascii(
+    cells: &mut Vec<Cell>,
+    at: usize,
+    character: u8,
+    attrs: &CellAttributes,
+) -> Result<(), AllocError>
+    requires printable { is_printable character ≡ true }
+    requires within { at < vec_len cells.old }
+    ensures len { vec_len cells.new ≡ vec_len cells.old }
+    ensures items { OnOk result (cells.new.items ≡ slice_set cells.old.items at (cell_of (character ∷ []) 1 attrs.now)) }
+{
+    cells[at].set_ascii(character, attrs)
+}
+
+// The cell at a place becomes a space.
+#[inline(always)]
+fn put_blank(cells: &mut Vec<Cell>, at: usize, attrs: &CellAttributes) -> Result<(), AllocError>
+    requires { at < vec_len cells.old }
+    ensures len { vec_len cells.new ≡ vec_len cells.old }
+    ensures items { OnOk result (cells.new.items ≡ slice_set cells.old.items at (blank_cell attrs.now)) }
+{
+    cells[at].set_blank(attrs)
+}
+
+// The same for a run of attributes without a link.
+#[inline(always)]
+fn put_blank_without_link(cells: &mut [Cell], at: usize, attrs: &CellAttributes)
+    requires within { at < length cells.old }
+    requires unlinked { attrs.now.hyperlink ≡ None }
+    ensures { cells.new ≡ slice_set cells.old at (blank_cell attrs.now) }
+{
+    cells[at].set_blank_without_link(attrs);
+}
+
+// The cell at a place becomes that of a printable character, with attributes without a link.
+#[inline(always)]
+fn put_ascii_without_link(cells: &mut [Cell], at: usize, character: u8, attrs: &CellAttributes)
+    requires printable { is_printable character ≡ true }
+    requires within { at < length cells.old }
+    requires unlinked { attrs.now.hyperlink ≡ None }
+    ensures { cells.new ≡ slice_set cells.old at (cell_of (character ∷ []) 1 attrs.now) }
+{
+    cells[at].set_ascii_without_link(character, attrs);
+}
+
+// The cell at a place becomes that of a cluster.
+#[inline(always)]
+fn put_cluster(
+    alloc: Global,
+    cells: &mut Vec<Cell>,
+    at: usize,
+    cluster: &str,
+    width: usize,
+    attrs: &CellAttributes,
+) -> Result<(), AllocError>
+    requires most { width ≤ 2 }
+    requires within { at < vec_len cells.old }
+    ensures len { vec_len cells.new ≡ vec_len cells.old }
+    ensures items { OnOk result (cells.new.items ≡ slice_set cells.old.items at (cell_of cluster.now width attrs.now)) }
+{
+    cells[at].set_grapheme_with_width(alloc, cluster, width, attrs)
+}
+
+// Blanks with attributes without a link stand in the places of a range.
+fn write_blanks_without_link(cells: &mut [Cell], start: usize, end: usize, attrs: &CellAttributes)
+    requires order { start ≤ end }
+    requires within { end ≤ length cells.old }
+    requires unlinked { attrs.now.hyperlink ≡ None }
+    ensures { cells.new ≡ take start cells.old ++ replicate (end - start) (blank_cell attrs.now) ++ drop end cells.old }
+{
+    for at in start..end {
+        put_blank_without_link(cells, at, attrs);
+    }
+}
+
+// Blanks stand in the places of a range.
+fn write_blanks(
+    cells: &mut Vec<Cell>,
+    start: usize,
+    end: usize,
+    attrs: &CellAttributes,
+) -> Result<(), AllocError>
+    requires order { start ≤ end }
+    requires within { end ≤ vec_len cells.old }
+    ensures len { vec_len cells.new ≡ vec_len cells.old }
+    ensures items { OnOk result (cells.new.items ≡ take start cells.old.items ++ replicate (end - start) (blank_cell attrs.now) ++ drop end cells.old.items) }
+{
+    if attrs.hyperlink().is_none() {
+        write_blanks_without_link(cells, start, end, attrs);
+        return Ok(());
+    }
+    write_linked_blanks(cells, start, end, attrs)?;
+    Ok(())
+}
+
+// Blanks stand in the places of a range, each of which may share a link.
+fn write_linked_blanks(
+    cells: &mut Vec<Cell>,
+    start: usize,
+    end: usize,
+    attrs: &CellAttributes,
+) -> Result<(), AllocError>
+    requires order { start ≤ end }
+    requires within { end ≤ vec_len cells.old }
+    ensures len { vec_len cells.new ≡ vec_len cells.old }
+    ensures items { OnOk result (cells.new.items ≡ take start cells.old.items ++ replicate (end - start) (blank_cell attrs.now) ++ drop end cells.old.items) }
+{
+    for at in start..end {
+        put_blank(cells, at, attrs)?;
+    }
+    Ok(())
+}
+
+/// Blanks take the columns of a range.
+pub fn set_blanks(
+    cells: &mut Vec<Cell>,
+    start: usize,
+    end: usize,
+    attrs: &CellAttributes,
+) -> Result<(), AllocError>
+    requires order { start ≤ end }
+    requires within { end ≤ vec_len cells.old }
+    ensures { OnOk result (row_of_cells cells.new.items ≡ set_columns (row_of_cells cells.old.items) start (replicate (end - start) (blank attrs.now))) }
+{
+    open(cells, start, end)?;
+    write_blanks(cells, start, end, attrs)?;
+    Ok(())
+}
+
+/// So many blanks stand in place of all cells.
+pub fn clear(
+    cells: &mut Vec<Cell>,
+    width: usize,
+    attrs: &CellAttributes,
+) -> Result<(), AllocError>
+    ensures { OnOk result (cells.new.items ≡ replicate width (blank_cell attrs.now)) }
+{
+    cells.truncate(width);
+    let len = cells.len();
+    write_blanks(cells, 0, len, attrs)?;
+    if len < width {
+        push_blanks_with(cells, width - len, attrs)?;
+    }
+    Ok(())
+}
+
+// Cells of one printable character each stand from a place on, with attributes without a link.
+fn write_plain_without_link(cells: &mut [Cell], start: usize, bytes: &[u8], attrs: &CellAttributes)
+    requires printable { list_all is_printable bytes.now ≡ true }
+    requires within { start + length bytes.now ≤ length cells.old }
+    requires unlinked { attrs.now.hyperlink ≡ None }
+    ensures { cells.new ≡ take start cells.old ++ plain_cells bytes.now attrs.now ++ drop (start + length bytes.now) cells.old }
+{
+    for index in 0..bytes.len() {
+        put_ascii_without_link(cells, start + index, bytes[index], attrs);
+    }
+}
+
+// Cells of one printable character each stand from a place on.
+fn write_plain(
+    cells: &mut Vec<Cell>,
+    start: usize,
+    bytes: &[u8],
+    attrs: &CellAttributes,
+) -> Result<(), AllocError>
+    requires printable { list_all is_printable bytes.now ≡ true }
+    requires within { start + length bytes.now ≤ vec_len cells.old }
+    ensures len { vec_len cells.new ≡ vec_len cells.old }
+    ensures items { OnOk result (cells.new.items ≡ take start cells.old.items ++ plain_cells bytes.now attrs.now ++ drop (start + length bytes.now) cells.old.items) }
+{
+    if attrs.hyperlink().is_none() {
+        write_plain_without_link(cells, start, bytes, attrs);
+        return Ok(());
+    }
+    write_linked_plain(cells, start, bytes, attrs)?;
+    Ok(())
+}
+
+// The same where each cell may share a link.
+fn write_linked_plain(
+    cells: &mut Vec<Cell>,
+    start: usize,
+    bytes: &[u8],
+    attrs: &CellAttributes,
+) -> Result<(), AllocError>
+    requires printable { list_all is_printable bytes.now ≡ true }
+    requires within { start + length bytes.now ≤ vec_len cells.old }
+    ensures len { vec_len cells.new ≡ vec_len cells.old }
+    ensures items { OnOk result (cells.new.items ≡ take start cells.old.items ++ plain_cells bytes.now attrs.now ++ drop (start + length bytes.now) cells.old.items) }
+{
+    for index in 0..bytes.len() {
+        put_ascii(cells, start + index, bytes[index], attrs)?;
+    }
+    Ok(())
+}
+
+// Printable characters take their columns from `at` on.
+fn set_plain(
+    cells: &mut Vec<Cell>,
+    at: usize,
+    text: &str,
+    attrs: &CellAttributes,
+) -> Result<(), AllocError>
+    requires printable { list_all is_printable text.now ≡ true }
+    requires within { at + length text.now ≤ vec_len cells.old }
+    ensures len { vec_len cells.new ≡ vec_len cells.old }
+    ensures row { OnOk result (row_of_cells cells.new.items ≡ overlaid (row_of_cells cells.old.items) at (plain_cells text.now attrs.now)) }
+{
+    if text.is_empty() {
+        return Ok(());
+    }
+    open(cells, at, at + text.len())?;
+    write_plain(cells, at, text.as_bytes(), attrs)?;
+    Ok(())
+}
+
+// Sets the plain front of a text as far as it fits before `end`; answers the next column and the
+// rest.
+fn set_plain_front<'a, W: Widths>(
+    cells: &mut Vec<Cell>,
+    at: usize,
+    end: usize,
+    text: &'a str,
+    attrs: &CellAttributes,
+    w: &W,
+) -> Result<(usize, &'a str), AllocError>
+    requires order { at ≤ end }
+    requires within { end ≤ vec_len cells.old }
+    ensures len { vec_len cells.new ≡ vec_len cells.old }
+    ensures leads { IfOk result (λ next. Leads (W.width_of w.now) end attrs.now (row_of_cells cells.old.items) at text.now (row_of_cells cells.new.items) next.0 next.1.now) }
+{
+    if !w.has_narrow_ascii() {
+        return Ok((at, text));
+    }
+    let (front, rest) = split_plain(text, end - at);
+    set_plain(cells, at, front, attrs)?;
+    Ok((at + front.len(), rest))
+}
+
+// How many columns the cell of a cluster takes.
+#[inline(always)]
+fn cluster_columns(cluster: &str, width: usize) -> usize
+    requires { width ≤ 2 }
+    ensures { (attributes : Attributes) → result ≡ length (cell_columns (cell_of cluster.now width attributes)) }
+{
+    if Cell::columns_for(cluster, width) >= 2 {
+        2
+    } else {
+        1
+    }
+}
+
+// The cell of a cluster takes its columns from `at` on.
+#[inline(always)]
+fn write_cluster(
+    alloc: Global,
+    cells: &mut Vec<Cell>,
+    at: usize,
+    cluster: &str,
+    width: usize,
+    attrs: &CellAttributes,
+) -> Result<(), AllocError>
+    requires most { width ≤ 2 }
+    requires within { at + length (cell_columns (cell_of cluster.now width attrs.now)) ≤ vec_len cells.old }
+    ensures len { vec_len cells.new ≡ vec_len cells.old }
+    ensures row { OnOk result (row_of_cells cells.new.items ≡ set_columns (row_of_cells cells.old.items) at (cell_columns (cell_of cluster.now width attrs.now))) }
+{
+    let count = cluster_columns(cluster, width);
+    open(cells, at, at + count)?;
+    if count == 2 {
+        put_blank(cells, at + 1, attrs)?;
+    }
+    put_cluster(alloc, cells, at, cluster, width, attrs)?;
+    Ok(())
+}
+
+// Sets the first cluster of a text if it fits before `end`; answers the next column and the rest.
+fn set_first_cluster<'a, W: Widths>(
+    alloc: Global,
+    cells: &mut Vec<Cell>,
+    at: usize,
+    end: usize,
+    text: &'a str,
+    attrs: &CellAttributes,
+    w: &W,
+) -> Result<Option<(usize, &'a str)>, AllocError>
+    requires order { at ≤ end }
+    requires within { end ≤ vec_len cells.old }
+    ensures len { vec_len cells.new ≡ vec_len cells.old }
+    ensures leads { IfOk result (λ next. MatchOption next
+        ((row_of_cells cells.new.items ≡ row_of_cells cells.old.items) × Stops (W.width_of w.now) end attrs.now (row_of_cells cells.old.items) at text.now)
+        (λ n. (at < n.0) × Leads (W.width_of w.now) end attrs.now (row_of_cells cells.old.items) at text.now (row_of_cells cells.new.items) n.0 n.1.now)) }
+{
+    if at == end {
+        return Ok(None);
+    }
+    if text.is_empty() {
+        return Ok(None);
+    }
+    let Some((cluster, rest)) = split_first_cluster(text) else {
+        return Ok(None);
+    };
+    let width = usize::from(w.width(cluster));
+    let count = cluster_columns(cluster, width);
+    if end - at < count {
+        return Ok(None);
+    }
+    write_cluster(alloc, cells, at, cluster, width, attrs)?;
+    Ok(Some((at + count, rest)))
+}
+
+/// Sets each cluster of a text side by side from `start` on, as far as they fit before `end`; answers
+/// the column behind them and the text that is left.
+pub fn set_text<'a, W: Widths>(
+    alloc: Global,
+    cells: &mut Vec<Cell>,
+    start: usize,
+    end: usize,
+    text: &'a str,
+    attrs: &CellAttributes,
+    w: &W,
+) -> Result<(usize, &'a str), AllocError>
+    requires order { start ≤ end }
+    requires within { end ≤ vec_len cells.old }
+    ensures row { OnOk result (row_of_cells cells.new.items ≡ text_on (W.width_of w.now) end attrs.now (row_of_cells cells.old.items) start text.now) }
+    ensures behind { IfOk result (λ r. r.0 ≡ place_behind (W.width_of w.now) end attrs.now start text.now) }
+    ensures left { IfOk result (λ r. r.1.now ≡ text_left (W.width_of w.now) end attrs.now start text.now) }
+{
+    let mut at = start;
+    let mut left = text;
+    while at < end {
+        let (place, rest) = set_plain_front(cells, at, end, left, attrs, w)?;
+        match set_first_cluster(alloc, cells, place, end, rest, attrs, w)? {
+            None => return Ok((place, rest)),
+            Some((next, behind)) => {
+                at = next;
+                left = behind;
+            }
+        }
+    }
+    Ok((at, left))
+}

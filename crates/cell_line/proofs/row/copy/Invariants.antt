@@ -1,6 +1,0 @@
-use Rattle.std.proofs.Common.{◌≡◌, take}
-use Rattle.cell_line.proofs.row.copy.Given as goal
-
--- the copies so far
-abbrev pub invariant-loop-cell : goal.invariant-loop-cell
-invariant-loop-cell l = l.copy.items ≡ take l.cell-index l.cells

@@ -1,0 +1,10 @@
+pub mod ClusterLemmas
+pub mod ColumnLemmas
+pub mod GroupLemmas
+pub mod KeptLemmas
+pub mod PlaceLemmas
+pub mod ReadLemmas
+pub mod RegionLemmas
+pub mod VisibleLemmas
+pub mod WordLemmas
+pub mod ZoneLemmas

@@ -1,0 +1,38 @@
+-- What a `CellCluster` shows, and clusters that are being made.
+use Rattle.std.specs.Prelude.{◌≡◌, ◌+◌, ◌<◌, ◌≤◌, Bool, true, List, [], ◌∷◌, ◌++◌, length, map, replicate}
+use Rattle.std.specs.String.{string_bytes}
+use Rattle.cell_edits.specs.VisibleCells.{VisibleCell}
+use Rattle.cell_views.specs.Places.{columns_in, widths_in}
+use Rattle.cell_views.specs.Clusters.{ClusterContent, cluster_of, begins_cluster, ends_in_space, holds_text}
+use Rattle.cell_views.specs.declared.clusters.CellCluster.TheInside.{Inside}
+use Rattle.cell_views.specs.declared.clusters.Clusters.{Clusters}
+
+abbrev pub content_of : Inside → ClusterContent
+content_of a = record { attributes = a.attrs; text = string_bytes a.text; width = a.width; first_column = a.first_cell_idx; columns = columns_in a.places; widths = widths_in a.places }
+
+-- each byte of the text has a column and a width
+pub record IsPlaced (a : Inside) : Type 0 where
+  pub columns : length (string_bytes a.text) ≤ length (columns_in a.places)
+  pub widths : length (string_bytes a.text) ≤ length (widths_in a.places)
+
+-- a cluster with a cell behind its own
+abbrev pub grown : ClusterContent → VisibleCell → ClusterContent
+grown c v = record c { text = c.text ++ v.cell.text; width = c.width + v.cell.width; columns = c.columns ++ replicate (length v.cell.text) v.column; widths = c.widths ++ replicate (length v.cell.text) v.cell.width }
+
+-- the cells of the last cluster
+abbrev pub last_of : List (List VisibleCell) → List VisibleCell
+last_of [] = []
+last_of (cells ∷ []) = cells
+last_of (cells ∷ more ∷ groups) = last_of (more ∷ groups)
+
+-- whether a cell begins a cluster behind these
+abbrev pub begins_behind : List (List VisibleCell) → VisibleCell → Bool
+begins_behind [] v = true
+begins_behind (cells ∷ groups) v = begins_cluster (last_of (cells ∷ groups)) v
+
+-- the clusters that were made are those of these cells, and so is what is known of the last one
+pub record IsMadeOf (groups : List (List VisibleCell)) (s : Clusters) : Type 0 where
+  pub made : s.made.items ≡ map cluster_of groups
+  pub ends_in_space : s.ends_in_space ≡ ends_in_space (last_of groups)
+  pub holds_text : s.holds_text ≡ holds_text (last_of groups)
+  pub holds_cells : 0 < length groups → 0 < length (last_of groups)

@@ -1,0 +1,10 @@
+pub mod CellRefView
+pub mod ClusterView
+pub mod Clusters
+pub mod Groups
+pub mod OpenZones
+pub mod Places
+pub mod ReadCells
+pub mod Region
+pub mod Words
+pub mod Zones

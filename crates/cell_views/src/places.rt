@@ -1,0 +1,112 @@
+//! Where the cells of a text's bytes stand.
+ghost use Rattle.std.specs.Prelude.{◌≡◌, ◌+◌, ◌<◌, ◌≤◌, ◌^◌, ◌++◌, [], length, replicate, slice_index, IsTrue, OnOk, IfOk};
+
+use std::alloc::{AllocError, Global};
+
+// The first column of a cell, and the columns that it takes.
+#[derive(Debug, Clone, Copy)]
+struct Place {
+    column: usize,
+    width: u8,
+}
+
+// For each byte of a text, the first column of its cell and the columns that the cell takes. Cells
+// of one byte and one column that stand side by side from the first on are only counted.
+#[derive(Debug, Drop)]
+pub(crate) struct Places {
+    first: usize,
+    counted: usize,
+    behind: Vec<Place>,
+    ghost within: { first + counted < 2 ^ 64 },
+}
+
+// Whether a cell of so many bytes is one to count: it has one byte and one column, and stands at the
+// column of the next one.
+fn is_counted(count: usize, column: usize, width: u8, next: usize) -> bool
+    ensures bytes { IsTrue result → count ≡ 1 }
+    ensures width { IsTrue result → width ≡ 1 }
+    ensures column { IsTrue result → column ≡ next }
+    ensures last { IsTrue result → column < usize.MAX }
+{
+    if count != 1 || width != 1 {
+        return false;
+    }
+    column == next && column < usize::MAX
+}
+
+// The place comes behind, once for each byte of a text.
+fn push_copies(places: &mut Vec<Place>, text: &str, place: Place) -> Result<(), AllocError>
+    ensures items { OnOk result (places.new.items ≡ places.old.items ++ replicate (length text.now) place) }
+    ensures count { length places.old.items ≤ length places.new.items }
+{
+    places.resize(places.len() + text.len(), place)?;
+    Ok(())
+}
+
+impl Places {
+    ghost use Rattle.cell_views.specs.Places.{columns_in, widths_in};
+
+    // Those of no byte, of which the first will stand at a column.
+    pub(crate) fn new(alloc: Global, first: usize) -> Places
+        ensures columns { columns_in result ≡ [] }
+        ensures widths { widths_in result ≡ [] }
+    {
+        Places {
+            first,
+            counted: 0,
+            behind: Vec::new(alloc),
+        }
+    }
+
+    // The first column of a byte's cell.
+    pub(crate) fn column(&self, byte: usize) -> usize
+        requires { byte < length (columns_in self.now) }
+        ensures { result ≡ slice_index (columns_in self.now) byte }
+    {
+        if byte < self.counted {
+            self.first + byte
+        } else {
+            self.behind[byte - self.counted].column
+        }
+    }
+
+    // The columns that a byte's cell takes.
+    pub(crate) fn width(&self, byte: usize) -> u8
+        requires { byte < length (widths_in self.now) }
+        ensures { result ≡ slice_index (widths_in self.now) byte }
+    {
+        if byte < self.counted {
+            1
+        } else {
+            self.behind[byte - self.counted].width
+        }
+    }
+
+    // The bytes of a cell come behind.
+    pub(crate) fn push(&mut self, text: &str, column: usize, width: u8) -> Result<(), AllocError>
+        ensures columns { OnOk result (columns_in self.new ≡ columns_in self.old ++ replicate (length text.now) column) }
+        ensures widths { OnOk result (widths_in self.new ≡ widths_in self.old ++ replicate (length text.now) width) }
+        ensures column_count { length (columns_in self.old) ≤ length (columns_in self.new) }
+        ensures width_count { length (widths_in self.old) ≤ length (widths_in self.new) }
+    {
+        let next = self.first + self.counted;
+        if self.behind.is_empty() && is_counted(text.len(), column, width, next) {
+            self.counted += 1;
+            return Ok(());
+        }
+        push_copies(&mut self.behind, text, Place { column, width })?;
+        Ok(())
+    }
+
+    // A copy.
+    pub(crate) fn try_clone(&self) -> Result<Places, AllocError>
+        ensures columns { IfOk result (λ copy. columns_in copy ≡ columns_in self.now) }
+        ensures widths { IfOk result (λ copy. widths_in copy ≡ widths_in self.now) }
+    {
+        Ok(Places {
+            first: self.first,
+            counted: self.counted,
+            behind: self.behind.clone()?,
+        })
+    }
+}

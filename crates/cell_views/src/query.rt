@@ -1,0 +1,145 @@
+//! What is asked of the cells of a line, which are read from the left.
+ghost use Rattle.std.specs.Prelude.{◌≡◌, ◌≤◌, ◌↔◌, ◌++◌, length, drop, not, IsTrue, OnOk, filter, string_bytes};
+ghost use Rattle.std.specs.List.{list_any, list_all};
+ghost use Rattle.std.specs.Str.{bytes_eq};
+ghost use Rattle.std.specs.Option.{option_map};
+ghost use Rattle.cell_base.specs.Attributes.{plain};
+ghost use Rattle.cell_base.specs.CellContent.{row_of_cells};
+ghost use Rattle.cell_base.specs.Row.{space};
+ghost use Rattle.cell_base.specs.SameAttributes.{same_attributes};
+ghost use Rattle.cell_edits.specs.VisibleCells.{visible_cells, visible_from, first_of, contents, cell_at, cells_between, texts_joined, has_link, is_whitespace_row, ends_wrapped};
+ghost use Rattle.cell_views.specs.CellRefView.{shown_by};
+ghost use Rattle.cell_edits.specs.Links.{has_implicit_link};
+
+use crate::cell_ref::CellRef;
+use crate::visible_cells::VisibleCellIter;
+use cell_base::Cell;
+use cell_edits::row::{has_implicit, is_halved, last_read};
+use std::alloc::AllocError;
+
+/// Whether the text is one space.
+pub fn is_space(text: &str) -> bool
+    ensures { result ≡ bytes_eq text.now space }
+{
+    text == " "
+}
+
+// The first cell of those from a column on.
+fn first_from(cells: &[Cell], column: usize) -> Option<CellRef<'_>>
+    requires { column ≤ length cells.now }
+    ensures { option_map shown_by result ≡ first_of (visible_from column (row_of_cells (drop column cells.now))) }
+{
+    VisibleCellIter::from_column(&cells[column..], column).next()
+}
+
+/// The cell that begins at the column. Only the wide cells right before it are looked at.
+pub fn cell_at(cells: &[Cell], column: usize) -> Option<CellRef<'_>>
+    ensures { option_map shown_by result ≡ cell_at column (row_of_cells cells.now) }
+{
+    if cells.len() <= column {
+        return None;
+    }
+    if is_halved(cells, column) {
+        return None;
+    }
+    first_from(cells, column)
+}
+
+/// The texts of the cells that begin from `start` on and before `end` go behind the text.
+pub fn push_texts(
+    text: &mut String,
+    cells: &[Cell],
+    start: usize,
+    end: usize,
+) -> Result<(), AllocError>
+    ensures { OnOk result (string_bytes text.new ≡ string_bytes text.old ++ texts_joined (cells_between start end (row_of_cells cells.now))) }
+{
+    for cell in VisibleCellIter::new(cells) {
+        let column = cell.cell_index();
+        if start <= column && column < end {
+            text.push_str(cell.str())?;
+        }
+    }
+    Ok(())
+}
+
+/// The texts of the cells go behind the text.
+pub fn push_all_texts(text: &mut String, cells: &[Cell]) -> Result<(), AllocError>
+    ensures { OnOk result (string_bytes text.new ≡ string_bytes text.old ++ texts_joined (visible_cells (row_of_cells cells.now))) }
+{
+    for cell in VisibleCellIter::new(cells) {
+        text.push_str(cell.str())?;
+    }
+    Ok(())
+}
+
+/// Whether a cell has a link.
+pub fn has_link(cells: &[Cell]) -> bool
+    ensures { result ≡ has_link (row_of_cells cells.now) }
+{
+    for cell in VisibleCellIter::new(cells) {
+        if cell.attrs().hyperlink().is_some() {
+            return true;
+        }
+    }
+    false
+}
+
+/// Whether a cell has a link that was found in a text.
+pub fn has_implicit_link(cells: &[Cell]) -> bool
+    ensures { result ≡ has_implicit_link (row_of_cells cells.now) }
+{
+    for cell in VisibleCellIter::new(cells) {
+        if has_implicit(cell.attrs()) {
+            return true;
+        }
+    }
+    false
+}
+
+/// Whether each text is one space.
+pub fn is_whitespace(cells: &[Cell]) -> bool
+    ensures { result ≡ is_whitespace_row (row_of_cells cells.now) }
+{
+    for cell in VisibleCellIter::new(cells) {
+        if !is_space(cell.str()) {
+            return false;
+        }
+    }
+    true
+}
+
+/// Whether the line goes on behind the last cell.
+pub fn ends_wrapped(cells: &[Cell]) -> bool
+    ensures { result ≡ ends_wrapped (visible_cells (row_of_cells cells.now)) }
+{
+    !cells.is_empty() && cells[last_read(cells)].attrs().wrapped()
+}
+
+// Whether the visible cells have the same contents, each in turn.
+fn same_contents(cells: &[Cell], other: &[Cell]) -> bool
+    ensures { IsTrue result ↔ (contents (visible_cells (row_of_cells cells.now)) ≡ contents (visible_cells (row_of_cells other.now))) }
+{
+    let mut theirs = VisibleCellIter::new(other);
+    for cell in VisibleCellIter::new(cells) {
+        match theirs.next() {
+            None => return false,
+            Some(their_cell) => {
+                if !cell.same_contents(&their_cell) {
+                    return false;
+                }
+            }
+        }
+    }
+    match theirs.next() {
+        None => true,
+        Some(_) => false,
+    }
+}
+
+/// Whether the columns are the same.
+pub fn same_columns(cells: &[Cell], other: &[Cell]) -> bool
+    ensures { IsTrue result ↔ (row_of_cells cells.now ≡ row_of_cells other.now) }
+{
+    same_contents(cells, other)
+}
