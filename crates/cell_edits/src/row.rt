@@ -201,11 +201,7 @@ pub fn set_cell(cells: &mut Vec<Cell>, at: usize, cell: Cell) -> Result<(), Allo
 }
 
 /// Copies of the cell are pushed.
-pub fn push_copies(
-    cells: &mut Vec<Cell>,
-    count: usize,
-    cell: &Cell,
-) -> Result<(), AllocError>
+pub fn push_copies(cells: &mut Vec<Cell>, count: usize, cell: &Cell) -> Result<(), AllocError>
     ensures { OnOk result (cells.new.items ≡ cells.old.items ++ replicate count cell.now) }
 {
     cells.reserve(count)?;
@@ -313,12 +309,7 @@ pub fn push_cell(cells: &mut Vec<Cell>, cell: Cell) -> Result<(), AllocError>
 }
 
 /// The cell is set at each of so many columns from `start` on.
-pub fn fill(
-    cells: &mut Vec<Cell>,
-    start: usize,
-    end: usize,
-    cell: &Cell,
-) -> Result<(), AllocError>
+pub fn fill(cells: &mut Vec<Cell>, start: usize, end: usize, cell: &Cell) -> Result<(), AllocError>
     ensures { OnOk result (row_of_cells cells.new.items ≡ filled (row_of_cells cells.old.items) start (end - start) cell.now) }
 {
     for at in start..end {

@@ -11,8 +11,8 @@ ghost use Rattle.cell_edits.specs.TextRuns.{place_behind, plain_cells, text_on, 
 
 use crate::row::{open, push_blanks_with};
 use cell_base::{Cell, CellAttributes, Widths};
-use text_clusters::{split_first_cluster, split_plain};
 use std::alloc::{AllocError, Global};
+use text_clusters::{split_first_cluster, split_plain};
 
 // The cell at a place becomes that of a printable character.
 #[inline(always)]
@@ -146,11 +146,7 @@ pub fn set_blanks(
 }
 
 /// So many blanks stand in place of all cells.
-pub fn clear(
-    cells: &mut Vec<Cell>,
-    width: usize,
-    attrs: &CellAttributes,
-) -> Result<(), AllocError>
+pub fn clear(cells: &mut Vec<Cell>, width: usize, attrs: &CellAttributes) -> Result<(), AllocError>
     ensures { OnOk result (cells.new.items ≡ replicate width (blank_cell attrs.now)) }
 {
     cells.truncate(width);

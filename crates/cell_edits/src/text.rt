@@ -6,8 +6,8 @@ ghost use Rattle.cell_edits.specs.RowEdits.{overlaid};
 
 use crate::row::{column_count, push_cell, set_cell};
 use cell_base::{Cell, CellAttributes, Widths};
-use unicode_segmentation::UnicodeSegmentation;
 use std::alloc::{AllocError, Global};
+use unicode_segmentation::UnicodeSegmentation;
 
 /// A cell for each cluster of the text, and a blank behind each wide one.
 pub fn cells_of_text<W: Widths>(

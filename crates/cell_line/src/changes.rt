@@ -13,9 +13,9 @@ ghost use Rattle.cell_edits.specs.VisibleCells.{visible_cells, contents};
 
 use cell_base::{Cell, CellAttributes, ColorAttribute};
 use cell_change::{CellWriter, Change};
-use cell_views::{CellRef, VisibleCellIter};
 use cell_views::query::is_space;
 use cell_views::zones::is_kept;
+use cell_views::{CellRef, VisibleCellIter};
 use std::alloc::{AllocError, Global};
 
 // Plain attributes on a background.

@@ -22,15 +22,14 @@ ghost use Rattle.cell_edits.specs.VisibleCells.{row_of_visible};
 ghost use Rattle.cell_base.specs.Cluster.{clusters};
 ghost use Rattle.cell_rows.specs.WholeRow.{IsWhole};
 
-use crate::{changes, wrap};
 use crate::line_bits::LineBits;
+use crate::{changes, wrap};
 use cell_base::{
     Cell, CellAttributes, DoubleClickRange, LineAttribute, SEQ_ZERO, SequenceNo, Widths, ZoneRange,
 };
 use cell_change::Change;
 use cell_edits::{row, runs, text};
-use cell_views::{CellCluster, CellRef, RegionIter, VisibleCellIter};
-use cell_views::{query, words, zones};
+use cell_views::{CellCluster, CellRef, RegionIter, VisibleCellIter, query, words, zones};
 use std::alloc::{AllocError, Global};
 use std::borrow::CowStr;
 use std::marker::Model;

@@ -10,9 +10,9 @@ use crate::line::Line;
 use crate::taken_cells::TakenCells;
 use cell_base::{Cell, SequenceNo};
 use cell_edits::row::{close_end, column_count, copy, is_halved, push_cell, set_end_wrapped};
-use cell_views::{ReadCells, VisibleCellIter};
 use cell_views::query::is_space;
 use cell_views::zones::is_kept;
+use cell_views::{ReadCells, VisibleCellIter};
 use std::alloc::{AllocError, Global};
 use std::mem;
 

@@ -3,8 +3,8 @@ ghost use Rattle.std.specs.Prelude.{◌≡◌, ◌↔◌, false, IsTrue, IfOk};
 ghost use Rattle.cell_base.specs.CellContent.{shows_as_space};
 ghost use Rattle.cell_views.specs.CellRefView.{shown_by, copied_by, copy_of};
 
-use cell_base::{Cell, CellAttributes};
 use cell_base::laws::cells_are_lawful;
+use cell_base::{Cell, CellAttributes};
 use cell_edits::row::column_count;
 use std::alloc::{AllocError, Global};
 
