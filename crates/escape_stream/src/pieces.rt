@@ -367,7 +367,7 @@ impl<'a> Pieces<'a> {
     }
 
     // The next item of pieces that are open, where nothing waits: of a control sequence at once.
-    #[inline(never)]
+    #[inline(always)]
     fn next_by_step(&mut self) -> Option<Result<Piece<'a>, ParseError>>
         requires open { IsOpen self.old }
         requires ready { IsUnderWay self.old }
