@@ -1,6 +1,8 @@
 -- What a framer reads at once where nothing is unfinished, as a step.
-use Rattle.std.specs.Prelude.{◌≡◌, ◌≢◌, ◌<◌, ◌≤◌, ℕ, Bool, true, not, ◌&&◌, ◌==◌, List, [], ◌∷◌, length, take, drop, Option, Some, None, if◌then◌else◌}
-use Rattle.escape_framing.specs.Bytes.{is_control, is_final}
+use Rattle.std.specs.Prelude.{◌≡◌, ◌≢◌, ◌<◌, ◌≤◌, ℕ, ◌+◌, Bool, true, not, ◌&&◌, ◌==◌, List, [], ◌∷◌, length, take, drop, Option, Some, None, if◌then◌else◌}
+use Rattle.std.specs.List.{prefix_len}
+use Rattle.escape_framing.specs.Bytes.{is_control, is_final, is_parameter}
+use Rattle.escape_framing.specs.Parameters.{Parameters, no_parameters, number_alone, parameters_of}
 use Rattle.escape_framing.specs.Held.{Held, nothing_held, hand_out}
 use Rattle.escape_framing.specs.Dispatch.{OperatingSystemCommand}
 use Rattle.escape_framing.specs.Framed.{begun_bytes, Lone, IsReached, IsCarried, Frames}
@@ -24,6 +26,19 @@ lone_step (lone.ControlSequence final n) = record { text = 0; dispatches = Some 
 abbrev pub IsLastAt : List ℕ → ℕ → Option ℕ → Type 0
 IsLastAt bytes count None = Unit {0}
 IsLastAt bytes count (Some b) = (is_final b ≡ true) × ((rest : List ℕ) × (drop count bytes ≡ b ∷ rest))
+
+-- no parameters, or one number
+abbrev pub short_parameters : Option ℕ → Parameters
+short_parameters None = no_parameters
+short_parameters (Some n) = number_alone n
+
+-- Behind ESC [ stand these parameters and this final byte; so many bytes are read with the introducer.
+pub record IsShort (others : List ℕ) (number : Option ℕ) (control count : ℕ) : Type 0 where
+  pub len : ℕ
+  pub counted : len ≡ prefix_len is_parameter others
+  pub is_short : short_parameters number ≡ parameters_of (take len others)
+  pub last : IsLastAt others len (Some control)
+  pub read : count ≡ len + 3
 
 -- a byte of the body of a command that stands for itself: no control, and no C2, which may be half of one
 unfoldable pub is_body_byte : ℕ → Bool

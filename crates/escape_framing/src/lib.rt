@@ -10,6 +10,7 @@ pub mod lone;
 mod parameters;
 mod plain;
 mod quick;
+pub mod short;
 pub mod step;
 mod texts;
 
@@ -17,4 +18,5 @@ pub use dispatch::Dispatch;
 pub use error::ParseError;
 pub use framer::Framer;
 pub use lone::Lone;
+pub use short::ShortSequence;
 pub use step::Step;

@@ -44,21 +44,21 @@ fn next_number(number: Option<u64>, byte: u8) -> u64
 
 // A digit.
 #[inline(always)]
-fn digit(byte: u8) -> Option<u64>
-    ensures { result ≡ digit_of byte }
+fn digit(byte: u8) -> Option<u8>
+    ensures value { result ≡ digit_of byte }
+    ensures most { IfSome result (λ digit. digit ≤ 9) }
 {
     if byte.is_ascii_digit() {
-        Some(u64::from(byte - b'0'))
+        Some(byte - b'0')
     } else {
         None
     }
 }
 
-// The number at the front, of one or two digits with another byte than a parameter's behind them; and how many it has.
+/// The number at the front, of one or two digits with another byte than a parameter's behind them; and how many it has.
 #[inline(always)]
-fn short_number(bytes: &[u8]) -> Option<(u64, usize)>
-    ensures number { IfSome result (λ n. IsNumberAlone bytes.now n.0 n.1) }
-    ensures most { IfSome result (λ n. n.0 ≤ LARGEST_NUMBER) }
+pub(crate) fn short_number(bytes: &[u8]) -> Option<(u8, usize)>
+    ensures { IfSome result (λ n. IsNumberAlone bytes.now n.0 n.1) }
 {
     let (first, others) = bytes.split_first()?;
     let tens = digit(*first)?;
@@ -193,7 +193,7 @@ impl Parameters {
         ensures tokens { self.new ≡ fold with_byte no_parameters (take result bytes.now) }
     {
         if let Some((number, count)) = short_number(bytes) {
-            self.set_number(number);
+            self.set_number(u64::from(number));
             return count;
         }
         self.clear();

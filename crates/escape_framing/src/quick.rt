@@ -4,13 +4,15 @@ ghost use Rattle.std.specs.List.{prefix_len};
 ghost use Rattle.escape_framing.specs.Bytes.{is_final as in_finals, is_escape_final as in_escape_finals};
 ghost use Rattle.escape_framing.specs.Held.{nothing_held};
 ghost use Rattle.escape_framing.specs.Stepped.{Reads};
-ghost use Rattle.escape_framing.specs.Quick.{text_step, lone_step, IsLastAt, is_body_byte as in_bodies, ender_len as ender_read, ReadsCommand, IsSkipped};
+ghost use Rattle.escape_framing.specs.Quick.{text_step, lone_step, IsLastAt, short_parameters, IsShort, is_body_byte as in_bodies, ender_len as ender_read, ReadsCommand, IsSkipped};
 ghost use Rattle.escape_framing.specs.declared.lone.Lone.TheVariants.{Nothing, Control, Escape, ControlSequence};
 
 use crate::error::ParseError;
 use crate::framer::{Framer, State, is_control, is_opener};
 use crate::lone::Lone;
+use crate::parameters::short_number;
 use crate::plain::plain_len;
+use crate::short::ShortSequence;
 use crate::texts::text_len;
 use std::alloc::AllocError;
 
@@ -64,6 +66,28 @@ fn behind_introducer(bytes: &[u8]) -> Option<&[u8]>
         [0x1b, b'[', others @ ..] => Some(others),
         _ => None,
     }
+}
+
+// What stands behind ESC [, where it is a control sequence without parameters or with a short number.
+#[inline(always)]
+fn short_sequence(others: &[u8]) -> Option<ShortSequence>
+    ensures { IfSome result (λ s. IsShort others.now s.number s.control s.count) }
+{
+    let (first, _) = others.split_first()?;
+    if is_final(*first) {
+        return Some(ShortSequence {
+            number: None,
+            control: *first,
+            count: 3,
+        });
+    }
+    let (number, digits) = short_number(others)?;
+    let control = last_at(others, digits)?;
+    Some(ShortSequence {
+        number: Some(number),
+        control,
+        count: digits + 3,
+    })
 }
 
 // What stands behind ESC ].
@@ -182,6 +206,21 @@ impl Framer {
             return None;
         }
         self.whole_sequence(others)
+    }
+
+    /// The control sequence at the front of some bytes of one call, without parameters or with one number of one or two
+    /// digits, where nothing is unfinished and all its bytes stand there. It is read by this, as `next` reads it, since it
+    /// leaves nothing; the framer lends no parameters for it.
+    #[inline(always)]
+    pub fn next_short(&self, bytes: &[u8]) -> Option<ShortSequence>
+        ensures { IfSome result (λ s. Reads (short_parameters s.number) self.now.held bytes.now (lone_step (ControlSequence s.control s.count)) self.now.held) }
+    {
+        let others = behind_introducer(bytes)?;
+        if !self.is_idle() {
+            return None;
+        }
+        let short = short_sequence(others)?;
+        Some(short)
     }
 
     /// The final byte of the escape sequence of two bytes at the front of some bytes of one call, where nothing is
