@@ -5,7 +5,8 @@ use Rattle.escape_framing.specs.Held.{Held, hand_out, held_of}
 use Rattle.escape_framing.specs.Parameters.{Parameters}
 use Rattle.escape_framing.specs.Framing.{Framing}
 use Rattle.escape_framing.specs.Stepped.{Reads}
-use Rattle.escape_framing.specs.Quick.{text_step, lone_step}
+use Rattle.escape_framing.specs.Quick.{text_step, lone_step, short_parameters}
+use Rattle.escape_framing.specs.declared.short.ShortSequence.{ShortSequence}
 use Rattle.escape_stream.proofs.LoneReading.{lone_read, queue_of, queued, sequence_queued}
 use Rattle.escape_framing.specs.Framed.{framed, framed_behind, placed_behind, begun_bytes, IsText}
 use Rattle.escape_framing.proofs.HeldLemmas.{held_append}
@@ -30,7 +31,7 @@ use Rattle.escape_stream.specs.declared.queue.Queue.{Queue}
 use Rattle.escape_framing.specs.declared.lone.Lone.{Lone as Read}
 use Rattle.escape_framing.specs.declared.lone.Lone.TheVariants as lone
 use Rattle.escape_stream.specs.Pieces.{Piece, Text, Lone, pieces_of, pieces}
-use Rattle.escape_stream.specs.PiecesView.{lender_of, parser_of, open_pieces, held_at_end, items_at, items_left, ready_at, IsReady, PiecesGo, IsOpen, IsOver, IsUnderWay, HasRead, HasReadLone, HasReadSequence, IsPairAt, IsCommandAt, lone_values, GivesPiece, HasGiven, GoesOn}
+use Rattle.escape_stream.specs.PiecesView.{lender_of, parser_of, open_pieces, held_at_end, items_at, items_left, ready_at, IsReady, PiecesGo, IsOpen, IsOver, IsUnderWay, HasRead, HasReadLone, HasReadSequence, IsPairAt, IsShortAt, IsCommandAt, lone_values, GivesPiece, HasGiven, GoesOn}
 use Rattle.escape_stream.proofs.PieceLemmas.{read_none, read_text, read_command, read_behind, command_behind, if_none, comes_closer}
 
 -- only what waits has changed
@@ -382,3 +383,28 @@ goes_behind old mid new None g o l s p = record {
   items = (p.items.0, λ x. given_behind old mid new None g (p.items.1 (s ∙ x)));
   parser = ((λ x. p.parser.0 (s ∙ x)), λ x. absurd (let e : stage.Open ≡ stage.Over = sym o ∙ x in cc));
 }
+
+-- ---- a short control sequence
+
+given_before : (old mid new : Pieces) (piece : PieceCode) → HasGiven old (Some piece) mid → GoesOn mid new → HasGiven old (Some piece) new
+given_before old mid new piece h g = record {
+  gives = λ start. ((h.gives start).0, (h.gives start).1, (h.gives start).2 ∙ ap (λ (l : List Piece). (h.gives start).0 ∷ l) (sym (g.same start)));
+  ready = g.ready;
+  ends = g.ends ∙ h.ends;
+  done = λ z. cc;
+}
+
+-- as if its parameters were lent
+with_parameters : Pieces → Parameters → Pieces
+with_parameters it p = record it { parser = record it.parser { now = record it.parser.now { parameters = p } } }
+
+pub gives_short : (old new : Pieces) (a : Action) (s : ShortSequence) → IsUnderWay old → ((p : Parameters) → queue_actions p old.queue ≡ []) → IsShortAt old s → sequence_values (short_parameters s.number) s.control ≡ value_of a ∷ []
+    → new.parser.now ≡ old.parser.now → new.bytes ≡ old.bytes → new.count ≡ old.count + s.count → new.queue ≡ old.queue → HasGiven old (Some (code.Action a)) new
+unfolding with_parameters
+gives_short old new a s u q r v p b n w =
+    let mid = with_parameters new (short_parameters s.number) in
+    let e : (x : Parameters) → queue_actions x new.queue ≡ [] = λ x. rw w (q x) in
+    let h : HasReadSequence old s.control mid = record { len = s.count; reads = rw p r; count = n } in
+    let k : value_of a ∷ queue_actions (short_parameters s.number) new.queue ≡ value_of a ∷ [] = ap (λ (l : List StreamAction). value_of a ∷ l) (e (short_parameters s.number)) in
+    let g = sequence_gives old mid mid s.control (Some a) u q h b (record { parser = refl; bytes = refl; count = refl }) (v ∙ sym k) a refl in
+    given_before old mid new (code.Action a) g (forgets mid new g.ready e refl refl refl refl)

@@ -1,6 +1,10 @@
 -- Steps of a queue of dispatches.
-use Rattle.std.proofs.Common.{◌≡◌, ◌<◌, List, [], ◌∷◌, ◌++◌, length, Option, Some, None, refl, ap, sym, ◌∙◌, arith, append_assoc, append-nil}
-use Rattle.std.specs.Prelude.{IsTrue, is_some, false}
+use Rattle.std.proofs.Common.{◌≡◌, ◌<◌, ℕ, Bool, List, [], ◌∷◌, ◌++◌, length, map, Option, Some, None, refl, ap, sym, subst, ◌∙◌, arith, append_assoc, append-nil}
+use Rattle.std.specs.Prelude.{IsTrue, IfSome, is_some, false}
+use Rattle.csi_codec.specs.Parsing.{actions_from}
+use Rattle.csi_codec.specs.declared.parameters.CsiParam.{CsiParam}
+use Rattle.escape_framing.specs.Quick.{short_parameters}
+use Rattle.escape_stream.specs.declared.queue.Sequence.{Sequence}
 use Rattle.std.proofs.lemmas.Grind.{flat_map-append}
 use Rattle.escape_framing.specs.Dispatched.{optional, dispatch_of}
 use Rattle.escape_framing.specs.Parameters.{Parameters, no_parameters}
@@ -9,11 +13,11 @@ use Rattle.escape_framing.specs.declared.dispatch.Dispatch.TheVariants as code
 use Rattle.escape_stream.specs.declared.action.Action.{Action}
 use Rattle.escape_stream.specs.declared.queue.Waiting.{Waiting}
 use Rattle.escape_stream.specs.declared.queue.Queue.{Queue}
-use Rattle.escape_stream.specs.StreamAction.{StreamAction}
+use Rattle.escape_stream.specs.StreamAction.{StreamAction, csi}
 use Rattle.escape_stream.specs.StreamActionView.{value_of}
 use Rattle.escape_stream.specs.StreamActions.{actions_of, actions_of_dispatch}
 use Rattle.escape_stream.specs.Pending.{Gives, pending_values}
-use Rattle.escape_stream.specs.Queue.{waiting_dispatches, sequence_actions, queue_actions, lone_actions, later_actions}
+use Rattle.escape_stream.specs.Queue.{waiting_dispatches, sequence_actions, sequence_values, queue_actions, lone_actions, later_actions}
 
 -- the actions of a dispatch are its own, and those that are yet to come
 pub both_actions : (p : Parameters) (d : Dispatch) → lone_actions p d ++ later_actions p d ≡ actions_of_dispatch (dispatch_of p d)
@@ -82,3 +86,15 @@ begun_gives before all after now waiting (Some a) g e n w = sym e ∙ g ∙ ap (
 
 pub both_none : (now after waiting : List StreamAction) → after ≡ [] → now ≡ after → waiting ≡ [] → now ++ waiting ≡ []
 both_none now after waiting z n w = (λ i. (n ∙ z) i ++ w i)
+
+-- ---- the only action of a control sequence
+
+pub sequence_ends : (p : Parameters) (s : Sequence) (tokens : List CsiParam) → p.tokens ≡ tokens → ((truncated : Bool) (control : ℕ) → actions_from s.place tokens truncated control ≡ []) → sequence_actions p (Some s) ≡ []
+sequence_ends p s tokens e d = ap (map csi) (ap (λ (l : List CsiParam). actions_from s.place l p.truncated s.control) e ∙ d p.truncated s.control)
+
+pub only_one : (values before after : List StreamAction) (next : Option Action) → before ≡ values → Gives before next after → after ≡ [] → IfSome next (λ a. values ≡ value_of a ∷ [])
+only_one values before after None e g z = tt
+only_one values before after (Some a) e g z = sym e ∙ g ∙ ap (λ (l : List StreamAction). value_of a ∷ l) z
+
+pub short_values : (next : Option Action) (number known : Option ℕ) (control : ℕ) → number ≡ known → IfSome next (λ a. sequence_values (short_parameters known) control ≡ value_of a ∷ []) → IfSome next (λ a. sequence_values (short_parameters number) control ≡ value_of a ∷ [])
+short_values next number known control e h = subst (λ (n : Option ℕ). IfSome next (λ a. sequence_values (short_parameters n) control ≡ value_of a ∷ [])) (sym e) h

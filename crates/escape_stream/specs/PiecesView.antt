@@ -8,7 +8,8 @@ use Rattle.escape_framing.specs.Framing.{Framing}
 use Rattle.escape_framing.specs.Framed.{framed_behind, IsReached, IsCarried}
 use Rattle.escape_framing.specs.Dispatched.{dispatches_in}
 use Rattle.escape_framing.specs.Stepped.{Reads}
-use Rattle.escape_framing.specs.Quick.{lone_step, ReadsCommand}
+use Rattle.escape_framing.specs.Quick.{lone_step, short_parameters, ReadsCommand}
+use Rattle.escape_framing.specs.declared.short.ShortSequence.{ShortSequence}
 use Rattle.escape_stream.specs.declared.control.ControlCode.{ControlCode}
 use Rattle.escape_framing.specs.declared.step.Step.{Step}
 use Rattle.escape_stream.specs.StreamActions.{actions_of, named_control}
@@ -122,6 +123,10 @@ pub record IsControlAt (it : Pieces) (control : ControlCode) : Type 0 where
 -- an escape sequence of two bytes with this final byte stands there
 abbrev pub IsPairAt : Pieces → ℕ → Type 0
 IsPairAt it control = Reads it.parser.now.parameters it.parser.now.held (drop it.count it.bytes.now) (lone_step (lone.Escape control)) it.parser.now.held
+
+-- a control sequence without parameters or with one short number stands there
+abbrev pub IsShortAt : Pieces → ShortSequence → Type 0
+IsShortAt it s = Reads (short_parameters s.number) it.parser.now.held (drop it.count it.bytes.now) (lone_step (lone.ControlSequence s.control s.count)) it.parser.now.held
 
 -- the command of this body stands at the front of the bytes that are left, and so many of them are read with it
 abbrev pub IsCommandAt : Pieces → List ℕ → ℕ → Type 0

@@ -11,7 +11,7 @@ ghost use Rattle.escape_stream.specs.Parsing.{IsCalledAt, IsFirst, IsFirstSettle
 ghost use Rattle.escape_stream.specs.Pending.{Begins, Gives};
 ghost use Rattle.escape_framing.specs.Framed.{IsReached};
 ghost use Rattle.escape_framing.specs.Stepped.{Reads};
-ghost use Rattle.escape_framing.specs.Quick.{text_step, lone_step, ReadsCommand, IsSkipped};
+ghost use Rattle.escape_framing.specs.Quick.{text_step, lone_step, short_parameters, ReadsCommand, IsSkipped};
 ghost use Rattle.escape_framing.specs.declared.lone.Lone.TheVariants.{Nothing, Control, Escape, ControlSequence};
 ghost use Rattle.escape_stream.specs.PiecesView.{lender_of, parser_of, open_pieces, held_at_end, IsUnderWay, IsOpen, HadFailed, IsReady};
 ghost use Rattle.escape_stream.specs.Pieces.{pieces};
@@ -22,7 +22,7 @@ use crate::action::Action;
 use crate::pending::{Pending, push_each};
 use crate::pieces::{Pieces, Stage};
 use crate::queue::Queue;
-use escape_framing::{Dispatch, Framer, Lone, ParseError, Step};
+use escape_framing::{Dispatch, Framer, Lone, ParseError, ShortSequence, Step};
 use std::alloc::{AllocError, Global};
 use std::marker::Model;
 
@@ -154,6 +154,14 @@ impl Parser {
         ensures failed { self.new.failed ≡ true }
     {
         self.framer.next_sequence(bytes)
+    }
+
+    // The control sequence at the front without parameters or with one short number, where nothing is unfinished.
+    #[inline(always)]
+    pub(crate) fn read_short(&self, bytes: &[u8]) -> Option<ShortSequence>
+        ensures { IfSome result (λ s. Reads (short_parameters s.number) self.now.held bytes.now (lone_step (ControlSequence s.control s.count)) self.now.held) }
+    {
+        self.framer.next_short(bytes)
     }
 
     // The final byte of the escape sequence of two bytes at the front, where nothing is unfinished.

@@ -1,10 +1,11 @@
 //! The pieces of a stream: texts, which are lent from the bytes that are fed, and actions.
-ghost use Rattle.std.specs.Prelude.{◌≡◌, ◌≢◌, ◌↔◌, ◌+◌, ◌<◌, ◌≤◌, ℕ, [], Some, true, None, IsTrue, IfOk, IfSome, length, drop, take};
+ghost use Rattle.std.specs.Prelude.{◌≡◌, ◌≢◌, ◌↔◌, ◌+◌, ◌<◌, ◌≤◌, ℕ, [], ◌∷◌, Some, true, None, IsTrue, IfOk, IfSome, length, drop, take};
 ghost use Rattle.escape_framing.specs.Framed.{IsText};
 ghost use Rattle.escape_framing.specs.Stepped.{Reads};
-ghost use Rattle.escape_framing.specs.Quick.{text_step};
-ghost use Rattle.escape_stream.specs.PiecesView.{IsUnderWay, IsOpen, lender_of, parser_of, lone_values, IsUnread, HasGiven, HasRead, HasReadLone, HasReadSequence, IsControlAt, IsPairAt, IsCommandAt, GoesOn, PiecesGo};
+ghost use Rattle.escape_framing.specs.Quick.{text_step, short_parameters};
+ghost use Rattle.escape_stream.specs.PiecesView.{IsUnderWay, IsOpen, lender_of, parser_of, lone_values, IsUnread, HasGiven, HasRead, HasReadLone, HasReadSequence, IsControlAt, IsShortAt, IsPairAt, IsCommandAt, GoesOn, PiecesGo};
 ghost use Rattle.escape_stream.specs.Pending.{Gives, pending_values};
+ghost use Rattle.escape_stream.specs.StreamActionView.{value_of};
 ghost use Rattle.escape_stream.specs.Queue.{queue_actions, sequence_values, IsEmpty};
 ghost use Rattle.escape_framing.specs.declared.lone.Lone.TheVariants.{Nothing};
 
@@ -12,9 +13,9 @@ use crate::action::Action;
 use crate::control::ControlCode;
 use crate::parser::Parser;
 use crate::pending::{command_action, control_action};
-use crate::queue::Queue;
+use crate::queue::{Queue, short_action};
 use csi_codec::Esc;
-use escape_framing::{Lone, ParseError, Step};
+use escape_framing::{Lone, ParseError, ShortSequence, Step};
 use std::alloc::AllocError;
 use std::str;
 
@@ -366,9 +367,61 @@ impl<'a> Pieces<'a> {
         self.next_of_loop()
     }
 
-    // The next item of pieces that are open, where nothing waits: of a control sequence at once.
+    // The short control sequence at the front of the bytes that are left, where nothing is unfinished, and its action, where
+    // it is the only one.
+    #[inline(always)]
+    fn short(&self) -> Result<Option<(ShortSequence, Action)>, AllocError>
+        requires within { self.now.count ≤ length self.now.bytes.now }
+        ensures { IfOk result (λ next. IfSome next (λ s. IsShortAt self.now s.0 × (sequence_values (short_parameters s.0.number) s.0.control ≡ value_of s.1 ∷ []))) }
+    {
+        let bytes = self.bytes;
+        let Some(short) = self.parser.read_short(behind(bytes, self.count)) else {
+            return Ok(None);
+        };
+        match short_action(self.parser.alloc(), short)? {
+            Some(action) => Ok(Some((short, action))),
+            None => Ok(None),
+        }
+    }
+
+    // Hands out the only action of a short control sequence.
+    #[inline(always)]
+    fn take_short(&mut self, short: ShortSequence, action: Action) -> Piece<'a>
+        requires within { self.old.count ≤ length self.old.bytes.now }
+        requires empty { IsEmpty self.old.queue }
+        requires stands { IsShortAt self.old short }
+        requires only { sequence_values (short_parameters short.number) short.control ≡ value_of action ∷ [] }
+        ensures same { lender_of self.new ≡ lender_of self.old }
+        ensures stage { self.new.stage ≡ self.old.stage }
+        ensures parser { self.new.parser.now ≡ self.old.parser.now }
+        ensures gives { IsUnderWay self.old → HasGiven self.old (Some result) self.new }
+    {
+        self.count += short.count;
+        Piece::Action(action)
+    }
+
+    // The next item of pieces that are open, where nothing waits: of a short control sequence at once.
     #[inline(always)]
     fn next_by_step(&mut self) -> Option<Result<Piece<'a>, ParseError>>
+        requires open { IsOpen self.old }
+        requires ready { IsUnderWay self.old }
+        requires failed { self.old.parser.now.failed ≡ true }
+        requires empty { IsEmpty self.old.queue }
+        ensures { PiecesGo self.old result self.new }
+    {
+        match self.short() {
+            Ok(Some((short, action))) => Some(Ok(self.take_short(short, action))),
+            Ok(None) => self.next_by_sequence(),
+            Err(_) => {
+                self.stage = Stage::Over;
+                Some(Err(ParseError::Memory))
+            }
+        }
+    }
+
+    // The same of any control sequence whose bytes stand there.
+    #[inline(always)]
+    fn next_by_sequence(&mut self) -> Option<Result<Piece<'a>, ParseError>>
         requires open { IsOpen self.old }
         requires ready { IsUnderWay self.old }
         requires failed { self.old.parser.now.failed ≡ true }
