@@ -4,3 +4,4 @@ pub mod EndLemmas
 pub mod LinkLemmas
 pub mod RowLaws
 pub mod RunLemmas
+pub mod SettleLemmas

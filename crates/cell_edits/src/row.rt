@@ -1,6 +1,6 @@
 //! Steps on the cells of a line, which are read from the left: the cell stored behind a wide one
 //! isn't looked at.
-ghost use Rattle.std.specs.Prelude.{◌≡◌, ℕ, ◌+◌, ◌-◌, ◌≤◌, ◌<◌, ◌++◌, ◌&&◌, true, false, length, take, drop, [], ◌∷◌, slice_set, replicate, map, vec_len, OnOk, IfOk};
+ghost use Rattle.std.specs.Prelude.{◌≡◌, ℕ, ◌+◌, ◌-◌, ◌≤◌, ◌<◌, ◌++◌, ◌&&◌, true, false, length, take, drop, [], ◌∷◌, slice_set, replicate, map, vec_len, nat_lt, if◌then◌else◌, OnOk, OnErr, IfOk};
 ghost use Rattle.cell_base.specs.CellContent.{row_of_cells, blank_cell};
 ghost use Rattle.cell_base.specs.Attributes.{plain};
 ghost use Rattle.cell_base.specs.Row.{set_columns, space};
@@ -9,6 +9,7 @@ ghost use Rattle.cell_edits.specs.VisibleCells.{mark_cell, row_end_wrapped};
 ghost use Rattle.cell_edits.specs.Links.{is_implicit, cell_without_implicit};
 ghost use Rattle.std.specs.Str.{bytes_eq};
 ghost use Rattle.cell_base.specs.SameAttributes.{same_attributes};
+ghost use Rattle.cell_edits.specs.ShownCells.{lent_cells};
 ghost use Rattle.cell_edits.specs.RowEdits.{cut, cut_front, padded, resized, with_cell, removed, inserted, with_inserted, erased, erased_within, filled, pruned_row};
 
 use cell_base::{Cell, CellAttributes};
@@ -314,6 +315,38 @@ pub fn fill(cells: &mut Vec<Cell>, start: usize, end: usize, cell: &Cell) -> Res
 {
     for at in start..end {
         set_cell(cells, at, cell.try_clone()?)?;
+    }
+    Ok(())
+}
+
+// The cell stored behind a wide one becomes the blank that is shown there, and a wide cell with none
+// behind it the blank that it is read as.
+fn settle_cell(cells: &mut Vec<Cell>, at: usize) -> Result<(), AllocError>
+    requires { at < vec_len cells.old }
+    ensures done { OnOk result (cells.new.items ≡ slice_set cells.old.items (if nat_lt (at + 1) (vec_len cells.old) then at + 1 else at) (blank_for cells.old.items at)) }
+    ensures refused { OnErr result (cells.new.items ≡ cells.old.items) }
+{
+    let blank = Cell::blank_with_attrs(cells[at].attrs().try_clone()?);
+    if at + 1 < cells.len() {
+        put(cells, at + 1, blank);
+    } else {
+        put(cells, at, blank);
+    }
+    Ok(())
+}
+
+/// Each cell becomes the one that is shown in its column.
+pub fn settle(cells: &mut Vec<Cell>) -> Result<(), AllocError>
+    ensures done { OnOk result (cells.new.items ≡ lent_cells (row_of_cells cells.old.items)) }
+    ensures row { row_of_cells cells.new.items ≡ row_of_cells cells.old.items }
+{
+    let mut at = 0;
+    while at < cells.len() {
+        if cells[at].width() >= 2 {
+            settle_cell(cells, at)?;
+            at += 1;
+        }
+        at += 1;
     }
     Ok(())
 }

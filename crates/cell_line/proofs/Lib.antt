@@ -1,5 +1,4 @@
 pub mod ChangeLemmas
-pub mod LentLemmas
 pub mod LentSteps
 pub mod NumberLemmas
 pub mod PlacedLemmas

@@ -3,6 +3,7 @@
 
 mod changes;
 pub mod laws;
+mod lent_cells;
 mod line;
 mod line_bits;
 mod taken_cells;

@@ -14,7 +14,8 @@ ghost use Rattle.cell_line.specs.LineCalls.{with_width_and_cell, with_width, fro
 ghost use Rattle.cell_edits.specs.RowEdits.{filled};
 ghost use Rattle.cell_edits.specs.Links.{without_implicit, column_with};
 ghost use Rattle.cell_views.specs.Words.{Answers};
-ghost use Rattle.cell_line.specs.LentCells.{LendsCells, LendsSlice};
+ghost use Rattle.cell_line.specs.LentCells.{LendsCells, LendsStored};
+ghost use Rattle.cell_edits.specs.ShownCells.{lent_cells};
 ghost use Rattle.cell_views.specs.CellRefView.{shown_by, cells_left};
 ghost use Rattle.cell_views.specs.Region.{region_left};
 ghost use Rattle.cell_edits.specs.TextRuns.{text_behind};
@@ -23,7 +24,7 @@ ghost use Rattle.cell_base.specs.Cluster.{clusters};
 ghost use Rattle.cell_rows.specs.WholeRow.{IsWhole};
 
 use crate::line_bits::LineBits;
-use crate::{changes, wrap};
+use crate::{changes, lent_cells, wrap};
 use cell_base::{
     Cell, CellAttributes, DoubleClickRange, LineAttribute, SEQ_ZERO, SequenceNo, Widths, ZoneRange,
 };
@@ -675,32 +676,42 @@ impl Line {
         words::double_click_range(&self.cells, click_col, &is_word)
     }
 
-    /// Lends a cell for each column. What is left there is read from the left as the line's
-    /// columns: the cell behind a wide one isn't looked at, and a wide cell with none behind it
-    /// counts as a blank with its attributes. Number and bits stay.
+    /// Lends a cell for each column, as it is shown: behind a wide cell the blank with its
+    /// attributes. What is left there is read from the left as the line's columns: the cell behind a
+    /// wide one isn't looked at, and a wide cell with none behind it counts as a blank with its
+    /// attributes. Number and bits stay.
     pub fn cells_mut(&mut self) -> Result<&mut [Cell], AllocError>
         ensures* writes_back { sem 𝓛 (LendsCells self.entry result) }
+        ensures lent { IfOk result (λ cells. cells.now ≡ lent_cells self.old.columns) }
         ensures cells { IfOk result (λ cells. row_of_cells cells.now ≡ self.old.columns) }
         ensures count { IfOk result (λ cells. length cells.now ≡ length self.old.columns) }
     {
-        Ok(self.lent_cells())
+        match self.settled_cells() {
+            Ok(cells) => Ok(lent_cells::slice_of(cells)),
+            Err(refused) => Err(refused),
+        }
     }
 
     /// The same as `cells_mut`, for callers that change attributes alone.
     pub fn cells_mut_for_attr_changes_only(&mut self) -> Result<&mut [Cell], AllocError>
         ensures* writes_back { sem 𝓛 (LendsCells self.entry result) }
+        ensures lent { IfOk result (λ cells. cells.now ≡ lent_cells self.old.columns) }
         ensures cells { IfOk result (λ cells. row_of_cells cells.now ≡ self.old.columns) }
         ensures count { IfOk result (λ cells. length cells.now ≡ length self.old.columns) }
     {
-        Ok(self.lent_cells())
+        match self.settled_cells() {
+            Ok(cells) => Ok(lent_cells::slice_of(cells)),
+            Err(refused) => Err(refused),
+        }
     }
 
-    // Lends the cells as they are stored.
-    fn lent_cells(&mut self) -> &mut [Cell]
-        ensures* writes_back { sem 𝓛 (LendsSlice self.entry result) }
-        ensures cells { row_of_cells result.now ≡ self.old.columns }
+    // Lends the vector of cells, each as it is shown in its column.
+    fn settled_cells(&mut self) -> Result<&mut Vec<Cell>, AllocError>
+        ensures* writes_back { sem 𝓛 (LendsStored self.entry result) }
+        ensures cells { IfOk result (λ cells. (cells.now.items ≡ lent_cells self.old.columns) × (row_of_cells cells.now.items ≡ self.old.columns)) }
     {
-        self.cells.as_mut_slice()
+        row::settle(&mut self.cells)?;
+        Ok(&mut self.cells)
     }
 
     /// Sets whether the line goes on behind its last visible cell, if there is one.
