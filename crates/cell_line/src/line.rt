@@ -676,10 +676,10 @@ impl Line {
         words::double_click_range(&self.cells, click_col, &is_word)
     }
 
-    /// Lends a cell for each column, as it is shown: behind a wide cell the blank with its
-    /// attributes. What is left there is read from the left as the line's columns: the cell behind a
-    /// wide one isn't looked at, and a wide cell with none behind it counts as a blank with its
-    /// attributes. Number and bits stay.
+    /// Lends a cell for each column: the one that begins there, and behind a wide cell the blank
+    /// with its attributes. What is left there is read from the left as the line's columns: the
+    /// cell behind a wide one isn't looked at, and a wide cell with none behind it counts as a
+    /// blank with its attributes. Number and bits stay.
     pub fn cells_mut(&mut self) -> Result<&mut [Cell], AllocError>
         ensures* writes_back { sem 𝓛 (LendsCells self.entry result) }
         ensures lent { IfOk result (λ cells. cells.now ≡ lent_cells self.old.columns) }
