@@ -3,6 +3,7 @@ mod SgrLemmas
 mod PieceLemmas
 mod SgrTokens
 mod PlainLemmas
+mod SemicolonLemmas
 mod TextSteps
 mod PlaceLemmas
 mod ReadingLemmas

@@ -1,12 +1,13 @@
 -- The forms of a colour by cases, as the code reads them: it looks at the sign and the kind, and then at the numbers
 -- behind them. It is only there for the contracts of private steps; what a colour is stands in `Rendition`.
-use Rattle.std.specs.Prelude.{ℕ, ℤ, List, [], ◌∷◌, Option, Some, None, ◌==◌, if◌then◌else◌, option_map, option_and_then}
+use Rattle.std.specs.Prelude.{ℕ, ℤ, List, [], ◌∷◌, Option, Some, None, ◌==◌, if◌then◌else◌, option_map, option_and_then, ◌+◌}
 use Rattle.cell_base.specs.declared.color.ColorSpec.{ColorSpec}
 use Rattle.cell_base.specs.declared.color.ColorSpec.TheVariants as color
 use Rattle.csi_codec.specs.declared.parameters.CsiParam.{CsiParam}
 use Rattle.csi_codec.specs.declared.parameters.CsiParam.TheVariants.{Integer, P}
 use Rattle.csi_codec.specs.Parameters.{is_number, number_within}
 use Rattle.csi_codec.specs.declared.rendition.Sgr.{Sgr}
+use Rattle.csi_codec.specs.declared.rendition.Sgr.TheVariants as sgr
 use Rattle.csi_codec.specs.Rendition.{colour, taking, plain_code}
 
 -- the number behind a sign, and what follows it
@@ -70,3 +71,17 @@ abbrev pub plain_case : List CsiParam → Option (Sgr × ℕ)
 plain_case (Integer z ∷ []) = taking 1 (plain_code z)
 plain_case (Integer z ∷ P b ∷ ts) = if b == 59 then taking 2 (plain_code z) else None
 plain_case _ = None
+
+-- what a number in front of a colour sets
+abbrev pub targeted : ℤ → ColorSpec → Option Sgr
+targeted z c =
+    if is_number 38 z then Some (sgr.Foreground c)
+    else (if is_number 48 z then Some (sgr.Background c)
+    else (if is_number 58 z then Some (sgr.UnderlineColor c)
+    else None))
+
+-- a colour whose numbers stand apart by `;`; the tokens are counted with its number
+abbrev pub semicolon_shape : List CsiParam → Option (Sgr × ℕ)
+semicolon_shape (Integer z ∷ P b ∷ Integer kind ∷ ts) =
+    if b == 59 then option_and_then (λ form. taking (form.1 + 1) (targeted z form.0)) (semicolon_form kind ts) else None
+semicolon_shape _ = None

@@ -176,17 +176,17 @@ pub(crate) fn two_slots(params: &[CsiParam]) -> Option<(Option<i64>, Option<i64>
     ensures { result ≡ two_slots params.now }
 {
     match params {
+        [
+            CsiParam::Integer(a),
+            CsiParam::P(b';'),
+            CsiParam::Integer(b),
+        ] => { Some((Some(*a), Some(*b))) }
         [] | [CsiParam::P(b';')] => Some((None, None)),
         [CsiParam::Integer(a)] | [CsiParam::Integer(a), CsiParam::P(b';')] => Some((
             Some(*a),
             None,
         )),
         [CsiParam::P(b';'), CsiParam::Integer(b)] => Some((None, Some(*b))),
-        [
-            CsiParam::Integer(a),
-            CsiParam::P(b';'),
-            CsiParam::Integer(b),
-        ] => { Some((Some(*a), Some(*b))) }
         _ => None,
     }
 }

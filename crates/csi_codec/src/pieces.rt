@@ -1,5 +1,5 @@
 //! Pieces of lists: what they can be, and those of modes.
-ghost use Rattle.std.specs.Prelude.{◌≡◌, if◌then◌else◌, option_map};
+ghost use Rattle.std.specs.Prelude.{◌≡◌, option_map};
 ghost use Rattle.csi_codec.specs.Actions.{all_sgr_tokens, mode_piece};
 ghost use Rattle.csi_codec.specs.Known.{found_mode};
 ghost use Rattle.csi_codec.specs.Modes.{mode_reading, private_mode_reading};
@@ -18,6 +18,17 @@ pub(crate) enum Kind {
 /// Whether a list has only the tokens of SGR: numbers, `;`, `:` and `?`.
 #[inline(always)]
 pub(crate) fn all_sgr_tokens(params: &[CsiParam]) -> bool
+    ensures { result ≡ all_sgr_tokens params.now }
+{
+    if params.is_empty() {
+        return true;
+    }
+    all_tokens_in_turn(params)
+}
+
+/// The same, where most are numbers with a `;` behind each.
+#[inline(always)]
+fn all_tokens_in_turn(params: &[CsiParam]) -> bool
     ensures { result ≡ all_sgr_tokens params.now }
 {
     let mut others = params;
@@ -40,27 +51,32 @@ fn all_tokens(params: &[CsiParam]) -> bool
     true
 }
 
-/// The mode at the front of a list of private modes or of those of the standard, and how many tokens it takes.
+/// The mode at the front of a list of private modes, and how many tokens it takes.
 #[tactic(auto, unfolding(crate::specs::Actions::mode_piece))]
-pub(crate) fn mode_piece(private: bool, params: &[CsiParam], control: char) -> Option<(Mode, usize)>
-    ensures { option_map found_mode result
-        ≡ mode_piece (if private then private_mode_reading control else mode_reading control) params.now }
+#[inline(never)]
+pub(crate) fn private_mode_piece(params: &[CsiParam], control: char) -> Option<(Mode, usize)>
+    ensures { option_map found_mode result ≡ mode_piece (private_mode_reading control) params.now }
 {
     match params.first().copied()? {
         CsiParam::P(_) => None,
         CsiParam::Integer(value) => {
-            let mode = named_mode(private, value, control)?;
+            let mode = private_mode_reading(value, control)?;
             Some((mode, 1 + semicolon_at(params, 1)))
         }
     }
 }
 
-fn named_mode(private: bool, value: i64, control: char) -> Option<Mode>
-    ensures { result ≡ (if private then private_mode_reading control else mode_reading control) value }
+/// The mode at the front of a list of modes of the standard, and how many tokens it takes.
+#[tactic(auto, unfolding(crate::specs::Actions::mode_piece))]
+#[inline(never)]
+pub(crate) fn standard_mode_piece(params: &[CsiParam], control: char) -> Option<(Mode, usize)>
+    ensures { option_map found_mode result ≡ mode_piece (mode_reading control) params.now }
 {
-    if private {
-        private_mode_reading(value, control)
-    } else {
-        mode_reading(value, control)
+    match params.first().copied()? {
+        CsiParam::P(_) => None,
+        CsiParam::Integer(value) => {
+            let mode = mode_reading(value, control)?;
+            Some((mode, 1 + semicolon_at(params, 1)))
+        }
     }
 }

@@ -1,15 +1,16 @@
 //! Reading the actions of a list from place to place.
-ghost use Rattle.std.specs.Prelude.{◌≡◌, ◌≢◌, ◌<◌, ◌≤◌, ℕ, Bool, true, false, IfNone, IfSome, ◌∷◌, [], drop, length, option_map};
-ghost use Rattle.csi_codec.specs.Actions.{Kind as PieceKind, csi_reading, lone_or, modes_or, piece_of, pieces, sgr_pieces, sgr_reading, unspecified};
+ghost use Rattle.std.specs.Prelude.{◌≡◌, ◌≢◌, ◌<◌, ◌≤◌, ℕ, Bool, true, false, None, IfNone, IfSome, ◌∷◌, [], drop, length, option_map};
+ghost use Rattle.csi_codec.specs.Actions.{Kind as PieceKind, csi_reading, lone_or, modes_or, piece_of, pieces, private_mode_pieces, sgr_pieces, standard_mode_pieces, sgr_reading, unspecified};
+ghost use Rattle.csi_codec.specs.Cursors.{cursor_reading};
 ghost use Rattle.csi_codec.specs.Known.{found_action};
 ghost use Rattle.csi_codec.specs.Parsing.{HasNoPiece, HasNoRendition, IsEnd, IsFirstPiece, IsFirstRendition, IsNext, IsStart, actions_behind, actions_from, kind_of, list_kind};
 ghost use Rattle.csi_codec.specs.Sequences.{action_of, HandsOut};
 
 use crate::cursors::cursor_reading;
 use crate::devices::device_reading;
-use crate::edits::edit_reading;
+use crate::edits::{edit_reading, is_edit_final};
 use crate::parameters::CsiParam;
-use crate::pieces::{Kind, all_sgr_tokens, mode_piece};
+use crate::pieces::{Kind, all_sgr_tokens, private_mode_piece, standard_mode_piece};
 use crate::rendition::Sgr;
 use crate::sequences::{CSI, request, unspecified};
 use crate::sgr_reading::sgr_piece;
@@ -103,6 +104,16 @@ fn first_known(params: &[CsiParam], control: char) -> Option<(CSI, usize)>
         let (value, len) = first_sgr(params)?;
         return Some((CSI::Sgr(value), len));
     }
+    first_of_others(params, control)
+}
+
+/// The same by a call, whose result is a place in memory of its own.
+#[inline(always)]
+fn first_of_others(params: &[CsiParam], control: char) -> Option<(CSI, usize)>
+    requires { ¬ (control ≡ 109) }
+    ensures found { IfSome result (λ found. (truncated : Bool) → csi_reading params.now truncated control ≡ action_of found.0 ∷ pieces (list_kind control params.now) truncated control (drop found.1 params.now)) }
+    ensures some { IfSome result (λ found. 0 < found.1) }
+{
     first_other(params, control)
 }
 
@@ -117,7 +128,8 @@ fn first_other(params: &[CsiParam], control: char) -> Option<(CSI, usize)>
     match params {
         [CsiParam::P(b'?'), ..] => known_mode(Kind::PrivateModes, 1, params, control),
         _ if matches!(control, 'h' | 'l') => known_mode(Kind::StandardModes, 0, params, control),
-        _ => known_lone(params, control),
+        _ if is_edit_final(control) => known_edit(params, control),
+        _ => known_cursor(params, control),
     }
 }
 
@@ -132,25 +144,42 @@ fn known_mode(kind: Kind, start: usize, params: &[CsiParam], control: char) -> O
     Some((value, start + len))
 }
 
-/// The one action of a whole list, where it is a cursor sequence or an edit, and how many tokens are read then.
+/// The one edit of a whole list before a final byte of edits, and how many tokens are read then.
 #[inline(always)]
-fn known_lone(params: &[CsiParam], control: char) -> Option<(CSI, usize)>
+fn known_edit(params: &[CsiParam], control: char) -> Option<(CSI, usize)>
+    requires { cursor_reading control params.now ≡ None }
     ensures found { IfSome result (λ found. (k : PieceKind) (truncated : Bool) → lone_or truncated control params.now ≡ action_of found.0 ∷ pieces k truncated control (drop found.1 params.now)) }
     ensures some { IfSome result (λ found. 0 < found.1) }
 {
-    let value = lone_action(params, control)?;
+    let value = lone_edit(params, control)?;
     Some((value, params.len().max(1)))
 }
 
-/// The one action of a whole list, where it is a cursor sequence or an edit.
+/// The one cursor sequence of a whole list, and how many tokens are read then.
 #[inline(always)]
-fn lone_action(params: &[CsiParam], control: char) -> Option<CSI>
+fn known_cursor(params: &[CsiParam], control: char) -> Option<(CSI, usize)>
+    ensures found { IfSome result (λ found. (k : PieceKind) (truncated : Bool) → lone_or truncated control params.now ≡ action_of found.0 ∷ pieces k truncated control (drop found.1 params.now)) }
+    ensures some { IfSome result (λ found. 0 < found.1) }
+{
+    let value = lone_cursor(params, control)?;
+    Some((value, params.len().max(1)))
+}
+
+/// The one edit of a whole list, where its final byte is one of edits.
+#[inline(always)]
+fn lone_edit(params: &[CsiParam], control: char) -> Option<CSI>
+    requires { cursor_reading control params.now ≡ None }
     ensures { IfSome result (λ value. (truncated : Bool) → lone_or truncated control params.now ≡ action_of value ∷ []) }
 {
-    if let Some(value) = cursor_reading(params, control) {
-        return Some(CSI::Cursor(value));
-    }
     Some(CSI::Edit(edit_reading(params, control)?))
+}
+
+/// The one cursor sequence of a whole list.
+#[inline(always)]
+fn lone_cursor(params: &[CsiParam], control: char) -> Option<CSI>
+    ensures { IfSome result (λ value. (truncated : Bool) → lone_or truncated control params.now ≡ action_of value ∷ []) }
+{
+    Some(CSI::Cursor(cursor_reading(params, control)?))
 }
 
 /// A further action of a list, where it takes no memory, and how many tokens are read then.
@@ -351,15 +380,27 @@ fn piece(kind: Kind, params: &[CsiParam], control: char) -> Option<(CSI, usize)>
             let (value, len) = sgr_piece(params)?;
             Some((CSI::Sgr(value), len))
         }
-        Kind::PrivateModes => {
-            let (value, len) = mode_piece(true, params, control)?;
-            Some((CSI::Mode(value), len))
-        }
-        Kind::StandardModes => {
-            let (value, len) = mode_piece(false, params, control)?;
-            Some((CSI::Mode(value), len))
-        }
+        Kind::PrivateModes => private_piece(params, control),
+        Kind::StandardModes => standard_piece(params, control),
     }
+}
+
+/// The private mode at the front of a list, and how many tokens it takes.
+#[inline(always)]
+fn private_piece(params: &[CsiParam], control: char) -> Option<(CSI, usize)>
+    ensures { option_map found_action result ≡ piece_of private_mode_pieces control params.now }
+{
+    let (value, len) = private_mode_piece(params, control)?;
+    Some((CSI::Mode(value), len))
+}
+
+/// The mode of the standard at the front of a list, and how many tokens it takes.
+#[inline(always)]
+fn standard_piece(params: &[CsiParam], control: char) -> Option<(CSI, usize)>
+    ensures { option_map found_action result ≡ piece_of standard_mode_pieces control params.now }
+{
+    let (value, len) = standard_mode_piece(params, control)?;
+    Some((CSI::Mode(value), len))
 }
 
 /// The piece at the front of a list, and how many tokens it takes.

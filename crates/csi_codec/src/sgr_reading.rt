@@ -1,5 +1,5 @@
 //! SGR: reading a piece, by the number that it begins with.
-ghost use Rattle.std.specs.Prelude.{◌≡◌, ◌≤◌, IfSome, option_map};
+ghost use Rattle.std.specs.Prelude.{◌≡◌, ◌≤◌, IfSome, Some, option_map};
 ghost use Rattle.csi_codec.specs.Parameters.{number_within};
 ghost use Rattle.csi_codec.specs.ColourCases.{
   number_behind,
@@ -13,6 +13,8 @@ ghost use Rattle.csi_codec.specs.ColourCases.{
   alpha_case,
   colon_form,
   semicolon_form,
+  semicolon_shape,
+  targeted,
   form_case,
   plain_case,
 };
@@ -335,7 +337,77 @@ pub(crate) fn sgr_piece(params: &[CsiParam]) -> Option<(Sgr, usize)>
 {
     match plain_piece(params) {
         Some(found) => Some(found),
+        None => longer_piece(params),
+    }
+}
+
+/// The same by a call, whose result is a place in memory of its own.
+#[inline(always)]
+fn longer_piece(params: &[CsiParam]) -> Option<(Sgr, usize)>
+    ensures { result ≡ sgr_piece params.now }
+{
+    any_piece(params)
+}
+
+/// The same, where most are colours.
+#[inline(never)]
+fn any_piece(params: &[CsiParam]) -> Option<(Sgr, usize)>
+    ensures { result ≡ sgr_piece params.now }
+{
+    match semicolon_piece(params) {
+        Some(found) => Some(found),
         None => shaped_piece(params),
+    }
+}
+
+/// A colour whose numbers stand apart by `;`, and how many tokens it takes with the `;` right behind it.
+#[inline(always)]
+fn semicolon_piece(params: &[CsiParam]) -> Option<(Sgr, usize)>
+    ensures { IfSome result (λ found. Some found ≡ sgr_piece params.now) }
+{
+    let (value, len) = semicolon_shape(params)?;
+    Some((value, len + semicolon_at(params, len)))
+}
+
+/// A colour whose numbers stand apart by `;`, and how many tokens it takes.
+#[inline(always)]
+fn semicolon_shape(params: &[CsiParam]) -> Option<(Sgr, usize)>
+    ensures shape { result ≡ semicolon_shape params.now }
+    ensures short { IfSome result (λ found. found.1 ≤ 12) }
+{
+    match params {
+        [
+            CsiParam::Integer(target),
+            CsiParam::P(b';'),
+            CsiParam::Integer(kind),
+            rest @ ..,
+        ] => {
+            let (color, len) = semicolon_color(*kind, rest)?;
+            Some((targeted(*target, color)?, len + 1))
+        }
+        _ => None,
+    }
+}
+
+/// The colour behind its kind, and how many tokens its form takes.
+#[inline(always)]
+fn semicolon_color(kind: i64, params: &[CsiParam]) -> Option<(ColorSpec, usize)>
+    ensures form { result ≡ semicolon_form kind params.now }
+    ensures short { IfSome result (λ found. found.1 ≤ 11) }
+{
+    semicolon_form(kind, params)
+}
+
+/// What a number in front of a colour sets.
+#[inline(always)]
+fn targeted(target: i64, color: ColorSpec) -> Option<Sgr>
+    ensures { result ≡ targeted target color }
+{
+    match target {
+        38 => Some(Sgr::Foreground(color)),
+        48 => Some(Sgr::Background(color)),
+        58 => Some(Sgr::UnderlineColor(color)),
+        _ => None,
     }
 }
 
