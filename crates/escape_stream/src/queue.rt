@@ -46,16 +46,9 @@ impl Waiting {
     fn is_some(&self) -> bool
         ensures { result ≡ false → (p : Parameters) → waiting_dispatches p self.now ≡ [] }
     {
-        if self.first.is_some() {
-            return true;
-        }
-        if self.second.is_some() {
-            return true;
-        }
-        if self.third.is_some() {
-            return true;
-        }
-        self.fourth.is_some()
+        let early = self.first.is_some() | self.second.is_some();
+        let late = self.third.is_some() | self.fourth.is_some();
+        early | late
     }
 
     // The first dispatch.
@@ -229,10 +222,7 @@ impl Queue {
     pub fn is_waiting(&self) -> bool
         ensures { result ≡ false → IsEmpty self.now }
     {
-        if self.sequence.is_some() {
-            return true;
-        }
-        self.waiting.is_some()
+        self.sequence.is_some() | self.waiting.is_some()
     }
 
     /// The actions of a control sequence with this final byte, where none wait.
