@@ -1,3 +1,4 @@
+pub mod BetweenLemmas
 pub mod ChangeLemmas
 pub mod LentSteps
 pub mod NumberLemmas

@@ -1,6 +1,7 @@
 //! Parts of a line: its cells in a range, and its cells in rows of a width.
 ghost use Rattle.std.specs.Prelude.{◌≡◌, ◌++◌, [], ◌∷◌, length, map, false, true, vec_len, IfOk, OnOk, filter, if◌then◌else◌};
 ghost use Rattle.cell_base.specs.CellContent.{row_of_cells};
+ghost use Rattle.cell_base.specs.Row.{blank};
 ghost use Rattle.cell_edits.specs.CellList.{ends_halved, cell_columns};
 ghost use Rattle.cell_line.specs.LineContent.{line_of};
 ghost use Rattle.cell_edits.specs.VisibleCells.{visible_cells, cells_between, row_of_visible, row_end_wrapped, contents};
@@ -9,7 +10,7 @@ ghost use Rattle.cell_line.specs.OpenRows.{breaks, rows_from, last_text, texts_u
 use crate::line::Line;
 use crate::taken_cells::TakenCells;
 use cell_base::{Cell, SequenceNo};
-use cell_edits::row::{close_end, column_count, copy, is_halved, push_cell, set_end_wrapped};
+use cell_edits::row::{close_end, column_count, is_halved, push_cell, set_end_wrapped};
 use cell_views::query::is_space;
 use cell_views::zones::is_kept;
 use cell_views::{ReadCells, VisibleCellIter};
@@ -28,11 +29,24 @@ pub(crate) fn between(
     if !is_halved(cells, cells.len()) {
         return copy_between(alloc, cells, start, end);
     }
-    let mut whole = copy(alloc, cells)?;
-    close_end(&mut whole)?;
-    copy_between(alloc, &whole, start, end)
+    let last = cells.len() - 1;
+    let mut kept = copy_between(alloc, &cells[..last], start, end)?;
+    if start <= last && last < end {
+        push_blank_for(&mut kept, &cells[last])?;
+    }
+    Ok(kept)
 }
 
+// A blank with the cell's attributes comes behind the columns that are there.
+fn push_blank_for(cells: &mut Vec<Cell>, cell: &Cell) -> Result<(), AllocError>
+    requires { ends_halved cells.old.items ≡ false }
+    ensures { OnOk result (row_of_cells cells.new.items ≡ row_of_cells cells.old.items ++ blank cell.now.attributes ∷ []) }
+{
+    push_cell(cells, Cell::blank_with_attrs(cell.attrs().try_clone()?))?;
+    Ok(())
+}
+
+// The same, where no wide cell is stored last.
 fn copy_between(
     alloc: Global,
     cells: &[Cell],
@@ -40,7 +54,8 @@ fn copy_between(
     end: usize,
 ) -> Result<Vec<Cell>, AllocError>
     requires { ends_halved cells.now ≡ false }
-    ensures { IfOk result (λ kept. row_of_cells kept.items ≡ row_of_visible (cells_between start end (row_of_cells cells.now))) }
+    ensures row { IfOk result (λ kept. row_of_cells kept.items ≡ row_of_visible (cells_between start end (row_of_cells cells.now))) }
+    ensures whole { IfOk result (λ kept. ends_halved kept.items ≡ false) }
 {
     let mut kept = Vec::new(alloc);
     for (column, cell) in ReadCells::new(cells) {

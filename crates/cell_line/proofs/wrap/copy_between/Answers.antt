@@ -9,6 +9,9 @@ use Rattle.cell_line.proofs.wrap.copy_between.Goals as goal
 pub returns : goal.returns
 returns c =
     let p : ℕ → Bool = λ column. nat_le c.args.start column && nat_lt column c.args.«end» in
-    sym (append-nil (row_of_cells c.loop-column.kept.items))
-    ∙ ap (λ (vs : List VisibleCell). row_of_cells c.loop-column.kept.items ++ row_of_visible (filter (λ v. p v.column) vs)) (sym c.in-None.ensures.steps.0)
-    ∙ c.loop-column.invariant.row ∙ row_picked p c.args.cells.now c.requires
+    record {
+      whole = c.loop-column.invariant.whole;
+      row = sym (append-nil (row_of_cells c.loop-column.kept.items))
+          ∙ ap (λ (vs : List VisibleCell). row_of_cells c.loop-column.kept.items ++ row_of_visible (filter (λ v. p v.column) vs)) (sym c.in-None.ensures.steps.0)
+          ∙ c.loop-column.invariant.row ∙ row_picked p c.args.cells.now c.requires;
+    }
