@@ -1,7 +1,5 @@
 //! Sequences that erase, insert, delete, scroll and repeat.
-ghost use Rattle.std.specs.Prelude.{◌≡◌, List, None, Some, true};
-ghost use Rattle.csi_codec.specs.Cursors.{cursor_reading};
-ghost use Rattle.csi_codec.specs.declared.parameters.CsiParam.{CsiParam};
+ghost use Rattle.std.specs.Prelude.{◌≡◌, Some};
 ghost use Rattle.csi_codec.specs.Edits.{
   erase_in_line_named,
   erase_in_line_number,
@@ -122,18 +120,6 @@ impl Edit {
             Edit::EraseInLine(extent) => put_extent(extent.to_u16(), b'K', text),
         }
     }
-}
-
-/// Whether a final byte is one of edits, so that no list before it is a cursor sequence.
-#[tactic(auto, unfolding(crate::specs::Cursors::cursor_reading))]
-#[inline(always)]
-pub(crate) fn is_edit_final(control: char) -> bool
-    ensures { result ≡ true → (ts : List CsiParam) → cursor_reading control ts ≡ None }
-{
-    matches!(
-        control,
-        '@' | 'P' | 'L' | 'M' | 'X' | 'S' | 'T' | 'b' | 'J' | 'K'
-    )
 }
 
 /// What a whole list before a final byte spells, if it is an edit.

@@ -53,7 +53,7 @@ fn all_tokens(params: &[CsiParam]) -> bool
 
 /// The mode at the front of a list of private modes, and how many tokens it takes.
 #[tactic(auto, unfolding(crate::specs::Actions::mode_piece))]
-#[inline(never)]
+#[inline(always)]
 pub(crate) fn private_mode_piece(params: &[CsiParam], control: char) -> Option<(Mode, usize)>
     ensures { option_map found_mode result ≡ mode_piece (private_mode_reading control) params.now }
 {
@@ -68,7 +68,7 @@ pub(crate) fn private_mode_piece(params: &[CsiParam], control: char) -> Option<(
 
 /// The mode at the front of a list of modes of the standard, and how many tokens it takes.
 #[tactic(auto, unfolding(crate::specs::Actions::mode_piece))]
-#[inline(never)]
+#[inline(always)]
 pub(crate) fn standard_mode_piece(params: &[CsiParam], control: char) -> Option<(Mode, usize)>
     ensures { option_map found_mode result ≡ mode_piece (mode_reading control) params.now }
 {

@@ -1,14 +1,13 @@
 //! Reading the actions of a list from place to place.
-ghost use Rattle.std.specs.Prelude.{◌≡◌, ◌≢◌, ◌<◌, ◌≤◌, ℕ, Bool, true, false, None, IfNone, IfSome, ◌∷◌, [], drop, length, option_map};
+ghost use Rattle.std.specs.Prelude.{◌≡◌, ◌≢◌, ◌<◌, ◌≤◌, ℕ, Bool, true, false, IfNone, IfSome, ◌∷◌, [], drop, length, option_map};
 ghost use Rattle.csi_codec.specs.Actions.{Kind as PieceKind, csi_reading, lone_or, modes_or, piece_of, pieces, private_mode_pieces, sgr_pieces, standard_mode_pieces, sgr_reading, unspecified};
-ghost use Rattle.csi_codec.specs.Cursors.{cursor_reading};
 ghost use Rattle.csi_codec.specs.Known.{found_action};
 ghost use Rattle.csi_codec.specs.Parsing.{HasNoPiece, HasNoRendition, IsEnd, IsFirstPiece, IsFirstRendition, IsNext, IsStart, actions_behind, actions_from, kind_of, list_kind};
 ghost use Rattle.csi_codec.specs.Sequences.{action_of, HandsOut};
 
 use crate::cursors::cursor_reading;
 use crate::devices::device_reading;
-use crate::edits::{edit_reading, is_edit_final};
+use crate::edits::edit_reading;
 use crate::parameters::CsiParam;
 use crate::pieces::{Kind, all_sgr_tokens, private_mode_piece, standard_mode_piece};
 use crate::rendition::Sgr;
@@ -128,8 +127,7 @@ fn first_other(params: &[CsiParam], control: char) -> Option<(CSI, usize)>
     match params {
         [CsiParam::P(b'?'), ..] => known_mode(Kind::PrivateModes, 1, params, control),
         _ if matches!(control, 'h' | 'l') => known_mode(Kind::StandardModes, 0, params, control),
-        _ if is_edit_final(control) => known_edit(params, control),
-        _ => known_cursor(params, control),
+        _ => known_lone(params, control),
     }
 }
 
@@ -144,42 +142,25 @@ fn known_mode(kind: Kind, start: usize, params: &[CsiParam], control: char) -> O
     Some((value, start + len))
 }
 
-/// The one edit of a whole list before a final byte of edits, and how many tokens are read then.
+/// The one action of a whole list, where it is a cursor sequence or an edit, and how many tokens are read then.
 #[inline(always)]
-fn known_edit(params: &[CsiParam], control: char) -> Option<(CSI, usize)>
-    requires { cursor_reading control params.now ≡ None }
+fn known_lone(params: &[CsiParam], control: char) -> Option<(CSI, usize)>
     ensures found { IfSome result (λ found. (k : PieceKind) (truncated : Bool) → lone_or truncated control params.now ≡ action_of found.0 ∷ pieces k truncated control (drop found.1 params.now)) }
     ensures some { IfSome result (λ found. 0 < found.1) }
 {
-    let value = lone_edit(params, control)?;
+    let value = lone_action(params, control)?;
     Some((value, params.len().max(1)))
 }
 
-/// The one cursor sequence of a whole list, and how many tokens are read then.
+/// The one action of a whole list, where it is a cursor sequence or an edit.
 #[inline(always)]
-fn known_cursor(params: &[CsiParam], control: char) -> Option<(CSI, usize)>
-    ensures found { IfSome result (λ found. (k : PieceKind) (truncated : Bool) → lone_or truncated control params.now ≡ action_of found.0 ∷ pieces k truncated control (drop found.1 params.now)) }
-    ensures some { IfSome result (λ found. 0 < found.1) }
-{
-    let value = lone_cursor(params, control)?;
-    Some((value, params.len().max(1)))
-}
-
-/// The one edit of a whole list, where its final byte is one of edits.
-#[inline(always)]
-fn lone_edit(params: &[CsiParam], control: char) -> Option<CSI>
-    requires { cursor_reading control params.now ≡ None }
+fn lone_action(params: &[CsiParam], control: char) -> Option<CSI>
     ensures { IfSome result (λ value. (truncated : Bool) → lone_or truncated control params.now ≡ action_of value ∷ []) }
 {
+    if let Some(value) = cursor_reading(params, control) {
+        return Some(CSI::Cursor(value));
+    }
     Some(CSI::Edit(edit_reading(params, control)?))
-}
-
-/// The one cursor sequence of a whole list.
-#[inline(always)]
-fn lone_cursor(params: &[CsiParam], control: char) -> Option<CSI>
-    ensures { IfSome result (λ value. (truncated : Bool) → lone_or truncated control params.now ≡ action_of value ∷ []) }
-{
-    Some(CSI::Cursor(cursor_reading(params, control)?))
 }
 
 /// A further action of a list, where it takes no memory, and how many tokens are read then.
@@ -380,13 +361,19 @@ fn piece(kind: Kind, params: &[CsiParam], control: char) -> Option<(CSI, usize)>
             let (value, len) = sgr_piece(params)?;
             Some((CSI::Sgr(value), len))
         }
-        Kind::PrivateModes => private_piece(params, control),
-        Kind::StandardModes => standard_piece(params, control),
+        Kind::PrivateModes => {
+            let (value, len) = private_piece(params, control)?;
+            Some((value, len))
+        }
+        Kind::StandardModes => {
+            let (value, len) = standard_piece(params, control)?;
+            Some((value, len))
+        }
     }
 }
 
 /// The private mode at the front of a list, and how many tokens it takes.
-#[inline(always)]
+#[inline(never)]
 fn private_piece(params: &[CsiParam], control: char) -> Option<(CSI, usize)>
     ensures { option_map found_action result ≡ piece_of private_mode_pieces control params.now }
 {
@@ -395,7 +382,7 @@ fn private_piece(params: &[CsiParam], control: char) -> Option<(CSI, usize)>
 }
 
 /// The mode of the standard at the front of a list, and how many tokens it takes.
-#[inline(always)]
+#[inline(never)]
 fn standard_piece(params: &[CsiParam], control: char) -> Option<(CSI, usize)>
     ensures { option_map found_action result ≡ piece_of standard_mode_pieces control params.now }
 {

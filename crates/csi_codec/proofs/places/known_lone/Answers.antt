@@ -1,7 +1,7 @@
 use Rattle.std.proofs.Common.{arith}
 use Rattle.csi_codec.specs.Sequences.{action_of}
 use Rattle.csi_codec.proofs.PlaceLemmas.{only_found}
-use Rattle.csi_codec.proofs.places.known_edit.Goals as goal
+use Rattle.csi_codec.proofs.places.known_lone.Goals as goal
 
 pub returns-clause-found : goal.returns-clause-found
 returns-clause-found c = λ k truncated.
