@@ -411,7 +411,7 @@ impl<'a> Pieces<'a> {
     {
         match self.short() {
             Ok(Some((short, action))) => Some(Ok(self.take_short(short, action))),
-            Ok(None) => self.next_by_sequence(),
+            Ok(None) => self.next_by_list(),
             Err(_) => {
                 self.stage = Stage::Over;
                 Some(Err(ParseError::Memory))
@@ -419,8 +419,20 @@ impl<'a> Pieces<'a> {
         }
     }
 
-    // The same of any control sequence whose bytes stand there.
+    // The same of any control sequence whose bytes stand there, called where it is wanted, as `next_by_loop` is.
     #[inline(always)]
+    fn next_by_list(&mut self) -> Option<Result<Piece<'a>, ParseError>>
+        requires open { IsOpen self.old }
+        requires ready { IsUnderWay self.old }
+        requires failed { self.old.parser.now.failed ≡ true }
+        requires empty { IsEmpty self.old.queue }
+        ensures { PiecesGo self.old result self.new }
+    {
+        self.next_by_sequence()
+    }
+
+    // The same of any control sequence whose bytes stand there.
+    #[inline(never)]
     fn next_by_sequence(&mut self) -> Option<Result<Piece<'a>, ParseError>>
         requires open { IsOpen self.old }
         requires ready { IsUnderWay self.old }
