@@ -13,6 +13,7 @@ pub struct VisibleCellIter<'a> {
 }
 
 impl<'a> VisibleCellIter<'a> {
+    /// The visible cells of a row of cells.
     pub fn new(cells: &'a [Cell]) -> VisibleCellIter<'a>
         ensures cells { result.cells.now ≡ cells.now }
         ensures index { result.cell_index ≡ 0 }
