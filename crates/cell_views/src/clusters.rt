@@ -105,7 +105,11 @@ impl CellCluster {
     fn has_attrs_of(&self, cell: &CellRef<'_>) -> Result<bool, AllocError>
         ensures { IfOk result (λ same. same ≡ same_attributes self.now.attributes (unwrapped (shown_by cell.now).cell.attributes)) }
     {
-        let attrs = unwrapped(cell.attrs())?;
+        let attrs = cell.attrs();
+        if !attrs.wrapped() {
+            return Ok(self.attrs == *attrs);
+        }
+        let attrs = unwrapped(attrs)?;
         Ok(self.attrs == attrs)
     }
 
