@@ -1,3 +1,4 @@
+pub mod ApartLemmas
 pub mod CharacterFacts
 pub mod CutLemmas
 pub mod LaneLemmas

@@ -47,10 +47,10 @@ pub graphemes-nil : graphemes true [] ≡ []
 unfolding segments chars cut
 graphemes-nil = refl
 
-front_printable : (c : ℕ) (rest : List ℕ) → 0 < prefix_len is_printable (c ∷ rest) → is_printable c ≡ true
+pub front_printable : (c : ℕ) (rest : List ℕ) → 0 < prefix_len is_printable (c ∷ rest) → is_printable c ≡ true
 front_printable c rest h = by_test (is_printable c) (λ e. e) (λ e. absurd (let none : prefix_len is_printable (c ∷ rest) ≡ 0 = ap (λ t. cond t (1 + prefix_len is_printable rest) 0) e in omega arith))
 
-front_len : (c : ℕ) (rest : List ℕ) → is_printable c ≡ true → prefix_len is_printable (c ∷ rest) ≡ 1 + prefix_len is_printable rest
+pub front_len : (c : ℕ) (rest : List ℕ) → is_printable c ≡ true → prefix_len is_printable (c ∷ rest) ≡ 1 + prefix_len is_printable rest
 front_len c rest e = ap (λ t. cond t (1 + prefix_len is_printable rest) 0) e
 
 -- before the last printable character each is a cluster
@@ -83,7 +83,7 @@ printable_front (suc n) (c ∷ text) h =
     let l = front_len c text p in
     ap₂ ◌&&◌ p (printable_front n text (omega arith))
 
-prefix_taken : (most : ℕ) (text : List ℕ) → prefix_len is_printable (take most text) ≡ min most (prefix_len is_printable text)
+pub prefix_taken : (most : ℕ) (text : List ℕ) → prefix_len is_printable (take most text) ≡ min most (prefix_len is_printable text)
 prefix_taken zero text = omega arith
 prefix_taken (suc most) [] = omega arith
 prefix_taken (suc most) (c ∷ text) = by_test (is_printable c)

@@ -103,3 +103,11 @@ cut_again (suc k) (suc n) (c ∷ cs) s h =
 -- behind some of its clusters a text has the others
 pub clusters_behind : (k : ℕ) (text : List ℕ) → IsUtf8 text → graphemes true (concat (drop k (graphemes true text))) ≡ drop k (graphemes true text)
 clusters_behind k text u = subst (λ (t : List ℕ). graphemes true (concat (drop k (graphemes true t))) ≡ drop k (graphemes true t)) u.1.1 (cut_again k (length u.0) u.0 u.1.0 (omega arith))
+
+-- the first cluster by itself
+pub first_alone : (text g : List ℕ) (gs : List (List ℕ)) → IsUtf8 text → graphemes true text ≡ g ∷ gs → graphemes true g ≡ g ∷ []
+first_alone text g gs u e =
+    let each_alone : map (graphemes true) (graphemes true text) ≡ map (λ cluster. cluster ∷ []) (graphemes true text) = same_at_clusters (graphemes true) (λ cluster. cluster ∷ []) (λ p e. e) text u in
+    let at_first : map (graphemes true) (g ∷ gs) ≡ map (λ cluster. cluster ∷ []) (g ∷ gs) =
+    sym (ap (map (graphemes true)) e) ∙ each_alone ∙ ap (map (λ cluster. cluster ∷ [])) e in
+    cc

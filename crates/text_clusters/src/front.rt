@@ -2,8 +2,10 @@
 ghost use Rattle.std.specs.Prelude.{◌≡◌, ◌↔◌, ◌++◌, ◌∷◌, ◌&&◌, [], true, not, nat_lt, min, length, map, take, drop, slice_index, IfSome, IsNone};
 ghost use Rattle.std.specs.List.{list_all, prefix_len};
 ghost use Rattle.unicode_segmentation.specs.Grapheme.{graphemes};
+ghost use Rattle.text_clusters.specs.Apart.{printable_len as apart_len};
 ghost use Rattle.text_clusters.specs.Plain.{is_printable, each, plain_len};
 
+use crate::apart::{begins_apart, split_apart};
 use crate::printable::{is_printable, printable_len};
 use unicode_segmentation::UnicodeSegmentation;
 
@@ -33,9 +35,9 @@ fn is_other_at(text: &str, place: usize) -> bool
     }
 }
 
-// Whether a printable character stands at the front.
+/// Whether a printable ASCII character (20h to 7Eh) stands at the front.
 #[inline(always)]
-fn begins_printable(text: &str) -> bool
+pub fn begins_printable(text: &str) -> bool
     ensures { result ≡ nat_lt 0 (prefix_len is_printable text.now) }
 {
     match text.as_bytes().first() {
@@ -71,8 +73,36 @@ pub fn split_plain(text: &str, most: usize) -> (&str, &str)
     text.split_at(plain_len(text, most))
 }
 
-/// Cuts off the first cluster of a text; the rest has the other clusters.
-pub fn split_first_cluster(text: &str) -> Option<(&str, &str)>
+// How many bytes of printable characters that nothing joins stand at the front, of `most` at the
+// most.
+#[inline(always)]
+fn apart_len(text: &str, most: usize) -> usize
+    ensures { result ≡ min most (apart_len text.now) }
+{
+    let run = printable_run(text, most);
+    let (_, rest) = text.split_at(run);
+    if begins_apart(rest) {
+        run
+    } else {
+        run.saturating_sub(1)
+    }
+}
+
+/// Cuts a text behind the printable ASCII characters (20h to 7Eh) at its front, or behind `most`
+/// bytes of them: each is a cluster by itself. The last of them goes to the rest where a character
+/// follows it that may join it; letters, ideographs, syllables and signs that stand apart don't.
+pub fn split_printable(text: &str, most: usize) -> (&str, &str)
+    ensures front { result.0.now ≡ take (min most (apart_len text.now)) text.now }
+    ensures rest { result.1.now ≡ drop (min most (apart_len text.now)) text.now }
+    ensures printable { list_all is_printable result.0.now ≡ true }
+    ensures clusters { graphemes true text.now ≡ each result.0.now ++ graphemes true result.1.now }
+{
+    text.split_at(apart_len(text, most))
+}
+
+// The same as `split_first_cluster`, by a walk over the text.
+#[inline(never)]
+fn walk_first_cluster(text: &str) -> Option<(&str, &str)>
     ensures none { IsNone result ↔ (text.now ≡ []) }
     ensures whole { IfSome result (λ parts. text.now ≡ parts.0.now ++ parts.1.now) }
     ensures clusters { IfSome result (λ parts. graphemes true text.now ≡ parts.0.now ∷ graphemes true parts.1.now) }
@@ -81,4 +111,20 @@ pub fn split_first_cluster(text: &str) -> Option<(&str, &str)>
     let mut clusters = text.graphemes(true);
     let first = clusters.next()?;
     Some((first, clusters.as_str()))
+}
+
+/// Cuts off the first cluster of a text; the rest has the other clusters. A first character that
+/// stands apart, as most letters, ideographs and syllables do, is cut off without a walk where
+/// another such one follows it, or none.
+#[inline(always)]
+pub fn split_first_cluster(text: &str) -> Option<(&str, &str)>
+    ensures none { IsNone result ↔ (text.now ≡ []) }
+    ensures whole { IfSome result (λ parts. text.now ≡ parts.0.now ++ parts.1.now) }
+    ensures clusters { IfSome result (λ parts. graphemes true text.now ≡ parts.0.now ∷ graphemes true parts.1.now) }
+    ensures alone { IfSome result (λ parts. graphemes true parts.0.now ≡ parts.0.now ∷ []) }
+{
+    if let Some(parts) = split_apart(text) {
+        return Some(parts);
+    }
+    walk_first_cluster(text)
 }

@@ -1,7 +1,8 @@
 //! Laws of the cut: each is the contract of a function that does nothing.
-ghost use Rattle.std.specs.Prelude.{◌≡◌, ℕ, ◌<◌, [], ◌∷◌, ◌++◌, List, true, length, map, take, drop};
+ghost use Rattle.std.specs.Prelude.{◌≡◌, ℕ, ◌<◌, [], ◌∷◌, ◌++◌, List, true, length, map, take, drop, encode_utf8};
 ghost use Rattle.std.specs.List.{concat, prefix_len};
 ghost use Rattle.unicode_segmentation.specs.Grapheme.{graphemes};
+ghost use Rattle.text_clusters.specs.Apart.{stands_apart, begins_apart};
 ghost use Rattle.text_clusters.specs.Plain.{is_printable, each};
 
 /// Each cluster of a text is by itself one cluster.
@@ -26,3 +27,11 @@ pub fn plain_clusters()
     ensures followed { (count : ℕ) (text : List ℕ) → count < prefix_len is_printable text → graphemes true text ≡ each (take count text) ++ graphemes true (drop count text) }
     ensures alone { (text : List ℕ) → prefix_len is_printable text ≡ length text → graphemes true text ≡ each text }
 {}
+
+/// Letters, ideographs, syllables and signs stand apart: such a character is a cluster by itself
+/// where the text ends behind it, or another one follows.
+pub fn clusters_apart(text: &str)
+    ensures { (first : ℕ) (rest : List ℕ) → text.now ≡ encode_utf8 first ++ rest → stands_apart first ≡ true → begins_apart rest ≡ true → graphemes true text.now ≡ encode_utf8 first ∷ graphemes true rest }
+{
+    let _text = text;
+}

@@ -2,9 +2,10 @@
 //! off by them.
 #![tactic(auto)]
 
+mod apart;
 mod front;
 pub mod laws;
 mod printable;
 
-pub use front::{split_first_cluster, split_plain};
+pub use front::{begins_printable, split_first_cluster, split_plain, split_printable};
 pub use printable::printable_len;

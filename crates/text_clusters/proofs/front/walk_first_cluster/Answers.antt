@@ -3,7 +3,7 @@ use Rattle.std.specs.List.{concat}
 use Rattle.unicode_segmentation.specs.Grapheme.{graphemes}
 use Rattle.unicode_segmentation.specs.Iter.{graphemes_left}
 use Rattle.text_clusters.proofs.TextLemmas.{joined_clusters, clusters_behind, same_at_clusters}
-use Rattle.text_clusters.proofs.front.split_first_cluster.Goals as goal
+use Rattle.text_clusters.proofs.front.walk_first_cluster.Goals as goal
 
 pub returns-in_err-first-clause-none : goal.returns-in_err-first-clause-none
 returns-in_err-first-clause-none c = (

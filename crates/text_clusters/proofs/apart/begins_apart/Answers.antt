@@ -1,0 +1,15 @@
+use Rattle.std.proofs.Common.{◌∙◌, ap, sym}
+use Rattle.std.specs.Str.{chars}
+use Rattle.std.proofs.lemmas.Str.{chars_past_char, chars-nil}
+use Rattle.std.proofs.lemmas.List.{nil_from_length}
+use Rattle.text_clusters.specs.Apart.{is_apart_first, begins_apart}
+use Rattle.text_clusters.proofs.apart.begins_apart.Goals as goal
+
+pub returns-in-None : goal.returns-in-None
+unfolding begins_apart
+returns-in-None c = sym (ap is_apart_first (ap chars (sym c.chars.ensures.rest ∙ nil_from_length _ c.in-None.ensures.steps.0.0) ∙ chars-nil))
+
+pub returns-in-Some : goal.returns-in-Some
+unfolding begins_apart
+returns-in-Some c =
+    c.stands_apart.ensures ∙ sym (ap is_apart_first (chars_past_char c.args.text.now _ c.in-Some.character c.utf8.text (sym c.chars.ensures.rest ∙ c.in-Some.ensures.steps.0)))
