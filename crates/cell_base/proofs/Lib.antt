@@ -7,3 +7,4 @@ pub mod SameTexts
 pub mod TextsReading
 pub mod PlainClusters
 pub mod NarrowAscii
+pub mod LoneWidths

@@ -1,5 +1,5 @@
 //! Cells: a text of one cluster with its width and attributes.
-ghost use Rattle.std.specs.Prelude.{◌≡◌, ◌≤◌, ◌↔◌, ◌==◌, ◌&&◌, true, not, None, [], ◌∷◌, encode_utf8, IfOk, OnOk, OnErr, IsTrue};
+ghost use Rattle.std.specs.Prelude.{◌≡◌, ◌≤◌, ◌↔◌, ◌==◌, ◌&&◌, true, false, not, None, [], ◌∷◌, length, encode_utf8, IfOk, OnOk, OnErr, IsTrue};
 ghost use Rattle.std.specs.Borrow.{sem};
 ghost use Rattle.cell_base.specs.Attributes.{Attributes, plain};
 ghost use Rattle.cell_base.specs.CellContent.{cell_of, blank_cell, shows_as_space};
@@ -7,7 +7,7 @@ ghost use Rattle.cell_base.specs.LawfulCell.{IsCell};
 ghost use Rattle.text_clusters.specs.Plain.{is_printable};
 
 use crate::cell_attributes::CellAttributes;
-use crate::cell_text::{CellText, shows_as_space};
+use crate::cell_text::{CellText, is_few, shows_as_space};
 use crate::widths::Widths;
 use std::alloc::{AllocError, Global};
 use std::marker::Model;
@@ -158,6 +158,47 @@ impl Cell {
     /// stays as it was.
     #[inline(always)]
     pub fn set_grapheme_with_width(
+        &mut self,
+        alloc: Global,
+        text: &str,
+        width: usize,
+        attrs: &CellAttributes,
+    ) -> Result<(), AllocError>
+        requires { width ≤ 2 }
+        ensures done { OnOk result (self.new ≡ cell_of text.now width attrs.now) }
+        ensures refused { OnErr result (self.new ≡ self.old) }
+    {
+        if is_few(text) {
+            self.set_few(text, width, attrs)?;
+            return Ok(());
+        }
+        self.set_text(alloc, text, width, attrs)?;
+        Ok(())
+    }
+
+    // The same for a text of two to four bytes that is kept as it is.
+    #[inline(always)]
+    fn set_few(
+        &mut self,
+        text: &str,
+        width: usize,
+        attrs: &CellAttributes,
+    ) -> Result<(), AllocError>
+        requires most { width ≤ 2 }
+        requires few { length text.now ≤ 4 }
+        requires kept { shows_as_space text.now ≡ false }
+        ensures done { OnOk result (self.new ≡ cell_of text.now width attrs.now) }
+        ensures refused { OnErr result (self.new ≡ self.old) }
+    {
+        self.attributes.copy_from(attrs)?;
+        self.text.set_few(text);
+        self.wide = width == 2;
+        Ok(())
+    }
+
+    // The same for any text.
+    #[inline(never)]
+    fn set_text(
         &mut self,
         alloc: Global,
         text: &str,

@@ -419,6 +419,16 @@ impl CellAttributes {
         if self.hyperlink.is_none() && other.hyperlink.is_none() {
             return Ok(());
         }
+        self.take_link(other)?;
+        Ok(())
+    }
+
+    // The same where one of both has a link.
+    #[inline(never)]
+    fn take_link(&mut self, other: &CellAttributes) -> Result<(), AllocError>
+        ensures done { OnOk result (self.new ≡ record self.old { hyperlink = other.now.hyperlink }) }
+        ensures refused { OnErr result (self.new ≡ self.old) }
+    {
         self.hyperlink = other.hyperlink.clone()?;
         Ok(())
     }
@@ -442,8 +452,17 @@ impl CellAttributes {
     {
         self.look = other.look;
         if self.hyperlink.is_some() {
-            self.hyperlink = None;
+            self.drop_link();
         }
+    }
+
+    // No link is left.
+    #[cold]
+    #[inline(never)]
+    fn drop_link(&mut self)
+        ensures { self.new ≡ record self.old { hyperlink = None } }
+    {
+        self.hyperlink = None;
     }
 
     /// A copy that shares the link.

@@ -1,5 +1,5 @@
 //! The text of a cell.
-ghost use Rattle.std.specs.Prelude.{◌≡◌, ℕ, ◌<◌, Bool, true, false, [], ◌∷◌, IfOk, if◌then◌else◌};
+ghost use Rattle.std.specs.Prelude.{◌≡◌, ℕ, ◌<◌, ◌≤◌, Bool, true, false, [], ◌∷◌, length, IfOk, IsTrue, if◌then◌else◌};
 ghost use Rattle.cell_base.specs.CellContent.{cell_text, shows_as_space};
 ghost use Rattle.cell_base.specs.CellText.{columns_of, text_bytes};
 
@@ -71,6 +71,17 @@ impl CellText {
         *self = CellText::of_ascii(byte);
     }
 
+    // Becomes a text of two to four bytes.
+    #[inline(always)]
+    pub(crate) fn set_few(&mut self, text: &str)
+        requires few { length text.now ≤ 4 }
+        requires kept { shows_as_space text.now ≡ false }
+        ensures text { text_bytes self.new ≡ cell_text text.now }
+        ensures columns { (wide : Bool) → columns_of self.new wide ≡ (if wide then 2 else 1) }
+    {
+        *self = CellText::Short(ShortText::of(text));
+    }
+
     // How many columns the text takes where wide ones take two.
     pub(crate) fn columns(&self, wide: bool) -> usize
         ensures { result ≡ columns_of self.now wide }
@@ -103,7 +114,21 @@ impl CellText {
     }
 }
 
+// Whether the text has two to four bytes, and a cell holds it as it is: one character, mostly.
+#[inline(always)]
+pub(crate) fn is_few(text: &str) -> bool
+    ensures few { IsTrue result → length text.now ≤ 4 }
+    ensures kept { IsTrue result → shows_as_space text.now ≡ false }
+{
+    match text.as_bytes() {
+        [first, _] => *first >= 128,
+        [_, _, _] | [_, _, _, _] => true,
+        _ => false,
+    }
+}
+
 // Whether the text is one that no cell holds as it is.
+#[inline(always)]
 pub(crate) fn shows_as_space(text: &str) -> bool
     ensures { result ≡ shows_as_space text.now }
 {

@@ -45,6 +45,18 @@ pub(crate) struct ShortText {
 }
 
 impl ShortText {
+    // The text, which is short.
+    #[inline(always)]
+    pub(crate) fn of(text: &str) -> ShortText
+        requires { length text.now ≤ 22 }
+        ensures { take result.len result.bytes ≡ text.now }
+    {
+        ShortText {
+            bytes: padded(text.as_bytes()),
+            len: text.len() as u8,
+        }
+    }
+
     // The text, if it is short.
     #[inline(always)]
     pub(crate) fn new(text: &str) -> Option<ShortText>
@@ -53,10 +65,7 @@ impl ShortText {
         if text.len() > 22 {
             return None;
         }
-        Some(ShortText {
-            bytes: padded(text.as_bytes()),
-            len: text.len() as u8,
-        })
+        Some(ShortText::of(text))
     }
 
     fn as_bytes(&self) -> &[u8]

@@ -1,9 +1,11 @@
-ghost use Rattle.std.specs.Prelude.{◌≡◌, ℕ, ◌≤◌, true, List, [], ◌∷◌, IsTrue};
+ghost use Rattle.std.specs.Prelude.{◌≡◌, ℕ, ◌<◌, ◌≤◌, false, true, List, [], ◌∷◌, min, IfSome, IsTrue};
+ghost use Rattle.std.specs.Str.{chars};
+ghost use Rattle.unicode_width.specs.Width.{str_width};
 ghost use Rattle.std.proofs.Common.{arith};
 ghost use Rattle.cell_base.specs.Cluster.{program_width, program_width_le, program_width-space};
 ghost use Rattle.text_clusters.specs.Plain.{is_printable};
 
-use unicode_width::UnicodeWidthStr;
+use unicode_width::{UnicodeWidthChar, UnicodeWidthStr};
 
 /// How many columns of a terminal a text takes. Two values of widths are the same where they
 /// answer alike for every text.
@@ -42,11 +44,14 @@ impl Widths for ProgramWidth {
 
     ghost space_is_one = { λ _. program_width-space };
 
-    #[tactic(auto, unfolding(crate::specs::Cluster::program_width))]
+    #[inline(always)]
     fn width(&self, cluster: &str) -> u8
         ensures { result ≡ program_width cluster.now }
     {
-        cluster.width().min(2) as u8
+        match lone_character(cluster) {
+            Some(character) => character_columns(character),
+            None => text_columns(cluster),
+        }
     }
 
     fn has_narrow_ascii(&self) -> bool
@@ -55,4 +60,35 @@ impl Widths for ProgramWidth {
     {
         true
     }
+}
+
+// The one character of a text, if it lies above U+00A0.
+#[inline(always)]
+fn lone_character(text: &str) -> Option<char>
+    ensures { IfSome result (λ character. (chars text.now ≡ character ∷ []) × (0xA0 < character)) }
+{
+    let mut characters = text.chars();
+    let first = characters.next()?;
+    if first > '\u{a0}' && characters.as_str().is_empty() {
+        return Some(first);
+    }
+    None
+}
+
+// The columns of a character by itself.
+#[inline(always)]
+fn character_columns(character: char) -> u8
+    requires { 0xA0 < character }
+    ensures { result ≡ min (str_width false (character ∷ [])) 2 }
+{
+    character.width().unwrap_or(0).min(2) as u8
+}
+
+// The columns of a text.
+#[inline(never)]
+#[tactic(auto, unfolding(crate::specs::Cluster::program_width))]
+fn text_columns(text: &str) -> u8
+    ensures { result ≡ program_width text.now }
+{
+    text.width().min(2) as u8
 }
