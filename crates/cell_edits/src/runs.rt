@@ -12,7 +12,7 @@ ghost use Rattle.cell_edits.specs.TextRuns.{place_behind, plain_cells, text_on, 
 use crate::row::{open, push_blanks_with};
 use cell_base::{Cell, CellAttributes, Widths};
 use std::alloc::{AllocError, Global};
-use text_clusters::{split_first_cluster, split_plain};
+use text_clusters::{begins_printable, split_first_cluster, split_printable};
 
 // The cell at a place becomes that of a printable character.
 #[inline(always)]
@@ -80,6 +80,7 @@ fn put_cluster(
 }
 
 // Blanks with attributes without a link stand in the places of a range.
+#[inline(always)]
 fn write_blanks_without_link(cells: &mut [Cell], start: usize, end: usize, attrs: &CellAttributes)
     requires order { start ≤ end }
     requires within { end ≤ length cells.old }
@@ -159,6 +160,7 @@ pub fn clear(cells: &mut Vec<Cell>, width: usize, attrs: &CellAttributes) -> Res
 }
 
 // Cells of one printable character each stand from a place on, with attributes without a link.
+#[inline(always)]
 fn write_plain_without_link(cells: &mut [Cell], start: usize, bytes: &[u8], attrs: &CellAttributes)
     requires printable { list_all is_printable bytes.now ≡ true }
     requires within { start + length bytes.now ≤ length cells.old }
@@ -243,10 +245,13 @@ fn set_plain_front<'a, W: Widths>(
     ensures len { vec_len cells.new ≡ vec_len cells.old }
     ensures leads { IfOk result (λ next. Leads (W.width_of w.now) end attrs.now (row_of_cells cells.old.items) at text.now (row_of_cells cells.new.items) next.0 next.1.now) }
 {
+    if !begins_printable(text) {
+        return Ok((at, text));
+    }
     if !w.has_narrow_ascii() {
         return Ok((at, text));
     }
-    let (front, rest) = split_plain(text, end - at);
+    let (front, rest) = split_printable(text, end - at);
     set_plain(cells, at, front, attrs)?;
     Ok((at + front.len(), rest))
 }
