@@ -1,11 +1,11 @@
 //! The log.
-ghost use Rattle.std.specs.Prelude.{IfOk, ◌≡◌, ◌⊎◌, ◌+◌, ◌<◌, ◌≤◌, ◌^◌, ◌↔◌, IsTrue, [], drop, length, map, take, ◌-◌, OnOk, OnErr};
+ghost use Rattle.std.specs.Prelude.{IfOk, ℕ, ◌≡◌, ◌⊎◌, ◌+◌, ◌<◌, ◌≤◌, ◌^◌, ◌↔◌, IsTrue, [], drop, length, map, take, vec_len, ◌-◌, OnOk, OnErr};
 ghost use Rattle.std.specs.Option.{option_map};
 ghost use Rattle.cell_change.specs.ValueOf.{value_of};
 ghost use Rattle.change_log.specs.Log.{due, new_log};
 ghost use Rattle.change_log.specs.LogSteps.{Forgotten, Logged, Resized, step_of_kept};
 
-use cell_base::SequenceNo;
+use cell_base::{CursorVisibility, SequenceNo};
 use cell_change::{Change, cloned_changes};
 use std::alloc::{AllocError, Global};
 use std::marker::Model;
@@ -40,6 +40,27 @@ fn bring_to_front(changes: &mut [Change], count: usize)
 {
     let (front, last) = changes.split_at_mut(changes.len() - count);
     front[..count].swap_with_slice(last);
+}
+
+// A change that holds no memory takes the place of the one that is there.
+fn clear_at(changes: &mut Vec<Change>, at: usize)
+    requires { at < vec_len changes.old }
+    ensures len { vec_len changes.new ≡ vec_len changes.old }
+    ensures kept { (n : ℕ) → at < n → drop n changes.new.items ≡ drop n changes.old.items }
+{
+    changes[at] = Change::CursorVisibility(CursorVisibility::Visible);
+}
+
+// Gives back what the first change that is kept holds, where that change goes. Memory that is given back as other memory is
+// asked for is cheaper than much of it at once.
+fn release(changes: &mut Vec<Change>, first: usize, start: usize)
+    requires { start ≤ vec_len changes.old }
+    ensures len { vec_len changes.new ≡ vec_len changes.old }
+    ensures kept { drop start changes.new.items ≡ drop start changes.old.items }
+{
+    if first < start {
+        clear_at(changes, first);
+    }
 }
 
 // Drops the changes that are gone where more are stored than may be due; answers how many still are.
@@ -98,6 +119,7 @@ impl ChangeLog {
         self.number += 1;
         let first = self.changes.len().saturating_sub(self.most);
         let start = self.start.max(first);
+        release(&mut self.changes, self.start, start);
         self.start = without_gone(&mut self.changes, start, self.most);
         Ok(())
     }

@@ -15,7 +15,7 @@ returns-clause-done c =
     let pushed_items = c.in_ok-push.ensures.items in
     let len : c.len.result ≡ length all = let k = stored.ok.0 in let n = c.len.ensures in let e = ap length pushed_items in omega arith in
     let start : c.max-start.result ≡ max a.start (length all - a.most) = c.max-start.ensures ∙ ap (max a.start) (c.saturating_sub-first.ensures ∙ ap (λ m. m - a.most) len) in
-    let rest = c.without_gone-self-inside.ensures.rest ∙ (λ i. drop (start i) (pushed_items i)) in
+    let rest = c.without_gone-self-inside.ensures.rest ∙ c.release.ensures.kept ∙ (λ i. drop (start i) (pushed_items i)) in
     let shown = drop c.without_gone-self-inside.result c.without_gone-self-inside.new.changes.items in
     let entries = pushed items a.start a.most c.self.invariant.stored c.args.change shown rest in
     subst (λ (s : Sized). record { most = a.most; log = record { number = a.number + 1; entries = map value_of shown } } ≡ record { most = s.most; log = kept s.most (logged (value_of c.args.change) s.log) }) c.self.view_is
