@@ -1,4 +1,5 @@
 pub mod FeedLemmas
+pub mod KnownLemmas
 pub mod LineLemmas
 pub mod MoveLemmas
 pub mod PartLemmas
@@ -7,3 +8,4 @@ pub mod RunLemmas
 pub mod ShowLemmas
 pub mod TextLemmas
 pub mod VecLemmas
+pub mod WrittenLemmas

@@ -5,4 +5,4 @@ use Rattle.screen_canvas.specs.declared.canvas.Canvas.TheInside.{Inside}
 use Rattle.screen_effects.specs.Effect.{is_visible}
 
 abbrev pub canvas_of : {W : Type 0} → Inside W → Canvas W
-canvas_of a = record { widths = a.widths; width = a.width; lines = a.lines.items; column = a.column; row = a.row; visible = is_visible a.visibility; shape = a.shape; pen = a.pen; title = string_bytes a.title }
+canvas_of a = record { widths = a.widths; width = a.width; lines = a.rows; column = a.column; row = a.row; visible = is_visible a.visibility; shape = a.shape; pen = a.pen; title = string_bytes a.title }

@@ -2,3 +2,4 @@ pub mod Canvas
 pub mod CanvasView
 pub mod Parts
 pub mod Rows
+pub mod Written

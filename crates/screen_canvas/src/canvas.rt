@@ -16,8 +16,8 @@ ghost use Rattle.screen_effects.specs.Strokes.{CarriageReturn, Cluster, Control,
 
 use crate::positions::{column_place, place};
 use crate::rows::{
-    blank_lines, blank_rows, resize, scroll, scroll_down, scroll_up, set_blanks, set_cell,
-    set_size, set_text,
+    Rows, blank_lines, blank_rows, blank_rows_below, resize, scroll, scroll_down, scroll_up,
+    set_blanks, set_cell, set_size, set_text,
 };
 use crate::text::{next_cluster, split_at_control, split_control};
 use cell_base::{
@@ -36,7 +36,7 @@ pub struct Canvas<W> {
     alloc: Global,
     widths: W,
     width: usize,
-    lines: Vec<Line>,
+    rows: Rows,
     column: usize,
     row: usize,
     visibility: CursorVisibility,
@@ -68,7 +68,7 @@ impl<W: Widths + Drop> Canvas<W> {
             alloc,
             widths,
             width,
-            lines: blank_lines(alloc, width, height)?,
+            rows: blank_lines(alloc, width, height)?,
             column: 0,
             row: 0,
             visibility: CursorVisibility::Visible,
@@ -83,7 +83,7 @@ impl<W: Widths + Drop> Canvas<W> {
         ensures width { result.0 ≡ self.now.width }
         ensures height { result.1 ≡ length self.now.lines }
     {
-        (self.width, self.lines.len())
+        (self.width, self.rows.len())
     }
 
     /// The cursor's column and row. The column is the width while a wrap is pending.
@@ -126,7 +126,7 @@ impl<W: Widths + Drop> Canvas<W> {
     pub fn lines(&self) -> &[Line]
         ensures { result.now ≡ self.now.lines }
     {
-        self.lines.as_slice()
+        self.rows.lines()
     }
 
     /// Becomes so many columns wide and so many rows high. The top left stays, and plain blanks come
@@ -138,7 +138,7 @@ impl<W: Widths + Drop> Canvas<W> {
         requires high_enough { 0 < height }
         ensures { OnOk result (Shows self.old self.new (resized width height (display_of self.old))) }
     {
-        resize(self.alloc, &mut self.lines, width, height)?;
+        resize(self.alloc, &mut self.rows, width, height)?;
         self.width = width;
         self.column = self.column.min(width - 1);
         self.row = self.row.min(height - 1);
@@ -158,11 +158,12 @@ impl<W: Widths + Drop> Canvas<W> {
         requires { IsDrawn self.old }
         ensures { OnOk result (Shows self.old self.new (stroke_done (W.width_of self.old.widths) (display_of self.old) LineFeed)) }
     {
-        if self.row + 1 < self.lines.len() {
+        let height = self.rows.len();
+        if self.row + 1 < height {
             self.row += 1;
             return Ok(());
         }
-        scroll(&mut self.lines)?;
+        scroll(&mut self.rows)?;
         Ok(())
     }
 
@@ -175,7 +176,7 @@ impl<W: Widths + Drop> Canvas<W> {
         ensures { OnOk result (self.new ≡ canvas_with self.old (columns_of text.now (nat_le 2 width) self.old.pen) width) }
     {
         let pen = self.pen.try_clone()?;
-        set_cell(&mut self.lines, self.row, self.column, text, width, pen)?;
+        set_cell(&mut self.rows, self.row, self.column, text, width, pen)?;
         self.column += width;
         Ok(())
     }
@@ -225,7 +226,7 @@ impl<W: Widths + Drop> Canvas<W> {
         ensures { IfOk result (λ left. LeadsOn (W.width_of self.old.widths) self.old self.new (clusters text.now) (clusters left.now)) }
     {
         let (column, left) = set_text(
-            &mut self.lines,
+            &mut self.rows,
             self.row,
             self.column,
             text,
@@ -307,7 +308,7 @@ impl<W: Widths + Drop> Canvas<W> {
         ensures { OnOk result (Shows self.old self.new (effect (W.width_of self.old.widths) (display_of self.old) (ClearScreen color))) }
     {
         let pen = blank_of(color);
-        blank_rows(&mut self.lines, 0, &pen)?;
+        blank_rows(&mut self.rows, 0, &pen)?;
         self.pen = pen;
         self.column = 0;
         self.row = 0;
@@ -320,7 +321,7 @@ impl<W: Widths + Drop> Canvas<W> {
         ensures { OnOk result (Shows self.old self.new (effect (W.width_of self.old.widths) (display_of self.old) (ClearToEndOfLine color))) }
     {
         let pen = blank_of(color);
-        set_blanks(&mut self.lines, self.row, self.column, &pen)?;
+        set_blanks(&mut self.rows, self.row, self.column, &pen)?;
         self.pen = pen;
         Ok(())
     }
@@ -331,8 +332,8 @@ impl<W: Widths + Drop> Canvas<W> {
         ensures { OnOk result (Shows self.old self.new (effect (W.width_of self.old.widths) (display_of self.old) (ClearToEndOfScreen color))) }
     {
         let pen = blank_of(color);
-        set_blanks(&mut self.lines, self.row, self.column, &pen)?;
-        blank_rows(&mut self.lines, self.row + 1, &pen)?;
+        set_blanks(&mut self.rows, self.row, self.column, &pen)?;
+        blank_rows_below(&mut self.rows, self.row, &pen)?;
         self.pen = pen;
         Ok(())
     }
@@ -343,7 +344,7 @@ impl<W: Widths + Drop> Canvas<W> {
         ensures { Shows self.old self.new (effect (W.width_of self.old.widths) (display_of self.old) (CursorPosition x y)) }
     {
         self.column = column_place(self.width, self.column, x);
-        self.row = place(self.lines.len(), self.row, y);
+        self.row = place(self.rows.len(), self.row, y);
     }
 
     // The cursor's row has another size.
@@ -352,7 +353,7 @@ impl<W: Widths + Drop> Canvas<W> {
         ensures { Shows self.old self.new (effect (W.width_of self.old.widths) (display_of self.old) (LineSize size)) }
     {
         let row = self.row;
-        set_size(&mut self.lines, row, size);
+        set_size(&mut self.rows, row, size);
     }
 
     // Rows of a region move up, and plain ones come below.
@@ -365,10 +366,10 @@ impl<W: Widths + Drop> Canvas<W> {
         requires { IsDrawn self.old }
         ensures { OnOk result (Shows self.old self.new (effect (W.width_of self.old.widths) (display_of self.old) (ScrollRegionUp first size count))) }
     {
-        let height = self.lines.len();
+        let height = self.rows.len();
         let first = first.min(height);
         let behind = first + size.min(height - first);
-        scroll_up(&mut self.lines, first, behind, count.min(behind - first))?;
+        scroll_up(&mut self.rows, first, behind, count.min(behind - first))?;
         Ok(())
     }
 
@@ -382,10 +383,10 @@ impl<W: Widths + Drop> Canvas<W> {
         requires { IsDrawn self.old }
         ensures { OnOk result (Shows self.old self.new (effect (W.width_of self.old.widths) (display_of self.old) (ScrollRegionDown first size count))) }
     {
-        let height = self.lines.len();
+        let height = self.rows.len();
         let first = first.min(height);
         let behind = first + size.min(height - first);
-        scroll_down(&mut self.lines, first, behind, count.min(behind - first))?;
+        scroll_down(&mut self.rows, first, behind, count.min(behind - first))?;
         Ok(())
     }
 
@@ -422,17 +423,6 @@ impl<W: Widths + Drop> Canvas<W> {
     }
 }
 
-// Copies of lines.
-fn cloned_lines(alloc: Global, lines: &[Line]) -> Result<Vec<Line>, AllocError>
-    ensures { IfOk result (λ copies. copies.items ≡ lines.now) }
-{
-    let mut copies = Vec::new(alloc);
-    for line in lines {
-        copies.push(line.try_clone()?)?;
-    }
-    Ok(copies)
-}
-
 impl<W: Widths + Copy + Drop> Canvas<W> {
     /// A copy.
     pub fn try_clone(&self) -> Result<Canvas<W>, AllocError>
@@ -442,7 +432,7 @@ impl<W: Widths + Copy + Drop> Canvas<W> {
             alloc: self.alloc,
             widths: self.widths,
             width: self.width,
-            lines: cloned_lines(self.alloc, self.lines.as_slice())?,
+            rows: self.rows.try_clone(self.alloc)?,
             column: self.column,
             row: self.row,
             visibility: self.visibility,

@@ -1,192 +1,346 @@
 //! Rows of lines that are cleared, written and moved.
-ghost use Rattle.std.specs.Prelude.{◌≡◌, ◌+◌, ◌-◌, ◌<◌, ◌≤◌, ◌++◌, ◌∷◌, [], All, length, drop, take, map, slice_set, slice_index_or, replicate, vec_len, IfOk, OnOk};
+ghost use Rattle.std.specs.Prelude.{◌≡◌, ◌↔◌, ◌+◌, ◌-◌, ◌^◌, ◌<◌, ◌≤◌, ◌++◌, ◌∷◌, [], IsTrue, length, drop, take, map, max, slice_set, slice_index_or, replicate, IfOk, OnOk};
+ghost use Rattle.cell_base.specs.Attributes.{blank_of, plain};
 ghost use Rattle.cell_base.specs.Cluster.{clusters};
 ghost use Rattle.cell_base.specs.Row.{plain_row, blank};
 ghost use Rattle.cell_line.specs.LineCalls.{set_blanks as blanks_set, set_text as text_set, set_cell_grapheme as grapheme_set, set_text_end, set_clusters};
 ghost use Rattle.cell_line.specs.LineContent.{line_of, with_bits};
 ghost use Rattle.screen_canvas.specs.Canvas.{line_at};
 ghost use Rattle.screen_canvas.specs.Rows.{blanked, cleared, rows_down, rows_up, widened};
+ghost use Rattle.screen_canvas.specs.Written.{IsWrittenTo};
 
-use cell_base::{CellAttributes, LineAttribute, SEQ_ZERO, Widths};
+use cell_base::{CellAttributes, ColorAttribute, LineAttribute, SEQ_ZERO, Widths};
 use cell_line::Line;
 use std::alloc::{AllocError, Global};
+use std::marker::Model;
 
-// Lines of plain blanks.
-pub(crate) fn blank_lines(
-    alloc: Global,
-    width: usize,
-    count: usize,
-) -> Result<Vec<Line>, AllocError>
-    ensures { IfOk result (λ lines. lines.items ≡ replicate count (line_of 0 (plain_row width))) }
-{
-    let mut lines = Vec::with_capacity(alloc, count)?;
-    for _ in 0..count {
-        lines.push(Line::with_width(alloc, width, SEQ_ZERO)?)?;
-    }
-    Ok(lines)
+/// Lines, and how far each of them was written, so that what clears a line passes over the plain
+/// blanks at its end.
+#[derive(Drop)]
+pub(crate) struct Rows {
+    lines: Vec<Line>,
+    // A line is plain blanks from this column on. None where that isn't known: while a line is being
+    // changed, and so behind a change that was refused memory.
+    written: Vec<Option<usize>>,
 }
 
-// A line becomes one of plain blanks.
-fn clear_line(line: &mut Line) -> Result<(), AllocError>
-    ensures { OnOk result (line.new ≡ record line.old { bits = LineAttribute.SingleWidthLine; columns = plain_row (length line.old.columns) }) }
+impl Model for Rows {
+    ghost use Rattle.std.specs.Prelude.{List};
+    ghost use Rattle.cell_line.specs.LineContent.{LineContent};
+    ghost use Rattle.screen_canvas.specs.Written.{AreKnown};
+
+    ghost Value = { List LineContent };
+
+    ghost view = { λ r. r.lines.items };
+
+    ghost invariant = { λ r. AreKnown r.lines.items r.written.items };
+}
+
+impl Rows {
+    /// How many rows there are.
+    pub(crate) fn len(&self) -> usize
+        ensures { result ≡ length self.now }
+    {
+        self.lines.len()
+    }
+
+    /// The rows as lines, from the top.
+    pub(crate) fn lines(&self) -> &[Line]
+        ensures { result.now ≡ self.now }
+    {
+        self.lines.as_slice()
+    }
+
+    // A column from which on a row is plain blanks.
+    fn written_to(&self, row: usize) -> usize
+        requires { row < length self.now }
+        ensures { IsWrittenTo result (line_at self.now row).columns }
+    {
+        match self.written[row] {
+            Some(column) => column,
+            None => self.lines[row].len(),
+        }
+    }
+
+    /// A copy.
+    pub(crate) fn try_clone(&self, alloc: Global) -> Result<Rows, AllocError>
+        ensures { IfOk result (λ rows. rows ≡ self.now) }
+    {
+        let mut lines = Vec::new(alloc);
+        for line in self.lines.as_slice() {
+            lines.push(line.try_clone()?)?;
+        }
+        let mut written = Vec::new(alloc);
+        written.extend_from_slice(self.written.as_slice())?;
+        Ok(Rows { lines, written })
+    }
+}
+
+// Rows of plain blanks.
+pub(crate) fn blank_lines(alloc: Global, width: usize, count: usize) -> Result<Rows, AllocError>
+    ensures { IfOk result (λ rows. rows ≡ replicate count (line_of 0 (plain_row width))) }
 {
+    let mut lines = Vec::with_capacity(alloc, count)?;
+    let mut written = Vec::with_capacity(alloc, count)?;
+    for _ in 0..count {
+        lines.push(Line::with_width(alloc, width, SEQ_ZERO)?)?;
+        written.push(Some(0))?;
+    }
+    Ok(Rows { lines, written })
+}
+
+// Whether blanks on a background are plain.
+fn is_plain(attrs: &CellAttributes) -> bool
+    requires { attrs.now ≡ blank_of attrs.now.background }
+    ensures { IsTrue result ↔ (attrs.now ≡ plain) }
+{
+    matches!(attrs.background(), ColorAttribute::Default)
+}
+
+// Columns of a line become plain blanks.
+fn blank_columns(line: &mut Line, from: usize, behind: usize) -> Result<(), AllocError>
+    requires order { from ≤ behind }
+    requires within { behind ≤ length line.old.columns }
+    ensures { OnOk result (line.new ≡ blanks_set line.old from behind plain) }
+{
+    line.set_blanks(from..behind, &CellAttributes::blank())?;
+    Ok(())
+}
+
+// The columns of a row from one on become plain blanks: those that aren't known to be so.
+fn set_plain_blanks(rows: &mut Rows, row: usize, at: usize) -> Result<(), AllocError>
+    requires row_in { row < length rows.old }
+    requires within { at ≤ length (line_at rows.old row).columns }
+    ensures len { length rows.new ≡ length rows.old }
+    ensures lines { OnOk result (rows.new ≡ slice_set rows.old row (blanks_set (line_at rows.old row) at (length (line_at rows.old row).columns) plain)) }
+{
+    let written = rows.written_to(row);
+    if written < at {
+        return Ok(());
+    }
+    rows.written[row] = None;
+    blank_columns(&mut rows.lines[row], at, written)?;
+    rows.written[row] = Some(at);
+    Ok(())
+}
+
+// The columns of a row from one on become blanks with attributes, whatever these are.
+fn set_other_blanks(
+    rows: &mut Rows,
+    row: usize,
+    at: usize,
+    attrs: &CellAttributes,
+) -> Result<(), AllocError>
+    requires row_in { row < length rows.old }
+    requires within { at ≤ length (line_at rows.old row).columns }
+    ensures len { length rows.new ≡ length rows.old }
+    ensures lines { OnOk result (rows.new ≡ slice_set rows.old row (blanks_set (line_at rows.old row) at (length (line_at rows.old row).columns) attrs.now)) }
+{
+    rows.written[row] = None;
+    let line = &mut rows.lines[row];
     let width = line.len();
-    line.resize_and_clear(width, SEQ_ZERO, CellAttributes::blank())?;
+    line.set_blanks(at..width, attrs)?;
+    rows.written[row] = Some(width);
+    Ok(())
+}
+
+// A row becomes one of plain blanks.
+fn clear_line(rows: &mut Rows, row: usize) -> Result<(), AllocError>
+    requires { row < length rows.old }
+    ensures len { length rows.new ≡ length rows.old }
+    ensures lines { OnOk result (rows.new ≡ slice_set rows.old row (cleared (line_at rows.old row))) }
+{
+    set_plain_blanks(rows, row, 0)?;
+    rows.lines[row].set_single_width(SEQ_ZERO);
     Ok(())
 }
 
 // The first line goes, and one of plain blanks comes below.
-pub(crate) fn scroll(lines: &mut Vec<Line>) -> Result<(), AllocError>
-    requires { 0 < vec_len lines.old }
-    ensures { OnOk result (lines.new.items ≡ drop 1 lines.old.items ++ record (line_at lines.old.items 0) { bits = LineAttribute.SingleWidthLine; columns = plain_row (length (line_at lines.old.items 0).columns) } ∷ []) }
+pub(crate) fn scroll(rows: &mut Rows) -> Result<(), AllocError>
+    requires { 0 < length rows.old }
+    ensures { OnOk result (rows.new ≡ drop 1 rows.old ++ record (line_at rows.old 0) { bits = LineAttribute.SingleWidthLine; columns = plain_row (length (line_at rows.old 0).columns) } ∷ []) }
 {
-    lines.rotate_left(1);
-    let last = lines.len() - 1;
-    clear_line(&mut lines[last])?;
+    rows.lines.rotate_left(1);
+    rows.written.rotate_left(1);
+    let last = rows.lines.len() - 1;
+    clear_line(rows, last)?;
     Ok(())
 }
 
 // Sets the clusters of a text from a column of a row on, as far as they fit; answers the column
 // behind them and the text that is left.
 pub(crate) fn set_text<'a, W: Widths>(
-    lines: &mut Vec<Line>,
+    rows: &mut Rows,
     row: usize,
     at: usize,
     text: &'a str,
     attrs: &CellAttributes,
     w: &W,
 ) -> Result<(usize, &'a str), AllocError>
-    requires row_in { row < vec_len lines.old }
-    requires within { at ≤ length (line_at lines.old.items row).columns }
-    ensures len { vec_len lines.new ≡ vec_len lines.old }
-    ensures lines { OnOk result (lines.new.items ≡ slice_set lines.old.items row (text_set (line_at lines.old.items row) at (length (line_at lines.old.items row).columns) text.now attrs.now (W.width_of w.now))) }
-    ensures behind { IfOk result (λ r. r.0 ≡ set_text_end at (length (line_at lines.old.items row).columns) text.now attrs.now (W.width_of w.now)) }
-    ensures rest { IfOk result (λ r. clusters r.1.now ≡ drop (set_clusters at (length (line_at lines.old.items row).columns) text.now attrs.now (W.width_of w.now)) (clusters text.now)) }
+    requires row_in { row < length rows.old }
+    requires within { at ≤ length (line_at rows.old row).columns }
+    ensures len { length rows.new ≡ length rows.old }
+    ensures lines { OnOk result (rows.new ≡ slice_set rows.old row (text_set (line_at rows.old row) at (length (line_at rows.old row).columns) text.now attrs.now (W.width_of w.now))) }
+    ensures behind { IfOk result (λ r. r.0 ≡ set_text_end at (length (line_at rows.old row).columns) text.now attrs.now (W.width_of w.now)) }
+    ensures rest { IfOk result (λ r. clusters r.1.now ≡ drop (set_clusters at (length (line_at rows.old row).columns) text.now attrs.now (W.width_of w.now)) (clusters text.now)) }
 {
-    let width = lines[row].len();
-    lines[row].set_text(at..width, text, attrs, w)
+    let written = rows.written_to(row);
+    rows.written[row] = None;
+    let line = &mut rows.lines[row];
+    let width = line.len();
+    let (column, left) = line.set_text(at..width, text, attrs, w)?;
+    rows.written[row] = Some(written.max(column));
+    Ok((column, left))
 }
 
 // Sets a cell at a column of a row.
 pub(crate) fn set_cell(
-    lines: &mut Vec<Line>,
+    rows: &mut Rows,
     row: usize,
     at: usize,
     text: &str,
     width: usize,
     attrs: CellAttributes,
 ) -> Result<(), AllocError>
-    requires row_in { row < vec_len lines.old }
+    requires row_in { row < length rows.old }
     requires width { (1 ≤ width) × (width ≤ 2) }
-    ensures len { vec_len lines.new ≡ vec_len lines.old }
-    ensures lines { OnOk result (lines.new.items ≡ slice_set lines.old.items row (grapheme_set (line_at lines.old.items row) at text.now width attrs 0)) }
+    requires fits { at + width ≤ length (line_at rows.old row).columns }
+    requires small { at + width < 2 ^ 64 }
+    ensures len { length rows.new ≡ length rows.old }
+    ensures lines { OnOk result (rows.new ≡ slice_set rows.old row (grapheme_set (line_at rows.old row) at text.now width attrs 0)) }
 {
-    lines[row].set_cell_grapheme(at, text, width, attrs, SEQ_ZERO)
+    let written = rows.written_to(row);
+    rows.written[row] = None;
+    rows.lines[row].set_cell_grapheme(at, text, width, attrs, SEQ_ZERO)?;
+    rows.written[row] = Some(written.max(at + width));
+    Ok(())
 }
 
-// The columns of a row from one on become blanks.
+// The columns of a row from one on become blanks on a background.
 pub(crate) fn set_blanks(
-    lines: &mut Vec<Line>,
+    rows: &mut Rows,
     row: usize,
     at: usize,
     attrs: &CellAttributes,
 ) -> Result<(), AllocError>
-    requires row_in { row < vec_len lines.old }
-    requires within { at ≤ length (line_at lines.old.items row).columns }
-    ensures len { vec_len lines.new ≡ vec_len lines.old }
-    ensures lines { OnOk result (lines.new.items ≡ slice_set lines.old.items row (blanks_set (line_at lines.old.items row) at (length (line_at lines.old.items row).columns) attrs.now)) }
+    requires row_in { row < length rows.old }
+    requires within { at ≤ length (line_at rows.old row).columns }
+    requires blank { attrs.now ≡ blank_of attrs.now.background }
+    ensures len { length rows.new ≡ length rows.old }
+    ensures lines { OnOk result (rows.new ≡ slice_set rows.old row (blanks_set (line_at rows.old row) at (length (line_at rows.old row).columns) attrs.now)) }
 {
-    let width = lines[row].len();
-    lines[row].set_blanks(at..width, attrs)
+    if is_plain(attrs) {
+        set_plain_blanks(rows, row, at)?;
+        return Ok(());
+    }
+    set_other_blanks(rows, row, at, attrs)?;
+    Ok(())
 }
 
-// All columns of the rows from one on become blanks.
+// All columns of the rows from one on become blanks on a background.
 pub(crate) fn blank_rows(
-    lines: &mut Vec<Line>,
+    rows: &mut Rows,
     from: usize,
     attrs: &CellAttributes,
 ) -> Result<(), AllocError>
-    requires { from ≤ vec_len lines.old }
-    ensures { OnOk result (lines.new.items ≡ take from lines.old.items ++ map (blanked attrs.now) (drop from lines.old.items)) }
+    requires within { from ≤ length rows.old }
+    requires blank { attrs.now ≡ blank_of attrs.now.background }
+    ensures { OnOk result (rows.new ≡ take from rows.old ++ map (blanked attrs.now) (drop from rows.old)) }
 {
-    for row in from..lines.len() {
-        set_blanks(lines, row, 0, attrs)?;
+    for row in from..rows.len() {
+        set_blanks(rows, row, 0, attrs)?;
     }
+    Ok(())
+}
+
+// All columns of the rows below one become blanks.
+pub(crate) fn blank_rows_below(
+    rows: &mut Rows,
+    row: usize,
+    attrs: &CellAttributes,
+) -> Result<(), AllocError>
+    requires row_in { row < length rows.old }
+    requires blank { attrs.now ≡ blank_of attrs.now.background }
+    ensures { OnOk result (rows.new ≡ take (row + 1) rows.old ++ map (blanked attrs.now) (drop (row + 1) rows.old)) }
+{
+    let height = rows.len();
+    prove!(row < height);
+    blank_rows(rows, row + 1, attrs)?;
     Ok(())
 }
 
 // Rows between two become rows of plain blanks.
-fn clear_rows(lines: &mut Vec<Line>, from: usize, behind: usize) -> Result<(), AllocError>
+fn clear_rows(rows: &mut Rows, from: usize, behind: usize) -> Result<(), AllocError>
     requires order { from ≤ behind }
-    requires within { behind ≤ vec_len lines.old }
-    ensures { OnOk result (lines.new.items ≡ take from lines.old.items ++ map cleared (take (behind - from) (drop from lines.old.items)) ++ drop behind lines.old.items) }
+    requires within { behind ≤ length rows.old }
+    ensures { OnOk result (rows.new ≡ take from rows.old ++ map cleared (take (behind - from) (drop from rows.old)) ++ drop behind rows.old) }
 {
     for row in from..behind {
-        clear_line(&mut lines[row])?;
+        clear_line(rows, row)?;
     }
     Ok(())
 }
 
-// The rows of a region move up, and those that leave it come again below.
-fn rotate_up(lines: &mut [Line], first: usize, behind: usize, count: usize)
+// What stands in a region moves up, and what leaves it comes again below.
+fn rotate_up<T>(items: &mut [T], first: usize, behind: usize, count: usize)
     requires order { first ≤ behind }
-    requires within { behind ≤ length lines.old }
+    requires within { behind ≤ length items.old }
     requires fits { first + count ≤ behind }
-    ensures { lines.new ≡ take first lines.old ++ (drop count (take (behind - first) (drop first lines.old)) ++ take count (take (behind - first) (drop first lines.old))) ++ drop behind lines.old }
+    ensures { items.new ≡ take first items.old ++ (drop count (take (behind - first) (drop first items.old)) ++ take count (take (behind - first) (drop first items.old))) ++ drop behind items.old }
 {
-    lines[first..behind].rotate_left(count);
+    items[first..behind].rotate_left(count);
 }
 
-// The rows of a region move down, and those that leave it come again above.
-fn rotate_down(lines: &mut [Line], first: usize, behind: usize, count: usize)
+// What stands in a region moves down, and what leaves it comes again above.
+fn rotate_down<T>(items: &mut [T], first: usize, behind: usize, count: usize)
     requires order { first ≤ behind }
-    requires within { behind ≤ length lines.old }
+    requires within { behind ≤ length items.old }
     requires fits { first + count ≤ behind }
-    ensures { lines.new ≡ take first lines.old ++ (drop (behind - first - count) (take (behind - first) (drop first lines.old)) ++ take (behind - first - count) (take (behind - first) (drop first lines.old))) ++ drop behind lines.old }
+    ensures { items.new ≡ take first items.old ++ (drop (behind - first - count) (take (behind - first) (drop first items.old)) ++ take (behind - first - count) (take (behind - first) (drop first items.old))) ++ drop behind items.old }
 {
-    lines[first..behind].rotate_right(count);
+    items[first..behind].rotate_right(count);
 }
 
 // Rows of a region move up, and rows of plain blanks come below.
 pub(crate) fn scroll_up(
-    lines: &mut Vec<Line>,
+    rows: &mut Rows,
     first: usize,
     behind: usize,
     count: usize,
 ) -> Result<(), AllocError>
     requires order { first ≤ behind }
-    requires within { behind ≤ vec_len lines.old }
+    requires within { behind ≤ length rows.old }
     requires fits { first + count ≤ behind }
-    ensures { OnOk result (lines.new.items ≡ take first lines.old.items ++ rows_up count (take (behind - first) (drop first lines.old.items)) ++ drop behind lines.old.items) }
+    ensures { OnOk result (rows.new ≡ take first rows.old ++ rows_up count (take (behind - first) (drop first rows.old)) ++ drop behind rows.old) }
 {
-    rotate_up(lines, first, behind, count);
-    clear_rows(lines, behind - count, behind)?;
+    rotate_up(&mut rows.lines, first, behind, count);
+    rotate_up(&mut rows.written, first, behind, count);
+    clear_rows(rows, behind - count, behind)?;
     Ok(())
 }
 
 // Rows of a region move down, and rows of plain blanks come above.
 pub(crate) fn scroll_down(
-    lines: &mut Vec<Line>,
+    rows: &mut Rows,
     first: usize,
     behind: usize,
     count: usize,
 ) -> Result<(), AllocError>
     requires order { first ≤ behind }
-    requires within { behind ≤ vec_len lines.old }
+    requires within { behind ≤ length rows.old }
     requires fits { first + count ≤ behind }
-    ensures { OnOk result (lines.new.items ≡ take first lines.old.items ++ rows_down count (take (behind - first) (drop first lines.old.items)) ++ drop behind lines.old.items) }
+    ensures { OnOk result (rows.new ≡ take first rows.old ++ rows_down count (take (behind - first) (drop first rows.old)) ++ drop behind rows.old) }
 {
-    rotate_down(lines, first, behind, count);
-    clear_rows(lines, first, first + count)?;
+    rotate_down(&mut rows.lines, first, behind, count);
+    rotate_down(&mut rows.written, first, behind, count);
+    clear_rows(rows, first, first + count)?;
     Ok(())
 }
 
-// Sets the size of a row.
-pub(crate) fn set_size(lines: &mut Vec<Line>, row: usize, size: LineAttribute)
-    requires { row < vec_len lines.old }
-    ensures { lines.new.items ≡ slice_set lines.old.items row (with_bits (line_at lines.old.items row) 0 size) }
+// Sets the size of a line.
+fn size_line(line: &mut Line, size: LineAttribute)
+    ensures { line.new ≡ with_bits line.old 0 size }
 {
-    let line = &mut lines[row];
     match size {
         LineAttribute::SingleWidthLine => line.set_single_width(SEQ_ZERO),
         LineAttribute::DoubleWidthLine => line.set_double_width(SEQ_ZERO),
@@ -195,28 +349,54 @@ pub(crate) fn set_size(lines: &mut Vec<Line>, row: usize, size: LineAttribute)
     }
 }
 
-// Each row becomes so wide.
-fn resize_rows(lines: &mut Vec<Line>, width: usize) -> Result<(), AllocError>
-    ensures { OnOk result (lines.new.items ≡ map (widened width) lines.old.items) }
+// Sets the size of a row.
+pub(crate) fn set_size(rows: &mut Rows, row: usize, size: LineAttribute)
+    requires { row < length rows.old }
+    ensures { rows.new ≡ slice_set rows.old row (with_bits (line_at rows.old row) 0 size) }
 {
-    for row in 0..lines.len() {
-        lines[row].resize(width, SEQ_ZERO)?;
+    size_line(&mut rows.lines[row], size);
+}
+
+// A row becomes so wide, and how far it was written isn't known.
+fn resize_row(rows: &mut Rows, row: usize, width: usize) -> Result<(), AllocError>
+    requires { row < length rows.old }
+    ensures len { length rows.new ≡ length rows.old }
+    ensures lines { OnOk result (rows.new ≡ slice_set rows.old row (widened width (line_at rows.old row))) }
+{
+    rows.written[row] = None;
+    rows.lines[row].resize(width, SEQ_ZERO)?;
+    Ok(())
+}
+
+// Each row becomes so wide.
+fn resize_rows(rows: &mut Rows, width: usize) -> Result<(), AllocError>
+    ensures { OnOk result (rows.new ≡ map (widened width) rows.old) }
+{
+    for row in 0..rows.len() {
+        resize_row(rows, row, width)?;
     }
     Ok(())
 }
 
-// Rows of plain blanks come below, up to so many rows.
-fn add_rows(
-    alloc: Global,
-    lines: &mut Vec<Line>,
-    width: usize,
-    height: usize,
-) -> Result<(), AllocError>
-    requires { length lines.old.items ≤ height }
-    ensures { OnOk result (lines.new.items ≡ lines.old.items ++ replicate (height - length lines.old.items) (line_of 0 (plain_row width))) }
+// A row of plain blanks comes below.
+fn add_row(alloc: Global, rows: &mut Rows, width: usize) -> Result<(), AllocError>
+    ensures { OnOk result (rows.new ≡ rows.old ++ line_of 0 (plain_row width) ∷ []) }
 {
-    for _ in lines.len()..height {
-        lines.push(Line::with_width(alloc, width, SEQ_ZERO)?)?;
+    let line = Line::with_width(alloc, width, SEQ_ZERO)?;
+    // Room for what is known of the line comes first, so that both come or neither does.
+    rows.written.reserve(1)?;
+    rows.lines.push(line)?;
+    rows.written.push(Some(0))?;
+    Ok(())
+}
+
+// Rows of plain blanks come below, up to so many rows.
+fn add_rows(alloc: Global, rows: &mut Rows, width: usize, height: usize) -> Result<(), AllocError>
+    requires { length rows.old ≤ height }
+    ensures { OnOk result (rows.new ≡ rows.old ++ replicate (height - length rows.old) (line_of 0 (plain_row width))) }
+{
+    for _ in rows.len()..height {
+        add_row(alloc, rows, width)?;
     }
     Ok(())
 }
@@ -224,14 +404,15 @@ fn add_rows(
 // So many rows, each so wide.
 pub(crate) fn resize(
     alloc: Global,
-    lines: &mut Vec<Line>,
+    rows: &mut Rows,
     width: usize,
     height: usize,
 ) -> Result<(), AllocError>
-    ensures { OnOk result (lines.new.items ≡ map (widened width) (take height lines.old.items) ++ replicate (height - length (map (widened width) (take height lines.old.items))) (line_of 0 (plain_row width))) }
+    ensures { OnOk result (rows.new ≡ map (widened width) (take height rows.old) ++ replicate (height - length (map (widened width) (take height rows.old))) (line_of 0 (plain_row width))) }
 {
-    lines.truncate(height);
-    resize_rows(lines, width)?;
-    add_rows(alloc, lines, width, height)?;
+    rows.lines.truncate(height);
+    rows.written.truncate(height);
+    resize_rows(rows, width)?;
+    add_rows(alloc, rows, width, height)?;
     Ok(())
 }

@@ -7,19 +7,17 @@ use Rattle.std.specs.Prelude.{List}
 
 pub loop-preserved : goal.loop-preserved
 loop-preserved c =
-    let init = c.args.lines.now.items in
+    let init = c.args.rows.now in
     let x = line_of 0 (plain_row c.args.width) in
-    let k = c.args.lines.now.ok.0 in
     let n = c.len-counter.ensures in
     let o = c.loop.auto.counter in
     let next : suc (c.loop.counter - length init) ≡ c.loop.counter + 1 - length init = omega arith in
-    c.in_ok-push.ensures.items ∙ (λ i. c.loop.invariant i ++ c.in_ok-with_width.ensures i ∷ [])
+    c.in_ok-add_row.ensures ∙ ap (λ (l : List LineContent). l ++ x ∷ []) c.loop.invariant
     ∙ append_assoc init (replicate (c.loop.counter - length init) x) (x ∷ []) ∙ ap (λ (l : List LineContent). init ++ l) (one_more (c.loop.counter - length init) x ∙ ap (λ m. replicate m x) next)
 
 pub returns : goal.returns
 returns c =
-    let init = c.args.lines.now.items in
-    let k = c.args.lines.now.ok.0 in
+    let init = c.args.rows.now in
     let n = c.len-counter.ensures in
     let o = c.loop.auto.counter in
     let r = c.requires in

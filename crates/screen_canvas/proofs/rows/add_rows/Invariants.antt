@@ -5,4 +5,4 @@ use Rattle.screen_canvas.proofs.rows.add_rows.Given as goal
 
 -- the rows so far
 abbrev pub invariant-loop : goal.invariant-loop
-invariant-loop l = l.lines.items ≡ l.initial.lines.items ++ replicate (l.counter - length l.initial.lines.items) (line_of 0 (plain_row l.width))
+invariant-loop l = l.rows ≡ l.initial.rows ++ replicate (l.counter - length l.initial.rows) (line_of 0 (plain_row l.width))

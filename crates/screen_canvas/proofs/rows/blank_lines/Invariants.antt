@@ -1,8 +1,12 @@
 use Rattle.std.proofs.Common.{◌≡◌, replicate}
+use Rattle.std.specs.Prelude.{Some}
 use Rattle.cell_base.specs.Row.{plain_row}
 use Rattle.cell_line.specs.LineContent.{line_of}
 use Rattle.screen_canvas.proofs.rows.blank_lines.Given as goal
 
--- the lines so far are plain
+-- the rows so far are plain
 abbrev pub invariant-loop : goal.invariant-loop
-invariant-loop l = l.lines.items ≡ replicate l.counter (line_of 0 (plain_row l.width))
+invariant-loop l = record {
+  lines : l.lines.items ≡ replicate l.counter (line_of 0 (plain_row l.width));
+  written : l.written.items ≡ replicate l.counter (Some 0);
+}

@@ -8,10 +8,10 @@ use Rattle.screen_canvas.proofs.rows.blank_rows.Goals as goal
 
 pub loop-row-preserved : goal.loop-row-preserved
 loop-row-preserved c =
-    let inside : c.loop-row.row < length c.args.lines.now.items = let t = c.loop-row-test.true in let k = c.args.lines.now.ok.0 in let m = c.loop-row.invariant.len in omega arith in
+    let inside : c.loop-row.row < length c.args.rows.now = let t = c.loop-row-test.true in let m = c.loop-row.invariant.len in omega arith in
     record {
       len = c.in_ok-set_blanks.ensures.len ∙ c.loop-row.invariant.len;
       order = let o = c.loop-row.invariant.order in omega arith;
       items = c.in_ok-set_blanks.ensures.lines
-          ∙ changed_more (blanked c.args.attrs.now) c.args.lines.now.items c.loop-row.lines.items c.args.from c.loop-row.row _ (line_of 0 []) c.loop-row.invariant.order inside c.loop-row.invariant.items (all_blank (line_at c.loop-row.lines.items c.loop-row.row) c.args.attrs.now);
+          ∙ changed_more (blanked c.args.attrs.now) c.args.rows.now c.loop-row.rows c.args.from c.loop-row.row _ (line_of 0 []) c.loop-row.invariant.order inside c.loop-row.invariant.items (all_blank (line_at c.loop-row.rows c.loop-row.row) c.args.attrs.now);
     }

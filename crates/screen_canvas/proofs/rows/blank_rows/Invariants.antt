@@ -1,11 +1,11 @@
-use Rattle.std.proofs.Common.{◌≡◌, ◌-◌, ◌≤◌, ◌++◌, take, drop, map, vec_len}
+use Rattle.std.proofs.Common.{◌≡◌, ◌-◌, ◌≤◌, ◌++◌, take, drop, map, length}
 use Rattle.screen_canvas.specs.Rows.{blanked}
 use Rattle.screen_canvas.proofs.rows.blank_rows.Given as goal
 
 -- the rows so far are blank
 abbrev pub invariant-loop-row : goal.invariant-loop-row
 invariant-loop-row l = record {
-  len : vec_len l.lines ≡ vec_len l.initial.lines;
+  len : length l.rows ≡ length l.initial.rows;
   order : l.from ≤ l.row;
-  items : l.lines.items ≡ take l.from l.initial.lines.items ++ map (blanked l.attrs) (take (l.row - l.from) (drop l.from l.initial.lines.items)) ++ drop l.row l.initial.lines.items;
+  items : l.rows ≡ take l.from l.initial.rows ++ map (blanked l.attrs) (take (l.row - l.from) (drop l.from l.initial.rows)) ++ drop l.row l.initial.rows;
 }

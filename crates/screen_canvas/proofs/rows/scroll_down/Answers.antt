@@ -1,15 +1,38 @@
-use Rattle.std.proofs.Common.{◌≡◌, ◌≤◌, ◌+◌, ◌-◌, ◌++◌, length, take, drop, map, ap, ◌∙◌, arith}
+use Rattle.std.proofs.Common.{◌≡◌, ◌≤◌, ◌-◌, ◌+◌, ◌++◌, List, length, take, drop, map, ap, ◌∙◌, arith}
+use Rattle.std.specs.Prelude.{Option, ℕ}
+use Rattle.cell_line.specs.LineContent.{LineContent}
 use Rattle.screen_canvas.specs.Rows.{cleared}
+use Rattle.screen_canvas.proofs.KnownLemmas.{known-length, known-moved, known-same}
 use Rattle.screen_canvas.proofs.MoveLemmas.{moved_down}
 use Rattle.screen_canvas.proofs.VecLemmas.{written}
 use Rattle.screen_canvas.proofs.rows.scroll_down.Goals as goal
 
+pub rotate_down-requires-2-clause-within : goal.rotate_down-requires-2-clause-within
+rotate_down-requires-2-clause-within c =
+    let n = known-length c.rows.inside.lines.items c.rows.inside.written.items c.rows.invariant in
+    let v = ap length c.rows.view_is in
+    let e = ap length c.deref_mut-2.ensures.value in
+    let r = c.requires.within in
+    omega arith
+
+abbrev moved : {X : Type 0} → ℕ → ℕ → ℕ → List X → List X
+moved first behind count l = take first l ++ (drop (behind - first - count) (take (behind - first) (drop first l)) ++ take (behind - first - count) (take (behind - first) (drop first l))) ++ drop behind l
+
+pub invariant_of-rows : goal.invariant_of-rows
+invariant_of-rows c =
+    let a = c.rotate_down.auto.items ∙ ap length c.deref_mut.ensures.value in
+    let b = c.rotate_down-2.auto.items ∙ ap length c.deref_mut-2.ensures.value in
+    known-same _ _ _ _
+    (written c.rows.inside.lines c.rotate_down.new.items a ∙ c.rotate_down.ensures ∙ ap (moved c.args.first c.args.behind c.args.count) c.deref_mut.ensures.value)
+    (written c.rows.inside.written c.rotate_down-2.new.items b ∙ c.rotate_down-2.ensures ∙ ap (moved c.args.first c.args.behind c.args.count) c.deref_mut-2.ensures.value)
+    (known-moved c.args.first c.args.behind (c.args.behind - c.args.first - c.args.count) c.rows.inside.lines.items c.rows.inside.written.items c.rows.invariant)
+
 pub returns : goal.returns
 returns c =
-    let lines = c.args.lines.now.items in
-    let within : c.args.behind ≤ length lines = let k = c.args.lines.now.ok.0 in let r = c.requires.within in omega arith in
-    let same : length c.rotate_down.new.lines ≡ length lines = c.rotate_down.auto.lines ∙ ap length c.deref_mut.ensures.value in
-    let new = written c.args.lines.now c.rotate_down.new.lines same in
-    let rotated = c.rotate_down.ensures ∙ ap (λ l. take c.args.first l ++ (drop (c.args.behind - c.args.first - c.args.count) (take (c.args.behind - c.args.first) (drop c.args.first l)) ++ take (c.args.behind - c.args.first - c.args.count) (take (c.args.behind - c.args.first) (drop c.args.first l))) ++ drop c.args.behind l) c.deref_mut.ensures.value in
-    c.in_ok-clear_rows.ensures ∙ ap (λ l. take (c.args.first) l ++ map cleared (take ((c.args.first + c.args.count) - (c.args.first)) (drop (c.args.first) l)) ++ drop (c.args.first + c.args.count) l) new
-    ∙ moved_down cleared lines c.rotate_down.new.lines c.args.first c.args.behind c.args.count c.requires.order within c.requires.fits rotated
+    let now = c.args.rows.now in
+    let within : c.args.behind ≤ length now = c.requires.within in
+    let same : length c.rotate_down.new.items ≡ length c.rows.inside.lines.items = c.rotate_down.auto.items ∙ ap length c.deref_mut.ensures.value in
+    let new = written c.rows.inside.lines c.rotate_down.new.items same in
+    let rotated = c.rotate_down.ensures ∙ ap (moved c.args.first c.args.behind c.args.count) (c.deref_mut.ensures.value ∙ c.rows.view_is) in
+    c.in_ok-clear_rows.ensures ∙ ap (λ (l : List LineContent). take c.args.first l ++ map cleared (take (c.args.first + c.args.count - c.args.first) (drop c.args.first l)) ++ drop (c.args.first + c.args.count) l) new
+    ∙ moved_down cleared now c.rotate_down.new.items c.args.first c.args.behind c.args.count c.requires.order within c.requires.fits rotated

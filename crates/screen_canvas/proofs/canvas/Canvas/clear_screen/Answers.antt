@@ -1,5 +1,5 @@
 use Rattle.std.proofs.Common.{ap, sym, subst, ◌∙◌, take, drop, map, ◌++◌}
-use Rattle.cell_base.specs.Attributes.{Attributes}
+use Rattle.cell_base.specs.Attributes.{Attributes, blank_of}
 use Rattle.cell_change.specs.ChangeValue.{ClearScreen}
 use Rattle.screen_canvas.specs.Canvas.{Canvas, IsDrawn, Shows, display_of}
 use Rattle.screen_canvas.specs.CanvasView.{canvas_of}
@@ -8,11 +8,16 @@ use Rattle.screen_canvas.proofs.ShowLemmas.{screen_blanked}
 use Rattle.screen_effects.specs.Effect.{effect}
 use Rattle.screen_canvas.proofs.canvas.Canvas.clear_screen.Goals as goal
 
+pub blank_rows-requires-clause-blank : goal.blank_rows-requires-clause-blank
+blank_rows-requires-clause-blank g c =
+    let e = c.blank_of-pen.ensures in
+    e ∙ ap blank_of (sym (ap (λ (a : Attributes). a.background) e))
+
 pub returns : goal.returns
 returns g c =
     let old = canvas_of {W = g.row.W.Denot} c.self.inside in
     let pen = c.blank_of-pen.ensures in
     let lines = c.in_ok-blank_rows.ensures ∙ ap (λ (a : Attributes). take 0 old.lines ++ map (blanked a) (drop 0 old.lines)) pen in
-    subst (λ (x : Canvas g.row.W.Denot). Shows x (record old { lines = c.blank_rows.new.lines.items; pen = c.blank_of-pen.result; column = 0; row = 0 }) (effect (g.W.Widths.width_of x.widths) (display_of x) (ClearScreen c.args.color))) c.self.view_is
-    (subst (λ (a : Attributes). Shows old (record old { lines = c.blank_rows.new.lines.items; pen = a; column = 0; row = 0 }) (effect (g.W.Widths.width_of old.widths) (display_of old) (ClearScreen c.args.color))) (sym pen)
-    (screen_blanked (g.W.Widths.width_of old.widths) old c.blank_rows.new.lines.items c.args.color (subst IsDrawn (sym c.self.view_is) c.requires) lines))
+    subst (λ (x : Canvas g.row.W.Denot). Shows x (record old { lines = c.blank_rows.new.rows; pen = c.blank_of-pen.result; column = 0; row = 0 }) (effect (g.W.Widths.width_of x.widths) (display_of x) (ClearScreen c.args.color))) c.self.view_is
+    (subst (λ (a : Attributes). Shows old (record old { lines = c.blank_rows.new.rows; pen = a; column = 0; row = 0 }) (effect (g.W.Widths.width_of old.widths) (display_of old) (ClearScreen c.args.color))) (sym pen)
+    (screen_blanked (g.W.Widths.width_of old.widths) old c.blank_rows.new.rows c.args.color (subst IsDrawn (sym c.self.view_is) c.requires) lines))

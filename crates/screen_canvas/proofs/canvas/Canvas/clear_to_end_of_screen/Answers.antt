@@ -1,5 +1,5 @@
 use Rattle.std.proofs.Common.{◌+◌, ap, sym, subst, ◌∙◌, set, take, drop, map, ◌++◌, length, arith}
-use Rattle.cell_base.specs.Attributes.{Attributes}
+use Rattle.cell_base.specs.Attributes.{Attributes, blank_of}
 use Rattle.cell_change.specs.ChangeValue.{ClearToEndOfScreen}
 use Rattle.cell_line.specs.LineCalls.{set_blanks as blanks_set}
 use Rattle.screen_canvas.specs.Canvas.{Canvas, IsDrawn, Shows, display_of, line_at}
@@ -18,12 +18,22 @@ set_blanks-requires-clause-within g c =
     let column = h.lawful.lawful.column_in in
     omega arith
 
+pub set_blanks-requires-clause-blank : goal.set_blanks-requires-clause-blank
+set_blanks-requires-clause-blank g c =
+    let e = c.blank_of-pen.ensures in
+    e ∙ ap blank_of (sym (ap (λ (a : Attributes). a.background) e))
+
+pub blank_rows_below-requires-clause-blank : goal.blank_rows_below-requires-clause-blank
+blank_rows_below-requires-clause-blank g c =
+    let e = c.blank_of-pen.ensures in
+    e ∙ ap blank_of (sym (ap (λ (a : Attributes). a.background) e))
+
 pub returns : goal.returns
 returns g c =
     let old = canvas_of {W = g.row.W.Denot} c.self.inside in
     let pen = c.blank_of-pen.ensures in
     let first = c.in_ok-set_blanks.ensures.lines ∙ ap (λ (a : Attributes). set old.lines old.row (blanks_set (line_at old.lines old.row) old.column (length (line_at old.lines old.row).columns) a)) pen in
-    let lines = c.in_ok-blank_rows.ensures ∙ ap (λ (a : Attributes). take (old.row + 1) c.set_blanks.new.lines.items ++ map (blanked a) (drop (old.row + 1) c.set_blanks.new.lines.items)) pen in
-    subst (λ (x : Canvas g.row.W.Denot). Shows x (record old { lines = c.blank_rows.new.lines.items; pen = c.blank_of-pen.result }) (effect (g.W.Widths.width_of x.widths) (display_of x) (ClearToEndOfScreen c.args.color))) c.self.view_is
-    (subst (λ (a : Attributes). Shows old (record old { lines = c.blank_rows.new.lines.items; pen = a }) (effect (g.W.Widths.width_of old.widths) (display_of old) (ClearToEndOfScreen c.args.color))) (sym pen)
-    (below_blanked (g.W.Widths.width_of old.widths) old c.set_blanks.new.lines.items c.blank_rows.new.lines.items c.args.color (subst IsDrawn (sym c.self.view_is) c.requires) first lines))
+    let lines = c.in_ok-blank_rows_below.ensures ∙ ap (λ (a : Attributes). take (old.row + 1) c.set_blanks.new.rows ++ map (blanked a) (drop (old.row + 1) c.set_blanks.new.rows)) pen in
+    subst (λ (x : Canvas g.row.W.Denot). Shows x (record old { lines = c.blank_rows_below.new.rows; pen = c.blank_of-pen.result }) (effect (g.W.Widths.width_of x.widths) (display_of x) (ClearToEndOfScreen c.args.color))) c.self.view_is
+    (subst (λ (a : Attributes). Shows old (record old { lines = c.blank_rows_below.new.rows; pen = a }) (effect (g.W.Widths.width_of old.widths) (display_of old) (ClearToEndOfScreen c.args.color))) (sym pen)
+    (below_blanked (g.W.Widths.width_of old.widths) old c.set_blanks.new.rows c.blank_rows_below.new.rows c.args.color (subst IsDrawn (sym c.self.view_is) c.requires) first lines))

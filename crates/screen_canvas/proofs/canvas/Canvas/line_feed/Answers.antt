@@ -7,7 +7,7 @@ use Rattle.screen_canvas.proofs.canvas.Canvas.line_feed.Goals as goal
 
 pub returns : goal.returns
 returns g c =
-    let last : length c.self.inside.lines.items ≤ c.self.inside.row + 1 = let k = c.self.inside.lines.ok.0 in let n = c.len.ensures in let t = c.if-self-len.false in omega arith in
+    let last : length c.self.inside.rows ≤ c.self.inside.row + 1 = let n = c.len-height.ensures in let t = c.if-self-height.false in omega arith in
     let old = canvas_of {W = g.row.W.Denot} c.self.inside in
-    subst (λ (x : Canvas g.row.W.Denot). IsDrawn x → Shows x (record old { lines = c.scroll.new.lines.items }) (stroke_done (g.W.Widths.width_of x.widths) (display_of x) LineFeed)) c.self.view_is
-    (λ h. fed_last (g.W.Widths.width_of c.self.inside.widths) old c.scroll.new.lines.items h last c.in_ok-scroll.ensures) c.requires
+    subst (λ (x : Canvas g.row.W.Denot). IsDrawn x → Shows x (record old { lines = c.scroll.new.rows }) (stroke_done (g.W.Widths.width_of x.widths) (display_of x) LineFeed)) c.self.view_is
+    (λ h. fed_last (g.W.Widths.width_of c.self.inside.widths) old c.scroll.new.rows h last c.in_ok-scroll.ensures) c.requires

@@ -9,7 +9,7 @@ use Rattle.screen_canvas.proofs.canvas.Canvas.resize.Goals as goal
 pub returns : goal.returns
 returns g c =
     let old = canvas_of {W = g.row.W.Denot} c.self.inside in
-    let lines = c.resize.new.lines.items in
+    let lines = c.resize.new.rows in
     let made = resized_shown old lines c.args.width c.args.height (subst IsDrawn (sym c.self.view_is) c.requires.drawn) c.requires.wide_enough c.requires.high_enough c.in_ok-resize.ensures in
     let same : record old { width = c.args.width; lines = lines; column = min old.column (c.args.width - 1); row = min old.row (c.args.height - 1) } ≡ record old { width = c.args.width; lines = lines; column = c.min-self-inside.result; row = c.min-self-inside-2.result } =
     λ i. record old { width = c.args.width; lines = lines; column = sym c.min-self-inside.ensures i; row = sym c.min-self-inside-2.ensures i } in

@@ -1,12 +1,21 @@
-use Rattle.std.proofs.Common.{◌≡◌, ◌≤◌, ◌+◌, set, ap, subst, ◌∙◌, arith}
+use Rattle.std.proofs.Common.{◌≡◌, ◌≤◌, ◌+◌, set, ap, sym, subst, ◌∙◌, arith}
 use Rattle.std.specs.Prelude.{nat_le, max}
 use Rattle.cell_base.specs.Attributes.{Attributes}
 use Rattle.cell_base.specs.Row.{columns_of}
 use Rattle.cell_line.specs.LineCalls.{set_cell_grapheme as grapheme_set}
 use Rattle.screen_canvas.specs.Canvas.{Canvas, IsDrawn, canvas_with, line_at}
 use Rattle.screen_canvas.specs.CanvasView.{canvas_of}
+use Rattle.screen_canvas.proofs.LineLemmas.{line_width, row_in}
 use Rattle.screen_canvas.proofs.PutLemmas.{count_columns, line_set}
 use Rattle.screen_canvas.proofs.canvas.Canvas.write.Goals as goal
+
+pub set_cell-requires-clause-fits : goal.set_cell-requires-clause-fits
+set_cell-requires-clause-fits g c =
+    let old = canvas_of {W = g.row.W.Denot} c.self.inside in
+    let h : IsDrawn old = subst IsDrawn (sym c.self.view_is) c.requires.drawn in
+    let f = subst (λ (x : Canvas g.row.W.Denot). x.column + c.args.width ≤ x.width) (sym c.self.view_is) c.requires.fits in
+    let wide = line_width old old.row h (row_in old h) in
+    omega arith
 
 pub returns : goal.returns
 returns g c =
@@ -16,7 +25,7 @@ returns g c =
     let same : max 1 width ≡ width = let r = c.requires.width in omega arith in
     let wide : nat_le 2 (max 1 width) ≡ nat_le 2 width = ap (nat_le 2) same in
     let count = count_columns text width old.pen c.requires.width.0 c.requires.width.1 in
-    subst (λ (x : Canvas g.row.W.Denot). IsDrawn x → x.column + width ≤ x.width → record old { lines = c.set_cell.new.lines.items; column = old.column + width } ≡ canvas_with x (columns_of text (nat_le 2 width) x.pen) width) c.self.view_is
+    subst (λ (x : Canvas g.row.W.Denot). IsDrawn x → x.column + width ≤ x.width → record old { lines = c.set_cell.new.rows; column = old.column + width } ≡ canvas_with x (columns_of text (nat_le 2 width) x.pen) width) c.self.view_is
     (λ h f. let line = line_set old text width (nat_le 2 width) h c.requires.stands wide (omega arith) in
     let lines = c.in_ok-set_cell.ensures.lines ∙ ap (λ (a : Attributes). set old.lines old.row (grapheme_set (line_at old.lines old.row) old.column text width a 0)) c.in_ok-pen.ensures ∙ ap (set old.lines old.row) line in
     λ i. record old { lines = lines i; column = old.column + width })

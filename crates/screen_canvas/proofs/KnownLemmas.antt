@@ -1,0 +1,132 @@
+-- Lines of which is known how far they were written, where some of them move or change.
+use Rattle.std.proofs.Common.{◌≡◌, ℕ, zero, suc, ◌+◌, ◌-◌, ◌<◌, ◌≤◌, List, [], ◌∷◌, ◌++◌, length, get_or, take, drop, set, replicate, refl, sym, ap, subst, ◌∙◌, arith}
+use Rattle.std.specs.Prelude.{Option, None, Some, max}
+use Rattle.std.proofs.lemmas.List.{get_or_default, get_or-set_same, length-replicate, length-set, set-set}
+use Rattle.cell_base.specs.declared.attributes.LineAttribute.TheVariants.{SingleWidthLine}
+use Rattle.cell_base.specs.Attributes.{plain}
+use Rattle.cell_base.specs.Row.{blank, plain_row}
+use Rattle.cell_line.specs.LineCalls.{set_blanks as blanks_set}
+use Rattle.cell_line.specs.LineContent.{LineContent, line_of, with_bits}
+use Rattle.screen_canvas.specs.Canvas.{line_at}
+use Rattle.screen_canvas.specs.Rows.{cleared}
+use Rattle.screen_canvas.specs.Written.{IsWrittenTo, IsKnown, AreKnown}
+use Rattle.screen_canvas.proofs.LineLemmas.{all_blank}
+
+-- there is one for each line
+pub known-length : (lines : List LineContent) (counts : List (Option ℕ)) → AreKnown lines counts → length counts ≡ length lines
+known-length [] [] h = refl
+known-length [] (count ∷ counts) h = absurd h
+known-length (line ∷ lines) [] h = absurd h
+known-length (line ∷ lines) (count ∷ counts) h = ap suc (known-length lines counts h.1)
+
+pub known-append : (lines others : List LineContent) (counts more : List (Option ℕ)) → AreKnown lines counts → AreKnown others more → AreKnown (lines ++ others) (counts ++ more)
+known-append [] others [] more h k = k
+known-append [] others (count ∷ counts) more h k = absurd h
+known-append (line ∷ lines) others [] more h k = absurd h
+known-append (line ∷ lines) others (count ∷ counts) more h k = (h.0, known-append lines others counts more h.1 k)
+
+pub known-take : (n : ℕ) (lines : List LineContent) (counts : List (Option ℕ)) → AreKnown lines counts → AreKnown (take n lines) (take n counts)
+known-take zero lines counts h = tt
+known-take (suc n) [] [] h = tt
+known-take (suc n) [] (count ∷ counts) h = absurd h
+known-take (suc n) (line ∷ lines) [] h = absurd h
+known-take (suc n) (line ∷ lines) (count ∷ counts) h = (h.0, known-take n lines counts h.1)
+
+pub known-drop : (n : ℕ) (lines : List LineContent) (counts : List (Option ℕ)) → AreKnown lines counts → AreKnown (drop n lines) (drop n counts)
+known-drop zero lines counts h = h
+known-drop (suc n) [] [] h = tt
+known-drop (suc n) [] (count ∷ counts) h = absurd h
+known-drop (suc n) (line ∷ lines) [] h = absurd h
+known-drop (suc n) (line ∷ lines) (count ∷ counts) h = known-drop n lines counts h.1
+
+-- a line and what is known of it are set
+pub known-set : (at : ℕ) (lines : List LineContent) (counts : List (Option ℕ)) (line : LineContent) (count : Option ℕ) → AreKnown lines counts → IsKnown count line.columns → AreKnown (set lines at line) (set counts at count)
+known-set at [] [] line count h k = tt
+known-set at [] (c ∷ counts) line count h k = absurd h
+known-set at (l ∷ lines) [] line count h k = absurd h
+known-set zero (l ∷ lines) (c ∷ counts) line count h k = (k, h.1)
+known-set (suc at) (l ∷ lines) (c ∷ counts) line count h k = (h.0, known-set at lines counts line count h.1 k)
+
+-- the same where it was set to something else before
+pub known-reset : (at : ℕ) (lines : List LineContent) (counts : List (Option ℕ)) (line : LineContent) (other count : Option ℕ) → AreKnown lines counts → IsKnown count line.columns → AreKnown (set lines at line) (set (set counts at other) at count)
+known-reset at [] [] line other count h k = tt
+known-reset at [] (c ∷ counts) line other count h k = absurd h
+known-reset at (l ∷ lines) [] line other count h k = absurd h
+known-reset zero (l ∷ lines) (c ∷ counts) line other count h k = (k, h.1)
+known-reset (suc at) (l ∷ lines) (c ∷ counts) line other count h k = (h.0, known-reset at lines counts line other count h.1 k)
+
+-- a line is set whose columns stay
+pub known-kept : (at : ℕ) (lines : List LineContent) (counts : List (Option ℕ)) (line d : LineContent) → AreKnown lines counts → line.columns ≡ (get_or lines at d).columns → AreKnown (set lines at line) counts
+known-kept at [] [] line d h e = tt
+known-kept at [] (c ∷ counts) line d h e = absurd h
+known-kept at (l ∷ lines) [] line d h e = absurd h
+known-kept zero (l ∷ lines) (c ∷ counts) line d h e = (subst (IsKnown c) (sym e) h.0, h.1)
+known-kept (suc at) (l ∷ lines) (c ∷ counts) line d h e = (h.0, known-kept at lines counts line d h.1 e)
+
+-- equal ones
+pub known-same : (lines others : List LineContent) (counts more : List (Option ℕ)) → others ≡ lines → more ≡ counts → AreKnown lines counts → AreKnown others more
+known-same lines others counts more e k h = subst (λ (ls : List LineContent). AreKnown ls more) (sym e) (subst (AreKnown lines) (sym k) h)
+
+-- each line has a place there
+pub known_place : (lines now : List LineContent) (counts : List (Option ℕ)) (row : ℕ) → AreKnown lines counts → lines ≡ now → row < length now → row < length counts
+known_place lines now counts row h e k = let n = known-length lines counts h in let m = ap length e in omega arith
+
+-- what is known of a line
+pub known-at : (at : ℕ) (lines : List LineContent) (counts : List (Option ℕ)) (d : LineContent) (e : Option ℕ) → AreKnown lines counts → at < length lines → IsKnown (get_or counts at e) (get_or lines at d).columns
+known-at at [] counts d e h k = absurd (omega arith)
+known-at at (line ∷ lines) [] d e h k = absurd h
+known-at zero (line ∷ lines) (count ∷ counts) d e h k = h.0
+known-at (suc at) (line ∷ lines) (count ∷ counts) d e h k = known-at at lines counts d e h.1 (omega arith)
+
+-- of lines that moved to the end
+pub known-rotated : (n : ℕ) (lines : List LineContent) (counts : List (Option ℕ)) → AreKnown lines counts → AreKnown (drop n lines ++ take n lines) (drop n counts ++ take n counts)
+known-rotated n lines counts h = known-append (drop n lines) (take n lines) (drop n counts) (take n counts) (known-drop n lines counts h) (known-take n lines counts h)
+
+-- the same within a region
+pub known-moved : (first behind n : ℕ) (lines : List LineContent) (counts : List (Option ℕ)) → AreKnown lines counts
+    → AreKnown (take first lines ++ (drop n (take (behind - first) (drop first lines)) ++ take n (take (behind - first) (drop first lines))) ++ drop behind lines)
+    (take first counts ++ (drop n (take (behind - first) (drop first counts)) ++ take n (take (behind - first) (drop first counts))) ++ drop behind counts)
+known-moved first behind n lines counts h =
+    let region = take (behind - first) (drop first lines) in
+    let part = take (behind - first) (drop first counts) in
+    let inside = known-take (behind - first) (drop first lines) (drop first counts) (known-drop first lines counts h) in
+    known-append (take first lines ++ (drop n region ++ take n region)) (drop behind lines) (take first counts ++ (drop n part ++ take n part)) (drop behind counts)
+    (known-append (take first lines) (drop n region ++ take n region) (take first counts) (drop n part ++ take n part) (known-take first lines counts h) (known-rotated n region part inside))
+    (known-drop behind lines counts h)
+
+-- ---- lines by their places
+
+-- a line that a place names
+pub line_is : (lines now : List LineContent) (row : ℕ) (x : LineContent) → lines ≡ now → row < length now → x ≡ get_or lines row x → x ≡ line_at now row
+line_is lines now row x e h k = k ∙ (λ i. get_or (e i) row x) ∙ get_or_default now row x (line_of 0 []) h
+
+-- a line that a call changed
+pub line_changed : (lines now : List LineContent) (row : ℕ) (x new : LineContent) (f : LineContent → LineContent) → lines ≡ now → row < length now → x ≡ get_or lines row x → new ≡ f x → set lines row new ≡ set now row (f (line_at now row))
+line_changed lines now row x new f e h k m =
+    let done : new ≡ f (line_at now row) = m ∙ ap f (line_is lines now row x e h k) in
+    λ i. set (e i) row (done i)
+
+-- a line that is blank in all columns and then of single width
+pub line_cleared : (rows next lines : List LineContent) (row : ℕ) (x : LineContent) → row < length rows → next ≡ set rows row (blanks_set (line_at rows row) 0 (length (line_at rows row).columns) plain) → lines ≡ next → x ≡ get_or lines row x
+    → set lines row (with_bits x 0 SingleWidthLine) ≡ set rows row (cleared (line_at rows row))
+line_cleared rows next lines row x h n e k =
+    let l = line_at rows row in
+    let b = blanks_set l 0 (length l.columns) plain in
+    let there : length next ≡ length rows = ap length n ∙ length-set rows row b in
+    let now : x ≡ b = line_is lines next row x e (omega arith) k ∙ ap (λ (ls : List LineContent). line_at ls row) n ∙ get_or-set_same rows row b (line_of 0 []) h in
+    let number : max l.number 0 ≡ l.number = omega arith in
+    let all : b.columns ≡ plain_row (length l.columns) = ap (λ (y : LineContent). y.columns) (all_blank l plain) in
+    let done : with_bits x 0 SingleWidthLine ≡ cleared l = ap (λ (y : LineContent). with_bits y 0 SingleWidthLine) now ∙ (λ i. record { number = number i; bits = SingleWidthLine; columns = all i }) in
+    (λ i. set ((e ∙ n) i) row (done i)) ∙ set-set rows row b (cleared l)
+
+-- lines of plain blanks, none of whose columns was written
+pub plain_known : (count width : ℕ) → AreKnown (replicate count (line_of 0 (plain_row width))) (replicate count (Some 0))
+plain_known zero width = tt
+plain_known (suc count) width =
+    let n = length-replicate width (blank plain) in
+    let same : width ≡ length (plain_row width) - 0 = omega arith in
+    (record { within = omega arith; blanks = ap plain_row same }, plain_known count width)
+
+-- one of them
+pub plain_line : (width : ℕ) (line : LineContent) → line ≡ line_of 0 (plain_row width) → AreKnown (line ∷ []) (Some 0 ∷ [])
+plain_line width line e = subst (λ (l : LineContent). AreKnown (l ∷ []) (Some 0 ∷ [])) (sym e) (plain_known 1 width)
