@@ -1,5 +1,5 @@
 //! Control sequences, read and written over and over.
-use csi_codec::{CSI, CsiFront, read_csi};
+use csi_codec::{CSI, CsiFront, CsiParam, read_csi};
 use std::alloc::Global;
 use std::fmt::Write;
 
@@ -7,15 +7,40 @@ fn front(alloc: Global, input: &[u8]) -> Option<CsiFront<'_>> {
     read_csi(alloc, input).ok()?
 }
 
-/// Reads the list of the control sequence at the front so often, and counts its actions.
-pub fn read(alloc: Global, input: &[u8], count: u32) -> Option<u64> {
-    let front = front(alloc, input)?;
+// Reads a list so often, and counts its actions. A function of its own, so that no other loop takes its registers.
+#[inline(never)]
+fn read_over(
+    alloc: Global,
+    params: &[CsiParam],
+    truncated: bool,
+    control: char,
+    count: u32,
+) -> Option<u64> {
     let mut sum = 0u64;
     for _ in 0..count {
-        for action in CSI::parse(alloc, &front.params, front.truncated, front.control) {
+        for action in CSI::parse(alloc, params, truncated, control) {
             let _ = action.ok()?;
             sum = sum.wrapping_add(1);
         }
+    }
+    Some(sum)
+}
+
+/// Reads the list of the control sequence at the front so often, and counts its actions.
+pub fn read(alloc: Global, input: &[u8], count: u32) -> Option<u64> {
+    let front = front(alloc, input)?;
+    read_over(alloc, &front.params, front.truncated, front.control, count)
+}
+
+// Writes an action so often, and counts the bytes, in a function of its own too.
+#[inline(never)]
+fn write_over(alloc: Global, action: &CSI, count: u32) -> Option<u64> {
+    let mut text = String::new(alloc);
+    let mut sum = 0u64;
+    for _ in 0..count {
+        text.clear();
+        write!(text, "{action}").ok()?;
+        sum = sum.wrapping_add(text.len() as u64);
     }
     Some(sum)
 }
@@ -25,12 +50,5 @@ pub fn write(alloc: Global, input: &[u8], count: u32) -> Option<u64> {
     let front = front(alloc, input)?;
     let mut actions = CSI::parse(alloc, &front.params, front.truncated, front.control);
     let action = actions.next()?.ok()?;
-    let mut text = String::new(alloc);
-    let mut sum = 0u64;
-    for _ in 0..count {
-        text.clear();
-        write!(text, "{action}").ok()?;
-        sum = sum.wrapping_add(text.len() as u64);
-    }
-    Some(sum)
+    write_over(alloc, &action, count)
 }
