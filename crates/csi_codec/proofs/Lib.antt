@@ -24,3 +24,4 @@ mod SizeLemmas
 pub mod EqualValues
 mod LongestLemmas
 mod ColourLemmas
+pub mod ShortLemmas

@@ -11,6 +11,7 @@ pub mod Rests
 pub mod Actions
 pub mod Known
 pub mod Sequences
+pub mod Short
 pub mod Parsing
 pub mod Laws
 pub mod Texts

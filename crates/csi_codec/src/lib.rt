@@ -18,6 +18,7 @@ mod rendition;
 mod sequences;
 mod sgr_reading;
 mod sgr_spelling;
+mod short;
 mod spelling;
 mod text;
 
@@ -33,3 +34,4 @@ pub use parameters::{CrackError, CsiParam, Unspecified};
 pub use places::CSIPlace;
 pub use rendition::{Font, Sgr};
 pub use sequences::{CSI, CSIParser};
+pub use short::read_short;

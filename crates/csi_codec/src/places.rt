@@ -154,7 +154,7 @@ fn known_lone(params: &[CsiParam], control: char) -> Option<(CSI, usize)>
 
 /// The one action of a whole list, where it is a cursor sequence or an edit.
 #[inline(always)]
-fn lone_action(params: &[CsiParam], control: char) -> Option<CSI>
+pub(crate) fn lone_action(params: &[CsiParam], control: char) -> Option<CSI>
     ensures { IfSome result (λ value. (truncated : Bool) → lone_or truncated control params.now ≡ action_of value ∷ []) }
 {
     if let Some(value) = cursor_reading(params, control) {

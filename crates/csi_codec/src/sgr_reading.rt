@@ -22,7 +22,6 @@ ghost use Rattle.csi_codec.specs.Rendition.{
   colour_form,
   single_code,
   plain_code,
-  ranged_code,
   underline_numbered,
   underline_shape,
   numbered_shape,
@@ -189,7 +188,7 @@ fn color_form(params: &[CsiParam]) -> Option<(ColorSpec, usize)>
     form_case(params)
 }
 
-/// What a number that stands alone means.
+/// What a number that stands alone means: fonts from 11 to 19, and the first sixteen colours of the palette, by range.
 #[tactic(auto, unfolding(crate::specs::Rendition::single_code))]
 #[inline(always)]
 fn single_code(code: u8) -> Option<Sgr>
@@ -224,16 +223,6 @@ fn single_code(code: u8) -> Option<Sgr>
         49 => Some(Sgr::Background(ColorSpec::Default)),
         59 => Some(Sgr::UnderlineColor(ColorSpec::Default)),
         38 | 48 | 58 => None,
-        _ => ranged_code(code),
-    }
-}
-
-/// Fonts 11 to 19, and the first sixteen colours of the palette.
-#[inline(always)]
-fn ranged_code(code: u8) -> Option<Sgr>
-    ensures { result ≡ ranged_code code }
-{
-    match code {
         11..=19 => Some(Sgr::Font(Font::Alternate(code - 10))),
         30..=37 => Some(Sgr::Foreground(ColorSpec::PaletteIndex(code - 30))),
         40..=47 => Some(Sgr::Background(ColorSpec::PaletteIndex(code - 40))),
@@ -272,7 +261,7 @@ fn underline_shape(params: &[CsiParam]) -> Option<(Sgr, usize)>
 
 /// What a number means, where it stands alone.
 #[inline(always)]
-fn plain_code(value: i64) -> Option<Sgr>
+pub(crate) fn plain_code(value: i64) -> Option<Sgr>
     ensures { result ≡ plain_code value }
 {
     single_code(number_within(255, value)? as u8)
