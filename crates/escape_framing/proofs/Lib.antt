@@ -30,4 +30,5 @@ pub mod ApartLemmas
 mod WideLemmas
 mod QuickLemmas
 mod NumberLemmas
+mod RunLemmas
 mod SkipLemmas

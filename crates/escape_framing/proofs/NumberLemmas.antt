@@ -16,7 +16,7 @@ digit_is b n h = by_test (is_ascii_digit b) refl
 digit_range : (b : ℕ) → is_ascii_digit b ≡ true → (48 ≤ b) × (b ≤ 57)
 digit_range b h = (grind (arith, nat_tests), grind (arith, nat_tests))
 
-digit_parameter : (b : ℕ) → is_ascii_digit b ≡ true → is_parameter b ≡ true
+pub digit_parameter : (b : ℕ) → is_ascii_digit b ≡ true → is_parameter b ≡ true
 unfolding is_parameter
 digit_parameter b h = let r = digit_range b h in let l = r.0 in let m = r.1 in grind (arith, nat_tests)
 

@@ -28,18 +28,18 @@ record Shows (p : Parameters) (whole : List CsiParam) (begun : Option ℕ) : Typ
   keeps : Keeps p (whole ++ begun_token begun)
   number : p.number ≡ cut begun
 
-abbrev with_one : Bool → Parameters → CsiParam → Option ℕ → Parameters
+abbrev pub with_one : Bool → Parameters → CsiParam → Option ℕ → Parameters
 with_one true p token number = record { tokens = p.tokens ++ token ∷ []; truncated = p.truncated; number = number }
 with_one false p token number = record { tokens = p.tokens; truncated = true; number = number }
 
-with_token_is : (p : Parameters) (token : CsiParam) (number : Option ℕ) → with_token p token number ≡ with_one (nat_lt (length p.tokens) most_tokens) p token number
+pub with_token_is : (p : Parameters) (token : CsiParam) (number : Option ℕ) → with_token p token number ≡ with_one (nat_lt (length p.tokens) most_tokens) p token number
 with_token_is p token number = by_test (nat_lt (length p.tokens) most_tokens) refl
   where
     by_test : (t : Bool) → nat_lt (length p.tokens) most_tokens ≡ t → with_token p token number ≡ with_one (nat_lt (length p.tokens) most_tokens) p token number
     by_test true e = rw e refl
     by_test false e = rw e refl
 
-length-one : (xs : List CsiParam) (x : CsiParam) → length (xs ++ x ∷ []) ≡ length xs + 1
+pub length-one : (xs : List CsiParam) (x : CsiParam) → length (xs ++ x ∷ []) ≡ length xs + 1
 length-one xs x = length-append xs (x ∷ [])
 
 take-all : (xs : List CsiParam) (n : ℕ) → length xs ≤ n → take n xs ≡ xs
@@ -82,11 +82,11 @@ token_more p ts token number k = ⊎_elim few many (order (length ts) most_token
         })
 
 -- the last token is another number
-abbrev renumbered : Bool → Parameters → ℕ → Parameters
+abbrev pub renumbered : Bool → Parameters → ℕ → Parameters
 renumbered true p n = record { tokens = p.tokens; truncated = true; number = Some n }
 renumbered false p n = record { tokens = take (length p.tokens - 1) p.tokens ++ Integer (pos n) ∷ []; truncated = false; number = Some n }
 
-with_number_is : (p : Parameters) (n : ℕ) → with_number p n ≡ renumbered p.truncated p n
+pub with_number_is : (p : Parameters) (n : ℕ) → with_number p n ≡ renumbered p.truncated p n
 with_number_is p n = by_test p.truncated refl
   where
     by_test : (t : Bool) → p.truncated ≡ t → with_number p n ≡ renumbered p.truncated p n
@@ -118,7 +118,7 @@ number_more p ts token n k = by_test (nat_lt most_tokens (length (ts ++ token �
           more = sym (ap (λ (m : ℕ). nat_lt most_tokens m) same ∙ e);
         })
 
-numbered : (p : Parameters) (token : CsiParam) (number : Option ℕ) → (with_token p token number).number ≡ number
+pub numbered : (p : Parameters) (token : CsiParam) (number : Option ℕ) → (with_token p token number).number ≡ number
 numbered p token number = ap (λ (q : Parameters). q.number) (with_token_is p token number) ∙ by_test (nat_lt (length p.tokens) most_tokens)
   where
     by_test : (t : Bool) → (with_one t p token number).number ≡ number

@@ -5,6 +5,7 @@ use Rattle.std.proofs.lemmas.Bool.Decides.{nat_tests}
 use Rattle.std.proofs.lemmas.List.Sums.{prefix_len-le-length}
 use Rattle.std.proofs.lemmas.Str.{encode_ascii}
 use lib.Utf8.{encode}
+use Rattle.std.specs.Prelude.{IsTrue}
 use Rattle.escape_framing.specs.Framed.{IsLendable, IsText, no_text, text_of, IsCharacterLen, IsTextLen}
 use Rattle.escape_framing.specs.Wide.{is_plain, is_second, is_behind, IsRunLen}
 use Rattle.escape_framing.specs.Existence.Utf8Lemmas.{Spelled, in_one, in_two, in_three, in_four, spelled, scalar_low, two_bytes, three_bytes, four_bytes}
@@ -366,3 +367,16 @@ below_plain x h = grind (arith, nat_tests)
 
 pub no_text_below : (bytes : List ℕ) (x : ℕ) (xs : List ℕ) → bytes ≡ x ∷ xs → x < 0x20 → IsTextLen bytes 0
 no_text_below bytes x xs e h = no_text_here bytes (none_of_first bytes x xs e (no_plain bytes x xs e (below_plain x h)) (omega arith))
+
+-- a plain character in front of a C0 control
+lone_text : (x : ℕ) (others : List ℕ) (y : ℕ) (ys : List ℕ) → others ≡ y ∷ ys → is_plain x ≡ true → y < 0x20 → IsTextLen (x ∷ others) 1
+lone_text x others y ys e h l =
+    let k : is_plain y ≡ false = below_plain y l in
+    let n : 1 ≡ prefix_len is_plain (x ∷ y ∷ ys) = rw (h, k) refl in
+    let r : IsRunLen (x ∷ y ∷ ys) 1 = plain_run (x ∷ y ∷ ys) 1 n (λ z. omega arith) in
+    let t : IsTextLen (y ∷ ys) 0 = no_text_below (y ∷ ys) y ys refl l in
+    subst (λ (b : List ℕ). IsTextLen (x ∷ b) 1) (sym e) (record { within = omega arith; text = r.text; rest = t.rest })
+
+pub lone_said : (said : Bool) (x : ℕ) (others : List ℕ) (y : ℕ) (ys : List ℕ) → others ≡ y ∷ ys → said ≡ is_plain x → y < 0x20 → IsTrue said → IsTextLen (x ∷ others) 1
+lone_said true x others y ys e h l t = lone_text x others y ys e (sym h) l
+lone_said false x others y ys e h l t = cc

@@ -173,16 +173,30 @@ fn behind(bytes: &[u8], count: usize) -> &[u8]
     &bytes[count..]
 }
 
+// Whether a plain character stands in front of a C0 control.
+#[inline(always)]
+fn is_lone(byte: u8, others: &[u8]) -> bool
+    ensures { IsTrue result → IsTextLen (byte ∷ others.now) 1 }
+{
+    let Some((next, _)) = others.split_first() else {
+        return false;
+    };
+    *next < 0x20 && is_plain(byte)
+}
+
 /// How many bytes the text at the front has, of as many characters as can be lent.
 #[inline(always)]
 pub(crate) fn text_len(bytes: &[u8]) -> usize
     ensures { IsTextLen bytes.now result }
 {
-    let Some((byte, _)) = bytes.split_first() else {
+    let Some((byte, others)) = bytes.split_first() else {
         return 0;
     };
     if *byte < 0x20 {
         return 0;
+    }
+    if is_lone(*byte, others) {
+        return 1;
     }
     runs_len(bytes)
 }

@@ -7,5 +7,5 @@ returns-in_default c = no_text_here c.args.bytes.now (none_of_nothing c.args.byt
 
 pub returns-then-byte-lt32 : goal.returns-then-byte-lt32
 returns-then-byte-lt32 c =
-    let s : c.args.bytes.now ≡ c.in-Some.byte.now ∷ c.in-Some.field-0-1.now = search rules in
-    no_text_below c.args.bytes.now c.in-Some.byte.now c.in-Some.field-0-1.now s c.if-byte-lt32.true
+    let s : c.args.bytes.now ≡ c.in-Some.byte.now ∷ c.in-Some.others.now = search rules in
+    no_text_below c.args.bytes.now c.in-Some.byte.now c.in-Some.others.now s c.if-byte-lt32.true

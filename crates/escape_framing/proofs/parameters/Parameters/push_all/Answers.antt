@@ -1,14 +1,14 @@
-use Rattle.std.proofs.Common.{◌≡◌, ◌∷◌, ◌∙◌, true, rules}
-use Rattle.escape_framing.specs.Bytes.{is_parameter}
-use Rattle.escape_framing.proofs.QuickLemmas.{fold_more, count_more}
+use Rattle.std.proofs.Common.{◌≡◌, ◌∷◌, ◌∙◌, List, ℕ, sym, subst, rules, arith}
+use Rattle.escape_framing.specs.Parameters.{IsPushed}
 use Rattle.escape_framing.proofs.parameters.Parameters.push_all.Goals as goal
 
 pub loop-byte-preserved : goal.loop-byte-preserved
 loop-byte-preserved c =
     let i = c.loop-byte.invariant in
     let s : c.loop-byte.rest.now ≡ c.in-Some.byte.now ∷ c.in-Some.others.now = search rules in
-    let h : is_parameter c.in-Some.byte.now ≡ true = search rules in
+    let p : IsPushed c.loop-byte.self c.loop-byte.rest.now c.push_front-rest.result.now c.push_front-rest.new.self = subst (λ (l : List ℕ). IsPushed c.loop-byte.self l c.push_front-rest.result.now c.push_front-rest.new.self) (sym s) c.push_front-rest.ensures in
     record {
-      counted = count_more c.loop-byte.count c.in-Some.byte.now c.in-Some.others.now c.loop-byte.rest.now s h ∙ i.counted;
-      folded = rw c.push.ensures (fold_more c.loop-byte.self c.in-Some.byte.now c.in-Some.others.now c.loop-byte.rest.now s h) ∙ i.folded;
+      within = omega (arith, i.within, p.shorter);
+      counted = omega (arith, i.within, i.counted, p.shorter, p.counted);
+      folded = p.folded ∙ i.folded;
     }

@@ -1,4 +1,4 @@
-use Rattle.std.proofs.Common.{◌≡◌, ◌+◌, length, fold, take}
+use Rattle.std.proofs.Common.{◌≡◌, ◌+◌, ◌-◌, ◌≤◌, length, fold, take}
 use Rattle.std.specs.List.{prefix_len}
 use Rattle.escape_framing.specs.Bytes.{is_parameter}
 use Rattle.escape_framing.specs.Parameters.{with_byte}
@@ -6,7 +6,8 @@ use Rattle.escape_framing.proofs.parameters.Parameters.push_all.Given as goal
 
 abbrev pub invariant-loop-byte : goal.invariant-loop-byte
 invariant-loop-byte l = record {
-  counted : l.count + prefix_len is_parameter l.rest ≡ prefix_len is_parameter l.fn.bytes;
+  within : length l.rest ≤ length l.fn.bytes;
+  counted : length l.fn.bytes - length l.rest + prefix_len is_parameter l.rest ≡ prefix_len is_parameter l.fn.bytes;
   folded : fold with_byte l.self (take (prefix_len is_parameter l.rest) l.rest) ≡ fold with_byte l.fn.self (take (prefix_len is_parameter l.fn.bytes) l.fn.bytes);
 }
 
