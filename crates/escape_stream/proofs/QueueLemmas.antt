@@ -1,10 +1,9 @@
 -- Steps of a queue of dispatches.
 use Rattle.std.proofs.Common.{◌≡◌, ◌<◌, ℕ, Bool, List, [], ◌∷◌, ◌++◌, length, map, Option, Some, None, refl, ap, sym, subst, ◌∙◌, arith, append_assoc, append-nil}
 use Rattle.std.specs.Prelude.{IsTrue, IfSome, is_some, false}
-use Rattle.csi_codec.specs.Parsing.{actions_from}
-use Rattle.csi_codec.specs.declared.parameters.CsiParam.{CsiParam}
+use Rattle.csi_codec.specs.Actions as csi_action
+use Rattle.csi_codec.specs.Short.{IsOnly, short_list}
 use Rattle.escape_framing.specs.Quick.{short_parameters}
-use Rattle.escape_stream.specs.declared.queue.Sequence.{Sequence}
 use Rattle.std.proofs.lemmas.Grind.{flat_map-append}
 use Rattle.escape_framing.specs.Dispatched.{optional, dispatch_of}
 use Rattle.escape_framing.specs.Parameters.{Parameters, no_parameters}
@@ -89,12 +88,6 @@ both_none now after waiting z n w = (λ i. (n ∙ z) i ++ w i)
 
 -- ---- the only action of a control sequence
 
-pub sequence_ends : (p : Parameters) (s : Sequence) (tokens : List CsiParam) → p.tokens ≡ tokens → ((truncated : Bool) (control : ℕ) → actions_from s.place tokens truncated control ≡ []) → sequence_actions p (Some s) ≡ []
-sequence_ends p s tokens e d = ap (map csi) (ap (λ (l : List CsiParam). actions_from s.place l p.truncated s.control) e ∙ d p.truncated s.control)
-
-pub only_one : (values before after : List StreamAction) (next : Option Action) → before ≡ values → Gives before next after → after ≡ [] → IfSome next (λ a. values ≡ value_of a ∷ [])
-only_one values before after None e g z = tt
-only_one values before after (Some a) e g z = sym e ∙ g ∙ ap (λ (l : List StreamAction). value_of a ∷ l) z
-
-pub short_values : (next : Option Action) (number known : Option ℕ) (control : ℕ) → number ≡ known → IfSome next (λ a. sequence_values (short_parameters known) control ≡ value_of a ∷ []) → IfSome next (λ a. sequence_values (short_parameters number) control ≡ value_of a ∷ [])
-short_values next number known control e h = subst (λ (n : Option ℕ). IfSome next (λ a. sequence_values (short_parameters n) control ≡ value_of a ∷ [])) (sym e) h
+pub short_values : (number : Option ℕ) (control : ℕ) (action : csi_action.Action) → IsOnly (short_list number) control action → sequence_values (short_parameters number) control ≡ csi action ∷ []
+short_values None control action h = ap (map csi) (h false)
+short_values (Some n) control action h = ap (map csi) (h false)

@@ -370,18 +370,14 @@ impl<'a> Pieces<'a> {
     // The short control sequence at the front of the bytes that are left, where nothing is unfinished, and its action, where
     // it is the only one.
     #[inline(always)]
-    fn short(&self) -> Result<Option<(ShortSequence, Action)>, AllocError>
+    fn short(&self) -> Option<(ShortSequence, Action)>
         requires within { self.now.count ≤ length self.now.bytes.now }
-        ensures { IfOk result (λ next. IfSome next (λ s. IsShortAt self.now s.0 × (sequence_values (short_parameters s.0.number) s.0.control ≡ value_of s.1 ∷ []))) }
+        ensures { IfSome result (λ s. IsShortAt self.now s.0 × (sequence_values (short_parameters s.0.number) s.0.control ≡ value_of s.1 ∷ [])) }
     {
         let bytes = self.bytes;
-        let Some(short) = self.parser.read_short(behind(bytes, self.count)) else {
-            return Ok(None);
-        };
-        match short_action(self.parser.alloc(), short)? {
-            Some(action) => Ok(Some((short, action))),
-            None => Ok(None),
-        }
+        let short = self.parser.read_short(behind(bytes, self.count))?;
+        let action = short_action(short)?;
+        Some((short, action))
     }
 
     // Hands out the only action of a short control sequence.
@@ -410,12 +406,8 @@ impl<'a> Pieces<'a> {
         ensures { PiecesGo self.old result self.new }
     {
         match self.short() {
-            Ok(Some((short, action))) => Some(Ok(self.take_short(short, action))),
-            Ok(None) => self.next_by_list(),
-            Err(_) => {
-                self.stage = Stage::Over;
-                Some(Err(ParseError::Memory))
-            }
+            Some((short, action)) => Some(Ok(self.take_short(short, action))),
+            None => self.next_by_list(),
         }
     }
 

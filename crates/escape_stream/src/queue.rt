@@ -1,6 +1,5 @@
 //! The actions of a step's dispatches, one by one.
-ghost use Rattle.std.specs.Prelude.{◌≡◌, ◌++◌, [], ◌∷◌, pos, IfOk, IfSome, None, Some, false};
-ghost use Rattle.csi_codec.specs.declared.parameters.CsiParam.TheVariants.{Integer};
+ghost use Rattle.std.specs.Prelude.{◌≡◌, ◌++◌, [], ◌∷◌, IfOk, IfSome, None, Some, false};
 ghost use Rattle.escape_framing.specs.Quick.{short_parameters};
 ghost use Rattle.escape_stream.specs.StreamActionView.{value_of};
 ghost use Rattle.escape_framing.specs.Dispatched.{optional, dispatch_of, dispatches_in};
@@ -13,7 +12,7 @@ ghost use Rattle.escape_framing.specs.Dispatch.{ControlSequence};
 use crate::action::Action;
 use crate::device::DeviceControlMode;
 use crate::pending::{command_action, control_action, enter_action};
-use csi_codec::{CSIPlace, CsiParam, Esc};
+use csi_codec::{CSIPlace, CsiParam, Esc, read_short};
 use escape_framing::{Dispatch, ShortSequence};
 use std::alloc::{AllocError, Global};
 
@@ -103,51 +102,13 @@ impl Sequence {
     }
 }
 
-// The action of a control sequence with these parameters and this final byte, where it is the only one.
+/// The action of a short control sequence, where it is the only one and takes no memory.
 #[inline(always)]
-fn only_action(
-    alloc: Global,
-    parameters: &[CsiParam],
-    control: u8,
-) -> Result<Option<Action>, AllocError>
-    ensures { (p : Parameters) → p.tokens ≡ parameters.now → p.truncated ≡ false → IfOk result (λ next. IfSome next (λ action. sequence_values p control ≡ value_of action ∷ [])) }
+pub(crate) fn short_action(short: ShortSequence) -> Option<Action>
+    ensures { IfSome result (λ action. sequence_values (short_parameters short.number) short.control ≡ value_of action ∷ []) }
 {
-    let mut sequence = Sequence::start(control);
-    let next = sequence.next(alloc, parameters, false)?;
-    if sequence.place.is_end(parameters) {
-        Ok(next)
-    } else {
-        Ok(None)
-    }
-}
-
-// A number among the parameters.
-#[inline(always)]
-fn number_token(number: u8) -> CsiParam
-    ensures { result ≡ Integer (pos number) }
-{
-    CsiParam::Integer(i64::from(number))
-}
-
-/// The action of a short control sequence, where it is the only one.
-#[inline(always)]
-pub(crate) fn short_action(
-    alloc: Global,
-    short: ShortSequence,
-) -> Result<Option<Action>, AllocError>
-    ensures { IfOk result (λ next. IfSome next (λ action. sequence_values (short_parameters short.number) short.control ≡ value_of action ∷ [])) }
-{
-    match short.number {
-        None => {
-            let next = only_action(alloc, &[], short.control)?;
-            Ok(next)
-        }
-        Some(number) => {
-            let token = number_token(number);
-            let next = only_action(alloc, &[token], short.control)?;
-            Ok(next)
-        }
-    }
+    let csi = read_short(short.number, short.control)?;
+    Some(Action::CSI(csi))
 }
 
 // The action of a dispatch, unless it is a control sequence.
