@@ -115,7 +115,9 @@ impl ChangeLog {
         ensures done { OnOk result (self.new ≡ step_of_kept self.old (Logged (value_of change))) }
         ensures refused { OnErr result (self.new ≡ self.old) }
     {
-        self.changes.push(change)?;
+        // Room comes first: a push that may be refused would have to hand the change back.
+        self.changes.reserve(1)?;
+        self.changes.push_reserved(change);
         self.number += 1;
         let first = self.changes.len().saturating_sub(self.most);
         let start = self.start.max(first);

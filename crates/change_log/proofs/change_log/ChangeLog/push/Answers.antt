@@ -11,8 +11,8 @@ returns-clause-done c =
     let a = c.self.inside in
     let items = a.changes.items in
     let all = items ++ c.args.change ∷ [] in
-    let stored = c.push.new.self in
-    let pushed_items = c.in_ok-push.ensures.items in
+    let stored = c.push_reserved.new.self in
+    let pushed_items : stored.items ≡ all = c.push_reserved.ensures.items ∙ ap (λ held. held ++ c.args.change ∷ []) c.reserve.ensures.items in
     let len : c.len.result ≡ length all = let k = stored.ok.0 in let n = c.len.ensures in let e = ap length pushed_items in omega arith in
     let start : c.max-start.result ≡ max a.start (length all - a.most) = c.max-start.ensures ∙ ap (max a.start) (c.saturating_sub-first.ensures ∙ ap (λ m. m - a.most) len) in
     let rest = c.without_gone-self-inside.ensures.rest ∙ c.release.ensures.kept ∙ (λ i. drop (start i) (pushed_items i)) in
