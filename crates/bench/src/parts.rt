@@ -107,6 +107,8 @@ impl Part {
     }
 }
 
+// Each part is a function of its own, so that no other's loop takes its registers.
+#[inline(never)]
 fn frame(alloc: Global, input: &[u8]) -> Option<u64> {
     let mut framer = Framer::new(alloc);
     let mut sum = 0u64;
@@ -119,6 +121,7 @@ fn frame(alloc: Global, input: &[u8]) -> Option<u64> {
     Some(sum)
 }
 
+#[inline(never)]
 fn parse(alloc: Global, input: &[u8]) -> Option<u64> {
     let mut sum = 0u64;
     let mut parser = Parser::new(alloc);
@@ -126,6 +129,7 @@ fn parse(alloc: Global, input: &[u8]) -> Option<u64> {
     Some(sum)
 }
 
+#[inline(never)]
 fn pieces(alloc: Global, input: &[u8]) -> Option<u64> {
     let mut sum = 0u64;
     let mut parser = Parser::new(alloc);
@@ -136,17 +140,20 @@ fn pieces(alloc: Global, input: &[u8]) -> Option<u64> {
     Some(sum)
 }
 
+#[inline(never)]
 fn collect(alloc: Global, input: &[u8]) -> Option<u64> {
     let actions = Parser::new(alloc).parse_as_vec(input).ok()?;
     Some(actions.len() as u64)
 }
 
+#[inline(never)]
 fn write(alloc: Global, input: &[u8]) -> Option<u64> {
     let actions = Parser::new(alloc).parse_as_vec(input).ok()?;
     let bytes = encode(alloc, &actions).ok()?;
     Some(bytes.len() as u64)
 }
 
+#[inline(never)]
 fn show(alloc: Global, input: &[u8]) -> Option<u64> {
     let mut terminal = Terminal::new(alloc, 80, 24, ProgramWidth).ok()?;
     terminal.feed(input).ok()?;
