@@ -33,6 +33,8 @@ mod sequences;
 #[cfg(test)]
 mod service;
 #[cfg(test)]
+mod short;
+#[cfg(test)]
 mod streams;
 #[cfg(test)]
 mod surfaces;
