@@ -1,12 +1,18 @@
 -- Changes that are stored, of which the first ones are gone.
-use Rattle.std.proofs.Common.{◌≡◌, ℕ, ◌+◌, ◌-◌, ◌<◌, ◌≤◌, false, List, [], ◌∷◌, ◌++◌, length, drop, map, refl, sym, ap, ◌∙◌, arith, length-append, length-drop}
+use Rattle.std.proofs.Common.{◌≡◌, ℕ, ◌+◌, ◌-◌, ◌<◌, ◌≤◌, false, List, [], ◌∷◌, ◌++◌, length, drop, map, refl, take, sym, ap, ◌∙◌, arith, length-append, length-drop}
 use Rattle.std.specs.Prelude.{◌||◌, ◌==◌, nat_lt, max, Some, None, if◌then◌else◌}
 use Rattle.std.proofs.lemmas.Bool.Decides.{nat_tests}
-use Rattle.std.proofs.lemmas.List.{drop-drop, drop-append-le, drop-map, map-append, length-map}
+use Rattle.std.proofs.lemmas.List.{drop-drop, drop-append-le, drop-map, drop-take, map-append, length-map}
 use Rattle.cell_change.specs.ChangeValue.{ChangeValue}
 use Rattle.cell_change.specs.ValueOf.{value_of}
 use Rattle.cell_change.specs.declared.change.Change.{Change}
-use Rattle.change_log.specs.Log.{Log, due, first_number, forgotten}
+use Rattle.change_log.specs.Log.{Log, due, first_number, forgotten, resized_log}
+
+-- what stands from one place to another
+pub between : (changes : List Change) (start «end» : ℕ) → start ≤ «end» → take («end» - start) (drop start changes) ≡ drop start (take «end» changes)
+between changes start «end» h =
+    let on : start + («end» - start) ≡ «end» = omega arith in
+    sym (drop-take start («end» - start) changes) ∙ ap (λ n. drop start (take n changes)) on
 
 module _ (items : List Change) (start most : ℕ) (s : start ≤ length items) where
   abbrev pub values : List ChangeValue
@@ -63,3 +69,12 @@ some_kept changes start h e =
     let mapped = length-map (drop start changes) value_of in
     let left = length-drop start changes in
     omega arith
+
+-- another size, where some changes are kept, and where none is
+pub resized_some : (number : ℕ) (entries : List ChangeValue) → (entries ≡ [] → ⊥) → resized_log (record { number = number; entries = entries }) ≡ record { number = number + 1; entries = [] }
+resized_some number [] h = absurd (h refl)
+resized_some number (change ∷ changes) h = refl
+
+pub resized_none : (number : ℕ) (entries : List ChangeValue) → entries ≡ [] → resized_log (record { number = number; entries = entries }) ≡ record { number = number; entries = [] }
+resized_none number [] e = refl
+resized_none number (change ∷ changes) e = absurd (let z = ap length e in omega arith)

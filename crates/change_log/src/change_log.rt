@@ -1,11 +1,11 @@
 //! The log.
-ghost use Rattle.std.specs.Prelude.{IfOk, ℕ, ◌≡◌, ◌⊎◌, ◌+◌, ◌<◌, ◌≤◌, ◌^◌, ◌↔◌, IsTrue, [], drop, length, map, take, vec_len, ◌-◌, OnOk, OnErr};
+ghost use Rattle.std.specs.Prelude.{IfOk, ◌≡◌, ◌⊎◌, ◌+◌, ◌-◌, ◌<◌, ◌≤◌, ◌^◌, ◌↔◌, ◌++◌, ◌∷◌, IsTrue, [], drop, length, map, max, take, vec_len, OnOk, OnErr};
 ghost use Rattle.std.specs.Option.{option_map};
 ghost use Rattle.cell_change.specs.ValueOf.{value_of};
 ghost use Rattle.change_log.specs.Log.{due, new_log};
 ghost use Rattle.change_log.specs.LogSteps.{Forgotten, Logged, Resized, step_of_kept};
 
-use cell_base::{CursorVisibility, SequenceNo};
+use cell_base::SequenceNo;
 use cell_change::{Change, cloned_changes};
 use std::alloc::{AllocError, Global};
 use std::marker::Model;
@@ -14,8 +14,11 @@ use std::marker::Model;
 /// stored.
 #[derive(Drop)]
 pub struct ChangeLog {
+    // Those from `start` to `end` are kept. The others are gone, and make room for those to come: memory that is given back
+    // as other memory is asked for is cheaper than much of it at once.
     changes: Vec<Change>,
     start: usize,
+    end: usize,
     most: usize,
     number: SequenceNo,
 }
@@ -32,51 +35,53 @@ impl Model for ChangeLog {
     ghost invariant = { IsBounded };
 }
 
-// The last changes, so many, change places with the first ones.
-fn bring_to_front(changes: &mut [Change], count: usize)
-    requires { count + count ≤ length changes.old }
+// The changes from `start` to `end` change places with the first ones.
+fn bring_to_front(changes: &mut [Change], start: usize, end: usize)
+    requires order { start ≤ end }
+    requires within { end ≤ length changes.old }
+    requires few { end ≤ start + start }
     ensures len { length changes.new ≡ length changes.old }
-    ensures front { take count changes.new ≡ drop (length changes.old - count) changes.old }
+    ensures front { take (end - start) changes.new ≡ drop start (take end changes.old) }
 {
-    let (front, last) = changes.split_at_mut(changes.len() - count);
-    front[..count].swap_with_slice(last);
+    let (front, behind) = changes.split_at_mut(start);
+    let count = end - start;
+    front[..count].swap_with_slice(&mut behind[..count]);
 }
 
-// A change that holds no memory takes the place of the one that is there.
-fn clear_at(changes: &mut Vec<Change>, at: usize)
-    requires { at < vec_len changes.old }
-    ensures len { vec_len changes.new ≡ vec_len changes.old }
-    ensures kept { (n : ℕ) → at < n → drop n changes.new.items ≡ drop n changes.old.items }
+// A change comes behind the first ones that are stored, so many: in the place of one that is gone, or as one more.
+#[inline(always)]
+fn store(changes: &mut Vec<Change>, at: usize, change: Change) -> Result<(), AllocError>
+    requires { at ≤ vec_len changes.old }
+    ensures stored { OnOk result (take (at + 1) changes.new.items ≡ take at changes.old.items ++ change ∷ []) }
+    ensures len { OnOk result (at + 1 ≤ vec_len changes.new) }
+    ensures most { OnOk result (vec_len changes.new ≤ max (vec_len changes.old) (at + 1)) }
+    ensures refused { OnErr result (changes.new.items ≡ changes.old.items) }
 {
-    changes[at] = Change::CursorVisibility(CursorVisibility::Visible);
-}
-
-// Gives back what the first change that is kept holds, where that change goes. Memory that is given back as other memory is
-// asked for is cheaper than much of it at once.
-fn release(changes: &mut Vec<Change>, first: usize, start: usize)
-    requires { start ≤ vec_len changes.old }
-    ensures len { vec_len changes.new ≡ vec_len changes.old }
-    ensures kept { drop start changes.new.items ≡ drop start changes.old.items }
-{
-    if first < start {
-        clear_at(changes, first);
+    if at < changes.len() {
+        changes[at] = change;
+        return Ok(());
     }
+    changes.reserve(1)?;
+    changes.push_reserved(change);
+    Ok(())
 }
 
-// Drops the changes that are gone where more are stored than may be due; answers how many still are.
-fn without_gone(changes: &mut Vec<Change>, start: usize, most: usize) -> usize
-    requires within { start ≤ length changes.old.items }
-    requires kept { length changes.old.items ≤ start + most }
-    ensures rest { drop result changes.new.items ≡ drop start changes.old.items }
+// Brings the changes that are kept to the front where more are gone than may be due; answers where they begin.
+fn without_gone(changes: &mut Vec<Change>, start: usize, end: usize, most: usize) -> usize
+    requires order { start ≤ end }
+    requires within { end ≤ vec_len changes.old }
+    requires kept { end ≤ start + most }
+    requires few { vec_len changes.old ≤ max (most + most) end }
+    ensures rest { drop result (take (result + (end - start)) changes.new.items) ≡ drop start (take end changes.old.items) }
     ensures gone { result ≤ most }
-    ensures stored { result + length (drop start changes.old.items) ≡ length changes.new.items }
+    ensures stored { result + (end - start) ≤ vec_len changes.new }
+    ensures twice { vec_len changes.new ≤ most + most }
 {
     if start <= most {
         return start;
     }
-    let left = changes.len() - start;
-    bring_to_front(changes, left);
-    changes.truncate(left);
+    bring_to_front(changes, start, end);
+    changes.truncate(most.saturating_add(most));
     0
 }
 
@@ -89,6 +94,7 @@ impl ChangeLog {
         ChangeLog {
             changes: Vec::new(alloc),
             start: 0,
+            end: 0,
             most,
             number: 0,
         }
@@ -105,7 +111,7 @@ impl ChangeLog {
     pub fn is_empty(&self) -> bool
         ensures { IsTrue result ↔ (self.now.log.entries ≡ []) }
     {
-        self.start == self.changes.len()
+        self.start == self.end
     }
 
     /// Logs a change, which raises the number by one. Where memory is refused nothing is changed, and
@@ -115,14 +121,13 @@ impl ChangeLog {
         ensures done { OnOk result (self.new ≡ step_of_kept self.old (Logged (value_of change))) }
         ensures refused { OnErr result (self.new ≡ self.old) }
     {
-        // Room comes first: a push that may be refused would have to hand the change back.
-        self.changes.reserve(1)?;
-        self.changes.push_reserved(change);
+        store(&mut self.changes, self.end, change)?;
         self.number += 1;
-        let first = self.changes.len().saturating_sub(self.most);
-        let start = self.start.max(first);
-        release(&mut self.changes, self.start, start);
-        self.start = without_gone(&mut self.changes, start, self.most);
+        let end = self.end + 1;
+        let start = self.start.max(end.saturating_sub(self.most));
+        let first = without_gone(&mut self.changes, start, end, self.most);
+        self.end = first + (end - start);
+        self.start = first;
         Ok(())
     }
 
@@ -131,10 +136,11 @@ impl ChangeLog {
         ensures { self.new ≡ step_of_kept self.old (Forgotten number) }
     {
         if number <= self.number {
-            let kept = self.changes.len() - self.start;
-            let first = self.number - kept;
-            let start = self.start + number.saturating_sub(first);
-            self.start = without_gone(&mut self.changes, start, self.most);
+            let before = self.number - (self.end - self.start);
+            let start = self.start + number.saturating_sub(before);
+            let first = without_gone(&mut self.changes, start, self.end, self.most);
+            self.end = first + (self.end - start);
+            self.start = first;
         }
     }
 
@@ -144,11 +150,12 @@ impl ChangeLog {
         requires { (self.old.log.entries ≡ []) ⊎ (self.old.log.number + 1 < 2 ^ 64) }
         ensures { self.new ≡ step_of_kept self.old (Resized most) }
     {
-        if self.start < self.changes.len() {
+        if self.start < self.end {
             self.number += 1;
         }
         self.changes.clear();
         self.start = 0;
+        self.end = 0;
         self.most = most;
     }
 
@@ -164,10 +171,12 @@ impl ChangeLog {
     pub fn try_clone(&self, alloc: Global) -> Result<ChangeLog, AllocError>
         ensures { IfOk result (λ log. log ≡ self.now) }
     {
-        let changes = cloned_changes(alloc, &self.changes[self.start..])?;
+        let changes = cloned_changes(alloc, &self.changes[self.start..self.end])?;
+        let end = changes.len();
         Ok(ChangeLog {
             changes,
             start: 0,
+            end,
             most: self.most,
             number: self.number,
         })
@@ -178,7 +187,7 @@ impl ChangeLog {
     pub fn due(&self, number: SequenceNo) -> Option<&[Change]>
         ensures { option_map (λ changes. map value_of changes.now) result ≡ due self.now.most self.now.log number }
     {
-        let first = self.number - (self.changes.len() - self.start);
+        let first = self.number - (self.end - self.start);
         if number == 0
             || number < first
             || self.number < number
@@ -186,6 +195,6 @@ impl ChangeLog {
         {
             return None;
         }
-        Some(&self.changes[self.start + (number - first)..])
+        Some(&self.changes[self.start + (number - first)..self.end])
     }
 }

@@ -25,7 +25,7 @@ first_of (lone.ControlSequence final n) = Some (dispatch.ControlSequence final)
 
 -- a queue that holds what was read
 pub queue_of : Read → Queue
-queue_of l = record { sequence = None; waiting = record { first = first_of l; second = None; third = None; fourth = None } }
+queue_of l = record { sequence = None; waiting = Some (record { first = first_of l; second = None; third = None; fourth = None }) }
 
 pub queued : (p : Parameters) (l : Read) → queue_actions p (queue_of l) ≡ actions_of (dispatches_in p (lone_step l).dispatches)
 unfolding queue_of first_of

@@ -32,7 +32,7 @@ both_actions p code.Exit = append-nil _
 -- an action of the sequence
 pub gives_of_sequence : (p : Parameters) (old new : Queue) (next : Option Action) → Gives (sequence_actions p old.sequence) next (sequence_actions p new.sequence) → new.waiting ≡ old.waiting → IsTrue (is_some next) → Gives (queue_actions p old) next (queue_actions p new)
 gives_of_sequence p old new None g w s = cc
-gives_of_sequence p old new (Some a) g w s = ap (λ (l : List StreamAction). l ++ actions_of (waiting_dispatches p old.waiting)) g ∙ ap (λ (x : Waiting). value_of a ∷ sequence_actions p new.sequence ++ actions_of (waiting_dispatches p x)) (sym w)
+gives_of_sequence p old new (Some a) g w s = ap (λ (l : List StreamAction). l ++ actions_of (waiting_dispatches p old.waiting)) g ∙ ap (λ (x : Option Waiting). value_of a ∷ sequence_actions p new.sequence ++ actions_of (waiting_dispatches p x)) (sym w)
 
 -- none, so those of the dispatches are all
 pub sequence_is_done : (p : Parameters) (old : Queue) (after : List StreamAction) (next : Option Action) → Gives (sequence_actions p old.sequence) next after → is_some next ≡ false → queue_actions p old ≡ actions_of (waiting_dispatches p old.waiting)
@@ -40,14 +40,14 @@ sequence_is_done p old after None g s = ap (λ (l : List StreamAction). l ++ act
 sequence_is_done p old after (Some a) g s = cc
 
 -- a dispatch is begun
-pub begun_actions : (p : Parameters) (d : Dispatch) (old new : Waiting) (after : Queue) (action : Option Action) → waiting_dispatches p old ≡ optional p (Some d) ++ waiting_dispatches p new → pending_values action None ≡ lone_actions p d → sequence_actions p after.sequence ≡ later_actions p d → after.waiting ≡ new
+pub begun_actions : (p : Parameters) (d : Dispatch) (old new : Option Waiting) (after : Queue) (action : Option Action) → waiting_dispatches p old ≡ optional p (Some d) ++ waiting_dispatches p new → pending_values action None ≡ lone_actions p d → sequence_actions p after.sequence ≡ later_actions p d → after.waiting ≡ new
     → actions_of (waiting_dispatches p old) ≡ pending_values action None ++ queue_actions p after
 begun_actions p d old new after action e l k w =
     ap actions_of e
     ∙ flat_map-append actions_of_dispatch (optional p (Some d)) (waiting_dispatches p new)
     ∙ ap (λ (x : List StreamAction). x ++ actions_of (waiting_dispatches p new)) (append-nil (actions_of_dispatch (dispatch_of p d)) ∙ sym (both_actions p d) ∙ (λ i. sym l i ++ sym k i))
     ∙ append_assoc (pending_values action None) (sequence_actions p after.sequence) (actions_of (waiting_dispatches p new))
-    ∙ ap (λ (x : Waiting). pending_values action None ++ (sequence_actions p after.sequence ++ actions_of (waiting_dispatches p x))) (sym w)
+    ∙ ap (λ (x : Option Waiting). pending_values action None ++ (sequence_actions p after.sequence ++ actions_of (waiting_dispatches p x))) (sym w)
 
 pub gives_begun : (before after : List StreamAction) (action : Option Action) → before ≡ pending_values action None ++ after → IsTrue (is_some action) → Gives before action after
 gives_begun before after None e s = cc
@@ -57,11 +57,11 @@ pub none_begun : (before after : List StreamAction) (action : Option Action) →
 none_begun before after None e s = e
 none_begun before after (Some a) e s = cc
 
-pub fewer_waiting : (d : Dispatch) (old new : Waiting) → waiting_dispatches no_parameters old ≡ optional no_parameters (Some d) ++ waiting_dispatches no_parameters new → length (waiting_dispatches no_parameters new) < length (waiting_dispatches no_parameters old)
+pub fewer_waiting : (d : Dispatch) (old new : Option Waiting) → waiting_dispatches no_parameters old ≡ optional no_parameters (Some d) ++ waiting_dispatches no_parameters new → length (waiting_dispatches no_parameters new) < length (waiting_dispatches no_parameters old)
 fewer_waiting d old new e = omega (arith, ap length e)
 
 -- no dispatch was the first, and none is behind it
-pub empty_behind : (p : Parameters) (old new : Waiting) (first : Option Dispatch) → first ≡ None → waiting_dispatches p old ≡ optional p first ++ waiting_dispatches p new → waiting_dispatches p old ≡ [] → waiting_dispatches p new ≡ []
+pub empty_behind : (p : Parameters) (old new : Option Waiting) (first : Option Dispatch) → first ≡ None → waiting_dispatches p old ≡ optional p first ++ waiting_dispatches p new → waiting_dispatches p old ≡ [] → waiting_dispatches p new ≡ []
 empty_behind p old new first n e z = sym (ap (λ (x : Option Dispatch). optional p x ++ waiting_dispatches p new) n) ∙ sym e ∙ z
 
 pub right_none : (xs ys : List StreamAction) → xs ++ ys ≡ [] → ys ≡ []

@@ -13,8 +13,9 @@ use Rattle.escape_stream.specs.declared.queue.Waiting.{Waiting}
 use Rattle.escape_stream.specs.declared.queue.Queue.{Queue}
 
 -- the dispatches, in order
-abbrev pub waiting_dispatches : Parameters → Waiting → List stream.Dispatch
-waiting_dispatches p w = optional p w.first ++ (optional p w.second ++ (optional p w.third ++ optional p w.fourth))
+abbrev pub waiting_dispatches : Parameters → Option Waiting → List stream.Dispatch
+waiting_dispatches p None = []
+waiting_dispatches p (Some w) = optional p w.first ++ (optional p w.second ++ (optional p w.third ++ optional p w.fourth))
 
 -- the actions of a control sequence from a place on
 abbrev pub sequence_actions : Parameters → Option Sequence → List StreamAction

@@ -36,24 +36,14 @@ pub(crate) struct Waiting {
 #[derive(Drop)]
 pub(crate) struct Queue {
     sequence: Option<Sequence>,
-    waiting: Waiting,
+    waiting: Option<Waiting>,
 }
 
 impl Waiting {
-    // Whether there is a dispatch.
-    #[inline(always)]
-    fn is_some(&self) -> bool
-        ensures { result ≡ false → (p : Parameters) → waiting_dispatches p self.now ≡ [] }
-    {
-        let early = self.first.is_some() | self.second.is_some();
-        let late = self.third.is_some() | self.fourth.is_some();
-        early | late
-    }
-
     // The first dispatch.
     fn pop(&mut self) -> Option<Dispatch>
-        ensures some { (p : Parameters) → waiting_dispatches p self.old ≡ optional p result ++ waiting_dispatches p self.new }
-        ensures none { (p : Parameters) → result ≡ None → waiting_dispatches p self.old ≡ [] }
+        ensures some { (p : Parameters) → waiting_dispatches p (Some self.old) ≡ optional p result ++ waiting_dispatches p (Some self.new) }
+        ensures none { (p : Parameters) → result ≡ None → waiting_dispatches p (Some self.old) ≡ [] }
     {
         let first = self.first.take();
         if first.is_some() {
@@ -146,6 +136,13 @@ fn sequence_of(dispatch: &Dispatch) -> Option<Sequence>
     }
 }
 
+// No dispatch waits any more.
+fn forget(waiting: &mut Option<Waiting>)
+    ensures { waiting.new ≡ None }
+{
+    *waiting = None;
+}
+
 impl Queue {
     /// Nothing.
     pub fn new() -> Queue
@@ -153,12 +150,7 @@ impl Queue {
     {
         Queue {
             sequence: None,
-            waiting: Waiting {
-                first: None,
-                second: None,
-                third: None,
-                fourth: None,
-            },
+            waiting: None,
         }
     }
 
@@ -169,12 +161,12 @@ impl Queue {
         let [first, second, third, fourth] = dispatches;
         Queue {
             sequence: None,
-            waiting: Waiting {
+            waiting: Some(Waiting {
                 first,
                 second,
                 third,
                 fourth,
-            },
+            }),
         }
     }
 
@@ -258,6 +250,20 @@ impl Queue {
         Ok(action)
     }
 
+    // The first of the dispatches.
+    fn pop(&mut self) -> Option<Dispatch>
+        ensures same { self.new.sequence ≡ self.old.sequence }
+        ensures some { (p : Parameters) → waiting_dispatches p self.old.waiting ≡ optional p result ++ waiting_dispatches p self.new.waiting }
+        ensures none { (p : Parameters) → result ≡ None → waiting_dispatches p self.old.waiting ≡ [] }
+    {
+        let waiting = self.waiting.as_mut()?;
+        let first = waiting.pop();
+        if first.is_none() {
+            forget(&mut self.waiting);
+        }
+        first
+    }
+
     // The next action of the dispatches, where no control sequence is read.
     #[inline(never)]
     fn next_of_waiting(
@@ -275,10 +281,7 @@ impl Queue {
                 return Ok(next);
             }
             self.sequence = None;
-            if !self.waiting.is_some() {
-                return Ok(None);
-            }
-            let Some(dispatch) = self.waiting.pop() else {
+            let Some(dispatch) = self.pop() else {
                 return Ok(None);
             };
             let action = self.begin(alloc, dispatch)?;
