@@ -3,8 +3,8 @@ use crate::fault::Fault;
 use crate::row::Row;
 use crate::sheet::Sheet;
 use crate::{
-    codes, commands, framing, lines, screens, sequences, sequences_of_changes, streams, surfaces,
-    terminals, updates, values,
+    codes, commands, framing, lines, screens, sequences, sequences_of_changes, sessions, streams,
+    surfaces, terminals, updates, values,
 };
 
 // How many arguments a kind takes.
@@ -20,6 +20,7 @@ fn count_of(kind: &str) -> usize {
         | "screen"
         | "settled screen"
         | "terminal"
+        | "session"
         | "render"
         | "surface"
         | "sequence" => 2,
@@ -41,6 +42,7 @@ fn answer_value(kind: &str, row: &Row<'_>, sheet: &mut Sheet) -> Result<(), Faul
         "settled screen" => screens::settled(row, sheet),
         "terminal" => terminals::terminal(row, sheet),
         "torn" => terminals::torn(row, sheet),
+        "session" => sessions::session(row, sheet),
         "render" => updates::rendered(row, sheet),
         "run" => updates::run_input(row, sheet),
         "surface" => surfaces::surface(row, sheet),

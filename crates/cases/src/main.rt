@@ -21,6 +21,7 @@ mod runs;
 mod screens;
 mod sequences;
 mod sequences_of_changes;
+mod sessions;
 mod sheet;
 mod steps;
 mod streams;

@@ -28,6 +28,10 @@ fn change(pair: &mut Pair, call: &Call<'_>, sheet: &mut Sheet) -> Result<bool, F
             pair.resize(width, height)?;
         }
         "forget" => pair.terminal.forget_before(call.number(1, sheet)),
+        "view" => {
+            let bytes = escapes::read(call.alloc(), call.word(1))?;
+            pair.view(&bytes)?;
+        }
         _ => return Ok(false),
     }
     Ok(true)
@@ -42,6 +46,7 @@ fn ask(pair: &mut Pair, call: &Call<'_>, sheet: &mut Sheet) -> Result<(), Fault>
         }
         "update" => pair.say_update(call.number(1, sheet), sheet)?,
         "send" => pair.say_sent(call.number(1, sheet), sheet)?,
+        "patch" => pair.say_patch(sheet)?,
         _ => {
             if !surfaces::ask_surface(pair.terminal.surface(), call, sheet)? {
                 return Err(Fault::Word);

@@ -1,4 +1,4 @@
-//! Updates: of a terminal, which a viewer reads, and of an input that is run; and what is sent for a change.
+//! Updates and patches: of a terminal, which a viewer reads, and of an input that is run; and what is sent for a change.
 ghost use Rattle.std.specs.Prelude.{◌<◌, ◌≤◌};
 
 use crate::call::Call;
@@ -29,6 +29,16 @@ pub fn shows_same(one: &Plain, two: &Plain) -> Result<bool, Fault> {
     )
 }
 
+/// The number and the bytes of the patch from what another terminal of the same size shows.
+pub fn patched(terminal: &mut Plain, shown: &Plain) -> Result<(usize, Vec<u8>), Fault> {
+    let (width, height) = terminal.surface().dimensions();
+    let (other_width, other_height) = shown.surface().dimensions();
+    if shown.is_failed() || other_width != width || other_height != height {
+        return Err(Fault::Number);
+    }
+    Ok(terminal.patch(shown)?)
+}
+
 /// A terminal, and a viewer of its size.
 #[derive(Drop)]
 pub struct Pair {
@@ -56,6 +66,30 @@ impl Pair {
         Ok(())
     }
 
+    /// The viewer is fed bytes, and settles.
+    pub fn view(&mut self, bytes: &[u8]) -> Result<(), Fault> {
+        self.viewer.feed(bytes)?;
+        self.viewer.settle()?;
+        Ok(())
+    }
+
+    // The viewer reads bytes one by one; says so where it then shows another screen.
+    fn say_read(&mut self, bytes: &[u8], sheet: &mut Sheet) -> Result<(), Fault> {
+        feed_each(&mut self.viewer, bytes)?;
+        let is_same = shows_same(&self.terminal, &self.viewer)?;
+        sheet.word_if(!is_same, "but the viewer shows another screen");
+        Ok(())
+    }
+
+    /// Writes the number and the bytes of the patch from what the viewer shows, which reads them one by one; says so where it
+    /// then shows another screen.
+    pub fn say_patch(&mut self, sheet: &mut Sheet) -> Result<(), Fault> {
+        let (number, bytes) = patched(&mut self.terminal, &self.viewer)?;
+        sheet.show(&number);
+        sheet.quoted_bytes(&bytes);
+        self.say_read(&bytes, sheet)
+    }
+
     // Writes the number and the bytes of the update for a number; answers the bytes.
     fn take_update(&mut self, number: usize, sheet: &mut Sheet) -> Result<Vec<u8>, Fault> {
         let (number, bytes) = self.terminal.update(number)?;
@@ -73,10 +107,7 @@ impl Pair {
     /// The same, and the viewer reads the bytes one by one; says so where it then shows another screen.
     pub fn say_sent(&mut self, number: usize, sheet: &mut Sheet) -> Result<(), Fault> {
         let bytes = self.take_update(number, sheet)?;
-        feed_each(&mut self.viewer, &bytes)?;
-        let is_same = shows_same(&self.terminal, &self.viewer)?;
-        sheet.word_if(!is_same, "but the viewer shows another screen");
-        Ok(())
+        self.say_read(&bytes, sheet)
     }
 }
 

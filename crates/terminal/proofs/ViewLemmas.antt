@@ -1,5 +1,6 @@
 -- What terminals show of others.
-use Rattle.std.proofs.Common.{◌≡◌, ℕ, ◌+◌, ◌*◌, ◌<◌, ◌≤◌, ◌^◌, false, Option, Some, None, List, [], ◌∷◌, length, refl, sym, ap, subst, ◌∙◌, arith}
+use Rattle.std.proofs.Common.{◌≡◌, ℕ, ◌+◌, ◌*◌, ◌<◌, ◌≤◌, ◌^◌, Bool, true, false, Option, Some, None, List, [], ◌∷◌, ◌++◌, length, map, refl, sym, ap, subst, ◌∙◌, arith}
+use Rattle.std.specs.Prelude.{IsErrOf, IsTrue, Ok}
 use Rattle.cell_base.specs.Row.{space, plain_row}
 use Rattle.cell_base.specs.Screen.{Screen, IsScreen, height}
 use Rattle.cell_change.specs.ChangeValue.{ChangeValue}
@@ -10,24 +11,33 @@ use Rattle.escape_framing.specs.Held.{hand_out, held_of, nothing_held}
 use Rattle.escape_stream.specs.StreamAction.{StreamAction}
 use Rattle.escape_stream.specs.StreamText.{stream_text}
 use Rattle.escape_stream.specs.StreamWritable.{IsWritable}
-use Rattle.screen_effects.specs.Display.{IsDisplay}
+use Rattle.screen_difference.specs.FreshCells.{screen_fresh}
+use Rattle.screen_effects.specs.Display.{Display, IsDisplay}
 use Rattle.screen_effects.specs.Effect.{effect}
+use Rattle.screen_prints.specs.Prints.{text_of}
 use Rattle.screen_replay.specs.WrittenCells.{IsSoundDisplay}
 use Rattle.std.proofs.lemmas.List.{length-map, length-replicate}
 use Rattle.terminal.specs.Terminal.{Terminal, StandsAt, GoesBy, IsIdle, IsSpelled, state_in}
-use Rattle.terminal.specs.Viewing.{Prints, ShowsAt, changes_for, update_for}
+use Rattle.terminal.specs.Viewing.{CanReadFrom, PrintsText, ShowsAt, changes_for, patch_from, standing_of, update_for}
 use Rattle.terminal.proofs.LawLemmas.{idle_view}
+use Rattle.terminal_patch.specs.Patch.{patch_of, place_prints}
+use Rattle.terminal_patch.specs.Reading.{CanReadPatch, PatchesAreShown, PatchesArePlain, PatchesLeaveIdle, PatchesPrintFreshCells, patch_for}
+use Rattle.terminal_prints.specs.Prints.{IsPlain}
+use Rattle.terminal_prints.specs.Prints.{prints as prints_of}
 use Rattle.terminal_render.specs.Effects.{IsReady, RenderedTextsHaveTheEffect, RenderedTextsLeaveIdle}
 use Rattle.terminal_render.specs.Lists.{all_rendered}
 use Rattle.terminal_render.specs.Rendering.{rendering}
+use Rattle.terminal_sessions.specs.Showing.{CanAnswer}
 use Rattle.terminal_spelling.specs.Sizes.{AreShort, all_sent_size, prints_in, runs_in}
-use Rattle.terminal_spelling.specs.Spelling.{HaveSpellings, IsSpelledScreen}
-use Rattle.terminal_spelling.proofs.ViewLemmas.{display_on_is}
+use Rattle.terminal_spelling.specs.Spelling.{HaveSpellings, IsSpelledScreen, IsSpelledState, IsSpelledText}
+use Rattle.terminal_spelling.proofs.ViewLemmas.{display_on_is, replay_size}
 use Rattle.terminal_table.specs.Alone as alone
-use Rattle.terminal_table.specs.History.{History, Piece, Forget}
-use Rattle.terminal_table.specs.Meaning.{View, new_view, after}
+use Rattle.terminal_table.specs.History.{History, Piece, Look, Looked, Forget}
+use Rattle.terminal_table.specs.Logged.{event_logged}
+use Rattle.terminal_table.specs.Meaning.{View, new_view, after, settled}
 use Rattle.terminal_table.specs.State.{State, IsState}
-use Rattle.terminal_table.specs.Turns.{IsView, AreSizes}
+use Rattle.terminal_table.specs.Turns.{IsPrinted, IsView, AreSizes, changes_in, replayed}
+use Rattle.terminal_table.proofs.EventLemmas.{event_turns}
 use Rattle.terminal_table.proofs.StateLemmas.{new_is}
 use Rattle.terminal_update.specs.Shows.{Shows}
 use Rattle.terminal_update.specs.Update.{display_on, update_changes, update_of, bytes_of, due_or, painted_anew}
@@ -38,6 +48,11 @@ use Rattle.terminal_update.specs.Viewers.{CanRead, UpdatesAreShown, UpdatesLeave
 idle_stream : held_of [] ≡ nothing_held
 unfolding hand_out
 idle_stream = refl
+
+-- what answers has not failed, where a call that has failed is refused
+pub not_failed : {T E : Type 0} (is_failed : Bool) (value : T) (error : E) → (IsTrue is_failed → IsErrOf (Ok value) error) → is_failed ≡ false
+not_failed true value error h = let same = h refl in cc
+not_failed false value error h = refl
 
 -- a terminal that stands, with a lawful view, and whose changes can be sent
 pub record IsSound {W : Type 0} (width_of : W → List ℕ → ℕ) (t : Terminal W) : Type 0 where
@@ -106,6 +121,95 @@ module _ {W : Type 0} (width_of : W → List ℕ → ℕ) where
         let there = g.stands sv.view sv.stands in
         let quiet = law (of v) sv.view (state_in t).screen t.surface.log number reads in
         record { run = there.run ∙ quiet.run; unfinished = there.unfinished ∙ quiet.stream }
+
+  -- ---- a viewer at which a patch was fed
+
+  -- each view at which it stands is lawful
+  abbrev pub at_view : (v : Terminal W) → IsSound width_of v → (view : View) → StandsAt v view → IsSound width_of v
+  at_view v s view stands = record {
+    view = view;
+    stands = stands;
+    lawful = record { lawful = subst IsState (sym s.stands.state ∙ stands.state) s.lawful.lawful; plain = subst IsPrinted (sym s.stands.run ∙ stands.run) s.lawful.plain };
+    spelled = s.spelled;
+    cells = s.cells;
+  }
+
+  count_is : (t : Terminal W) → height (state_in t).screen ≡ length t.surface.canvas.lines
+  count_is t = length-map t.surface.canvas.lines (λ l. l.columns)
+
+  module _ (t v shown : Terminal W) (narrow : of v space ≡ 1) (st : IsSound width_of t) (sv : IsSound width_of v) (can : CanReadFrom width_of t v shown) where
+    abbrev new_screen : Screen
+    new_screen = (state_in t).screen
+
+    reads_patch : CanReadPatch (of v) sv.view new_screen
+    reads_patch = record {
+      narrow = narrow;
+      ready = ready_is v sv can.idle;
+      idle = idle_view width_of v sv.view can.idle sv.stands;
+      display = display_on_is (state_in t) (state_is t st);
+      sound = subst (λ g. IsSoundDisplay g (display_on new_screen)) (sym can.widths) st.cells;
+      spelled = st.spelled.surface.spelled;
+      wide = subst (λ (x : State). x.screen.width ≡ new_screen.width) sv.stands.state can.wide;
+      tall = subst (λ (x : State). height x.screen ≡ height new_screen) sv.stands.state (count_is v ∙ can.tall ∙ sym (count_is t));
+    }
+
+    old_is : (state_in shown).screen ≡ sv.view.state.screen
+    old_is = sym can.shows ∙ ap (λ (x : State). x.screen) sv.stands.state
+
+    bytes_are : patch_from t shown ≡ patch_for sv.view new_screen
+    bytes_are = ap (λ x. patch_of x new_screen) old_is
+
+    pub patch_shown : PatchesAreShown → (behind : Terminal W) → GoesBy width_of v behind (Piece (patch_from t shown) ∷ []) → state_in behind ≡ record (state_in v) { screen = (state_in t).screen }
+    patch_shown law behind g =
+        (g.stands sv.view sv.stands).state ∙ ap (λ bytes. (after (of v) sv.view (Piece bytes ∷ [])).state) bytes_are ∙ law (of v) sv.view new_screen reads_patch
+        ∙ ap (λ (x : State). record x { screen = new_screen }) (sym sv.stands.state)
+
+    pub patch_idle : PatchesLeaveIdle → (behind : Terminal W) → GoesBy width_of v behind (Piece (patch_from t shown) ∷ []) → IsIdle behind
+    patch_idle law behind g =
+        let there = g.stands sv.view sv.stands in
+        let quiet = subst (λ bytes. alone.IsIdle (after (of v) sv.view (Piece bytes ∷ []))) (sym bytes_are) (law (of v) sv.view new_screen reads_patch) in
+        record { run = there.run ∙ quiet.run; unfinished = there.unfinished ∙ quiet.stream }
+
+    pub patch_printed : PatchesPrintFreshCells → prints_of (of v) sv.view (patch_from t shown) ≡ map text_of (screen_fresh (state_in shown).screen (state_in t).screen) ++ place_prints (state_in t).screen
+    patch_printed law =
+        ap (prints_of (of v) sv.view) bytes_are ∙ law (of v) sv.view new_screen reads_patch
+        ∙ ap (λ x. map text_of (screen_fresh x new_screen) ++ place_prints new_screen) (sym old_is)
+
+    pub patch_plain : PatchesArePlain → IsPlain (of v) sv.view (patch_from t shown)
+    patch_plain law = subst (IsPlain (of v) sv.view) (sym bytes_are) (law (of v) sv.view new_screen reads_patch)
+
+  -- a look keeps the size
+  pub record IsSize (one other : Terminal W) : Type 0 where
+    pub wide : one.surface.canvas.width ≡ other.surface.canvas.width
+    pub tall : length one.surface.canvas.lines ≡ length other.surface.canvas.lines
+
+  pub look_keeps_size : (t now : Terminal W) → (view : View) × StandsAt t view × IsView view → GoesBy width_of t now (Look ∷ []) → IsSize t now
+  look_keeps_size t now s g =
+      let view : View = s.0 in
+      let f = of t in
+      let d : Display = display_on view.state.screen in
+      let lawful : IsDisplay d = display_on_is view.state s.2.lawful in
+      let turned : (replayed f view Looked d).screen ≡ (settled f view).state.screen = (event_turns f view Looked d s.2 tt lawful refl).screen in
+      let size = replay_size f (changes_in (event_logged f view Looked)) d lawful in
+      let same : (state_in now).screen ≡ (replayed f view Looked d).screen = ap (λ (x : State). x.screen) (g.stands view s.1).state ∙ sym turned in
+      let start : view.state.screen ≡ (state_in t).screen = ap (λ (x : State). x.screen) (sym s.1.state) in
+      record {
+        wide = sym (ap (λ (x : Screen). x.width) same ∙ size.wide ∙ ap (λ (x : Screen). x.width) start);
+        tall = sym (count_is t) ∙ sym (ap (λ (x : Screen). height x) same ∙ size.tall ∙ ap (λ (x : Screen). height x) start) ∙ count_is now;
+      }
+
+  -- ---- sessions
+
+  pub can_answer : (t : Terminal W) → (s : IsSound width_of t) → length t.surface.log.log.entries ≤ number_of t.surface → CanAnswer (of t) (standing_of t s.view)
+  can_answer t s counted = record {
+    lawful = s.lawful;
+    wide = subst (λ (x : State). x.screen.width < 2 ^ 32) s.stands.state s.spelled.surface.wide;
+    tall = subst (λ (x : State). height x.screen < 2 ^ 32) s.stands.state s.spelled.surface.tall;
+    sound = subst (λ (x : State). IsSoundDisplay (of t) (display_on x.screen)) s.stands.state s.cells;
+    spelled = record { state = subst IsSpelledState s.stands.state (record { screen = s.spelled.surface.spelled; saved = s.spelled.saved }); held = subst IsSpelledText s.stands.run s.spelled.run };
+    spellings = subst (λ (x : State). HaveSpellings x.screen.width (height x.screen) t.surface.log.log.entries) s.stands.state s.spelled.surface.kept;
+    counted = counted;
+  }
 
   -- ---- going on
 
@@ -204,7 +308,7 @@ module _ {W : Type 0} (width_of : W → List ℕ → ℕ) where
     pub prints : ((x : Screen) (log : Sized) (n : ℕ) → IsDisplay (display_on x) → IsSpelledScreen x → HaveSpellings x.width (height x) log.log.entries → HaveSpellings x.width (height x) (update_changes x log n))
         → ((w h : ℕ) (changes : List ChangeValue) → HaveSpellings w h changes → all_rendered changes w h ≡ None → ⊥)
         → ((w h : ℕ) (changes : List ChangeValue) (actions : List StreamAction) → all_rendered changes w h ≡ Some actions → prints_in actions ≡ runs_in changes)
-        → Prints (update_for t number) (runs_in (changes_for t number))
+        → PrintsText (update_for t number) (runs_in (changes_for t number))
     prints law rendered once =
         let found = some_of (all_rendered (changes_for t number) screen.width (height screen)) (rendered screen.width (height screen) (changes_for t number) (spelled_update law)) in
         record { actions = found.0; text_is = ap bytes_of found.1; printed = once screen.width (height screen) (changes_for t number) found.0 found.1 }

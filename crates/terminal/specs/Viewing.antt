@@ -1,13 +1,16 @@
 -- Terminals that show what others showed.
-use Rattle.std.specs.Prelude.{◌≡◌, ℕ, List}
+use Rattle.std.specs.Prelude.{◌≡◌, ℕ, false, List, length}
 use Rattle.cell_base.specs.Screen.{Screen}
 use Rattle.cell_change.specs.ChangeValue.{ChangeValue}
 use Rattle.escape_stream.specs.StreamAction.{StreamAction}
 use Rattle.escape_stream.specs.StreamText.{stream_text}
-use Rattle.terminal.specs.Terminal.{Terminal, state_in}
+use Rattle.terminal.specs.Terminal.{Terminal, IsIdle, state_in}
+use Rattle.terminal_patch.specs.Patch.{patch_of}
 use Rattle.terminal_spelling.specs.Sizes.{prints_in}
 use Rattle.terminal_update.specs.Shows.{Shows}
+use Rattle.terminal_table.specs.Meaning.{View}
 use Rattle.terminal_update.specs.Update.{update_changes, update_of}
+use Rattle.terminal_update.specs.Updates.{Standing}
 
 -- what a viewer is sent that has seen the changes before a number
 abbrev pub update_for : {W : Type 0} → Terminal W → ℕ → List ℕ
@@ -17,8 +20,27 @@ update_for t number = update_of (state_in t).screen t.surface.log number
 abbrev pub changes_for : {W : Type 0} → Terminal W → ℕ → List ChangeValue
 changes_for t number = update_changes (state_in t).screen t.surface.log number
 
+-- what a viewer is sent that shows what another terminal shows
+abbrev pub patch_from : {W : Type 0} → Terminal W → Terminal W → List ℕ
+patch_from t shown = patch_of (state_in shown).screen (state_in t).screen
+
+-- A viewer can read the patch of a terminal from what another one shows: it and the terminal haven't failed, nothing is unfinished
+-- or held at it, the widths of both answer alike, they have one size, and it shows what the other one shows.
+pub record CanReadFrom {W : Type 0} (width_of : W → List ℕ → ℕ) (t viewer shown : Terminal W) : Type 0 where
+  pub sound : t.is_failed ≡ false
+  pub reads : viewer.is_failed ≡ false
+  pub idle : IsIdle viewer
+  pub widths : width_of viewer.surface.canvas.widths ≡ width_of t.surface.canvas.widths
+  pub wide : viewer.surface.canvas.width ≡ t.surface.canvas.width
+  pub tall : length viewer.surface.canvas.lines ≡ length t.surface.canvas.lines
+  pub shows : (state_in viewer).screen ≡ (state_in shown).screen
+
+-- where a terminal stands that stands at a view
+abbrev pub standing_of : {W : Type 0} → Terminal W → View → Standing
+standing_of t view = record { view = view; log = t.surface.log }
+
 -- bytes are those of actions that print a text
-pub record Prints (bytes text : List ℕ) : Type 0 where
+pub record PrintsText (bytes text : List ℕ) : Type 0 where
   pub actions : List StreamAction
   pub text_is : bytes ≡ stream_text actions
   pub printed : prints_in actions ≡ text

@@ -46,7 +46,7 @@ pub fn lone_actions<W: Widths>()
     lone_actions_are_their_rows();
 }
 
-/// Where no run is held a look changes nothing: so `update`, asked again where its bytes were refused memory,
+/// Where no run is held a look changes nothing: so `update` and `patch`, asked again where their bytes were refused memory,
 /// gives what it would have given.
 pub fn settled_terminals_stay<W: Widths>()
     ensures { (before : Terminal W) (now : Terminal W) (view : View) → StandsAt before view → before.run ≡ [] → GoesBy (λ w. W.width_of w) before now (Look ∷ []) → IsAlike now before }

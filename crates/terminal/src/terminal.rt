@@ -1,8 +1,8 @@
-ghost use Rattle.std.specs.Prelude.{◌≡◌, ◌↔◌, ◌<◌, ◌^◌, true, false, [], ◌∷◌, IsTrue, IsOk, IfOk, OnOk, OnErr, IsErrOf};
+ghost use Rattle.std.specs.Prelude.{◌≡◌, ◌↔◌, ◌<◌, ◌^◌, true, false, [], ◌∷◌, length, IsTrue, IsOk, IfOk, OnOk, OnErr, IsErrOf};
 ghost use Rattle.change_log.specs.Log.{most_due, new_log};
 ghost use Rattle.cell_surface.specs.Surface.{number_of};
 ghost use Rattle.terminal.specs.Terminal.{StandsAt, GoesBy, IsSpelled, NeedsNumber};
-ghost use Rattle.terminal.specs.Viewing.{update_for};
+ghost use Rattle.terminal.specs.Viewing.{patch_from, update_for};
 ghost use Rattle.terminal_table.specs.History.{Piece, Look, Resize, Forget};
 ghost use Rattle.terminal_table.specs.Meaning.{View, new_view};
 ghost use Rattle.terminal_table.specs.Turns.{IsView};
@@ -12,13 +12,14 @@ use cell_surface::Surface;
 use escape_stream::Parser;
 use std::alloc::{AllocError, Global};
 use std::marker::Model;
+use terminal_patch::patch;
 use terminal_steps::{TerminalError, TerminalState, take_bytes};
 use terminal_update::update;
 
 /// A terminal that keeps the screen which an application's bytes lead to, and the replies that they ask for.
 ///
-/// A `feed`, `settle` or `resize` that is refused leaves one that has failed, and so may an `update`;
-/// `is_failed` tells.
+/// A `feed`, `settle` or `resize` that is refused leaves one that has failed, and so may an `update` or a
+/// `patch`; `is_failed` tells.
 #[derive(Drop)]
 pub struct Terminal<W: Widths> {
     alloc: Global,
@@ -157,6 +158,46 @@ impl<W: Widths + Drop> Terminal<W> {
     {
         self.settle()?;
         let bytes = self.update_for(number)?;
+        Ok((self.current_number(), bytes))
+    }
+
+    // What a viewer is sent that shows what another terminal shows.
+    fn patch_from(&self, shown: &Terminal<W>) -> Result<Vec<u8>, AllocError>
+        requires sound { self.now.is_failed ≡ false }
+        requires shown { shown.now.is_failed ≡ false }
+        requires width { shown.now.surface.canvas.width ≡ self.now.surface.canvas.width }
+        requires height { length shown.now.surface.canvas.lines ≡ length self.now.surface.canvas.lines }
+        ensures { IfOk result (λ bytes. bytes.items ≡ patch_from self.now shown.now) }
+    {
+        patch(self.alloc, self.state.surface(), shown.state.surface())
+    }
+
+    /// Settles, and answers the number of changes so far and the bytes that a viewer is sent which shows the screen
+    /// of another terminal, of this size and these widths, that hasn't failed: the title, the cells that aren't shown
+    /// yet, each once, the cursor's place, the pen, and whether the cursor is visible. Fed to an idle terminal of
+    /// this size and these widths that shows the other one's screen, they leave it idle with this one's screen. The
+    /// place of a pending wrap is sent as the last cell of its row once more.
+    ///
+    /// Refuses as `feed` does. Where the bytes are refused memory the terminal hasn't failed: it is as behind
+    /// `settle`, and the same call, asked again, gives what it would have given.
+    pub fn patch(&mut self, shown: &Terminal<W>) -> Result<(SequenceNo, Vec<u8>), TerminalError>
+        requires shown { shown.now.is_failed ≡ false }
+        requires width { shown.now.surface.canvas.width ≡ self.old.surface.canvas.width }
+        requires height { length shown.now.surface.canvas.lines ≡ length self.old.surface.canvas.lines }
+        ensures settled { OnOk result (GoesBy (λ w. W.width_of w) self.old self.new (Look ∷ [])) }
+        ensures answer { IfOk result (λ r. r.0 ≡ number_of self.new.surface) }
+        ensures bytes { IfOk result (λ r. r.1.items ≡ patch_from self.new shown.now) }
+        ensures failed { IsErrOf result TerminalError.Failed ↔ IsTrue self.old.is_failed }
+        ensures number { IsErrOf result TerminalError.Number → NeedsNumber (λ w. W.width_of w) self.old (Look ∷ []) }
+        ensures err { OnErr result (self.new.is_failed ≡ false → GoesBy (λ w. W.width_of w) self.old self.new (Look ∷ [])) }
+        ensures fails { IsErrOf result TerminalError.Number → IsTrue self.new.is_failed }
+        ensures memory { IsErrOf result TerminalError.Memory → self.new.is_failed ≡ true → self.new.surface.is_failed ≡ true }
+        ensures stays { IsTrue self.old.is_failed → IsTrue self.new.is_failed }
+        ensures nothing { self.old.run ≡ [] → self.old.is_failed ≡ false → self.new.is_failed ≡ false }
+    {
+        self.stands();
+        self.settle()?;
+        let bytes = self.patch_from(shown)?;
         Ok((self.current_number(), bytes))
     }
 

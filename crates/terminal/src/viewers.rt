@@ -1,19 +1,25 @@
 //! Laws of viewers, as the contracts of functions that do nothing.
-ghost use Rattle.std.specs.Prelude.{◌≡◌, ℕ, ◌+◌, ◌*◌, ◌<◌, ◌≤◌, ◌^◌, false, List, [], ◌∷◌, length, Some};
+ghost use Rattle.std.specs.Prelude.{◌≡◌, ℕ, ◌+◌, ◌*◌, ◌++◌, All, map, take, ◌<◌, ◌≤◌, ◌^◌, false, List, [], ◌∷◌, length, Some};
 ghost use Rattle.cell_base.specs.Screen.{Screen, height};
 ghost use Rattle.cell_change.specs.ChangeValue.{ChangeValue};
 ghost use Rattle.cell_surface.specs.Surface.{number_of};
 ghost use Rattle.escape_stream.specs.StreamAction.{StreamAction};
 ghost use Rattle.escape_stream.specs.StreamText.{stream_text};
 ghost use Rattle.escape_stream.specs.StreamWritable.{IsWritable};
+ghost use Rattle.screen_difference.specs.FreshCells.{screen_fresh};
 ghost use Rattle.screen_effects.specs.Display.{IsDisplay};
 ghost use Rattle.screen_effects.specs.Effect.{effect};
+ghost use Rattle.screen_prints.specs.Prints.{text_of};
 ghost use Rattle.terminal.specs.Terminal.{Terminal, StandsAt, GoesBy, IsIdle, state_in};
-ghost use Rattle.terminal.specs.Viewing.{Prints, ShowsAt, changes_for, update_for};
+ghost use Rattle.terminal.specs.Viewing.{CanReadFrom, PrintsText, ShowsAt, changes_for, patch_from, standing_of, update_for};
+ghost use Rattle.terminal_patch.specs.Patch.{place_prints};
+ghost use Rattle.terminal_prints.specs.Prints.{IsPlain, prints};
 ghost use Rattle.terminal_render.specs.Rendering.{rendering};
+ghost use Rattle.terminal_sessions.specs.Sessions.{Answer, Answers, Turn, new_chain, round, session};
+ghost use Rattle.terminal_sessions.specs.Showing.{AllShow, IsShown, IsTurn};
 ghost use Rattle.terminal_spelling.specs.Sizes.{AreShort, all_sent_size, runs_in};
 ghost use Rattle.terminal_table.specs.History.{History, Piece, Forget};
-ghost use Rattle.terminal_table.specs.Meaning.{new_view};
+ghost use Rattle.terminal_table.specs.Meaning.{View, new_view};
 ghost use Rattle.terminal_table.specs.Turns.{AreSizes};
 ghost use Rattle.terminal_update.specs.Update.{display_on};
 ghost use Rattle.terminal_update.specs.Updates.{updated, updates};
@@ -22,6 +28,8 @@ ghost use Rattle.terminal_update.specs.Viewers.{repeated};
 use crate::terminal::Terminal;
 use cell_base::Widths;
 use cell_surface::laws::{forgotten_changes_are_not_due, surfaces_stay_lawful};
+use terminal_patch::laws::viewers_read_patches;
+pub use terminal_prints::laws::plain_streams_print_what_is_fresh;
 use terminal_render::laws::rendered_texts_have_the_effect;
 use terminal_spelling::laws::spelled_changes_are_rendered;
 use terminal_spelling::sizes::{
@@ -44,6 +52,47 @@ pub fn updates_are_shown<W: Widths + Drop>(terminal: &Terminal<W>, viewer: &Term
     surfaces_stay_lawful(terminal.surface());
     surfaces_stay_lawful(viewer.surface());
     viewers_read_updates();
+}
+
+/// A patch from what another terminal shows, fed to an idle terminal whose widths answer alike, which shows that and has
+/// the terminal's size, leaves one that shows the terminal's screen, with its saved cursor and its replies as they
+/// were, and idle.
+pub fn patches_are_shown<W: Widths + Drop>(terminal: &Terminal<W>, viewer: &Terminal<W>)
+    ensures shown { (shown : Terminal W) (behind : Terminal W) → CanReadFrom (λ w. W.width_of w) terminal.now viewer.now shown → GoesBy (λ w. W.width_of w) viewer.now behind (Piece (patch_from terminal.now shown) ∷ []) → state_in behind ≡ record (state_in viewer.now) { screen = (state_in terminal.now).screen } }
+    ensures idle { (shown : Terminal W) (behind : Terminal W) → CanReadFrom (λ w. W.width_of w) terminal.now viewer.now shown → GoesBy (λ w. W.width_of w) viewer.now behind (Piece (patch_from terminal.now shown) ∷ []) → IsIdle behind }
+{
+    terminal.stands();
+    viewer.stands();
+    surfaces_stay_lawful(terminal.surface());
+    surfaces_stay_lawful(viewer.surface());
+    viewers_read_patches();
+}
+
+/// Such a viewer prints of the patch the cells that it doesn't show yet, each once, row by row, and behind them,
+/// exactly where a wrap is pending on the terminal, the last visible cell of the cursor's row; and nothing else that
+/// it reads changes its rows, and nothing scrolls.
+pub fn patches_print_the_fresh_cells<W: Widths + Drop>(terminal: &Terminal<W>, viewer: &Terminal<W>)
+    ensures prints { (shown : Terminal W) (view : View) → CanReadFrom (λ w. W.width_of w) terminal.now viewer.now shown → StandsAt viewer.now view → prints (W.width_of viewer.now.surface.canvas.widths) view (patch_from terminal.now shown) ≡ map text_of (screen_fresh (state_in shown).screen (state_in terminal.now).screen) ++ place_prints (state_in terminal.now).screen }
+    ensures plain { (shown : Terminal W) (view : View) → CanReadFrom (λ w. W.width_of w) terminal.now viewer.now shown → StandsAt viewer.now view → IsPlain (W.width_of viewer.now.surface.canvas.widths) view (patch_from terminal.now shown) }
+{
+    terminal.stands();
+    viewer.stands();
+    surfaces_stay_lawful(terminal.surface());
+    surfaces_stay_lawful(viewer.surface());
+    terminal_patch::laws::patches_print_the_fresh_cells();
+}
+
+/// In every session that begins at a terminal, with new viewers of its size, updates, patches, other sizes and
+/// forgettings in any mix, a viewer that repeats the sizes and reads each answer to its end shows behind it the
+/// screen of the one that answered it: the terminal, or another viewer. Where the viewers are answered one after
+/// another, each shows the terminal's screen.
+pub fn sessions_show_the_screen<W: Widths + Drop>(terminal: &Terminal<W>)
+    ensures answers { (view : View) (count : ℕ) (turns : List Turn) (at : ℕ) (answer : Answer) → terminal.now.is_failed ≡ false → StandsAt terminal.now view → All IsTurn turns → let chain = session (W.width_of terminal.now.surface.canvas.widths) (new_chain (standing_of terminal.now view) count) (turns ++ Answers at answer ∷ []) in IsShown at chain.terminal chain.viewers }
+    ensures rounds { (view : View) (count : ℕ) (turns : List Turn) (answers : List Answer) → terminal.now.is_failed ≡ false → StandsAt terminal.now view → All IsTurn turns → let chain = session (W.width_of terminal.now.surface.canvas.widths) (new_chain (standing_of terminal.now view) count) (turns ++ round 0 answers) in AllShow chain.terminal.view.state.screen (take (length answers) chain.viewers) }
+{
+    terminal.stands();
+    surfaces_stay_lawful(terminal.surface());
+    terminal_sessions::laws::sessions_show_the_screen();
 }
 
 /// A screen that shows a terminal at a number, not above the current one, goes on to show it at that number,
@@ -89,7 +138,7 @@ pub fn updates_are_small<W: Widths + Drop>(terminal: &Terminal<W>)
     ensures count { (number : ℕ) → terminal.now.is_failed ≡ false → length (changes_for terminal.now number) ≤ 2 * (state_in terminal.now).screen.width * height (state_in terminal.now).screen + 2 * height (state_in terminal.now).screen + 11 }
     ensures each { (number : ℕ) → terminal.now.is_failed ≡ false → AreShort (state_in terminal.now).screen.width (height (state_in terminal.now).screen) (changes_for terminal.now number) }
     ensures bytes { (number : ℕ) → terminal.now.is_failed ≡ false → length (update_for terminal.now number) ≤ all_sent_size (changes_for terminal.now number) }
-    ensures printed { (number : ℕ) → terminal.now.is_failed ≡ false → Prints (update_for terminal.now number) (runs_in (changes_for terminal.now number)) }
+    ensures printed { (number : ℕ) → terminal.now.is_failed ≡ false → PrintsText (update_for terminal.now number) (runs_in (changes_for terminal.now number)) }
 {
     terminal.stands();
     surfaces_stay_lawful(terminal.surface());

@@ -29,7 +29,7 @@ use Rattle.terminal_spelling.proofs.ChangeLemmas.{has_spelling, spellings_append
 
 -- ---- cells
 
-abbrev AreSpelledCells : List CellContent → Type 0
+abbrev pub AreSpelledCells : List CellContent → Type 0
 AreSpelledCells = AllByRecursion (λ cell. IsSpelledRun cell.text × IsSpelledPen cell.attributes)
 
 visible_spelled : (at : ℕ) (row : Row) → IsSpelledRow row → AreSpelledCells (contents (visible_from at row))
@@ -66,19 +66,19 @@ concat_spelled : (ts : List (List ℕ)) → AreSpelledRuns ts → IsSpelledRun (
 concat_spelled [] p = run_nil
 concat_spelled (t ∷ ts) p = run_append t (concat ts) p.0 (concat_spelled ts p.1)
 
-texts_spelled : (cells : List (List ℕ)) → AreSpelledRuns cells → AreSpelledRuns (texts cells)
+pub texts_spelled : (cells : List (List ℕ)) → AreSpelledRuns cells → AreSpelledRuns (texts cells)
 unfolding texts
 texts_spelled [] p = tt
 texts_spelled (cell ∷ cells) p = cond_both (stay_apart (cell ∷ cells)) _ _ AreSpelledRuns (λ e. (concat_spelled (cell ∷ cells) p, tt)) (λ e. p)
 
-abbrev AreSpelledCellRuns : List CellRun → Type 0
+abbrev pub AreSpelledCellRuns : List CellRun → Type 0
 AreSpelledCellRuns = AllByRecursion (λ run. IsSpelledPen run.attributes × AreSpelledRuns run.cells)
 
 before_spelled : (cell : CellContent) (runs : List CellRun) → IsSpelledRun cell.text → IsSpelledPen cell.attributes → AreSpelledCellRuns runs → AreSpelledCellRuns (before_runs cell runs)
 before_spelled cell [] t a p = ((a, (t, tt)), tt)
 before_spelled cell (run ∷ runs) t a p = cond_both (same_attributes cell.attributes run.attributes) _ _ AreSpelledCellRuns (λ e. ((p.0.0, (t, p.0.1)), p.1)) (λ e. ((a, (t, tt)), p))
 
-runs_spelled : (cells : List CellContent) → AreSpelledCells cells → AreSpelledCellRuns (cell_runs cells)
+pub runs_spelled : (cells : List CellContent) → AreSpelledCells cells → AreSpelledCellRuns (cell_runs cells)
 runs_spelled [] p = tt
 runs_spelled (cell ∷ cells) p = before_spelled cell (cell_runs cells) p.0.0 p.0.1 (runs_spelled cells p.1)
 

@@ -38,18 +38,18 @@ no_control b h = by_test (is_control b) refl
     by_test false e = e
     by_test true e = absurd (grind (arith, nat_tests, h, e))
 
-one_part : (b : ℕ) (text : List ℕ) → IsPrinted (b ∷ text) → text_parts (b ∷ text) ≡ Plain (b ∷ text) ∷ []
+pub one_part : (b : ℕ) (text : List ℕ) → IsPrinted (b ∷ text) → text_parts (b ∷ text) ≡ Plain (b ∷ text) ∷ []
 one_part b [] h = rw (no_control b (both (is_plain b) true h).0) refl
 one_part b (x ∷ text) h =
     let p = both (is_plain b) (list_all is_plain (x ∷ text)) h in
     rw (no_control b p.0) (ap (with_byte b) (one_part x text p.1))
 
-no_clusters : clusters [] ≡ []
+pub no_clusters : clusters [] ≡ []
 unfolding unicode_segmentation chars
 no_clusters = refl
 
 -- its strokes put its clusters
-printed_strokes : (text : List ℕ) → IsPrinted text → strokes text ≡ map Cluster (clusters text)
+pub printed_strokes : (text : List ℕ) → IsPrinted text → strokes text ≡ map Cluster (clusters text)
 printed_strokes [] h = ap (map Cluster) (sym no_clusters)
 printed_strokes (b ∷ text) h = ap (flat_map part_strokes) (one_part b text h) ∙ append_nil (map Cluster (clusters (b ∷ text)))
 

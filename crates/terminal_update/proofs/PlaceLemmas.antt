@@ -38,11 +38,14 @@ pub record LastCell (width_of : List ℕ → ℕ) (at : ℕ) (row : Row) : Type 
   pub same : row ≡ before ++ cell_columns cell
   pub column : cell.column ≡ at + length before
   pub sound : IsSoundText width_of cell.cell.text (nat_le 2 cell.cell.width)
+  pub some : 1 ≤ cell.cell.width
+  pub most : cell.cell.width ≤ 2
+  pub fills : length (cell_columns cell) ≡ cell.cell.width
 
 pub last_cell_is : (width_of : List ℕ → ℕ) (at : ℕ) (row : Row) → 0 < length row → IsWhole row → IsSoundRow width_of row → LastCell width_of at row
 last_cell_is width_of at [] n w p = absurd (omega (arith, n))
 last_cell_is width_of at (Narrow text attributes ∷ []) n w p =
-    record { cell = visible_at at text 1 attributes; before = []; last = λ start. refl; whole = tt; same = refl; column = omega arith; sound = p.0 }
+    record { cell = visible_at at text 1 attributes; before = []; last = λ start. refl; whole = tt; same = refl; column = omega arith; sound = p.0; some = omega arith; most = omega arith; fills = refl }
 last_cell_is width_of at (Narrow text attributes ∷ next ∷ row) n w p =
     let rest = last_cell_is width_of (at + 1) (next ∷ row) (omega arith) w p.1 in
     let column = rest.column in
@@ -54,13 +57,16 @@ last_cell_is width_of at (Narrow text attributes ∷ next ∷ row) n w p =
       same = ap (λ (r : Row). Narrow text attributes ∷ r) rest.same;
       column = omega arith;
       sound = rest.sound;
+      some = rest.some;
+      most = rest.most;
+      fills = rest.fills;
     }
 last_cell_is width_of at (RightHalf attributes ∷ row) n w p = absurd w
 last_cell_is width_of at (LeftHalf text attributes ∷ []) n w p = absurd w
 last_cell_is width_of at (LeftHalf text attributes ∷ Narrow other others ∷ row) n w p = absurd w
 last_cell_is width_of at (LeftHalf text attributes ∷ LeftHalf other others ∷ row) n w p = absurd w
 last_cell_is width_of at (LeftHalf text attributes ∷ RightHalf others ∷ []) n w p =
-    record { cell = visible_at at text 2 attributes; before = []; last = λ start. refl; whole = tt; same = ap (λ (a : Attributes). LeftHalf text attributes ∷ RightHalf a ∷ []) w.0; column = omega arith; sound = p.0 }
+    record { cell = visible_at at text 2 attributes; before = []; last = λ start. refl; whole = tt; same = ap (λ (a : Attributes). LeftHalf text attributes ∷ RightHalf a ∷ []) w.0; column = omega arith; sound = p.0; some = omega arith; most = omega arith; fills = refl }
 last_cell_is width_of at (LeftHalf text attributes ∷ RightHalf others ∷ next ∷ row) n w p =
     let rest = last_cell_is width_of (at + 1 + 1) (next ∷ row) (omega arith) w.1 p.1 in
     let column = rest.column in
@@ -72,6 +78,9 @@ last_cell_is width_of at (LeftHalf text attributes ∷ RightHalf others ∷ next
       same = ap (λ (r : Row). LeftHalf text attributes ∷ RightHalf others ∷ r) rest.same;
       column = omega arith;
       sound = rest.sound;
+      some = rest.some;
+      most = rest.most;
+      fills = rest.fills;
     }
 
 columns_count : (text : List ℕ) (wide : Bool) (a : Attributes) → 0 < length (columns_of text wide a)
@@ -90,10 +99,10 @@ set_again before columns w =
 
 -- ---- one text that fits
 
-one_text_is : (text : List ℕ) → texts (text ∷ []) ≡ text ∷ []
+pub one_text_is : (text : List ℕ) → texts (text ∷ []) ≡ text ∷ []
 one_text_is text = by_test (stay_apart (text ∷ [])) (λ e. one_text text [] e ∙ ap (λ (t : List ℕ). t ∷ []) (append-nil text)) (λ e. each_text text [] e)
 
-none_due : (a : Attributes) → attributes_due a a ≡ []
+pub none_due : (a : Attributes) → attributes_due a a ≡ []
 none_due a = ap (λ b. if b then [] else AllAttributes a ∷ []) ((same_attributes_decides a a).1 refl)
 
 -- it is its columns

@@ -73,7 +73,7 @@ pub spellings_front : (width tall : ℕ) (xs ys : List ChangeValue) → HaveSpel
 spellings_front width tall [] ys h = tt
 spellings_front width tall (x ∷ xs) ys h = (h.0, spellings_front width tall xs ys h.1)
 
-spellings_behind : (width tall : ℕ) (xs ys : List ChangeValue) → HaveSpellings width tall (xs ++ ys) → HaveSpellings width tall ys
+pub spellings_behind : (width tall : ℕ) (xs ys : List ChangeValue) → HaveSpellings width tall (xs ++ ys) → HaveSpellings width tall ys
 spellings_behind width tall [] ys h = h
 spellings_behind width tall (x ∷ xs) ys h = spellings_behind width tall xs ys h.1
 

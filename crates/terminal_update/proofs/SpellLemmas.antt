@@ -27,11 +27,11 @@ use Rattle.terminal_update.proofs.PaintLemmas.{due_of, front_of, painted_rows, p
 -- ---- the last cell of a row
 
 -- a cell with such a text and such attributes, before a column, if there is one
-abbrev IsSpelledCell : ℕ → Option VisibleCell → Type 0
+abbrev pub IsSpelledCell : ℕ → Option VisibleCell → Type 0
 IsSpelledCell bound None = ⊤
 IsSpelledCell bound (Some v) = IsSpelledRun v.cell.text × IsSpelledPen v.cell.attributes × (v.column < bound)
 
-last_from : (bound at : ℕ) (row : Row) (start : Option VisibleCell) → at + length row ≤ bound → IsSpelledRow row → IsSpelledCell bound start → IsSpelledCell bound (fold (λ _ v. Some v) start (visible_from at row))
+pub last_from : (bound at : ℕ) (row : Row) (start : Option VisibleCell) → at + length row ≤ bound → IsSpelledRow row → IsSpelledCell bound start → IsSpelledCell bound (fold (λ _ v. Some v) start (visible_from at row))
 last_from bound at [] start h p q = q
 last_from bound at (Narrow text attributes ∷ row) start h p q = last_from bound (at + 1) row (Some (visible_at at text 1 attributes)) (omega (arith, h)) p.2 (p.0, p.1, omega (arith, h))
 last_from bound at (LeftHalf text attributes ∷ row) start h p q = last_from bound (at + 1) row (Some (visible_at at text 2 attributes)) (omega (arith, h)) p.2 (p.0, p.1, omega (arith, h))

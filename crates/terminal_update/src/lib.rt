@@ -5,4 +5,4 @@ pub mod laws;
 mod sending;
 pub mod viewers;
 
-pub use sending::update;
+pub use sending::{Receiver, update};

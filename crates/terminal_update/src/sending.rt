@@ -78,12 +78,16 @@ fn due_changes<W: Widths + Drop>(
     }
 }
 
-/// A terminal of so many columns and rows, to which changes are sent.
+/// A terminal of so many columns and rows, to which changes are sent: the bytes of what is sent for them are
+/// appended, by ECMA-48 and xterm's control sequences. Want of memory is the only refusal; the bytes of some of
+/// them may have been appended then.
 #[derive(Clone, Copy)]
-struct Receiver {
+pub struct Receiver {
     alloc: Global,
-    width: usize,
-    height: usize,
+    /// The columns, from 1 to 2^32 - 1.
+    pub width: usize,
+    /// The rows, from 1 to 2^32 - 1.
+    pub height: usize,
     ghost columns: { 0 < width },
     ghost width_fits: { width < 2 ^ 32 },
     ghost rows: { 0 < height },
@@ -91,8 +95,23 @@ struct Receiver {
 }
 
 impl Receiver {
-    // Sends changes in turn.
-    fn send_all(&self, bytes: &mut Vec<u8>, changes: &[Change]) -> Result<(), AllocError>
+    /// A terminal of a surface's size.
+    pub fn of<W: Widths + Drop>(alloc: Global, surface: &Surface<W>) -> Receiver
+        requires { CanBeSent surface.now }
+        ensures width { result.width ≡ (shown_by surface.now).screen.width }
+        ensures height { result.height ≡ height (shown_by surface.now).screen }
+    {
+        surfaces_stay_lawful(surface);
+        let (width, height) = surface.dimensions();
+        Receiver {
+            alloc,
+            width,
+            height,
+        }
+    }
+
+    /// Sends changes in turn, each of which has a spelling.
+    pub fn send_all(&self, bytes: &mut Vec<u8>, changes: &[Change]) -> Result<(), AllocError>
         requires { HaveSpellings self.now.width self.now.height (map value_of changes.now) }
         ensures { OnOk result (bytes.new.items ≡ bytes.old.items ++ texts_sent self.now.width self.now.height (map value_of changes.now)) }
     {
@@ -104,16 +123,16 @@ impl Receiver {
         }
     }
 
-    // Sends a change.
-    fn send(&self, bytes: &mut Vec<u8>, change: &Change) -> Result<(), AllocError>
+    /// Sends a change.
+    pub fn send(&self, bytes: &mut Vec<u8>, change: &Change) -> Result<(), AllocError>
         requires { HasSpelling self.now.width self.now.height (value_of change.now) }
         ensures { OnOk result (bytes.new.items ≡ bytes.old.items ++ text_for self.now.width self.now.height (value_of change.now)) }
     {
         self.send_all(bytes, slice::from_ref(change))
     }
 
-    // Sends a title.
-    fn send_title(&self, bytes: &mut Vec<u8>, title: &str) -> Result<(), AllocError>
+    /// Sends a title.
+    pub fn send_title(&self, bytes: &mut Vec<u8>, title: &str) -> Result<(), AllocError>
         requires { HasSpelling self.now.width self.now.height (Title title.now) }
         ensures { OnOk result (bytes.new.items ≡ bytes.old.items ++ text_for self.now.width self.now.height (Title title.now)) }
     {
@@ -130,8 +149,8 @@ impl Receiver {
         self.send(bytes, &Change::Text(text))
     }
 
-    // Sends attributes.
-    fn send_pen(&self, bytes: &mut Vec<u8>, pen: &CellAttributes) -> Result<(), AllocError>
+    /// Sends attributes.
+    pub fn send_pen(&self, bytes: &mut Vec<u8>, pen: &CellAttributes) -> Result<(), AllocError>
         requires { HasSpelling self.now.width self.now.height (AllAttributes pen.now) }
         ensures { OnOk result (bytes.new.items ≡ bytes.old.items ++ text_for self.now.width self.now.height (AllAttributes pen.now)) }
     {
@@ -139,8 +158,13 @@ impl Receiver {
         self.send(bytes, &Change::AllAttributes(pen))
     }
 
-    // Sends a place.
-    fn send_place(&self, bytes: &mut Vec<u8>, column: usize, row: usize) -> Result<(), AllocError>
+    /// Sends a place, whose column and row count from 0.
+    pub fn send_place(
+        &self,
+        bytes: &mut Vec<u8>,
+        column: usize,
+        row: usize,
+    ) -> Result<(), AllocError>
         requires { HasSpelling self.now.width self.now.height (CursorPosition (place.Absolute column) (place.Absolute row)) }
         ensures { OnOk result (bytes.new.items ≡ bytes.old.items ++ text_for self.now.width self.now.height (CursorPosition (place.Absolute column) (place.Absolute row))) }
     {
@@ -151,8 +175,9 @@ impl Receiver {
         self.send(bytes, &place)
     }
 
-    // Sends the last cell of the cursor's row once more, and the pen.
-    fn send_again<W: Widths + Drop>(
+    /// Sends the last cell of the cursor's row once more, where it stands, and then the pen: so a wrap is pending
+    /// where that cell ends in the last column.
+    pub fn send_again<W: Widths + Drop>(
         &self,
         bytes: &mut Vec<u8>,
         surface: &Surface<W>,
@@ -255,12 +280,7 @@ pub fn update<W: Widths + Drop>(
     surfaces_stay_lawful(surface);
     updates_have_spellings();
     encoded_lists_join();
-    let (width, height) = surface.dimensions();
-    let receiver = Receiver {
-        alloc,
-        width,
-        height,
-    };
+    let receiver = Receiver::of(alloc, surface);
     let mut bytes = Vec::new(alloc);
     receiver.send_update(&mut bytes, surface, number)?;
     Ok(bytes)

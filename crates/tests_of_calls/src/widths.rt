@@ -85,11 +85,52 @@ fn assert_viewed<R: Abort + AllocGlobal, W: Widths + Drop + Copy>(rt: &R, widths
     assert_eq!(rt; viewer.surface().cursor_position().0, column);
 }
 
+// A viewer of the same widths that reads the patch from what it shows then shows the same row, and has printed so many bytes.
+fn assert_patched<R: Abort + AllocGlobal, W: Widths + Drop + Copy>(
+    rt: &R,
+    widths: W,
+    old: &[u8],
+    new: &[u8],
+    count: usize,
+) {
+    let mut terminal = Terminal::new(rt.alloc(), 4, 1, widths).expect(rt, "memory");
+    let mut viewer = Terminal::new(rt.alloc(), 4, 1, widths).expect(rt, "memory");
+    assert!(rt; viewer.feed(old).is_ok());
+    assert!(rt; viewer.settle().is_ok());
+    assert!(rt; terminal.feed(new).is_ok());
+    let (width, height) = terminal.surface().dimensions();
+    let (other_width, other_height) = viewer.surface().dimensions();
+    let is_same = !viewer.is_failed() && other_width == width && other_height == height;
+    assert!(rt; is_same);
+    let (number, patch) = terminal.patch(&viewer).expect(rt, "memory");
+    assert_eq!(rt; number, terminal.current_number());
+    assert_eq!(rt; patch.len(), count);
+    assert!(rt; viewer.feed(&patch).is_ok());
+    let row = terminal
+        .surface()
+        .screen_chars_to_string()
+        .expect(rt, "memory");
+    let shown = viewer
+        .surface()
+        .screen_chars_to_string()
+        .expect(rt, "memory");
+    assert_eq!(rt; row.as_str(), shown.as_str());
+}
+
 #[test]
 fn viewers_of_own_widths(rt: HostRuntime) {
     assert_viewed(&rt, ProgramWidth, b"\xe3\x81\x8b\xe3\x81\x8b");
     assert_viewed(&rt, Single, b"\xe3\x81\x8b\xe3\x81\x8b");
     assert_viewed(&rt, Single, b"\xe3\x81\x8babc");
+}
+
+// Beside what is printed with a NUL behind it a patch has a title of 6 bytes, two places of 6, two pens of 11 and the cursor of 6; where
+// nothing is printed one place and one pen.
+#[test]
+fn patches_of_own_widths(rt: HostRuntime) {
+    assert_patched(&rt, ProgramWidth, b"abcd", b"axcd\x1b[1;1H", 46 + 2);
+    assert_patched(&rt, Single, b"\xe3\x81\x8bb", b"\xe3\x81\x8bc", 46 + 2);
+    assert_patched(&rt, Single, b"\xe3\x81\x8bb", b"\xe3\x81\x8bb", 29);
 }
 
 #[test]

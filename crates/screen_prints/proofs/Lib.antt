@@ -1,0 +1,3 @@
+pub mod CellPrints
+pub mod DifferencePrints
+pub mod JoinLemmas

@@ -1,0 +1,6 @@
+pub mod SpellLemmas
+pub mod LeadLemmas
+pub mod ActionLemmas
+pub mod PrintLemmas
+pub mod ReadLemmas
+pub mod SendLemmas

@@ -1,0 +1,4 @@
+pub mod CountLemmas
+pub mod RowsLemmas
+pub mod PutLemmas
+pub mod StreamLemmas

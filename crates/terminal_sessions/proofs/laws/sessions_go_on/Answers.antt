@@ -1,0 +1,8 @@
+use Rattle.terminal_sessions.proofs.SessionLemmas.{terminals_go, viewers_stay}
+use Rattle.terminal_sessions.proofs.laws.sessions_go_on.Goals as goal
+
+pub returns-clause-terminal : goal.returns-clause-terminal
+returns-clause-terminal c = terminals_go
+
+pub returns-clause-viewers : goal.returns-clause-viewers
+returns-clause-viewers c = viewers_stay

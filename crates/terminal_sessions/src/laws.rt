@@ -1,0 +1,25 @@
+//! Laws of sessions: each is the contract of a function that does nothing.
+ghost use Rattle.terminal_sessions.specs.Showing.{AnswersAreShown, RoundsAreShown, TerminalsGoTheirWay, ViewersStay};
+
+use escape_framing::laws::one_cut;
+use terminal_patch::laws::viewers_read_patches;
+use terminal_update::viewers::viewers_read_updates;
+
+/// In every session, with updates, patches, other sizes and forgettings in any mix, a viewer that repeats the
+/// sizes and reads each answer to its end shows behind it the screen of the one that answered it: the terminal, or
+/// another viewer. Where the viewers of a chain are answered one after another, each shows the terminal's screen.
+pub fn sessions_show_the_screen()
+    ensures answers { AnswersAreShown }
+    ensures rounds { RoundsAreShown }
+{
+    one_cut();
+    viewers_read_updates();
+    viewers_read_patches();
+}
+
+/// The terminal of a session goes through its steps, and a look for each answer to its viewer, and through nothing
+/// else; and there are as many viewers as at first.
+pub fn sessions_go_on()
+    ensures terminal { TerminalsGoTheirWay }
+    ensures viewers { ViewersStay }
+{}
