@@ -72,6 +72,10 @@ impl Part {
         match self {
             Part::ReadList => lists::read(alloc, input, count),
             Part::WriteList => lists::write(alloc, input, count),
+            Part::Lines => surfaces::lines(alloc, input, count),
+            Part::Words => surfaces::words(alloc, input, count),
+            Part::Due => surfaces::due(alloc, input, 80, 24, count),
+            Part::DueLarge => surfaces::due(alloc, input, 1600, 480, count),
             _ => self.run_on_stream(alloc, input, count),
         }
     }
@@ -92,16 +96,6 @@ impl Part {
             Part::Collect => collect(alloc, input),
             Part::Encode => write(alloc, input),
             Part::Show => show(alloc, input),
-            _ => self.run_on_surface(alloc, input),
-        }
-    }
-
-    fn run_on_surface(self, alloc: Global, input: &[u8]) -> Option<u64> {
-        match self {
-            Part::Lines => surfaces::lines(alloc, input),
-            Part::Words => surfaces::words(alloc, input),
-            Part::Due => surfaces::due(alloc, input, 80, 24),
-            Part::DueLarge => surfaces::due(alloc, input, 1600, 480),
             _ => surfaces::large(alloc, input),
         }
     }

@@ -1,5 +1,5 @@
 //! Surfaces that are changed.
-use cell_surface::{AttributeChange, Change, ColorAttribute, ProgramWidth, Surface};
+use cell_surface::{AttributeChange, ColorAttribute, ProgramWidth, Surface};
 use std::alloc::Global;
 use std::str;
 
@@ -12,47 +12,80 @@ fn surface_of(alloc: Global, width: usize, height: usize) -> Option<Plain> {
     Surface::new(alloc, width, height, ProgramWidth).ok()
 }
 
-// A text joins the surface, with what it was cut at behind it.
-fn add_text(alloc: Global, surface: &mut Plain, text: &str, behind: &str) -> Option<()> {
-    let mut whole = String::with_capacity(alloc, text.len() + behind.len()).ok()?;
+// The parts of a text between separators.
+fn split<'a>(alloc: Global, input: &'a [u8], separator: &str) -> Option<Vec<&'a str>> {
+    let mut parts = Vec::new(alloc);
+    for part in str::from_utf8(input).ok()?.split(separator) {
+        parts.push(part).ok()?;
+    }
+    Some(parts)
+}
+
+// A text joins the surface, with another behind it.
+fn add_text(surface: &mut Plain, text: &str, behind: &str) -> Option<()> {
+    let mut whole = surface.spare_text();
     whole.push_str(text).ok()?;
     whole.push_str(behind).ok()?;
-    surface.add_change(Change::Text(whole)).ok()?;
+    surface.add_change(whole).ok()?;
     Some(())
 }
 
-/// Adds each line of the input, with CR LF behind it, to a surface of 80 columns and 24 rows.
-pub fn lines(alloc: Global, input: &[u8]) -> Option<u64> {
+fn add_lines(surface: &mut Plain, lines: &[&str]) -> Option<()> {
+    for line in lines {
+        add_text(surface, line, "\r\n")?;
+    }
+    Some(())
+}
+
+/// Adds each line of the input, with CR LF behind it, to a surface of 80 columns and 24 rows, so often.
+pub fn lines(alloc: Global, input: &[u8], count: u32) -> Option<u64> {
+    let lines = split(alloc, input, "\r\n")?;
     let mut surface = surface_of(alloc, 80, 24)?;
-    for line in str::from_utf8(input).ok()?.split("\r\n") {
-        add_text(alloc, &mut surface, line, "\r\n")?;
+    for _ in 0..count {
+        add_lines(&mut surface, &lines)?;
     }
     Some(surface.current_seqno() as u64)
 }
 
-/// Adds each word of the input, and behind it an attribute, to a surface of 80 columns and 24 rows.
-pub fn words(alloc: Global, input: &[u8]) -> Option<u64> {
-    let mut surface = surface_of(alloc, 80, 24)?;
+fn add_words(surface: &mut Plain, words: &[&str]) -> Option<()> {
     let mut color = 0u8;
-    for word in str::from_utf8(input).ok()?.split(' ') {
-        add_text(alloc, &mut surface, word, " ")?;
+    for word in words {
+        add_text(surface, word, " ")?;
         color = color.wrapping_add(1);
-        let color = ColorAttribute::PaletteIndex(color);
-        let change = Change::Attribute(AttributeChange::Foreground(color));
+        let change = AttributeChange::Foreground(ColorAttribute::PaletteIndex(color));
         surface.add_change(change).ok()?;
     }
+    Some(())
+}
+
+/// Adds each word of the input, and behind it an attribute, to a surface of 80 columns and 24 rows, so often.
+pub fn words(alloc: Global, input: &[u8], count: u32) -> Option<u64> {
+    let words = split(alloc, input, " ")?;
+    let mut surface = surface_of(alloc, 80, 24)?;
+    for _ in 0..count {
+        add_words(&mut surface, &words)?;
+    }
     Some(surface.current_seqno() as u64)
 }
 
-/// Adds each line of the input to a surface of this size, without scrolling, and takes the changes behind each.
-pub fn due(alloc: Global, input: &[u8], width: usize, height: usize) -> Option<u64> {
-    let mut surface = surface_of(alloc, width, height)?;
+fn add_and_take(surface: &mut Plain, lines: &[&str]) -> Option<u64> {
     let mut sum = 0u64;
-    for line in str::from_utf8(input).ok()?.split("\r\n") {
+    for line in lines {
         let number = surface.current_seqno();
-        add_text(alloc, &mut surface, line, "\r")?;
+        add_text(surface, line, "\r")?;
         let (_, changes) = surface.get_changes(number).ok()?;
         sum = sum.wrapping_add(changes.len() as u64);
+    }
+    Some(sum)
+}
+
+/// Adds each line of the input to a surface of this size, without scrolling, and takes the changes behind each, so often.
+pub fn due(alloc: Global, input: &[u8], width: usize, height: usize, count: u32) -> Option<u64> {
+    let lines = split(alloc, input, "\r\n")?;
+    let mut surface = surface_of(alloc, width, height)?;
+    let mut sum = 0u64;
+    for _ in 0..count {
+        sum = sum.wrapping_add(add_and_take(&mut surface, &lines)?);
     }
     Some(sum)
 }
@@ -64,7 +97,7 @@ pub fn large(alloc: Global, input: &[u8]) -> Option<u64> {
     let other = surface_of(alloc, 2000, 500)?;
     let text = str::from_utf8(input).ok()?;
     for _ in 0..500 {
-        add_text(alloc, &mut surface, text, "")?;
+        add_text(&mut surface, text, "")?;
     }
     let difference = other.diff_screens(&surface).ok()?;
     let (_, repaint) = surface.get_changes(0).ok()?;

@@ -1,5 +1,6 @@
 //! The surface.
 ghost use Rattle.std.specs.Prelude.{◌≡◌, ◌≢◌, ◌≤◌, [], OnOk, OnErr, ◌+◌, ◌-◌, ◌<◌, ◌^◌, ◌↔◌, ◌==◌, All, false, true, length, map, not, IsErrOf, IfOk};
+ghost use Rattle.std.specs.String.{string_bytes};
 ghost use Rattle.cell_change.specs.ValueOf.{value_of};
 ghost use Rattle.cell_surface.specs.Surface.{Adds, AddsAll, Answers, IsSound, Resizes, number_of, shown_by};
 ghost use Rattle.change_log.specs.Log.{due, most_due, new_log};
@@ -190,7 +191,17 @@ impl<W: Widths + Drop> Surface<W> {
         Ok(number)
     }
 
+    /// An empty text, with the memory of one that was added and is gone from the log, where there is some: what is
+    /// written into it and added again takes none then.
+    pub fn spare_text(&mut self) -> String
+        ensures empty { string_bytes result ≡ [] }
+        ensures same { self.new ≡ self.old }
+    {
+        self.log.spare_text()
+    }
+
     // A change has its effect, and joins the log.
+    #[inline(always)]
     pub(crate) fn push(&mut self, change: Change) -> Result<(), AllocError>
         requires stays { self.old.is_failed ≡ false }
         requires number { number_of self.old + 1 < 2 ^ 64 }

@@ -1,6 +1,7 @@
 //! The log.
-ghost use Rattle.std.specs.Prelude.{IfOk, ◌≡◌, ◌⊎◌, ◌+◌, ◌-◌, ◌<◌, ◌≤◌, ◌^◌, ◌↔◌, ◌++◌, ◌∷◌, IsTrue, [], drop, length, map, max, take, vec_len, OnOk, OnErr};
+ghost use Rattle.std.specs.Prelude.{IfOk, ◌≡◌, ◌⊎◌, ◌+◌, ◌-◌, ◌<◌, ◌≤◌, ◌^◌, ◌↔◌, ◌++◌, ◌∷◌, IsTrue, [], drop, length, map, max, slice_set, take, vec_len, OnOk, OnErr};
 ghost use Rattle.std.specs.Option.{option_map};
+ghost use Rattle.std.specs.String.{string_bytes};
 ghost use Rattle.cell_change.specs.ValueOf.{value_of};
 ghost use Rattle.change_log.specs.Log.{due, new_log};
 ghost use Rattle.change_log.specs.LogSteps.{Forgotten, Logged, Resized, step_of_kept};
@@ -9,6 +10,7 @@ use cell_base::SequenceNo;
 use cell_change::{Change, cloned_changes};
 use std::alloc::{AllocError, Global};
 use std::marker::Model;
+use std::mem;
 
 /// Numbered changes, of which the last ones that may be due are kept. At most twice as many are
 /// stored.
@@ -21,7 +23,12 @@ pub struct ChangeLog {
     end: usize,
     most: usize,
     number: SequenceNo,
+    // The memory of a text that was stored, for one to come.
+    spare: String,
 }
+
+// A text that is gone leaves its memory for another if it has at most so many bytes.
+const MOST_SPARE: usize = 1024;
 
 impl Model for ChangeLog {
     ghost use Rattle.change_log.specs.LogSteps.{Sized};
@@ -36,6 +43,8 @@ impl Model for ChangeLog {
 }
 
 // The changes from `start` to `end` change places with the first ones.
+#[cold]
+#[inline(never)]
 fn bring_to_front(changes: &mut [Change], start: usize, end: usize)
     requires order { start ≤ end }
     requires within { end ≤ length changes.old }
@@ -48,9 +57,33 @@ fn bring_to_front(changes: &mut [Change], start: usize, end: usize)
     front[..count].swap_with_slice(&mut behind[..count]);
 }
 
+// Puts a change in the place of another, which is handed out.
+#[inline(always)]
+fn replace(changes: &mut [Change], at: usize, change: Change) -> Change
+    requires { at < length changes.old }
+    ensures { changes.new ≡ slice_set changes.old at change }
+{
+    mem::replace(&mut changes[at], change)
+}
+
+// The memory of a text, unless it is much.
+#[inline(always)]
+fn save_memory(spare: &mut String, change: Change) {
+    if let Change::Text(text) = change {
+        if text.capacity() <= MOST_SPARE {
+            *spare = text;
+        }
+    }
+}
+
 // A change comes behind the first ones that are stored, so many: in the place of one that is gone, or as one more.
 #[inline(always)]
-fn store(changes: &mut Vec<Change>, at: usize, change: Change) -> Result<(), AllocError>
+fn store(
+    changes: &mut Vec<Change>,
+    spare: &mut String,
+    at: usize,
+    change: Change,
+) -> Result<(), AllocError>
     requires { at ≤ vec_len changes.old }
     ensures stored { OnOk result (take (at + 1) changes.new.items ≡ take at changes.old.items ++ change ∷ []) }
     ensures len { OnOk result (at + 1 ≤ vec_len changes.new) }
@@ -58,7 +91,8 @@ fn store(changes: &mut Vec<Change>, at: usize, change: Change) -> Result<(), All
     ensures refused { OnErr result (changes.new.items ≡ changes.old.items) }
 {
     if at < changes.len() {
-        changes[at] = change;
+        let gone = replace(changes, at, change);
+        save_memory(spare, gone);
         return Ok(());
     }
     changes.reserve(1)?;
@@ -67,6 +101,7 @@ fn store(changes: &mut Vec<Change>, at: usize, change: Change) -> Result<(), All
 }
 
 // Brings the changes that are kept to the front where more are gone than may be due; answers where they begin.
+#[inline(always)]
 fn without_gone(changes: &mut Vec<Change>, start: usize, end: usize, most: usize) -> usize
     requires order { start ≤ end }
     requires within { end ≤ vec_len changes.old }
@@ -97,6 +132,7 @@ impl ChangeLog {
             end: 0,
             most,
             number: 0,
+            spare: String::new(alloc),
         }
     }
 
@@ -116,12 +152,13 @@ impl ChangeLog {
 
     /// Logs a change, which raises the number by one. Where memory is refused nothing is changed, and
     /// the change is dropped.
+    #[inline(always)]
     pub fn push(&mut self, change: Change) -> Result<(), AllocError>
         requires { self.old.log.number + 1 < 2 ^ 64 }
         ensures done { OnOk result (self.new ≡ step_of_kept self.old (Logged (value_of change))) }
         ensures refused { OnErr result (self.new ≡ self.old) }
     {
-        store(&mut self.changes, self.end, change)?;
+        store(&mut self.changes, &mut self.spare, self.end, change)?;
         self.number += 1;
         let end = self.end + 1;
         let start = self.start.max(end.saturating_sub(self.most));
@@ -129,6 +166,17 @@ impl ChangeLog {
         self.end = first + (end - start);
         self.start = first;
         Ok(())
+    }
+
+    /// An empty text, with the memory of one that was logged and is gone, where there is some.
+    pub fn spare_text(&mut self) -> String
+        ensures empty { string_bytes result ≡ [] }
+        ensures same { self.new ≡ self.old }
+    {
+        let none = String::new(*self.changes.allocator());
+        let mut text = mem::replace(&mut self.spare, none);
+        text.clear();
+        text
     }
 
     /// Forgets the changes before a number; none where it lies above the current one.
@@ -179,6 +227,7 @@ impl ChangeLog {
             end,
             most: self.most,
             number: self.number,
+            spare: String::new(alloc),
         })
     }
 

@@ -391,6 +391,7 @@ impl<W: Widths + Drop> Canvas<W> {
     }
 
     /// Does what a change does.
+    #[inline(always)]
     pub fn apply(&mut self, change: &Change) -> Result<(), AllocError>
         requires { IsDrawn self.old }
         ensures { OnOk result (Shows self.old self.new (effect (W.width_of self.old.widths) (display_of self.old) (value_of change.now))) }

@@ -1,5 +1,5 @@
 -- Changes that are added to a surface, in order.
-use Rattle.std.specs.Prelude.{◌≡◌, ℕ, false, Option, Some, None, List, [], ◌∷◌, map, fold}
+use Rattle.std.specs.Prelude.{◌≡◌, ℕ, false, List, map, fold}
 use Rattle.cell_change.specs.ChangeValue.{ChangeValue}
 use Rattle.cell_surface.specs.Surface.{Surface, shown_by}
 use Rattle.change_log.specs.LogSteps.{Logged, step_of_kept}
@@ -11,8 +11,3 @@ pub record AddsAll {W : Type 0} (width_of : W → List ℕ → ℕ) (before afte
   pub widths : after.canvas.widths ≡ before.canvas.widths
   pub log : after.log ≡ fold step_of_kept before.log (map Logged changes)
   pub stays : after.is_failed ≡ false
-
--- a change, if there is one
-abbrev pub listed : Option ChangeValue → List ChangeValue
-listed None = []
-listed (Some change) = change ∷ []

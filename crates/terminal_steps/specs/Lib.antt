@@ -5,3 +5,4 @@ pub mod Applying
 pub mod Events
 pub mod Refusals
 pub mod Taking
+pub mod Cursor

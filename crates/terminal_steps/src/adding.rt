@@ -1,14 +1,17 @@
 //! Changes that are added to a surface, one after another.
-ghost use Rattle.std.specs.Prelude.{◌≡◌, ◌+◌, ◌^◌, ◌↔◌, ◌≤◌, true, IfOk, IsErrOf, [], ◌∷◌, length, option_map};
-ghost use Rattle.cell_change.specs.ChangeValue.{Text};
+ghost use Rattle.std.specs.Prelude.{◌≡◌, ◌+◌, ◌^◌, ◌↔◌, ◌≤◌, true, IfOk, IsErrOf, [], ◌∷◌};
+ghost use Rattle.std.specs.String.{string_bytes};
+ghost use Rattle.cell_base.specs.AttributeValueOf.{attribute_value};
+ghost use Rattle.cell_change.specs.ChangeValue.{Attribute, Text};
 ghost use Rattle.cell_change.specs.ValueOf.{value_of};
 ghost use Rattle.cell_surface.specs.Surface.{number_of};
-ghost use Rattle.terminal_steps.specs.Adding.{AddsAll, listed};
+ghost use Rattle.terminal_steps.specs.Adding.{AddsAll};
+ghost use Rattle.terminal_steps.specs.Cursor.{pen_change, place_change};
 
-use cell_base::Widths;
+use crate::cursor::{Pen, Place};
+use cell_base::{AttributeChange, Widths};
 use cell_change::Change;
 use cell_surface::{Surface, SurfaceError};
-use std::alloc::Global;
 
 // One change.
 pub(crate) fn add<W: Widths + Drop>(
@@ -24,40 +27,76 @@ pub(crate) fn add<W: Widths + Drop>(
     Ok(())
 }
 
-// Two changes.
-pub(crate) fn add_two<W: Widths + Drop>(
+// A text.
+pub(crate) fn add_run<W: Widths + Drop>(
     surface: &mut Surface<W>,
-    first: Change,
-    second: Change,
+    text: String,
 ) -> Result<(), SurfaceError>
-    ensures added { IfOk result (λ _. AddsAll (λ w. W.width_of w) surface.old surface.new (value_of first ∷ value_of second ∷ [])) }
+    ensures added { IfOk result (λ _. AddsAll (λ w. W.width_of w) surface.old surface.new (Text (string_bytes text) ∷ [])) }
+    ensures failed { IsErrOf result SurfaceError.Failed → surface.old.is_failed ≡ true }
+    ensures numbers { IsErrOf result SurfaceError.Number → 2 ^ 64 ≤ number_of surface.old + 1 }
+    ensures memory { IsErrOf result SurfaceError.Memory → surface.new.is_failed ≡ true }
+{
+    surface.add_change(text)?;
+    Ok(())
+}
+
+// One attribute of the pen.
+pub(crate) fn add_attribute<W: Widths + Drop>(
+    surface: &mut Surface<W>,
+    change: AttributeChange,
+) -> Result<(), SurfaceError>
+    ensures added { IfOk result (λ _. AddsAll (λ w. W.width_of w) surface.old surface.new (Attribute (attribute_value change) ∷ [])) }
+    ensures failed { IsErrOf result SurfaceError.Failed → surface.old.is_failed ≡ true }
+    ensures numbers { IsErrOf result SurfaceError.Number → 2 ^ 64 ≤ number_of surface.old + 1 }
+{
+    surface.add_change(change)?;
+    Ok(())
+}
+
+// All attributes of the pen.
+pub(crate) fn add_pen<W: Widths + Drop>(
+    surface: &mut Surface<W>,
+    pen: Pen,
+) -> Result<(), SurfaceError>
+    ensures added { IfOk result (λ _. AddsAll (λ w. W.width_of w) surface.old surface.new (pen_change pen ∷ [])) }
+    ensures failed { IsErrOf result SurfaceError.Failed → surface.old.is_failed ≡ true }
+    ensures numbers { IsErrOf result SurfaceError.Number → 2 ^ 64 ≤ number_of surface.old + 1 }
+{
+    surface.add_change(pen)?;
+    Ok(())
+}
+
+// A place for the cursor.
+pub(crate) fn add_place<W: Widths + Drop>(
+    surface: &mut Surface<W>,
+    place: Place,
+) -> Result<(), SurfaceError>
+    ensures added { IfOk result (λ _. AddsAll (λ w. W.width_of w) surface.old surface.new (place_change place ∷ [])) }
+    ensures failed { IsErrOf result SurfaceError.Failed → surface.old.is_failed ≡ true }
+    ensures numbers { IsErrOf result SurfaceError.Number → 2 ^ 64 ≤ number_of surface.old + 1 }
+{
+    surface.add_change(place)?;
+    Ok(())
+}
+
+// A place for the cursor, and all attributes of the pen.
+pub(crate) fn add_cursor<W: Widths + Drop>(
+    surface: &mut Surface<W>,
+    place: Place,
+    pen: Pen,
+) -> Result<(), SurfaceError>
+    ensures added { IfOk result (λ _. AddsAll (λ w. W.width_of w) surface.old surface.new (place_change place ∷ pen_change pen ∷ [])) }
     ensures failed { IsErrOf result SurfaceError.Failed → surface.old.is_failed ≡ true }
     ensures numbers { IsErrOf result SurfaceError.Number → 2 ^ 64 ≤ number_of surface.old + 2 }
 {
-    add(surface, first)?;
-    add(surface, second)?;
+    add_place(surface, place)?;
+    add_pen(surface, pen)?;
     Ok(())
 }
 
-// Three changes.
-pub(crate) fn add_three<W: Widths + Drop>(
-    surface: &mut Surface<W>,
-    first: Change,
-    second: Change,
-    third: Change,
-) -> Result<(), SurfaceError>
-    ensures added { IfOk result (λ _. AddsAll (λ w. W.width_of w) surface.old surface.new (value_of first ∷ value_of second ∷ value_of third ∷ [])) }
-    ensures failed { IsErrOf result SurfaceError.Failed → surface.old.is_failed ≡ true }
-    ensures numbers { IsErrOf result SurfaceError.Number → 2 ^ 64 ≤ number_of surface.old + 3 }
-{
-    add(surface, first)?;
-    add_two(surface, second, third)?;
-    Ok(())
-}
-
-// A text.
+// A copy of a text.
 pub(crate) fn add_text<W: Widths + Drop>(
-    alloc: Global,
     surface: &mut Surface<W>,
     text: &str,
 ) -> Result<(), SurfaceError>
@@ -65,8 +104,9 @@ pub(crate) fn add_text<W: Widths + Drop>(
     ensures failed { IsErrOf result SurfaceError.Failed → surface.old.is_failed ≡ true }
     ensures numbers { IsErrOf result SurfaceError.Number → 2 ^ 64 ≤ number_of surface.old + 1 }
 {
-    let text = String::from_str(alloc, text)?;
-    add(surface, Change::Text(text))
+    let mut copy = surface.spare_text();
+    copy.push_str(text)?;
+    add_run(surface, copy)
 }
 
 // No change.
@@ -79,19 +119,4 @@ pub(crate) fn add_nothing<W: Widths + Drop>(surface: &mut Surface<W>) -> Result<
         return Err(SurfaceError::Failed);
     }
     Ok(())
-}
-
-// A change, if there is one.
-pub(crate) fn add_optional<W: Widths + Drop>(
-    surface: &mut Surface<W>,
-    change: Option<Change>,
-) -> Result<(), SurfaceError>
-    ensures added { IfOk result (λ _. AddsAll (λ w. W.width_of w) surface.old surface.new (listed (option_map value_of change))) }
-    ensures failed { IsErrOf result SurfaceError.Failed → surface.old.is_failed ≡ true }
-    ensures numbers { IsErrOf result SurfaceError.Number → 2 ^ 64 ≤ number_of surface.old + length (listed (option_map value_of change)) }
-{
-    match change {
-        Some(change) => add(surface, change),
-        None => add_nothing(surface),
-    }
 }

@@ -10,7 +10,7 @@ ghost use Rattle.terminal_steps.specs.Adding.{AddsAll};
 ghost use Rattle.terminal_steps.specs.Applying.{state_of};
 ghost use Rattle.terminal_steps.specs.FunctionView.{table_function};
 
-use crate::adding::{add, add_nothing, add_text};
+use crate::adding::{add, add_attribute, add_nothing, add_run, add_text};
 use crate::erasing::{
     erase_display, erase_line, erase_to_end_of_display, erase_to_end_of_line, reverse_index,
     scroll_down, scroll_up,
@@ -25,7 +25,6 @@ use cell_base::{AttributeChange, CursorVisibility, Widths};
 use cell_change::Change;
 use cell_surface::{Surface, SurfaceError};
 use escape_stream::Action;
-use std::alloc::Global;
 
 // Whether the cursor is shown, as a change.
 fn visibility(shown: bool) -> CursorVisibility
@@ -40,7 +39,6 @@ fn visibility(shown: bool) -> CursorVisibility
 
 // What a control function does, but for those of saved cursors and replies, which add no change here.
 fn change_screen<W: Widths + Drop>(
-    alloc: Global,
     surface: &mut Surface<W>,
     saved: &Option<SavedCursor>,
     function: ControlFunction,
@@ -51,9 +49,9 @@ fn change_screen<W: Widths + Drop>(
 {
     match function {
         ControlFunction::Moves(movement) => move_cursor(surface, movement),
-        ControlFunction::LineFeed => add_text(alloc, surface, "\n"),
-        ControlFunction::CarriageReturn => add_text(alloc, surface, "\r"),
-        ControlFunction::NextRow => add_text(alloc, surface, "\r\n"),
+        ControlFunction::LineFeed => add_text(surface, "\n"),
+        ControlFunction::CarriageReturn => add_text(surface, "\r"),
+        ControlFunction::NextRow => add_text(surface, "\r\n"),
         ControlFunction::ReverseIndex => reverse_index(surface),
         ControlFunction::EraseToEndOfDisplay => erase_to_end_of_display(surface),
         ControlFunction::EraseDisplay => erase_display(surface),
@@ -63,7 +61,7 @@ fn change_screen<W: Widths + Drop>(
         ControlFunction::ScrollDown(count) => scroll_down(surface, count),
         ControlFunction::Rendition(value) => render(surface, value),
         ControlFunction::Hyperlink(link) => {
-            add(surface, Change::Attribute(AttributeChange::Hyperlink(link)))
+            add_attribute(surface, AttributeChange::Hyperlink(link))
         }
         ControlFunction::Title(text) => add(surface, Change::Title(text)),
         ControlFunction::ShowCursor(shown) => {
@@ -110,7 +108,7 @@ fn perform<W: Widths + Drop>(
             report_position(surface, replies)?;
             add_nothing(surface)
         }
-        other => change_screen(*replies.allocator(), surface, saved, other),
+        other => change_screen(surface, saved, other),
     }
 }
 
@@ -150,5 +148,5 @@ pub fn print<W: Widths + Drop>(surface: &mut Surface<W>, text: String) -> Result
     if surface.is_failed() {
         return Err(SurfaceError::Failed);
     }
-    add(surface, Change::Text(text))
+    add_run(surface, text)
 }

@@ -5,13 +5,25 @@ ghost use Rattle.cell_surface.specs.Surface.{number_of, shown_by};
 ghost use Rattle.terminal_table.specs.Changes.{changes, same_place};
 ghost use Rattle.terminal_table.specs.Functions as table;
 ghost use Rattle.terminal_steps.specs.Adding.{AddsAll};
+ghost use Rattle.terminal_steps.specs.Cursor.{place_change};
 
-use crate::adding::{add, add_three, add_two};
+use crate::adding::{add, add_cursor, add_pen, add_place};
+use crate::cursor::{Pen, Place};
 use crate::function::Move;
-use crate::moving::{current_column, move_change, position_at};
+use crate::moving::{current_column, move_place, position_at};
 use cell_base::Widths;
 use cell_change::Change;
 use cell_surface::{Surface, SurfaceError};
+use std::alloc::AllocError;
+
+// The pen, to be set again: what erases takes its background for the pen.
+fn current_pen<W: Widths + Drop>(surface: &Surface<W>) -> Result<Pen, AllocError>
+    ensures { IfOk result (λ pen. pen.attributes ≡ (shown_by surface.now).screen.pen) }
+{
+    Ok(Pen {
+        attributes: surface.pen().try_clone()?,
+    })
+}
 
 /// The columns from the cursor to the end of its row become blanks.
 pub(crate) fn erase_to_end_of_line<W: Widths + Drop>(
@@ -21,9 +33,10 @@ pub(crate) fn erase_to_end_of_line<W: Widths + Drop>(
     ensures failed { IsErrOf result SurfaceError.Failed → surface.old.is_failed ≡ true }
     ensures numbers { IsErrOf result SurfaceError.Number → 2 ^ 64 ≤ number_of surface.old + 2 }
 {
-    let pen = surface.pen().try_clone()?;
-    let clear = Change::ClearToEndOfLine(pen.background());
-    add_two(surface, clear, Change::AllAttributes(pen))
+    let pen = current_pen(surface)?;
+    add(surface, Change::ClearToEndOfLine(pen.background()))?;
+    add_pen(surface, pen)?;
+    Ok(())
 }
 
 /// The same, and all rows below.
@@ -34,14 +47,15 @@ pub(crate) fn erase_to_end_of_display<W: Widths + Drop>(
     ensures failed { IsErrOf result SurfaceError.Failed → surface.old.is_failed ≡ true }
     ensures numbers { IsErrOf result SurfaceError.Number → 2 ^ 64 ≤ number_of surface.old + 2 }
 {
-    let pen = surface.pen().try_clone()?;
-    let clear = Change::ClearToEndOfScreen(pen.background());
-    add_two(surface, clear, Change::AllAttributes(pen))
+    let pen = current_pen(surface)?;
+    add(surface, Change::ClearToEndOfScreen(pen.background()))?;
+    add_pen(surface, pen)?;
+    Ok(())
 }
 
 // Where the cursor is; no wrap is pending there.
-fn same_place<W: Widths + Drop>(surface: &Surface<W>) -> Change
-    ensures { value_of result ≡ same_place (shown_by surface.now).screen }
+fn same_place<W: Widths + Drop>(surface: &Surface<W>) -> Place
+    ensures { place_change result ≡ same_place (shown_by surface.now).screen }
 {
     let (_, row) = surface.cursor_position();
     position_at(surface, current_column(surface), row)
@@ -53,10 +67,11 @@ pub(crate) fn erase_display<W: Widths + Drop>(surface: &mut Surface<W>) -> Resul
     ensures failed { IsErrOf result SurfaceError.Failed → surface.old.is_failed ≡ true }
     ensures numbers { IsErrOf result SurfaceError.Number → 2 ^ 64 ≤ number_of surface.old + 3 }
 {
-    let pen = surface.pen().try_clone()?;
-    let clear = Change::ClearScreen(pen.background());
+    let pen = current_pen(surface)?;
     let here = same_place(surface);
-    add_three(surface, clear, here, Change::AllAttributes(pen))
+    add(surface, Change::ClearScreen(pen.background()))?;
+    add_cursor(surface, here, pen)?;
+    Ok(())
 }
 
 /// The cursor's row becomes blanks.
@@ -65,13 +80,13 @@ pub(crate) fn erase_line<W: Widths + Drop>(surface: &mut Surface<W>) -> Result<(
     ensures failed { IsErrOf result SurfaceError.Failed → surface.old.is_failed ≡ true }
     ensures numbers { IsErrOf result SurfaceError.Number → 2 ^ 64 ≤ number_of surface.old + 4 }
 {
-    let pen = surface.pen().try_clone()?;
-    let clear = Change::ClearToEndOfLine(pen.background());
+    let pen = current_pen(surface)?;
     let (_, row) = surface.cursor_position();
     let start = position_at(surface, 0, row);
     let place = same_place(surface);
-    add(surface, start)?;
-    add_three(surface, clear, place, Change::AllAttributes(pen))?;
+    add_place(surface, start)?;
+    add(surface, Change::ClearToEndOfLine(pen.background()))?;
+    add_cursor(surface, place, pen)?;
     Ok(())
 }
 
@@ -130,7 +145,7 @@ fn reverse_change<W: Widths + Drop>(surface: &Surface<W>) -> Change
             scroll_count: 1,
         }
     } else {
-        move_change(surface, Move::Up(1))
+        Change::from(move_place(surface, Move::Up(1)))
     }
 }
 

@@ -4,6 +4,7 @@
 
 mod adding;
 mod applying;
+mod cursor;
 mod erasing;
 mod error;
 mod function;

@@ -1,17 +1,17 @@
 //! Moves of the cursor, and rows that move.
 ghost use Rattle.std.specs.Prelude.{◌≡◌, ◌+◌, ◌^◌, ◌≤◌, Option, true, min, IfOk, IsErrOf, []};
-ghost use Rattle.cell_change.specs.ValueOf.{value_of};
 ghost use Rattle.cell_surface.specs.Surface.{number_of, shown_by};
 ghost use Rattle.terminal_table.specs.Changes.{changes, move_change, position};
 ghost use Rattle.terminal_table.specs.Functions as table;
 ghost use Rattle.terminal_table.specs.Steps.{active_column, target};
 ghost use Rattle.terminal_steps.specs.Adding.{AddsAll};
+ghost use Rattle.terminal_steps.specs.Cursor.{place_change};
 ghost use Rattle.terminal_steps.specs.FunctionView.{move_of};
 
-use crate::adding::add;
+use crate::adding::add_place;
+use crate::cursor::Place;
 use crate::function::Move;
-use cell_base::{Position, Widths};
-use cell_change::Change;
+use cell_base::Widths;
 use cell_surface::{Surface, SurfaceError};
 
 /// The cursor's column; where a wrap is pending, the last one.
@@ -23,18 +23,18 @@ pub(crate) fn current_column<W: Widths + Drop>(surface: &Surface<W>) -> usize
     column.min(width.saturating_sub(1))
 }
 
-/// A position at a column and a row, or at the last ones.
+/// The place at a column and a row, or at the last ones.
 pub(crate) fn position_at<W: Widths + Drop>(
     surface: &Surface<W>,
     column: usize,
     row: usize,
-) -> Change
-    ensures { value_of result ≡ position (column, row) (shown_by surface.now).screen }
+) -> Place
+    ensures { place_change result ≡ position (column, row) (shown_by surface.now).screen }
 {
     let (width, height) = surface.dimensions();
-    Change::CursorPosition {
-        x: Position::Absolute(column.min(width.saturating_sub(1))),
-        y: Position::Absolute(row.min(height.saturating_sub(1))),
+    Place {
+        column: column.min(width.saturating_sub(1)),
+        row: row.min(height.saturating_sub(1)),
     }
 }
 
@@ -68,8 +68,8 @@ fn place_of(
 }
 
 /// Where a move leads.
-pub(crate) fn move_change<W: Widths + Drop>(surface: &Surface<W>, movement: Move) -> Change
-    ensures { value_of result ≡ move_change (move_of movement) (shown_by surface.now).screen }
+pub(crate) fn move_place<W: Widths + Drop>(surface: &Surface<W>, movement: Move) -> Place
+    ensures { place_change result ≡ move_change (move_of movement) (shown_by surface.now).screen }
 {
     let (width, height) = surface.dimensions();
     let (_, row) = surface.cursor_position();
@@ -80,10 +80,7 @@ pub(crate) fn move_change<W: Widths + Drop>(surface: &Surface<W>, movement: Move
         width.saturating_sub(1),
         height.saturating_sub(1),
     );
-    Change::CursorPosition {
-        x: Position::Absolute(column),
-        y: Position::Absolute(row),
-    }
+    Place { column, row }
 }
 
 /// A move of the cursor.
@@ -95,6 +92,6 @@ pub(crate) fn move_cursor<W: Widths + Drop>(
     ensures failed { IsErrOf result SurfaceError.Failed → surface.old.is_failed ≡ true }
     ensures numbers { IsErrOf result SurfaceError.Number → 2 ^ 64 ≤ number_of surface.old + 1 }
 {
-    let change = move_change(surface, movement);
-    add(surface, change)
+    let place = move_place(surface, movement);
+    add_place(surface, place)
 }

@@ -7,7 +7,8 @@ ghost use Rattle.terminal_table.specs.State.{cursor_of};
 ghost use Rattle.terminal_table.specs.Steps.{cursor_to_restore};
 ghost use Rattle.terminal_steps.specs.Adding.{AddsAll};
 
-use crate::adding::add_two;
+use crate::adding::{add, add_cursor};
+use crate::cursor::Pen;
 use crate::moving::position_at;
 use cell_base::{CellAttributes, ColorAttribute, CursorVisibility, Widths};
 use cell_change::Change;
@@ -71,8 +72,8 @@ pub(crate) fn restore_cursor<W: Widths + Drop>(
     ensures numbers { IsErrOf result SurfaceError.Number → 2 ^ 64 ≤ number_of surface.old + 2 }
 {
     let SavedCursor { column, row, pen } = cursor_to_restore(saved)?;
-    let position = position_at(surface, column, row);
-    add_two(surface, position, Change::AllAttributes(pen))
+    let place = position_at(surface, column, row);
+    add_cursor(surface, place, Pen { attributes: pen })
 }
 
 /// A full reset, which leaves the title alone.
@@ -81,9 +82,7 @@ pub(crate) fn full_reset<W: Widths + Drop>(surface: &mut Surface<W>) -> Result<(
     ensures failed { IsErrOf result SurfaceError.Failed → surface.old.is_failed ≡ true }
     ensures numbers { IsErrOf result SurfaceError.Number → 2 ^ 64 ≤ number_of surface.old + 2 }
 {
-    add_two(
-        surface,
-        Change::ClearScreen(ColorAttribute::Default),
-        Change::CursorVisibility(CursorVisibility::Visible),
-    )
+    add(surface, Change::ClearScreen(ColorAttribute::Default))?;
+    add(surface, Change::CursorVisibility(CursorVisibility::Visible))?;
+    Ok(())
 }

@@ -89,7 +89,7 @@ impl<W: Widths + Drop> TerminalState<W> {
         if self.held.is_empty() {
             return Ok(());
         }
-        let next = String::new(*self.replies.allocator());
+        let next = self.surface.spare_text();
         let text = mem::replace(&mut self.held, next);
         print(&mut self.surface, text)?;
         Ok(())

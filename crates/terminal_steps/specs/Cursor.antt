@@ -1,0 +1,11 @@
+-- What is added for a place and a pen.
+use Rattle.cell_base.specs.declared.attributes.Position.TheVariants.{Absolute}
+use Rattle.cell_change.specs.ChangeValue.{AllAttributes, ChangeValue, CursorPosition}
+use Rattle.terminal_steps.specs.declared.cursor.Pen.{Pen}
+use Rattle.terminal_steps.specs.declared.cursor.Place.{Place}
+
+abbrev pub place_change : Place → ChangeValue
+place_change place = CursorPosition (Absolute place.column) (Absolute place.row)
+
+abbrev pub pen_change : Pen → ChangeValue
+pen_change pen = AllAttributes pen.attributes

@@ -1,0 +1,55 @@
+//! What sets the cursor's place and the pen: changes with types of their own, each of which a surface adds by code of
+//! its own.
+ghost use Rattle.std.specs.Prelude.{◌≡◌};
+
+use cell_base::{CellAttributes, ColorAttribute, Position};
+use cell_change::Change;
+
+/// A column and a row, counted from 0, to which the cursor goes.
+#[derive(Clone, Copy)]
+pub(crate) struct Place {
+    pub(crate) column: usize,
+    pub(crate) row: usize,
+}
+
+impl From<Place> for Change {
+    ghost use Rattle.std.specs.Prelude.{◌≡◌};
+    ghost use Rattle.cell_change.specs.ValueOf.{value_of};
+    ghost use Rattle.terminal_steps.specs.Cursor.{place_change};
+
+    ghost from_gives = { λ place change. value_of change ≡ place_change place };
+
+    fn from(place: Place) -> Change {
+        Change::CursorPosition {
+            x: Position::Absolute(place.column),
+            y: Position::Absolute(place.row),
+        }
+    }
+}
+
+/// Attributes that the pen gets, all of them.
+#[derive(Drop)]
+pub(crate) struct Pen {
+    pub(crate) attributes: CellAttributes,
+}
+
+impl Pen {
+    /// The colour behind the text.
+    pub(crate) fn background(&self) -> ColorAttribute
+        ensures { result ≡ self.now.attributes.background }
+    {
+        self.attributes.background()
+    }
+}
+
+impl From<Pen> for Change {
+    ghost use Rattle.std.specs.Prelude.{◌≡◌};
+    ghost use Rattle.cell_change.specs.ValueOf.{value_of};
+    ghost use Rattle.terminal_steps.specs.Cursor.{pen_change};
+
+    ghost from_gives = { λ pen change. value_of change ≡ pen_change pen };
+
+    fn from(pen: Pen) -> Change {
+        Change::AllAttributes(pen.attributes)
+    }
+}
