@@ -173,6 +173,7 @@ fn write_plain_without_link(cells: &mut [Cell], start: usize, bytes: &[u8], attr
 }
 
 // Cells of one printable character each stand from a place on.
+#[inline(always)]
 fn write_plain(
     cells: &mut Vec<Cell>,
     start: usize,
@@ -193,6 +194,7 @@ fn write_plain(
 }
 
 // The same where each cell may share a link.
+#[inline(never)]
 fn write_linked_plain(
     cells: &mut Vec<Cell>,
     start: usize,
@@ -210,8 +212,9 @@ fn write_linked_plain(
     Ok(())
 }
 
-// Printable characters take their columns from `at` on.
-fn set_plain(
+/// Printable ASCII characters (20h to 7Eh) take a column each from `at` on.
+#[inline(always)]
+pub fn set_plain(
     cells: &mut Vec<Cell>,
     at: usize,
     text: &str,

@@ -13,7 +13,7 @@ use Rattle.cell_line.specs.LineContent.{LineContent, line_of, changed, changed_u
 use Rattle.cell_edits.specs.CellList.{text_cells, text_row}
 use Rattle.cell_views.specs.Region.{region}
 use Rattle.cell_edits.specs.RowEdits.{cut, cut_front, resized, with_cell, overlaid, with_inserted, removed, erased, erased_within, pruned_row, filled}
-use Rattle.cell_edits.specs.TextRuns.{fitting_cells, place_behind, text_on}
+use Rattle.cell_edits.specs.TextRuns.{fitting_cells, place_behind, plain_cells, text_on}
 use Rattle.cell_edits.specs.VisibleCells.{VisibleCell, contents, visible_cells as visible, texts_joined, cells_between, row_of_visible, cell_at, has_link, is_whitespace_row, ends_wrapped, row_end_wrapped}
 use Rattle.cell_line.specs.Wrapped.{rows_of, texts_kept}
 use Rattle.cell_views.specs.Zones.{zones}
@@ -171,6 +171,10 @@ set_blanks line start end attributes = record line { columns = set_columns line.
 -- a cell with these attributes for each cluster of a text, side by side from the start of a range on as far as they fit in it; the number stays
 abbrev pub set_text : LineContent → ℕ → ℕ → List ℕ → Attributes → (List ℕ → ℕ) → LineContent
 set_text line start end text attributes width_of = record line { columns = text_on width_of end attributes line.columns start text }
+
+-- a cell of one column with these attributes for each byte, side by side from a place on; the number stays
+abbrev pub set_plain : LineContent → ℕ → List ℕ → Attributes → LineContent
+set_plain line at text attributes = record line { columns = overlaid line.columns at (plain_cells text attributes) }
 
 -- the column behind them
 abbrev pub set_text_end : ℕ → ℕ → List ℕ → Attributes → (List ℕ → ℕ) → ℕ

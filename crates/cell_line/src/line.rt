@@ -1,7 +1,9 @@
 //! A row of columns with a number and bits.
-ghost use Rattle.std.specs.Prelude.{◌≡◌, true, ℕ, ◌≤◌, ◌-◌, ◌==◌, ◌&&◌, ◌++◌, List, [], Bool, length, drop, map, replicate, min, nat_lt, IfOk, OnOk, OnErr, IsTrue, ◌↔◌, string_bytes, if◌then◌else◌};
+ghost use Rattle.std.specs.Prelude.{◌≡◌, true, ℕ, ◌≤◌, ◌+◌, ◌-◌, ◌==◌, ◌&&◌, ◌++◌, List, [], Bool, length, drop, map, replicate, min, nat_lt, IfOk, OnOk, OnErr, IsTrue, ◌↔◌, string_bytes, if◌then◌else◌};
 ghost use Rattle.std.specs.Cow.{cow_str_bytes};
+ghost use Rattle.std.specs.List.{list_all};
 ghost use Rattle.std.specs.Option.{option_map};
+ghost use Rattle.text_clusters.specs.Plain.{is_printable};
 ghost use Rattle.cell_base.specs.declared.attributes.LineAttribute.TheVariants.{SingleWidthLine, DoubleWidthLine, DoubleHeightTopHalfLine, DoubleHeightBottomHalfLine};
 ghost use Rattle.cell_base.specs.Attributes.{plain};
 ghost use Rattle.cell_base.specs.CellContent.{row_of_cells, cell_of, blank_cell};
@@ -10,7 +12,7 @@ ghost use Rattle.cell_base.specs.SameCell.{same_cell};
 ghost use Rattle.std.specs.Borrow.{sem};
 ghost use Rattle.cell_change.specs.ValueOf.{value_of};
 ghost use Rattle.cell_line.specs.LineContent.{changed, IsRefused};
-ghost use Rattle.cell_line.specs.LineCalls.{with_width_and_cell, with_width, from_cells, new, from_text, from_text_with_wrapped_last_col, try_from_text, resize, resize_and_clear, wrap, changed_since, update_last_change_seqno, set_single_width, set_double_width, set_double_height_top, set_double_height_bottom, is_single_width, is_double_width, is_double_height_top, is_double_height_bottom, semantic_zone_ranges, invalidate_implicit_hyperlinks, split_off_kept, split_off, append_line, compute_double_click_range, columns_as_str, columns_as_line, set_cell, set_cell_clearing_image_placements, set_cell_grapheme, set_blanks, set_text, set_clusters, set_text_end, overlay_text_with_attribute, insert_cell, remove_cell, erase_cell, erase_cell_with_margin, prune_trailing_blanks, fill_range, len, current_seqno, as_str, has_hyperlink, visible_cells, visible_cells_between, cluster, changes, get_cell, is_whitespace, compress_for_scrollback, last_cell_was_wrapped, set_last_cell_was_wrapped};
+ghost use Rattle.cell_line.specs.LineCalls.{with_width_and_cell, with_width, from_cells, new, from_text, from_text_with_wrapped_last_col, try_from_text, resize, resize_and_clear, wrap, changed_since, update_last_change_seqno, set_single_width, set_double_width, set_double_height_top, set_double_height_bottom, is_single_width, is_double_width, is_double_height_top, is_double_height_bottom, semantic_zone_ranges, invalidate_implicit_hyperlinks, split_off_kept, split_off, append_line, compute_double_click_range, columns_as_str, columns_as_line, set_cell, set_cell_clearing_image_placements, set_cell_grapheme, set_blanks, set_plain, set_text, set_clusters, set_text_end, overlay_text_with_attribute, insert_cell, remove_cell, erase_cell, erase_cell_with_margin, prune_trailing_blanks, fill_range, len, current_seqno, as_str, has_hyperlink, visible_cells, visible_cells_between, cluster, changes, get_cell, is_whitespace, compress_for_scrollback, last_cell_was_wrapped, set_last_cell_was_wrapped};
 ghost use Rattle.cell_edits.specs.RowEdits.{filled};
 ghost use Rattle.cell_edits.specs.Links.{without_implicit, column_with};
 ghost use Rattle.cell_views.specs.Words.{Answers};
@@ -335,6 +337,23 @@ impl Line {
             w,
         )?;
         Ok((at, left))
+    }
+
+    /// Sets printable ASCII characters (20h to 7Eh) from a column on, each as a cell of one column.
+    #[inline(always)]
+    pub fn set_plain(
+        &mut self,
+        at: usize,
+        text: &str,
+        attrs: &CellAttributes,
+    ) -> Result<(), AllocError>
+        requires printable { list_all is_printable text.now ≡ true }
+        requires within { at + length text.now ≤ length self.old.columns }
+        ensures done { OnOk result (self.new ≡ set_plain self.old at text.now attrs.now) }
+        ensures refused { OnErr result (IsRefused self.old self.new) }
+    {
+        runs::set_plain(&mut self.cells, at, text, attrs)?;
+        Ok(())
     }
 
     /// Inserts a cell before column `x`, behind plain blanks where the line doesn't reach so far.

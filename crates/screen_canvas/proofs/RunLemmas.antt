@@ -1,24 +1,32 @@
 -- Runs of clusters that are put on a canvas, as far as they fit in the cursor's row.
 use Rattle.std.proofs.Common.{◌≡◌, ℕ, zero, suc, ◌+◌, ◌-◌, ◌<◌, ◌≤◌, Bool, true, false, List, [], ◌∷◌, ◌++◌, length, take, drop, set, map, refl, sym, ap, subst, ◌∙◌, arith, inl, inr, ◌⊎◌, length-append, length-drop}
 use Rattle.std.specs.Prelude.{◌==◌, ◌&&◌, not, nat_lt, nat_le, max, if◌then◌else◌}
-use Rattle.std.specs.List.{flat_map}
+use Rattle.std.specs.List.{concat, flat_map, list_all}
 use Rattle.std.proofs.lemmas.Bool.{and_parts}
 use Rattle.std.proofs.lemmas.Bool.Decides.{leb_tells, nat_tests}
-use Rattle.std.proofs.lemmas.List.{set-get_or, get_or-set_same}
+use Rattle.std.proofs.lemmas.List.{append-nil, drop_all, set-get_or, get_or-set_same}
+use Rattle.unicode_segmentation.specs.Grapheme.{graphemes}
+use Rattle.text_clusters.specs.Plain.{each, is_printable}
+use Rattle.text_clusters.proofs.PlainLemmas.{graphemes-nil, whole_run}
+use Rattle.cell_base.specs.Cluster.{clusters, read_cluster}
+use Rattle.cell_base.proofs.PlainClusters.{plain_alone}
 use Rattle.cell_base.specs.Attributes.{Attributes}
 use Rattle.cell_base.specs.CellContent.{CellContent, cell_of, shows_as_space}
 use Rattle.cell_base.specs.Row.{Row, space, columns_of}
 use Rattle.cell_line.specs.LineContent.{LineContent, line_of}
-use Rattle.cell_edits.specs.CellList.{cell_columns}
+use Rattle.cell_edits.specs.CellList.{cell_columns, text_cells}
 use Rattle.cell_edits.specs.RowEdits.{overlaid}
-use Rattle.cell_edits.specs.TextRuns.{fitting}
+use Rattle.cell_edits.specs.TextRuns.{fitting, plain_cells}
 use Rattle.cell_edits.proofs.RowLaws.{overlaid_next}
-use Rattle.cell_edits.proofs.RunLemmas.{fitting_cell, fitting_stops}
+use Rattle.cell_edits.proofs.RunLemmas.{cells_front, each_length, fitting_cell, fitting_front, fitting_stops, plain_count, plain_length}
+use Rattle.cell_line.specs.LineCalls.{set_plain as plain_set}
 use Rattle.screen_canvas.specs.Canvas.{Canvas, IsDrawn, Shows, LeadsOn, clusters_done, stand, canvas_with, display_of, line_at, line_with}
 use Rattle.screen_canvas.proofs.LineLemmas.{line_width, row_in}
+use Rattle.screen_canvas.proofs.PartLemmas.{front_leads}
 use Rattle.screen_canvas.proofs.PutLemmas.{put_here}
+use Rattle.screen_canvas.proofs.TextLemmas.{plain_parts, plain_stands, printable_all}
 use Rattle.screen_effects.specs.Display.{Display}
-use Rattle.screen_effects.specs.Strokes.{Cluster, stroke_done}
+use Rattle.screen_effects.specs.Strokes.{Cluster, stroke_done, text_done}
 
 set_set : {A : Type 0} (xs : List A) (i : ℕ) (x y : A) → set (set xs i x) i y ≡ set xs i y
 set_set [] i x y = refl
@@ -148,3 +156,23 @@ module _ {W : Type 0} (width_of : List ℕ → ℕ) where
         stands = ap stand e ∙ stand-drop n gs s;
         fewer = let less = length-drop n gs in let l = ap length e in omega arith;
       }
+
+  -- ---- characters of one column each
+
+  pub plain_on : (c new : Canvas W) (text : List ℕ) → IsDrawn c → list_all is_printable text ≡ true → ((byte : ℕ) → is_printable byte ≡ true → width_of (byte ∷ []) ≡ 1) → c.column + length text ≤ c.width → concat (graphemes true text) ≡ text
+      → new ≡ record c { lines = set c.lines c.row (plain_set (line_at c.lines c.row) c.column text c.pen); column = c.column + length text } → Shows c new (text_done width_of (display_of c) text)
+  plain_on c new text h p narrow fits whole is =
+      let gs = clusters text in
+      let cells = plain_cells text c.pen in
+      let none : text_cells width_of [] c.pen ≡ [] = ap (λ xs. map (made width_of c.pen) (map read_cluster xs)) graphemes-nil in
+      let each_one : graphemes true text ≡ each text ++ graphemes true [] = whole_run text (printable_all text p) ∙ sym (append-nil (each text)) ∙ ap (λ (xs : List (List ℕ)). each text ++ xs) (sym graphemes-nil) in
+      let made_of : map (made width_of c.pen) gs ≡ cells ++ [] = cells_front width_of c.pen text text [] each_one p narrow ∙ ap (λ (xs : List CellContent). cells ++ xs) none in
+      let room : length text ≤ c.width - c.column = omega arith in
+      let fit : fitting_here c gs ≡ cells = ap (fitting (c.width - c.column)) made_of ∙ fitting_front (c.width - c.column) text c.pen [] room ∙ append-nil cells in
+      let count = plain_count text c.pen in
+      let same : canvas_on c (fitting_here c gs) ≡ new = ap (canvas_on c) fit ∙ (λ i. record c { lines = set c.lines c.row (plain_set (line_at c.lines c.row) c.column text c.pen); column = c.column + count i }) ∙ sym is in
+      let many : length (fitting_here c gs) ≡ length gs = ap length fit ∙ plain_length text c.pen ∙ sym (each_length text) ∙ ap length (sym (plain_alone text (printable_all text p))) in
+      let left : [] ≡ drop (length (fitting_here c gs)) gs = sym (drop_all (length (fitting_here c gs)) gs (omega arith)) in
+      let leads = subst (λ (x : Canvas W). LeadsOn width_of c x gs []) same (leads_on c gs [] h (plain_stands text p whole) left) in
+      let parts = front_leads width_of c new text text [] (record { same = leads.same; widths = leads.widths; drawn = leads.drawn }) (plain_parts text p) tt in
+      record { same = parts.same; widths = parts.widths; drawn = parts.drawn }

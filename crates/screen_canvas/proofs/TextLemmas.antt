@@ -6,8 +6,11 @@ use Rattle.std.proofs.lemmas.Bool.{and_parts, and_from, eqb-true, ltb-true, ltb-
 use Rattle.std.proofs.lemmas.List.Folds.{list_all-append}
 use Rattle.std.proofs.lemmas.List.Sums.{prefix_len-le-length, prefix_len_stops}
 use Rattle.std.proofs.lemmas.Str.{IsCharBoundary-end, IsCharBoundary-after_ascii, IsCharBoundary-before_ascii}
+use Rattle.std.proofs.lemmas.Bool.Decides.{nat_tests}
+use Rattle.std.proofs.lemmas.List.{drop_all, take_all}
 use Rattle.unicode_segmentation.specs.Grapheme.{graphemes}
-use Rattle.text_clusters.proofs.PlainLemmas.{graphemes-nil}
+use Rattle.text_clusters.specs.Plain.{is_printable}
+use Rattle.text_clusters.proofs.PlainLemmas.{graphemes-nil, printable_front}
 use Rattle.cell_base.specs.CellContent.{is_control, shows_as_space}
 use Rattle.cell_base.specs.Cluster.{clusters, is_cluster, read_cluster}
 use Rattle.screen_canvas.specs.Canvas.{stand}
@@ -152,3 +155,35 @@ cut_boundary text = by_test (nat_lt (plain_len text) (length text))
 pub control_boundary : (text : List ℕ) → IsUtf8 text → IsAtControl text → 0 < length text → IsCharBoundary text 1
 control_boundary [] u e h = absurd (omega arith)
 control_boundary (b ∷ text) u e h = IsCharBoundary-after_ascii (b ∷ text) 0 u h (below_space b e)
+
+-- ---- a text of printable characters alone
+
+pub all_printable : (text : List ℕ) → prefix_len is_printable text ≡ length text → list_all is_printable text ≡ true
+all_printable text e = ap (list_all is_printable) (sym (take_all (length text) text (omega arith))) ∙ printable_front (length text) text (omega arith)
+
+pub printable_all : (text : List ℕ) → list_all is_printable text ≡ true → prefix_len is_printable text ≡ length text
+printable_all [] p = refl
+printable_all (b ∷ text) p =
+    let parts = and_parts (is_printable b) (list_all is_printable text) p in
+    let rest = printable_all text parts.1 in
+    ap (λ x. cond x (1 + prefix_len is_printable text) 0) parts.0 ∙ omega arith
+
+printable_is_plain : (b : ℕ) → is_printable b ≡ true → is_control b ≡ false
+printable_is_plain b e = grind (arith, nat_tests)
+
+no_control : (text : List ℕ) → list_all is_printable text ≡ true → plain_len text ≡ length text
+no_control [] p = refl
+no_control (b ∷ text) p =
+    let parts = and_parts (is_printable b) (list_all is_printable text) p in
+    let rest = no_control text parts.1 in
+    ap (λ x. cond (not x) (1 + plain_len text) 0) (printable_is_plain b parts.0) ∙ omega arith
+
+-- it is one part
+pub plain_parts : (text : List ℕ) → list_all is_printable text ≡ true → text_parts text ≡ plain_part text ++ text_parts []
+plain_parts text p =
+    let all = no_control text p in
+    parts_cut text ∙ (λ i. plain_part ((ap (λ n. take n text) all ∙ take_all (length text) text (omega arith)) i) ++ text_parts ((ap (λ n. drop n text) all ∙ drop_all (length text) text (omega arith)) i))
+
+-- and each of its clusters can stand
+pub plain_stands : (text : List ℕ) → list_all is_printable text ≡ true → concat (graphemes true text) ≡ text → stand (clusters text) ≡ true
+plain_stands text p whole = front_stands text text (sym (ap (λ n. take n text) (no_control text p) ∙ take_all (length text) text (omega arith))) whole

@@ -11,11 +11,11 @@ use Rattle.cell_base.specs.Row.{Row, blank, closed_end, closed_start, columns_of
 use Rattle.cell_rows.proofs.RowLemmas.{length-closed_end, length-set_columns}
 use Rattle.cell_edits.specs.CellList.{cell_columns, text_cells}
 use Rattle.cell_edits.specs.RowEdits.{overlaid}
-use Rattle.cell_edits.specs.TextRuns.{fitting, fitting_cells}
+use Rattle.cell_edits.specs.TextRuns.{fitting, fitting_cells, plain_cells}
 use Rattle.cell_edits.proofs.CutLemmas.{length-cell_columns}
 use Rattle.cell_edits.proofs.RowLaws.{overlaid_within, set_within}
-use Rattle.cell_edits.proofs.RunLemmas.{fitting_cell, fitting_stops}
-use Rattle.cell_line.specs.LineCalls.{set_blanks as blanks_set, set_cell_grapheme as grapheme_set, set_text as text_set, set_text_end}
+use Rattle.cell_edits.proofs.RunLemmas.{fitting_cell, fitting_stops, plain_count}
+use Rattle.cell_line.specs.LineCalls.{set_blanks as blanks_set, set_cell_grapheme as grapheme_set, set_plain as plain_set, set_text as text_set, set_text_end}
 use Rattle.cell_line.specs.LineContent.{LineContent}
 use Rattle.screen_canvas.specs.Written.{IsWrittenTo}
 
@@ -186,6 +186,14 @@ text_written x new n at w column m text a width_of h e p q o k =
     let f = fitting_fits (w - at) (text_cells width_of text a) in
     let done = written_cells n at x.columns cells (omega arith) h in
     subst (IsWrittenTo m) (sym (ap (λ (l : LineContent). l.columns) e)) (subst (λ (j : ℕ). IsWrittenTo j (overlaid x.columns at cells)) (sym (q ∙ ap (max n) p)) done)
+
+-- characters of one column each that were set
+pub characters_written : (x new : LineContent) (n at m : ℕ) (text : List ℕ) (a : Attributes)
+    → IsWrittenTo n x.columns → new ≡ plain_set x at text a → m ≡ max n (at + length text) → at + length text ≤ length x.columns → IsWrittenTo m new.columns
+characters_written x new n at m text a h e q f =
+    let count = plain_count text a in
+    let done = written_cells n at x.columns (plain_cells text a) (omega arith) h in
+    subst (IsWrittenTo m) (sym (ap (λ (l : LineContent). l.columns) e)) (subst (λ (j : ℕ). IsWrittenTo j (overlaid x.columns at (plain_cells text a))) (ap (λ k. max n (at + k)) count ∙ sym q) done)
 
 -- a cell takes no more columns than it is given
 cell_count : (text : List ℕ) (width : ℕ) (a : Attributes) → 1 ≤ width → width ≤ 2 → length (cell_columns (cell_of text width a)) ≤ width

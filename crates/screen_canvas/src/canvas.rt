@@ -1,5 +1,7 @@
 //! The canvas.
-ghost use Rattle.std.specs.Prelude.{◌≡◌, true, false, nat_le, ◌+◌, ◌-◌, ◌<◌, ◌≤◌, ◌++◌, ◌∷◌, [], length, map, replicate, IfOk, OnOk};
+ghost use Rattle.std.specs.Prelude.{◌≡◌, ℕ, true, false, nat_le, ◌+◌, ◌-◌, ◌<◌, ◌≤◌, ◌++◌, ◌∷◌, [], length, map, replicate, IfOk, IsTrue, OnOk};
+ghost use Rattle.std.specs.List.{list_all};
+ghost use Rattle.text_clusters.specs.Plain.{is_printable};
 ghost use Rattle.cell_base.specs.Cluster.{clusters};
 ghost use Rattle.cell_base.specs.CellContent.{shows_as_space};
 ghost use Rattle.cell_base.specs.Row.{columns_of};
@@ -17,9 +19,9 @@ ghost use Rattle.screen_effects.specs.Strokes.{CarriageReturn, Cluster, Control,
 use crate::positions::{column_place, place};
 use crate::rows::{
     Rows, blank_lines, blank_rows, blank_rows_below, resize, scroll, scroll_down, scroll_up,
-    set_blanks, set_cell, set_size, set_text,
+    set_blanks, set_cell, set_plain, set_size, set_text,
 };
-use crate::text::{next_cluster, split_at_control, split_control};
+use crate::text::{is_plain, next_cluster, split_at_control, split_control};
 use cell_base::{
     AttributeChange, CellAttributes, ColorAttribute, CursorShape, CursorVisibility, LineAttribute,
     Position, Widths,
@@ -267,8 +269,53 @@ impl<W: Widths + Drop> Canvas<W> {
         Ok(())
     }
 
+    // Whether a text is printable ASCII characters that fit in the cursor's row, each of which is known to take one column.
+    #[inline(always)]
+    fn takes_plainly(&self, text: &str) -> bool
+        ensures printable { IsTrue result → list_all is_printable text.now ≡ true }
+        ensures narrow { IsTrue result → (byte : ℕ) → is_printable byte ≡ true → W.width_of self.now.widths (byte ∷ []) ≡ 1 }
+        ensures fits { IsTrue result → self.now.column + length text.now ≤ self.now.width }
+    {
+        if self.width < self.column {
+            return false;
+        }
+        if !self.widths.has_narrow_ascii() {
+            return false;
+        }
+        text.len() <= self.width - self.column && is_plain(text)
+    }
+
+    // Puts the characters of such a text, each of which is a cluster by itself.
+    #[inline(always)]
+    fn put_plain(&mut self, text: &str) -> Result<(), AllocError>
+        requires drawn { IsDrawn self.old }
+        requires printable { list_all is_printable text.now ≡ true }
+        requires narrow { (byte : ℕ) → is_printable byte ≡ true → W.width_of self.old.widths (byte ∷ []) ≡ 1 }
+        requires fits { self.old.column + length text.now ≤ self.old.width }
+        ensures { OnOk result (Shows self.old self.new (text_done (W.width_of self.old.widths) (display_of self.old) text.now)) }
+    {
+        set_plain(&mut self.rows, self.row, self.column, text, &self.pen)?;
+        self.column += text.len();
+        Ok(())
+    }
+
     // Draws a text with the pen.
+    #[inline(always)]
     fn draw_text(&mut self, text: &str) -> Result<(), AllocError>
+        requires { IsDrawn self.old }
+        ensures { OnOk result (Shows self.old self.new (text_done (W.width_of self.old.widths) (display_of self.old) text.now)) }
+    {
+        if self.takes_plainly(text) {
+            self.put_plain(text)?;
+            return Ok(());
+        }
+        self.draw_parts(text)?;
+        Ok(())
+    }
+
+    // The same, part by part.
+    #[inline(never)]
+    fn draw_parts(&mut self, text: &str) -> Result<(), AllocError>
         requires { IsDrawn self.old }
         ensures { OnOk result (Shows self.old self.new (text_done (W.width_of self.old.widths) (display_of self.old) text.now)) }
     {

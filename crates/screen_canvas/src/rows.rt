@@ -1,9 +1,11 @@
 //! Rows of lines that are cleared, written and moved.
-ghost use Rattle.std.specs.Prelude.{◌≡◌, ◌↔◌, ◌+◌, ◌-◌, ◌^◌, ◌<◌, ◌≤◌, ◌++◌, ◌∷◌, [], IsTrue, length, drop, take, map, max, slice_set, slice_index_or, replicate, IfOk, OnOk};
+ghost use Rattle.std.specs.Prelude.{◌≡◌, true, ◌↔◌, ◌+◌, ◌-◌, ◌^◌, ◌<◌, ◌≤◌, ◌++◌, ◌∷◌, [], IsTrue, length, drop, take, map, max, slice_set, slice_index_or, replicate, IfOk, OnOk};
+ghost use Rattle.std.specs.List.{list_all};
+ghost use Rattle.text_clusters.specs.Plain.{is_printable};
 ghost use Rattle.cell_base.specs.Attributes.{blank_of, plain};
 ghost use Rattle.cell_base.specs.Cluster.{clusters};
 ghost use Rattle.cell_base.specs.Row.{plain_row, blank};
-ghost use Rattle.cell_line.specs.LineCalls.{set_blanks as blanks_set, set_text as text_set, set_cell_grapheme as grapheme_set, set_text_end, set_clusters};
+ghost use Rattle.cell_line.specs.LineCalls.{set_blanks as blanks_set, set_plain as plain_set, set_text as text_set, set_cell_grapheme as grapheme_set, set_text_end, set_clusters};
 ghost use Rattle.cell_line.specs.LineContent.{line_of, with_bits};
 ghost use Rattle.screen_canvas.specs.Canvas.{line_at};
 ghost use Rattle.screen_canvas.specs.Rows.{blanked, cleared, rows_down, rows_up, widened};
@@ -191,6 +193,30 @@ pub(crate) fn set_text<'a, W: Widths>(
     let (column, left) = line.set_text(at..width, text, attrs, w)?;
     rows.written[row] = Some(written.max(column));
     Ok((column, left))
+}
+
+// Sets printable ASCII characters from a column of a row on, each as a cell of one column.
+#[inline(always)]
+pub(crate) fn set_plain(
+    rows: &mut Rows,
+    row: usize,
+    at: usize,
+    text: &str,
+    attrs: &CellAttributes,
+) -> Result<(), AllocError>
+    requires row_in { row < length rows.old }
+    requires printable { list_all is_printable text.now ≡ true }
+    requires within { at + length text.now ≤ length (line_at rows.old row).columns }
+    requires small { at + length text.now < 2 ^ 64 }
+    ensures len { length rows.new ≡ length rows.old }
+    ensures lines { OnOk result (rows.new ≡ slice_set rows.old row (plain_set (line_at rows.old row) at text.now attrs.now)) }
+{
+    let written = rows.written_to(row);
+    rows.written[row] = None;
+    let line = &mut rows.lines[row];
+    line.set_plain(at, text, attrs)?;
+    rows.written[row] = Some(written.max(at + text.len()));
+    Ok(())
 }
 
 // Sets a cell at a column of a row.

@@ -1,6 +1,7 @@
 //! Texts cut at their controls.
-ghost use Rattle.std.specs.Prelude.{◌≡◌, ◌≤◌, ◌↔◌, ◌∷◌, ◌++◌, [], true, drop, length, not, IfNone, IsNone, IsUtf8, IfSome};
-ghost use Rattle.std.specs.List.{prefix_len};
+ghost use Rattle.std.specs.Prelude.{◌≡◌, ◌≤◌, ◌↔◌, ◌∷◌, ◌++◌, [], true, drop, length, not, IfNone, IsNone, IsTrue, IsUtf8, IfSome};
+ghost use Rattle.std.specs.List.{list_all, prefix_len};
+ghost use Rattle.text_clusters.specs.Plain.{is_printable};
 ghost use Rattle.cell_base.specs.CellContent.{is_control};
 ghost use Rattle.cell_base.specs.Cluster.{clusters};
 ghost use Rattle.screen_canvas.specs.Canvas.{stand};
@@ -63,6 +64,14 @@ pub fn split_control(text: &str) -> Option<(u8, &str)>
     let control = *text.as_bytes().first()?;
     let (_, behind) = text.split_at(1);
     Some((control, behind))
+}
+
+// Whether a text is printable ASCII characters alone.
+#[inline(always)]
+pub(crate) fn is_plain(text: &str) -> bool
+    ensures { IsTrue result → list_all is_printable text.now ≡ true }
+{
+    printable_len(text.as_bytes()) == text.len()
 }
 
 // Cuts off the first cluster of a text; of the empty text without a walk.

@@ -2,7 +2,7 @@ use denote.Shadow.{shadow}
 use denote.Text.{Utf8}
 use Rattle.std.proofs.Common.{length}
 use Rattle.screen_canvas.specs.Parts.{PartsLead}
-use Rattle.screen_canvas.proofs.canvas.Canvas.draw_text.Given as goal
+use Rattle.screen_canvas.proofs.canvas.Canvas.draw_parts.Given as goal
 
 -- what is left leads to the whole
 abbrev pub invariant-loop-control : goal.invariant-loop-control

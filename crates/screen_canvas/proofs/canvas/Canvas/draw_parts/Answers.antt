@@ -4,7 +4,7 @@ use Rattle.screen_canvas.specs.Canvas.{Shows, clusters_done, display_of}
 use Rattle.screen_canvas.specs.Parts.{parts_done}
 use Rattle.screen_canvas.proofs.PartLemmas.{front_leads, control_leads}
 use Rattle.screen_effects.specs.Strokes.{Control}
-use Rattle.screen_canvas.proofs.canvas.Canvas.draw_text.Goals as goal
+use Rattle.screen_canvas.proofs.canvas.Canvas.draw_parts.Goals as goal
 
 pub loop-control-init : goal.loop-control-init
 loop-control-init g c = record {
