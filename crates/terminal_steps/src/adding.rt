@@ -6,9 +6,9 @@ ghost use Rattle.cell_change.specs.ChangeValue.{Attribute, Text};
 ghost use Rattle.cell_change.specs.ValueOf.{value_of};
 ghost use Rattle.cell_surface.specs.Surface.{number_of};
 ghost use Rattle.terminal_steps.specs.Adding.{AddsAll};
-ghost use Rattle.terminal_steps.specs.Cursor.{pen_change, place_change};
+ghost use Rattle.terminal_steps.specs.Cursor.{line_end_change, pen_change, place_change};
 
-use crate::cursor::{Pen, Place};
+use crate::cursor::{LineEnd, Pen, Place};
 use cell_base::{AttributeChange, Widths};
 use cell_change::Change;
 use cell_surface::{Surface, SurfaceError};
@@ -77,6 +77,19 @@ pub(crate) fn add_place<W: Widths + Drop>(
     ensures numbers { IsErrOf result SurfaceError.Number → 2 ^ 64 ≤ number_of surface.old + 1 }
 {
     surface.add_change(place)?;
+    Ok(())
+}
+
+// Blanks from the cursor to the end of its row.
+pub(crate) fn add_line_end<W: Widths + Drop>(
+    surface: &mut Surface<W>,
+    end: LineEnd,
+) -> Result<(), SurfaceError>
+    ensures added { IfOk result (λ _. AddsAll (λ w. W.width_of w) surface.old surface.new (line_end_change «end» ∷ [])) }
+    ensures failed { IsErrOf result SurfaceError.Failed → surface.old.is_failed ≡ true }
+    ensures numbers { IsErrOf result SurfaceError.Number → 2 ^ 64 ≤ number_of surface.old + 1 }
+{
+    surface.add_change(end)?;
     Ok(())
 }
 

@@ -1,5 +1,5 @@
-//! What sets the cursor's place and the pen: changes with types of their own, each of which a surface adds by code of
-//! its own.
+//! What sets the cursor's place and the pen, and what erases to the end of a row: changes with types of their own, each of
+//! which a surface adds by code of its own.
 ghost use Rattle.std.specs.Prelude.{◌≡◌};
 
 use cell_base::{CellAttributes, ColorAttribute, Position};
@@ -40,6 +40,15 @@ impl Pen {
     {
         self.attributes.background()
     }
+
+    /// Blanks of that colour to the end of the cursor's row.
+    pub(crate) fn line_end(&self) -> LineEnd
+        ensures { result.background ≡ self.now.attributes.background }
+    {
+        LineEnd {
+            background: self.background(),
+        }
+    }
 }
 
 impl From<Pen> for Change {
@@ -51,5 +60,23 @@ impl From<Pen> for Change {
 
     fn from(pen: Pen) -> Change {
         Change::AllAttributes(pen.attributes)
+    }
+}
+
+/// The columns from the cursor to the end of its row become blanks of a colour.
+#[derive(Clone, Copy)]
+pub(crate) struct LineEnd {
+    pub(crate) background: ColorAttribute,
+}
+
+impl From<LineEnd> for Change {
+    ghost use Rattle.std.specs.Prelude.{◌≡◌};
+    ghost use Rattle.cell_change.specs.ValueOf.{value_of};
+    ghost use Rattle.terminal_steps.specs.Cursor.{line_end_change};
+
+    ghost from_gives = { λ end change. value_of change ≡ line_end_change end };
+
+    fn from(end: LineEnd) -> Change {
+        Change::ClearToEndOfLine(end.background)
     }
 }

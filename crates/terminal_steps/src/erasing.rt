@@ -7,7 +7,7 @@ ghost use Rattle.terminal_table.specs.Functions as table;
 ghost use Rattle.terminal_steps.specs.Adding.{AddsAll};
 ghost use Rattle.terminal_steps.specs.Cursor.{place_change};
 
-use crate::adding::{add, add_cursor, add_pen, add_place};
+use crate::adding::{add, add_cursor, add_line_end, add_pen, add_place};
 use crate::cursor::{Pen, Place};
 use crate::function::Move;
 use crate::moving::{current_column, move_place, position_at};
@@ -34,7 +34,7 @@ pub(crate) fn erase_to_end_of_line<W: Widths + Drop>(
     ensures numbers { IsErrOf result SurfaceError.Number → 2 ^ 64 ≤ number_of surface.old + 2 }
 {
     let pen = current_pen(surface)?;
-    add(surface, Change::ClearToEndOfLine(pen.background()))?;
+    add_line_end(surface, pen.line_end())?;
     add_pen(surface, pen)?;
     Ok(())
 }
@@ -85,7 +85,7 @@ pub(crate) fn erase_line<W: Widths + Drop>(surface: &mut Surface<W>) -> Result<(
     let start = position_at(surface, 0, row);
     let place = same_place(surface);
     add_place(surface, start)?;
-    add(surface, Change::ClearToEndOfLine(pen.background()))?;
+    add_line_end(surface, pen.line_end())?;
     add_cursor(surface, place, pen)?;
     Ok(())
 }
