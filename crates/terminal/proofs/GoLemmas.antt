@@ -11,12 +11,11 @@ use Rattle.escape_framing.proofs.PlacedLemmas.{newly_join}
 use Rattle.escape_stream.specs.Pieces.{pieces}
 use Rattle.escape_stream.specs.StreamActions.{actions_of_dispatch, actions_of}
 use Rattle.escape_stream.proofs.SpellLemmas.{pieces_spell}
-use Rattle.terminal.specs.Terminal.{Terminal, StandsAt, GoesBy, NeedsNumber, log_behind}
+use Rattle.terminal.specs.Terminal.{Terminal, StandsAt, GoesBy, NeedsNumber}
 use Rattle.terminal_steps.specs.Events as steps
 use Rattle.terminal_steps.specs.Events.{IsReady, Had, view_of}
 use Rattle.terminal_steps.specs.Taking.{piece_events, Leads}
 use Rattle.terminal_steps.specs.declared.state.TerminalState.{TerminalState}
-use Rattle.terminal_steps.proofs.NumberLemmas.{past_behind}
 use Rattle.terminal_steps.proofs.SpellLemmas.{call_state, call_held, call_logged, call_events, none_newly}
 use Rattle.terminal_table.specs.History.{History, Piece, Look, Resize, Forget, Event, Act, Looked, Resized, Forgot}
 use Rattle.terminal_table.specs.History as table
@@ -172,21 +171,6 @@ module _ {W : Type 0} (width_of : W → List ℕ → ℕ) where
     widths = g.widths;
     sound = g.sound;
   }
-
-  pub past_front : (x : Terminal W) (a b : History) → NeedsNumber width_of x a → NeedsNumber width_of x (a ++ b)
-  past_front x a b n = λ view st.
-      subst (λ (l : Sized). 2 ^ 64 ≤ l.log.number) (sym (log_joins (of x) view x.surface.log a b))
-      (past_behind (log_behind width_of x view a) (logged (of x) (after (of x) view a) b) (n view st))
-
-  pub past_later : (x y : Terminal W) (a b : History) → GoesBy width_of x y a → NeedsNumber width_of y b → NeedsNumber width_of x (a ++ b)
-  past_later x y a b g n = λ view st.
-      subst (λ (l : Sized). 2 ^ 64 ≤ l.log.number)
-      ((λ i. log_after (width_of (g.widths i)) (after (of x) view a) (g.log view st i) b) ∙ sym (log_joins (of x) view x.surface.log a b))
-      (n (after (of x) view a) (g.stands view st))
-
-  pub past_joined : (x : Terminal W) (a b : List ℕ) → NeedsNumber width_of x (Piece a ∷ Piece b ∷ []) → NeedsNumber width_of x (Piece (a ++ b) ∷ [])
-  past_joined x a b n = λ view st.
-      subst (λ (l : Sized). 2 ^ 64 ≤ l.log.number) (ap (fold step_of_kept x.surface.log) (cut_logged actions_join (of x) view a b [])) (n view st)
 
   -- ---- a piece of no bytes
 

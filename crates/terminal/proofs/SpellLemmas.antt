@@ -26,7 +26,7 @@ use Rattle.terminal_table.specs.Functions.{function_of}
 use Rattle.terminal_table.specs.History.{History, Piece, Look, Resize, Forget, Event, Act, Looked, Resized, Forgot, events}
 use Rattle.terminal_table.specs.Meaning.{View, new_view, settled, event_done, after}
 use Rattle.terminal_table.specs.Steps.{step_of}
-use Rattle.terminal_table.specs.Turns.{IsView, IsEvent, AreEvents, AreSizes}
+use Rattle.terminal_table.specs.Turns.{IsView, AreEvents, AreSizes}
 use Rattle.terminal_table.proofs.EventLemmas.{event_is}
 use Rattle.terminal_table.proofs.JoinLemmas.{nothing_behind}
 use Rattle.terminal_table.proofs.PrintLemmas.{AllCut, events_are}

@@ -1,14 +1,14 @@
 -- The updates of an input that is read in pieces.
-use Rattle.std.proofs.Common.{◌≡◌, ℕ, ◌+◌, ◌-◌, ◌<◌, ◌≤◌, ◌^◌, ◌⊎◌, inl, inr, Bool, true, false, List, [], ◌∷◌, ◌++◌, length, refl, sym, ap, subst, ◌∙◌, arith, Option, Some, None, append_assoc, append-nil, length-append}
+use Rattle.std.proofs.Common.{◌≡◌, ℕ, ◌+◌, ◌<◌, ◌≤◌, ◌^◌, ◌⊎◌, inl, inr, Bool, true, false, List, [], ◌∷◌, ◌++◌, length, refl, sym, ap, subst, ◌∙◌, arith, Option, Some, None, append_assoc, append-nil, length-append}
 use Rattle.std.specs.Prelude.{◌==◌, if◌then◌else◌}
 use Rattle.std.proofs.lemmas.Grind.{flat_map-append}
-use Rattle.std.specs.Io.KnownBytes.{Appends, Consumes, IsAtEnd, Keeps}
+use Rattle.std.specs.Io.KnownBytes.{Appends}
 use Rattle.cell_surface.specs.Surface.{number_of}
 use Rattle.change_log.specs.LogSteps.{Sized}
 use Rattle.escape_framing.specs.Existence.Utf8Lemmas.{order}
 use Rattle.terminal.specs.Sent.{IsAt, IsCounted, Sent, SendsPart, looked, lightened, update_at, updates_from, number_behind}
 use Rattle.terminal.specs.Shown.{AppendsPrefix}
-use Rattle.terminal.specs.Terminal.{Terminal, StandsAt, GoesBy, NeedsNumber, log_behind, state_in}
+use Rattle.terminal.specs.Terminal.{Terminal, StandsAt, GoesBy, NeedsNumber, state_in}
 use Rattle.terminal.proofs.GoLemmas.{actions_join, stays}
 use Rattle.terminal_steps.proofs.NumberLemmas.{fold_number}
 use Rattle.terminal_table.specs.History.{History, Piece, Look, Forget}
@@ -95,7 +95,11 @@ holds every begun (byte ∷ bytes) next h = either (order (length begun + length
 looks-append : (ps qs : List (List ℕ)) → looks (ps ++ qs) ≡ looks ps ++ looks qs
 looks-append ps qs = flat_map-append (λ piece. Piece piece ∷ Look ∷ []) ps qs
 
-number_rises : (f : List ℕ → ℕ) (s : Standing) (h : History) → s.log.log.number ≤ (standing_behind f s h).log.log.number
+-- one piece behind another is both
+pub pieces_join : (f : List ℕ → ℕ) (s : Standing) (x y : List ℕ) → standing_behind f (standing_behind f s (Piece x ∷ [])) (Piece y ∷ []) ≡ standing_behind f s (Piece (x ++ y) ∷ [])
+pieces_join f s x y = sym (standings_join f s (Piece x ∷ []) (Piece y ∷ [])) ∙ standings_cut actions_join f s x y []
+
+pub number_rises : (f : List ℕ → ℕ) (s : Standing) (h : History) → s.log.log.number ≤ (standing_behind f s h).log.log.number
 number_rises f s h = fold_number (logged f s.view h) s.log
 
 module _ {W : Type 0} (width_of : W → List ℕ → ℕ) (w : W) where
@@ -103,14 +107,23 @@ module _ {W : Type 0} (width_of : W → List ℕ → ℕ) (w : W) where
   f = width_of w
 
   -- where a terminal that goes on stands
-  goes_at : (t u : Terminal W) (s : Standing) (h : History) → t.surface.canvas.widths ≡ w → IsAt t s → GoesBy width_of t u h → IsAt u (standing_behind f s h)
+  pub goes_at : (t u : Terminal W) (s : Standing) (h : History) → t.surface.canvas.widths ≡ w → IsAt t s → GoesBy width_of t u h → IsAt u (standing_behind f s h)
   goes_at t u s h e at g = record {
     stands = subst (λ x. StandsAt u (after (width_of x) s.view h)) e (g.stands s.view at.stands);
     log = g.log s.view at.stands ∙ (λ i. log_after (width_of (e i)) s.view (at.log i) h);
   }
 
-  needs_at : (t : Terminal W) (s : Standing) (h : History) → t.surface.canvas.widths ≡ w → IsAt t s → NeedsNumber width_of t h → 2 ^ 64 ≤ (standing_behind f s h).log.log.number
+  pub needs_at : (t : Terminal W) (s : Standing) (h : History) → t.surface.canvas.widths ≡ w → IsAt t s → NeedsNumber width_of t h → 2 ^ 64 ≤ (standing_behind f s h).log.log.number
   needs_at t s h e at n = subst (λ x. 2 ^ 64 ≤ x.log.number) (λ i. log_after (width_of (e i)) s.view (at.log i) h) (n s.view at.stands)
+
+  -- where one stands that has forgotten changes, and dropped its replies
+  pub lightened_at : (t u v : Terminal W) (s : Standing) (number : ℕ) → t.surface.canvas.widths ≡ w → IsAt t s → GoesBy width_of t u (Forget number ∷ []) → v ≡ record u { replies = [] } → IsAt v (lightened f number s)
+  lightened_at t u v s number e at g k =
+      let there = goes_at t u s (Forget number ∷ []) e at g in
+      subst (λ (x : Terminal W). IsAt x (lightened f number s)) (sym k) (record {
+        stands = record { state = λ i. record (there.stands.state i) { replies = [] }; run = there.stands.run; unfinished = there.stands.unfinished };
+        log = there.log;
+      })
 
   -- what a viewer is sent behind a look, by what the terminal shows then
   update_there : (t u : Terminal W) (s : Standing) (number : ℕ) → t.surface.canvas.widths ≡ w → IsAt t s → GoesBy width_of t u (Look ∷ []) → update_of (state_in u).screen u.surface.log number ≡ update_at (looked f s) number
@@ -120,14 +133,10 @@ module _ {W : Type 0} (width_of : W → List ℕ → ℕ) (w : W) where
       → bytes ≡ update_of (state_in u).screen u.surface.log number → next ≡ number_of u.surface → Appends old new bytes → GoesBy width_of u v (Forget next ∷ []) → x ≡ record v { replies = [] } → Sent f s number next x old new
   sent_is t u v x s number next bytes old new e at g b n a h k =
       let there = goes_at t u s (Look ∷ []) e at g in
-      let after_it = goes_at u v (looked f s) (Forget next ∷ []) (g.widths ∙ e) there h in
       record {
         appends = subst (Appends old new) (b ∙ update_there t u s number e at g) a;
         next_is = n ∙ ap (λ (l : Sized). l.log.number) there.log;
-        at = subst (λ (y : Terminal W). IsAt y (lightened f next (looked f s))) (sym k) (record {
-          stands = record { state = λ i. record (after_it.stands.state i) { replies = [] }; run = after_it.stands.run; unfinished = after_it.stands.unfinished };
-          log = after_it.log;
-        });
+        at = lightened_at u v x (looked f s) next (g.widths ∙ e) there h k;
       }
 
   pub some_is : (t u : Terminal W) (s : Standing) (number : ℕ) (bytes : List ℕ) (old new : Option (List ℕ)) → t.surface.canvas.widths ≡ w → IsAt t s → GoesBy width_of t u (Look ∷ [])
@@ -187,7 +196,7 @@ module _ {W : Type 0} (width_of : W → List ℕ → ℕ) (w : W) where
     -- where some bytes more lead
     fed_at : (bytes : List ℕ) (u : Terminal W) → t.surface.canvas.widths ≡ w → GoesBy width_of t u (Piece bytes ∷ []) → IsAt u (standing_behind f s.kept (Piece (s.begun ++ bytes) ∷ []))
     fed_at bytes u same g =
-        subst (IsAt u) (sym (standings_join f s.kept (Piece s.begun ∷ []) (Piece bytes ∷ [])) ∙ standings_cut actions_join f s.kept s.begun bytes [])
+        subst (IsAt u) (pieces_join f s.kept s.begun bytes)
         (goes_at t u (standing_behind f s.kept (Piece s.begun ∷ [])) (Piece bytes ∷ []) same s.at g)
 
     -- some bytes more, which don't fill the piece
@@ -357,11 +366,10 @@ module _ {W : Type 0} (width_of : W → List ℕ → ℕ) (w : W) where
         let piece = s.begun ++ bytes in
         let h = holds every s.begun bytes next (omega arith) in
         let there = needs_at t (standing_behind f s.kept (Piece s.begun ∷ [])) (Piece bytes ∷ []) same s.at n in
-        let joined = sym (standings_join f s.kept (Piece s.begun ∷ []) (Piece bytes ∷ [])) ∙ standings_cut actions_join f s.kept s.begun bytes [] in
         let counted = (answers_behind f number s.kept s.last (Piece piece ∷ []) tt s.answers).logs.count in
         past_front (Piece piece ∷ []) (Piece h.more ∷ Look ∷ looks h.others)
         (pieces_behind ((piece ++ h.more) ∷ h.others) (input_is bytes next e ∙ ap (λ ps. s.done ++ ps) h.are) ∙ sym (standings_cut actions_join f s.last piece h.more (Look ∷ looks h.others)))
-        (subst (λ n. 2 ^ 64 ≤ n) counted (subst (λ (x : Standing). 2 ^ 64 ≤ x.log.log.number) joined there))
+        (subst (λ n. 2 ^ 64 ≤ n) counted (subst (λ (x : Standing). 2 ^ 64 ≤ x.log.log.number) (pieces_join f s.kept s.begun bytes) there))
 
     pub past_look : (next bytes : List ℕ) (u : Terminal W) → rest ≡ bytes ++ next → t.surface.canvas.widths ≡ w → u.surface.canvas.widths ≡ w → GoesBy width_of t u (Piece bytes ∷ []) → length bytes ≡ left → 0 < left → NeedsNumber width_of u (Look ∷ []) → 2 ^ 64 ≤ number_behind f every start input
     unfolding here next_of

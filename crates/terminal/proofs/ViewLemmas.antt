@@ -42,7 +42,7 @@ use Rattle.terminal_table.proofs.StateLemmas.{new_is}
 use Rattle.terminal_update.specs.Shows.{Shows}
 use Rattle.terminal_update.specs.Update.{display_on, update_changes, update_of, bytes_of, due_or, painted_anew}
 use Rattle.terminal_update.specs.Updates.{updated, updates}
-use Rattle.terminal_update.specs.Viewers.{CanRead, UpdatesAreShown, UpdatesLeaveIdle, UpdatesLeaveNewViewersIdle, UpdatesShowTheInput, ViewersGoOnShowing, ScreensShowThemselves, repeated}
+use Rattle.terminal_update.specs.Viewers.{CanRead, UpdatesAreShown, UpdatesLeaveIdle, UpdatesLeaveNewViewersIdle, UpdatesShowTheInput, ViewersGoOnShowing, repeated}
 
 -- nothing is unfinished of an empty stream
 idle_stream : held_of [] ≡ nothing_held

@@ -1,13 +1,27 @@
--- What reading an input feeds.
-use Rattle.std.specs.Prelude.{◌≡◌, ℕ, List, [], ◌∷◌, ◌++◌, Option, Some, None}
-use Rattle.terminal.specs.Terminal.{Terminal, GoesBy, NeedsNumber}
+-- What reading an input feeds to a terminal that forgets what nobody reads.
+use Rattle.std.specs.Prelude.{◌≡◌, ◌≤◌, ◌^◌, ℕ, List, [], ◌∷◌, ◌++◌, Option, Some, None}
+use Rattle.terminal.specs.Sent.{IsAt, IsCounted}
+use Rattle.terminal.specs.Terminal.{Terminal}
 use Rattle.terminal_table.specs.History.{Piece}
+use Rattle.terminal_update.specs.Updates.{Standing, standing_behind}
+use Rattle.terminal_update.specs.Viewers.{AnswersAs}
+
+-- from the current number on a terminal answers as one that keeps all and stands there
+pub record AnswersAt {W : Type 0} (t : Terminal W) (whole : Standing) : Type 0 where
+  pub kept : Standing
+  pub at : IsAt t kept
+  pub answers : AnswersAs whole.log.log.number kept whole
+
+-- some bytes were fed: wherever the terminal stood before, it answers as one that was fed them and keeps all
+pub record IsFed {W : Type 0} (width_of : W → List ℕ → ℕ) (bytes : List ℕ) (before now : Terminal W) : Type 0 where
+  pub answers : (start : Standing) → IsAt before start → IsCounted start → AnswersAt now (standing_behind (width_of before.surface.canvas.widths) start (Piece bytes ∷ []))
+  pub widths : now.surface.canvas.widths ≡ before.surface.canvas.widths
 
 -- of a known input some bytes were read, and fed; and others are left
 pub record HasFed {W : Type 0} (width_of : W → List ℕ → ℕ) (input rest : List ℕ) (before now : Terminal W) : Type 0 where
   pub fed : List ℕ
   pub whole : input ≡ fed ++ rest
-  pub goes : GoesBy width_of before now (Piece fed ∷ [])
+  pub is : IsFed width_of fed before now
 
 abbrev pub FeedsOn : {W : Type 0} → (W → List ℕ → ℕ) → Option (List ℕ) → Option (List ℕ) → Terminal W → Terminal W → Type 0
 FeedsOn width_of None rest before now = Unit {0}
@@ -17,9 +31,10 @@ FeedsOn width_of (Some input) (Some rest) before now = HasFed width_of input res
 -- all of a known input was fed
 abbrev pub Feeds : {W : Type 0} → (W → List ℕ → ℕ) → Option (List ℕ) → Terminal W → Terminal W → Type 0
 Feeds width_of None before now = Unit {0}
-Feeds width_of (Some input) before now = GoesBy width_of before now (Piece input ∷ [])
+Feeds width_of (Some input) before now = IsFed width_of input before now
 
 -- a known input leads past the numbers of 64 bits
 abbrev pub FeedingNeedsNumber : {W : Type 0} → (W → List ℕ → ℕ) → Option (List ℕ) → Terminal W → Type 0
 FeedingNeedsNumber width_of None before = Unit {0}
-FeedingNeedsNumber width_of (Some input) before = NeedsNumber width_of before (Piece input ∷ [])
+FeedingNeedsNumber width_of (Some input) before =
+    (start : Standing) → IsAt before start → IsCounted start → 2 ^ 64 ≤ (standing_behind (width_of before.surface.canvas.widths) start (Piece input ∷ [])).log.log.number

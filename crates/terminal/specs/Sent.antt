@@ -3,7 +3,7 @@ use Rattle.std.specs.Prelude.{◌≡◌, ℕ, ◌≤◌, ◌^◌, List, [], ◌�
 use Rattle.std.specs.Io.KnownBytes.{Appends}
 use Rattle.terminal.specs.Shown.{AppendsPrefix}
 use Rattle.terminal.specs.Terminal.{Terminal, StandsAt}
-use Rattle.terminal_table.specs.History.{Piece, Look, Forget}
+use Rattle.terminal_table.specs.History.{Look, Forget}
 use Rattle.terminal_update.specs.Update.{update_of}
 use Rattle.terminal_update.specs.Updates.{Standing, in_pieces, looks, standing_behind, updates_behind}
 

@@ -41,7 +41,7 @@ pub(crate) fn write_all<T: Write>(writer: &mut Watched<T>, bytes: &[u8]) -> Resu
 /// How many reads an input may take.
 pub(crate) const READS: u64 = 1 << 48;
 
-// Feeds the whole input.
+// Feeds the whole input, and forgets the changes and the replies, which nobody reads.
 fn feed_all<R: Read, W: Widths + Drop>(
     reader: &mut Watched<R>,
     terminal: &mut Terminal<W>,
@@ -67,6 +67,8 @@ fn feed_all<R: Read, W: Widths + Drop>(
             return Ok(());
         }
         terminal.feed(&buffer[..count])?;
+        terminal.forget_before(terminal.current_number());
+        let _replies = terminal.take_replies();
     }
     Err(RunError::TooLong)
 }
@@ -124,7 +126,8 @@ fn rows_of<R: Read, W: Widths + Drop>(
 }
 
 /// Feeds the whole input to a new terminal, looks once at its end, and writes the rows, each with
-/// a line feed behind it, and flushes. Width and height are from 1 to 2^32 - 1.
+/// a line feed behind it, and flushes. The changes and the replies, which nobody reads, are
+/// forgotten. Width and height are from 1 to 2^32 - 1.
 ///
 /// A read asks for at most 4,096 bytes. It ends at the first fault, also one of a read that was
 /// interrupted, with `Read` or `Write`; with `Terminal` where the terminal refuses; and with

@@ -1,8 +1,9 @@
-use Rattle.std.proofs.Common.{Result, Err, ◌≡◌, ◌<◌, ℕ, length, take, refl, subst, ◌∙◌, arith}
+use Rattle.std.proofs.Common.{Result, Err, ◌≡◌, ◌<◌, ℕ, length, take, refl, ap, subst, ◌∙◌, arith}
 use Rattle.std.specs.Io.KnownBytes.{Consumes}
 use Rattle.std.proofs.lemmas.Result.{err_from_is_err_and}
 use Rattle.terminal_steps.specs.declared.error.TerminalError.{TerminalError}
 use Rattle.terminal_steps.specs.declared.error.TerminalError.TheVariants.{Number}
+use Rattle.terminal.specs.Terminal.{Terminal as Value}
 use Rattle.terminal.proofs.AppendLemmas.{no_fault}
 use Rattle.terminal.proofs.ReadAllLemmas.{feeds_first, feeds_more, feeds_all, number_fed}
 use Rattle.terminal.proofs.driver.feed_all.Goals as goal
@@ -30,10 +31,10 @@ pub loop-preserved : goal.loop-preserved
 loop-preserved g c = record {
   not_failed = no_fault _ _ _ c.in-Ok.ensures.failed c.loop.invariant.not_failed refl;
   reads = let h = c.in-Ok.ensures.reads in omega (arith, h, c.loop.invariant.reads, c.loop-test.true);
-  sound = c.in_ok-feed.ensures.done.sound;
+  sound = ap (λ (t : Value g.row.W.Denot). t.is_failed) c.take_replies-replies.ensures.none ∙ (c.forget_before.ensures.done c.in_ok-feed.ensures.done.sound).sound;
   feeds = feeds_more (λ w. g.W.Widths.width_of w) (g.R.Read.remaining c.args.reader.now.inner) (g.R.Read.remaining c.loop.reader.inner) (g.R.Read.remaining c.read.new.self.inner)
-      c.args.terminal.now c.loop.terminal c.feed.new.self (take c.in-Ok.count c.read.new.buffer)
-      c.loop.invariant.feeds c.in-Ok.ensures.bytes.0 c.in_ok-feed.ensures.done;
+      c.args.terminal.now c.loop.terminal c.feed.new.self c.forget_before.new.self c.take_replies-replies.new.self (take c.in-Ok.count c.read.new.buffer) c.current_number.result
+      c.loop.invariant.feeds c.in-Ok.ensures.bytes.0 c.in_ok-feed.ensures.done c.current_number.ensures (c.forget_before.ensures.done c.in_ok-feed.ensures.done.sound) c.take_replies-replies.ensures.none;
   room = c.read.auto.buffer ∙ c.loop.invariant.room;
 }
 

@@ -8,21 +8,24 @@ use Rattle.terminal.proofs.ReadAllLemmas.{shows_input, number_at_look, number_of
 use Rattle.terminal.proofs.driver.read_all.Goals as goal
 
 pub returns-clause-ok : goal.returns-clause-ok
-returns-clause-ok g c = shows_input (λ w. g.W.Widths.width_of w) c.args.widths c.args.width c.args.height (g.R.Read.remaining c.args.reader.now.inner)
-    c.in_ok-terminal.terminal c.feed_all.new.terminal c.settle.new.self c.in_ok-terminal.ensures.stands c.in_ok-terminal.ensures.widths c.in_ok-feed_all.ensures.ok c.in_ok-settle.ensures.done
+returns-clause-ok g c = shows_input (λ w. g.W.Widths.width_of w) c.args.widths c.args.width c.args.height c.in_ok-terminal.terminal
+    (record { stands = c.in_ok-terminal.ensures.stands; log = c.in_ok-terminal.ensures.log }) c.in_ok-terminal.ensures.widths
+    (g.R.Read.remaining c.args.reader.now.inner) c.feed_all.new.terminal c.settle.new.self c.in_ok-feed_all.ensures.ok c.in_ok-settle.ensures.done
 
 pub returns-in_err-feed_all-clause-number : goal.returns-in_err-feed_all-clause-number
 returns-in_err-feed_all-clause-number g c =
     let p = err_from_is_err_and c.from_residual-in_err-feed_all.result c.from_residual-in_err-feed_all.ensures.1 in
     rw (p.1, p.2) (λ e.
     let refused : ◌≡◌ {A = Result (Unit {0}) RunError} (Err c.in_err-feed_all.field-0.0) (Err (Terminal Number)) = cc in
-    number_at_look (λ w. g.W.Widths.width_of w) c.args.widths c.args.width c.args.height (g.R.Read.remaining c.args.reader.now.inner)
-    c.in_ok-terminal.terminal c.in_ok-terminal.ensures.stands c.in_ok-terminal.ensures.widths c.in_ok-terminal.ensures.log (c.in_err-feed_all.ensures.number refused))
+    number_at_look (λ w. g.W.Widths.width_of w) c.args.widths c.args.width c.args.height c.in_ok-terminal.terminal
+    (record { stands = c.in_ok-terminal.ensures.stands; log = c.in_ok-terminal.ensures.log }) c.in_ok-terminal.ensures.widths
+    (g.R.Read.remaining c.args.reader.now.inner) (c.in_err-feed_all.ensures.number refused))
 
 pub returns-in_err-settle-clause-number : goal.returns-in_err-settle-clause-number
 returns-in_err-settle-clause-number g c =
     let p = err_from_is_err_and c.from_residual-in_err-settle.result c.from_residual-in_err-settle.ensures.1 in
     rw (p.1, p.2) (λ e.
     let refused : ◌≡◌ {A = Result (Unit {0}) TerminalError} (Err c.in_err-settle.field-0.0) (Err Number) = cc in
-    number_of_look (λ w. g.W.Widths.width_of w) c.args.widths c.args.width c.args.height (g.R.Read.remaining c.args.reader.now.inner)
-    c.in_ok-terminal.terminal c.feed_all.new.terminal c.in_ok-terminal.ensures.stands c.in_ok-terminal.ensures.widths c.in_ok-terminal.ensures.log c.in_ok-feed_all.ensures.ok (c.in_err-settle.ensures.number refused))
+    number_of_look (λ w. g.W.Widths.width_of w) c.args.widths c.args.width c.args.height c.in_ok-terminal.terminal
+    (record { stands = c.in_ok-terminal.ensures.stands; log = c.in_ok-terminal.ensures.log }) c.in_ok-terminal.ensures.widths
+    (g.R.Read.remaining c.args.reader.now.inner) c.feed_all.new.terminal c.in_ok-feed_all.ensures.ok (c.in_err-settle.ensures.number refused))

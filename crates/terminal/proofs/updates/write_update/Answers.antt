@@ -1,7 +1,5 @@
-use Rattle.std.proofs.Common.{refl, subst, ◌∙◌}
-use Rattle.std.specs.Io.KnownBytes.{Appends}
+use Rattle.std.proofs.Common.{refl, ◌∙◌}
 use Rattle.std.proofs.lemmas.Result.{err_from_is_err_and}
-use Rattle.terminal.specs.Shown.{AppendsPrefix}
 use Rattle.terminal.proofs.UpdateLemmas.{sent_is, some_is}
 use Rattle.terminal.proofs.updates.write_update.Goals as goal
 
