@@ -36,7 +36,9 @@ fn make_or_ask(page: &mut Page, call: &Call<'_>, sheet: &mut Sheet) -> Result<()
 fn make_call(page: &mut Page, call: &Call<'_>, sheet: &mut Sheet) -> Result<(), Fault> {
     match call.word(0) {
         "changes" => changes::say(&page.line, &page.pen, sheet),
-        "set_blanks" | "set_text" => runs::set(&mut page.line, call, &page.pen, sheet),
+        "set_blanks" | "set_plain" | "set_text" => {
+            runs::set(&mut page.line, call, &page.pen, sheet)
+        }
         "visible_cells_between" => runs::say_between(&page.line, call, sheet),
         _ => make_or_ask(page, call, sheet),
     }

@@ -9,6 +9,7 @@ use crate::sheet::Sheet;
 use cell_base::{CellAttributes, ProgramWidth};
 use cell_line::Line;
 use std::ops::Range;
+use text_clusters::split_plain;
 
 // The range of columns that a call's first two arguments say, where the line has it.
 fn columns_of(line: &Line, call: &Call<'_>, sheet: &mut Sheet) -> Result<Range<usize>, Fault>
@@ -23,8 +24,8 @@ fn columns_of(line: &Line, call: &Call<'_>, sheet: &mut Sheet) -> Result<Range<u
     Ok(start..end)
 }
 
-/// `set_blanks START END` sets blanks with the pen's attributes; `set_text START END TEXT` sets a text with them, and says the
-/// text that is left.
+/// `set_blanks START END` sets blanks with the pen's attributes; `set_text START END TEXT` sets a text with them, `set_plain START END
+/// TEXT` the printable ASCII characters at its front, and both say the text that is left.
 pub fn set(
     line: &mut Line,
     call: &Call<'_>,
@@ -37,6 +38,12 @@ pub fn set(
         return Ok(());
     }
     let text = call.text(3)?;
+    if call.word(0) == "set_plain" {
+        let (front, left) = split_plain(text.as_str(), columns.end - columns.start);
+        line.set_plain(columns.start, front, pen)?;
+        sheet.quoted(left);
+        return Ok(());
+    }
     let (_, left) = line.set_text(columns, text.as_str(), pen, &ProgramWidth)?;
     sheet.quoted(left);
     Ok(())
