@@ -1,4 +1,5 @@
 pub mod KeyOrder
+mod KnownWidths
 pub mod LinkLaws
 pub mod LinkRows
 pub mod Pieces

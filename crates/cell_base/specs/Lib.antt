@@ -21,3 +21,4 @@ pub mod SameCell
 pub mod SameLink
 pub mod SameValue
 pub mod Screen
+pub mod KnownWidths

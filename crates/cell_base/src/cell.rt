@@ -1,5 +1,5 @@
 //! Cells: a text of one cluster with its width and attributes.
-ghost use Rattle.std.specs.Prelude.{◌≡◌, ◌≤◌, ◌↔◌, ◌==◌, ◌&&◌, true, false, not, None, [], ◌∷◌, length, encode_utf8, IfOk, OnOk, OnErr, IsTrue};
+ghost use Rattle.std.specs.Prelude.{◌≡◌, ◌≤◌, ◌↔◌, ◌==◌, ◌&&◌, true, false, not, None, [], ◌∷◌, length, encode_utf8, IfOk, IfSome, OnOk, OnErr, IsTrue};
 ghost use Rattle.std.specs.Borrow.{sem};
 ghost use Rattle.cell_base.specs.Attributes.{Attributes, plain};
 ghost use Rattle.cell_base.specs.CellContent.{cell_of, blank_cell, shows_as_space};
@@ -172,6 +172,10 @@ impl Cell {
             self.set_few(text, width, attrs)?;
             return Ok(());
         }
+        if let Some(character) = lone_ascii(text, width) {
+            self.set_ascii(character, attrs)?;
+            return Ok(());
+        }
         self.set_text(alloc, text, width, attrs)?;
         Ok(())
     }
@@ -194,6 +198,21 @@ impl Cell {
         self.text.set_few(text);
         self.wide = width == 2;
         Ok(())
+    }
+
+    /// The same as `set_grapheme_with_width` for a cluster of at most four bytes that is kept as it is, with attributes that have
+    /// no link: it can't be refused.
+    #[inline(always)]
+    pub fn set_few_without_link(&mut self, text: &str, width: usize, attrs: &CellAttributes)
+        requires most { width ≤ 2 }
+        requires few { length text.now ≤ 4 }
+        requires kept { shows_as_space text.now ≡ false }
+        requires unlinked { attrs.now.hyperlink ≡ None }
+        ensures { self.new ≡ cell_of text.now width attrs.now }
+    {
+        self.attributes.copy_without_link(attrs);
+        self.text.set_few(text);
+        self.wide = width == 2;
     }
 
     // The same for any text.
@@ -291,6 +310,19 @@ impl Cell {
             wide: self.wide,
             attributes: self.attributes.try_clone()?,
         })
+    }
+}
+
+// The printable ASCII character that a cluster of at most one column is, if it is one.
+#[inline(always)]
+fn lone_ascii(text: &str, width: usize) -> Option<u8>
+    requires { width ≤ 2 }
+    ensures printable { IfSome result (λ character. is_printable character ≡ true) }
+    ensures cell { (attributes : Attributes) → IfSome result (λ character. cell_of text.now width attributes ≡ cell_of (character ∷ []) 1 attributes) }
+{
+    match text.as_bytes() {
+        [byte @ 0x20..=0x7e] if width < 2 => Some(*byte),
+        _ => None,
     }
 }
 

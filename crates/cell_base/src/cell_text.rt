@@ -3,14 +3,16 @@ ghost use Rattle.std.specs.Prelude.{◌≡◌, ℕ, ◌<◌, ◌≤◌, Bool, tr
 ghost use Rattle.cell_base.specs.CellContent.{cell_text, shows_as_space};
 ghost use Rattle.cell_base.specs.CellText.{columns_of, text_bytes};
 
+use crate::few_text::FewText;
 use crate::letter::Letter;
 use crate::short_text::ShortText;
 use std::alloc::{AllocError, Global};
 
-// A lone ASCII character, which takes one column, and a short text take no memory.
+// A lone ASCII character, which takes one column, and a text of a few bytes or a short one take no memory.
 #[derive(Debug, Drop)]
 pub(crate) enum CellText {
     Letter(Letter),
+    Few(FewText),
     Short(ShortText),
     Owned(String),
 }
@@ -30,6 +32,9 @@ impl CellText {
             if !wide && *byte < 128 {
                 return Ok(CellText::of_ascii(*byte));
             }
+        }
+        if text.len() <= 4 {
+            return Ok(CellText::Few(FewText::of(text)));
         }
         if let Some(short) = ShortText::new(text) {
             return Ok(CellText::Short(short));
@@ -71,7 +76,7 @@ impl CellText {
         *self = CellText::of_ascii(byte);
     }
 
-    // Becomes a text of two to four bytes.
+    // Becomes a text of at most four bytes.
     #[inline(always)]
     pub(crate) fn set_few(&mut self, text: &str)
         requires few { length text.now ≤ 4 }
@@ -79,7 +84,7 @@ impl CellText {
         ensures text { text_bytes self.new ≡ cell_text text.now }
         ensures columns { (wide : Bool) → columns_of self.new wide ≡ (if wide then 2 else 1) }
     {
-        *self = CellText::Short(ShortText::of(text));
+        *self = CellText::Few(FewText::of(text));
     }
 
     // How many columns the text takes where wide ones take two.
@@ -97,6 +102,7 @@ impl CellText {
     {
         match self {
             CellText::Letter(letter) => letter.as_str(),
+            CellText::Few(text) => text.as_str(),
             CellText::Short(text) => text.as_str(),
             CellText::Owned(text) => text.as_str(),
         }
@@ -108,6 +114,7 @@ impl CellText {
     {
         match self {
             CellText::Letter(letter) => Ok(CellText::Letter(*letter)),
+            CellText::Few(text) => Ok(CellText::Few(*text)),
             CellText::Short(text) => Ok(CellText::Short(*text)),
             CellText::Owned(text) => Ok(CellText::Owned(text.clone()?)),
         }

@@ -11,6 +11,7 @@ mod cluster;
 mod color;
 mod color_reading;
 mod columns;
+mod few_text;
 mod hyperlink;
 pub mod laws;
 mod letter;

@@ -4,29 +4,9 @@ ghost use Rattle.std.specs.Str.{IsUtf8};
 
 use std::str;
 
-// The bytes, and zeros behind them. Most texts are one character of two to four bytes.
-#[inline(always)]
-fn padded(bytes: &[u8]) -> [u8; 22]
-    requires { length bytes.now ≤ 22 }
-    ensures { take (length bytes.now) result ≡ bytes.now }
-{
-    match bytes {
-        [a, b] => [
-            *a, *b, 0, 0, 0, 0, 0, 0, 0, 0, 0, 0, 0, 0, 0, 0, 0, 0, 0, 0, 0, 0,
-        ],
-        [a, b, c] => [
-            *a, *b, *c, 0, 0, 0, 0, 0, 0, 0, 0, 0, 0, 0, 0, 0, 0, 0, 0, 0, 0, 0,
-        ],
-        [a, b, c, d] => [
-            *a, *b, *c, *d, 0, 0, 0, 0, 0, 0, 0, 0, 0, 0, 0, 0, 0, 0, 0, 0, 0, 0,
-        ],
-        _ => padded_text(bytes),
-    }
-}
-
-// The same for bytes of any length.
+// The bytes, and zeros behind them.
 #[inline(never)]
-fn padded_text(bytes: &[u8]) -> [u8; 22]
+fn padded(bytes: &[u8]) -> [u8; 22]
     requires { length bytes.now ≤ 22 }
     ensures { take (length bytes.now) result ≡ bytes.now }
 {
@@ -45,18 +25,6 @@ pub(crate) struct ShortText {
 }
 
 impl ShortText {
-    // The text, which is short.
-    #[inline(always)]
-    pub(crate) fn of(text: &str) -> ShortText
-        requires { length text.now ≤ 22 }
-        ensures { take result.len result.bytes ≡ text.now }
-    {
-        ShortText {
-            bytes: padded(text.as_bytes()),
-            len: text.len() as u8,
-        }
-    }
-
     // The text, if it is short.
     #[inline(always)]
     pub(crate) fn new(text: &str) -> Option<ShortText>
@@ -65,7 +33,10 @@ impl ShortText {
         if text.len() > 22 {
             return None;
         }
-        Some(ShortText::of(text))
+        Some(ShortText {
+            bytes: padded(text.as_bytes()),
+            len: text.len() as u8,
+        })
     }
 
     fn as_bytes(&self) -> &[u8]

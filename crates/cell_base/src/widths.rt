@@ -1,8 +1,10 @@
-ghost use Rattle.std.specs.Prelude.{◌≡◌, ℕ, ◌<◌, ◌≤◌, false, true, List, [], ◌∷◌, min, IfSome, IsTrue};
+ghost use Rattle.std.specs.Prelude.{◌≡◌, ℕ, ◌<◌, ◌≤◌, false, true, List, [], ◌∷◌, min, encode_utf8, IfSome, IsTrue};
 ghost use Rattle.std.specs.Str.{chars};
 ghost use Rattle.unicode_width.specs.Width.{str_width};
 ghost use Rattle.std.proofs.Common.{arith};
 ghost use Rattle.cell_base.specs.Cluster.{program_width, program_width_le, program_width-space};
+ghost use Rattle.cell_base.specs.KnownWidths.{is_eastern_letter, is_western_letter};
+ghost use Rattle.std.specs.Int.{is_in_range};
 ghost use Rattle.text_clusters.specs.Plain.{is_printable};
 
 use unicode_width::{UnicodeWidthChar, UnicodeWidthStr};
@@ -16,6 +18,14 @@ pub trait Widths {
     /// The columns of a cluster: 0, 1 or 2.
     fn width(&self, cluster: &str) -> u8
         ensures { result ≡ width_of self.now cluster.now };
+
+    /// The columns of a cluster of one character.
+    fn character_width(&self, character: char) -> u8
+        ensures { result ≡ width_of self.now (encode_utf8 character) }
+    {
+        let mut buffer = [0u8; 4];
+        self.width(character.encode_utf8(&mut buffer))
+    }
 
     /// Whether it is known that each printable ASCII character (20h to 7Eh) by itself takes one
     /// column; runs of them are then set without being measured one by one. To answer `false` is
@@ -54,6 +64,16 @@ impl Widths for ProgramWidth {
         }
     }
 
+    #[inline(always)]
+    fn character_width(&self, character: char) -> u8
+        ensures { result ≡ program_width (encode_utf8 character) }
+    {
+        match known_columns(character) {
+            Some(columns) => columns,
+            None => lone_columns(character),
+        }
+    }
+
     fn has_narrow_ascii(&self) -> bool
         ensures narrow { (byte : ℕ) → is_printable byte ≡ true → program_width (byte ∷ []) ≡ 1 }
         ensures known { IsTrue result }
@@ -82,6 +102,69 @@ fn character_columns(character: char) -> u8
     ensures { result ≡ min (str_width false (character ∷ [])) 2 }
 {
     character.width().unwrap_or(0).min(2) as u8
+}
+
+// Whether a character is a kana, an ideograph or a Hangul syllable, each of which takes two columns.
+#[inline(always)]
+fn is_eastern_letter(code: u32) -> bool
+    ensures { result ≡ is_eastern_letter code }
+{
+    is_in(code, 0x3041, 0x3096)
+        || is_in(code, 0x30a0, 0x30ff)
+        || is_in(code, 0x4e00, 0x9fff)
+        || is_in(code, 0xac00, 0xd7a3)
+}
+
+// Whether a character is a letter of Latin, or of Cyrillic, each of which takes one column.
+#[inline(always)]
+fn is_western_letter(code: u32) -> bool
+    ensures { result ≡ is_western_letter code }
+{
+    is_in(code, 0xc0, 0x2af) || is_in(code, 0x400, 0x481)
+}
+
+// Whether a number lies between two others, or is one of them.
+#[inline(always)]
+fn is_in(code: u32, first: u32, last: u32) -> bool
+    ensures { result ≡ is_in_range first last code }
+{
+    (first <= code) & (code <= last)
+}
+
+// The columns of a character of which they are known without a look at the table: of most letters.
+#[inline(always)]
+fn known_columns(character: char) -> Option<u8>
+    ensures { IfSome result (λ columns. columns ≡ program_width (encode_utf8 character)) }
+{
+    let code = character as u32;
+    if is_eastern_letter(code) {
+        return Some(2);
+    }
+    if is_western_letter(code) {
+        return Some(1);
+    }
+    None
+}
+
+// The columns of any character.
+#[inline(always)]
+fn lone_columns(character: char) -> u8
+    ensures { result ≡ program_width (encode_utf8 character) }
+{
+    if character > '\u{a0}' {
+        character_columns(character)
+    } else {
+        low_columns(character)
+    }
+}
+
+// The columns of a character as a text.
+#[inline(never)]
+fn low_columns(character: char) -> u8
+    ensures { result ≡ program_width (encode_utf8 character) }
+{
+    let mut buffer = [0u8; 4];
+    text_columns(character.encode_utf8(&mut buffer))
 }
 
 // The columns of a text.

@@ -1,5 +1,5 @@
 -- Cells that were written or cut in a vector, and the row that they are read as.
-use Rattle.std.proofs.Common.{◌≡◌, ℕ, zero, suc, ◌+◌, ◌-◌, ◌<◌, ◌≤◌, true, false, List, [], ◌∷◌, ◌++◌, length, take, drop, set, replicate, refl, sym, ap, ◌∙◌, arith, append_assoc, inl, inr}
+use Rattle.std.proofs.Common.{◌≡◌, ℕ, zero, suc, ◌+◌, ◌-◌, ◌<◌, ◌≤◌, true, false, List, [], ◌∷◌, ◌++◌, length, take, drop, set, replicate, refl, sym, ap, ◌∙◌, arith, append_assoc, length-append, inl, inr}
 use Rattle.std.specs.Prelude.{◌⊎◌, nat_lt, nat_le, if◌then◌else◌, insert}
 use Rattle.std.proofs.lemmas.Bool.{ltb-true, ltb-false, lt-ltb, le-ltb, le-leb}
 use Rattle.std.proofs.lemmas.Bool.Decides.{leb_tells}
@@ -11,7 +11,7 @@ use Rattle.cell_base.specs.CellContent.{CellContent, blank_cell, row_of_cells}
 use Rattle.cell_base.specs.Row.{Narrow, LeftHalf, RightHalf, Row, blank, plain_row, closed_end, closed_start}
 use Rattle.cell_edits.specs.CellList.{ends_halved, blank_for, cell_columns}
 use Rattle.cell_edits.specs.RowEdits.{cut, cut_front, padded, resized, removed, inserted}
-use Rattle.cell_edits.proofs.CellLemmas.{by_test, row_wide, row_narrow, length-row, closed_end-wide, closed_end-narrow, before_cut, behind_cut, cut_whole, row_joined}
+use Rattle.cell_edits.proofs.CellLemmas.{by_test, row_wide, row_narrow, length-row, closed_end-wide, closed_end-narrow, before_cut, behind_cut, cut_whole, row_joined, halved_joined, halved_wide}
 
 leb_false : (m n : ℕ) → n < m → nat_le m n ≡ false
 leb_false m n h = elim (leb_tells m n) [ inl p ↦ absurd (omega arith) | inr p ↦ p.0 ]
@@ -250,3 +250,19 @@ reaches rest m a h = sym (ap (λ t. if t then inserted (m - 1) (blank a ∷ []) 
 pub falls_short : (rest : Row) (m : ℕ) (a : Attributes) → length rest + 1 < m
     → rest ≡ (if nat_le m (length rest + 1) then inserted (m - 1) (blank a ∷ []) rest else rest)
 falls_short rest m a h = sym (ap (λ t. if t then inserted (m - 1) (blank a ∷ []) rest else rest) (leb_false m (length rest + 1) h))
+
+-- ---- behind a cell that was written no wide one stands on both sides
+
+pub whole_narrow : (before behind : List CellContent) (c : CellContent) (new : List CellContent) (n : ℕ) → n ≡ length before + 1 → new ≡ before ++ c ∷ behind → ends_halved before ≡ false → nat_le 2 c.width ≡ false
+    → ends_halved (take n new) ≡ false
+whole_narrow before behind c new n l e w narrow =
+    let long = length-append before (c ∷ []) in
+    ap (λ xs. ends_halved (take n xs)) (e ∙ sym (append_assoc before (c ∷ []) behind))
+    ∙ ap ends_halved (take_at (before ++ c ∷ []) behind n (omega arith)) ∙ halved_joined before (c ∷ []) w ∙ narrow
+
+pub whole_wide : (before behind : List CellContent) (c f : CellContent) (new : List CellContent) (n : ℕ) → n ≡ length before + 2 → new ≡ before ++ c ∷ f ∷ behind → ends_halved before ≡ false → nat_le 2 c.width ≡ true
+    → ends_halved (take n new) ≡ false
+whole_wide before behind c f new n l e w wide =
+    let long = length-append before (c ∷ f ∷ []) in
+    ap (λ xs. ends_halved (take n xs)) (e ∙ sym (append_assoc before (c ∷ f ∷ []) behind))
+    ∙ ap ends_halved (take_at (before ++ c ∷ f ∷ []) behind n (omega arith)) ∙ halved_joined before (c ∷ f ∷ []) w ∙ halved_wide c f [] wide

@@ -2,6 +2,7 @@ pub mod CellLemmas
 pub mod CutLemmas
 pub mod EndLemmas
 pub mod LinkLemmas
+pub mod LoneLemmas
 pub mod RowLaws
 pub mod RunLemmas
 pub mod SettleLemmas

@@ -29,6 +29,22 @@ pub fn is_halved(cells: &[Cell], at: usize) -> bool
     requires { at ≤ length cells.now }
     ensures { result ≡ ends_halved (take at cells.now) }
 {
+    if at == 0 {
+        return false;
+    }
+    if cells[at - 1].width() < 2 {
+        return false;
+    }
+    is_halved_behind_wide(cells, at)
+}
+
+// The same where a wide cell is stored before `at`, by the run of wide cells there.
+#[cold]
+#[inline(never)]
+fn is_halved_behind_wide(cells: &[Cell], at: usize) -> bool
+    requires { at ≤ length cells.now }
+    ensures { result ≡ ends_halved (take at cells.now) }
+{
     let mut halved = false;
     let mut place = at;
     while place > 0 && cells[place - 1].width() >= 2 {
@@ -61,6 +77,8 @@ pub(crate) fn put(cells: &mut Vec<Cell>, at: usize, cell: Cell)
 }
 
 // The cell and the one behind it become blanks with its attributes.
+#[cold]
+#[inline(never)]
 fn split_cell(cells: &mut Vec<Cell>, at: usize) -> Result<(), AllocError>
     requires { at < vec_len cells.old }
     ensures len { vec_len cells.new ≡ vec_len cells.old }
@@ -92,7 +110,48 @@ fn cut_at(cells: &mut Vec<Cell>, at: usize) -> Result<(), AllocError>
     Ok(())
 }
 
-// Wide cells whose columns stand on both sides of `start`, or of `end`, become blanks.
+// The same where it may be known already that there is no such cell.
+#[inline(always)]
+fn cut_unless_whole(cells: &mut Vec<Cell>, at: usize, is_whole: bool) -> Result<(), AllocError>
+    requires within { at ≤ vec_len cells.old }
+    requires known { is_whole ≡ true → ends_halved (take at cells.old.items) ≡ false }
+    ensures len { vec_len cells.new ≡ vec_len cells.old }
+    ensures whole { OnOk result (ends_halved (take at cells.new.items) ≡ false) }
+    ensures before { OnOk result (row_of_cells (take at cells.new.items) ≡ cut at (row_of_cells cells.old.items)) }
+    ensures behind { OnOk result (row_of_cells (drop at cells.new.items) ≡ cut_front at (row_of_cells cells.old.items)) }
+{
+    if is_whole {
+        return Ok(());
+    }
+    cut_at(cells, at)?;
+    Ok(())
+}
+
+// Wide cells whose columns stand on both sides of `start`, or of `end`, become blanks; it may be known already that none stands
+// so at `start`.
+#[inline(always)]
+pub(crate) fn open_from(
+    cells: &mut Vec<Cell>,
+    start: usize,
+    end: usize,
+    is_whole: bool,
+) -> Result<(), AllocError>
+    requires order { start ≤ end }
+    requires within { end ≤ vec_len cells.old }
+    requires known { is_whole ≡ true → ends_halved (take start cells.old.items) ≡ false }
+    ensures len { vec_len cells.new ≡ vec_len cells.old }
+    ensures whole { OnOk result (ends_halved (take start cells.new.items) ≡ false) }
+    ensures before { OnOk result (row_of_cells (take start cells.new.items) ≡ cut start (row_of_cells cells.old.items)) }
+    ensures behind { OnOk result (row_of_cells (drop end cells.new.items) ≡ cut_front end (row_of_cells cells.old.items)) }
+{
+    cut_unless_whole(cells, start, is_whole)?;
+    if start < end {
+        cut_at(cells, end)?;
+    }
+    Ok(())
+}
+
+// The same where nothing is known.
 pub(crate) fn open(cells: &mut Vec<Cell>, start: usize, end: usize) -> Result<(), AllocError>
     requires order { start ≤ end }
     requires within { end ≤ vec_len cells.old }
@@ -101,10 +160,7 @@ pub(crate) fn open(cells: &mut Vec<Cell>, start: usize, end: usize) -> Result<()
     ensures before { OnOk result (row_of_cells (take start cells.new.items) ≡ cut start (row_of_cells cells.old.items)) }
     ensures behind { OnOk result (row_of_cells (drop end cells.new.items) ≡ cut_front end (row_of_cells cells.old.items)) }
 {
-    cut_at(cells, start)?;
-    if start < end {
-        cut_at(cells, end)?;
-    }
+    open_from(cells, start, end, false)?;
     Ok(())
 }
 

@@ -1,18 +1,21 @@
 //! Columns of a row that are set at once: blanks, and the cells of a text as far as they fit.
-ghost use Rattle.std.specs.Prelude.{◌≡◌, ◌+◌, ◌-◌, ◌≤◌, ◌<◌, ◌++◌, [], ◌∷◌, true, None, length, take, drop, map, replicate, slice_set, vec_len, OnOk, IfOk, MatchOption};
+ghost use Rattle.std.specs.Prelude.{◌≡◌, ◌+◌, ◌-◌, ◌≤◌, ◌<◌, ◌++◌, [], ◌∷◌, true, false, None, max, length, take, drop, map, replicate, slice_set, vec_len, encode_utf8, OnOk, IfOk, IfSome, MatchOption};
 ghost use Rattle.std.specs.List.{list_all};
+ghost use Rattle.text_clusters.specs.Apart.{BeginsWith, stands_apart};
 ghost use Rattle.text_clusters.specs.Plain.{is_printable};
 ghost use Rattle.cell_base.specs.Attributes.{Attributes};
-ghost use Rattle.cell_base.specs.CellContent.{row_of_cells, blank_cell, cell_of};
+ghost use Rattle.cell_base.specs.CellContent.{row_of_cells, blank_cell, cell_of, shows_as_space};
 ghost use Rattle.cell_base.specs.Row.{set_columns, blank};
-ghost use Rattle.cell_edits.specs.CellList.{cell_columns};
+ghost use Rattle.cell_edits.specs.CellList.{cell_columns, ends_halved};
 ghost use Rattle.cell_edits.specs.RowEdits.{overlaid};
 ghost use Rattle.cell_edits.specs.TextRuns.{place_behind, plain_cells, text_on, text_left, Leads, Stops};
 
-use crate::row::{open, push_blanks_with};
+use crate::row::{open, open_from, push_blanks_with};
 use cell_base::{Cell, CellAttributes, Widths};
 use std::alloc::{AllocError, Global};
-use text_clusters::{begins_printable, split_first_cluster, split_printable};
+use text_clusters::{
+    begins_plainly, first_apart, split_first_cluster, split_lone, split_printable,
+};
 
 // The cell at a place becomes that of a printable character.
 #[inline(always)]
@@ -28,6 +31,15 @@ fn put_ascii(
     ensures items { OnOk result (cells.new.items ≡ slice_set cells.old.items at (cell_of (character ∷ []) 1 attrs.now)) }
 {
     cells[at].set_ascii(character, attrs)
+}
+
+// Whether a character is a printable ASCII one (20h to 7Eh).
+#[inline(always)]
+fn is_printable(character: char) -> bool
+    ensures { result ≡ is_printable character }
+{
+    let code = character as u32;
+    0x20 <= code && code < 0x7f
 }
 
 // The cell at a place becomes a space.
@@ -59,6 +71,25 @@ fn put_ascii_without_link(cells: &mut [Cell], at: usize, character: u8, attrs: &
     ensures { cells.new ≡ slice_set cells.old at (cell_of (character ∷ []) 1 attrs.now) }
 {
     cells[at].set_ascii_without_link(character, attrs);
+}
+
+// The cell at a place becomes that of a cluster of at most four bytes, with attributes without a link.
+#[inline(always)]
+fn put_few_without_link(
+    cells: &mut [Cell],
+    at: usize,
+    cluster: &str,
+    width: usize,
+    attrs: &CellAttributes,
+)
+    requires most { width ≤ 2 }
+    requires few { length cluster.now ≤ 4 }
+    requires kept { shows_as_space cluster.now ≡ false }
+    requires within { at < length cells.old }
+    requires unlinked { attrs.now.hyperlink ≡ None }
+    ensures { cells.new ≡ slice_set cells.old at (cell_of cluster.now width attrs.now) }
+{
+    cells[at].set_few_without_link(cluster, width, attrs);
 }
 
 // The cell at a place becomes that of a cluster.
@@ -248,7 +279,7 @@ fn set_plain_front<'a, W: Widths>(
     ensures len { vec_len cells.new ≡ vec_len cells.old }
     ensures leads { IfOk result (λ next. Leads (W.width_of w.now) end attrs.now (row_of_cells cells.old.items) at text.now (row_of_cells cells.new.items) next.0 next.1.now) }
 {
-    if !begins_printable(text) {
+    if !begins_plainly(text) {
         return Ok((at, text));
     }
     if !w.has_narrow_ascii() {
@@ -294,6 +325,222 @@ fn write_cluster(
     }
     put_cluster(alloc, cells, at, cluster, width, attrs)?;
     Ok(())
+}
+
+// How many columns a character takes by itself; none count as one.
+#[inline(always)]
+fn lone_columns<W: Widths>(character: char, w: &W) -> usize
+    ensures value { result ≡ max 1 (W.width_of w.now (encode_utf8 character)) }
+    ensures most { result ≤ 2 }
+{
+    if is_printable(character) && w.has_narrow_ascii() {
+        return 1;
+    }
+    usize::from(w.character_width(character)).max(1)
+}
+
+// The cell at a place becomes that of a character of one column that stands apart, with attributes without a link.
+#[inline(always)]
+fn put_narrow(cells: &mut [Cell], at: usize, character: char, text: &str, attrs: &CellAttributes)
+    requires lone { text.now ≡ encode_utf8 character }
+    requires apart { stands_apart character ≡ true }
+    requires within { at < length cells.old }
+    requires unlinked { attrs.now.hyperlink ≡ None }
+    ensures { cells.new ≡ slice_set cells.old at (cell_of text.now 1 attrs.now) }
+{
+    if is_printable(character) {
+        put_ascii_without_link(cells, at, character as u8, attrs);
+    } else {
+        put_few_without_link(cells, at, text, 1, attrs);
+    }
+}
+
+// The same of one of two columns, with a blank behind it.
+#[inline(always)]
+fn put_wide(cells: &mut [Cell], at: usize, character: char, text: &str, attrs: &CellAttributes)
+    requires lone { text.now ≡ encode_utf8 character }
+    requires apart { stands_apart character ≡ true }
+    requires within { at + 1 < length cells.old }
+    requires unlinked { attrs.now.hyperlink ≡ None }
+    ensures { cells.new ≡ slice_set (slice_set cells.old (at + 1) (blank_cell attrs.now)) at (cell_of text.now 2 attrs.now) }
+{
+    let _character = character;
+    put_blank_without_link(cells, at + 1, attrs);
+    put_few_without_link(cells, at, text, 2, attrs);
+}
+
+// The cell of a character of one column that stands apart takes its column at `at`, where it may be known that no wide cell's
+// columns stand on both sides of `at`; behind it none stands so.
+#[inline(always)]
+fn write_narrow(
+    cells: &mut Vec<Cell>,
+    at: usize,
+    is_whole: bool,
+    character: char,
+    text: &str,
+    attrs: &CellAttributes,
+) -> Result<(), AllocError>
+    requires lone { text.now ≡ encode_utf8 character }
+    requires apart { stands_apart character ≡ true }
+    requires within { at + 1 ≤ vec_len cells.old }
+    requires unlinked { attrs.now.hyperlink ≡ None }
+    requires known { is_whole ≡ true → ends_halved (take at cells.old.items) ≡ false }
+    ensures len { vec_len cells.new ≡ vec_len cells.old }
+    ensures whole { OnOk result (ends_halved (take (at + 1) cells.new.items) ≡ false) }
+    ensures row { OnOk result (row_of_cells cells.new.items ≡ set_columns (row_of_cells cells.old.items) at (cell_columns (cell_of text.now 1 attrs.now))) }
+{
+    open_from(cells, at, at + 1, is_whole)?;
+    put_narrow(cells, at, character, text, attrs);
+    Ok(())
+}
+
+// The same of one of two columns.
+#[inline(always)]
+fn write_wide(
+    cells: &mut Vec<Cell>,
+    at: usize,
+    is_whole: bool,
+    character: char,
+    text: &str,
+    attrs: &CellAttributes,
+) -> Result<(), AllocError>
+    requires lone { text.now ≡ encode_utf8 character }
+    requires apart { stands_apart character ≡ true }
+    requires within { at + 2 ≤ vec_len cells.old }
+    requires unlinked { attrs.now.hyperlink ≡ None }
+    requires known { is_whole ≡ true → ends_halved (take at cells.old.items) ≡ false }
+    ensures len { vec_len cells.new ≡ vec_len cells.old }
+    ensures whole { OnOk result (ends_halved (take (at + 2) cells.new.items) ≡ false) }
+    ensures row { OnOk result (row_of_cells cells.new.items ≡ set_columns (row_of_cells cells.old.items) at (cell_columns (cell_of text.now 2 attrs.now))) }
+{
+    open_from(cells, at, at + 2, is_whole)?;
+    put_wide(cells, at, character, text, attrs);
+    Ok(())
+}
+
+// The same of one of so many columns.
+#[inline(always)]
+fn write_lone(
+    cells: &mut Vec<Cell>,
+    at: usize,
+    is_whole: bool,
+    character: char,
+    text: &str,
+    width: usize,
+    attrs: &CellAttributes,
+) -> Result<(), AllocError>
+    requires lone { text.now ≡ encode_utf8 character }
+    requires apart { stands_apart character ≡ true }
+    requires some { 1 ≤ width }
+    requires most { width ≤ 2 }
+    requires within { at + width ≤ vec_len cells.old }
+    requires unlinked { attrs.now.hyperlink ≡ None }
+    requires known { is_whole ≡ true → ends_halved (take at cells.old.items) ≡ false }
+    ensures len { vec_len cells.new ≡ vec_len cells.old }
+    ensures whole { OnOk result (ends_halved (take (at + width) cells.new.items) ≡ false) }
+    ensures row { OnOk result (row_of_cells cells.new.items ≡ set_columns (row_of_cells cells.old.items) at (cell_columns (cell_of text.now width attrs.now))) }
+{
+    match width {
+        1 => write_narrow(cells, at, is_whole, character, text, attrs)?,
+        _ => write_wide(cells, at, is_whole, character, text, attrs)?,
+    }
+    Ok(())
+}
+
+// Sets the first character of a text, which stands apart and has so many bytes, if it is a cluster by itself and fits before
+// `end`, where it may be known that no wide cell's columns stand on both sides of `at`; answers the next column, the rest, and
+// the first character of the rest, where that stands apart.
+#[inline(always)]
+fn set_lone<'a, W: Widths>(
+    cells: &mut Vec<Cell>,
+    at: usize,
+    end: usize,
+    is_whole: bool,
+    text: &'a str,
+    first: (char, usize),
+    attrs: &CellAttributes,
+    w: &W,
+) -> Result<Option<(usize, &'a str, Option<(char, usize)>)>, AllocError>
+    requires first { BeginsWith text.now first.0 first.1 }
+    requires order { at ≤ end }
+    requires within { end ≤ vec_len cells.old }
+    requires unlinked { attrs.now.hyperlink ≡ None }
+    requires known { is_whole ≡ true → ends_halved (take at cells.old.items) ≡ false }
+    ensures len { vec_len cells.new ≡ vec_len cells.old }
+    ensures whole { IfOk result (λ next. IfSome next (λ n. ends_halved (take n.0 cells.new.items) ≡ false)) }
+    ensures leads { IfOk result (λ next. MatchOption next
+        (row_of_cells cells.new.items ≡ row_of_cells cells.old.items)
+        (λ n. (at < n.0) × Leads (W.width_of w.now) end attrs.now (row_of_cells cells.old.items) at text.now (row_of_cells cells.new.items) n.0 n.1.now)) }
+    ensures first { IfOk result (λ next. IfSome next (λ n. IfSome n.2 (λ c. BeginsWith n.1.now c.0 c.1))) }
+{
+    let (character, len) = first;
+    let Some((cluster, rest, next)) = split_lone(text, character, len) else {
+        return Ok(None);
+    };
+    let width = lone_columns(character, w);
+    if end - at < width {
+        return Ok(None);
+    }
+    write_lone(cells, at, is_whole, character, cluster, width, attrs)?;
+    Ok(Some((at + width, rest, next)))
+}
+
+// Sets the characters at the front of a text that are clusters by themselves, as far as they fit before `end`, with attributes
+// without a link; answers the next column and the rest. Each character is decoded once. A function of its own, so that no other
+// loop takes its registers.
+#[inline(never)]
+fn set_lone_run<'a, W: Widths>(
+    cells: &mut Vec<Cell>,
+    start: usize,
+    end: usize,
+    text: &'a str,
+    attrs: &CellAttributes,
+    w: &W,
+) -> Result<(usize, &'a str), AllocError>
+    requires order { start ≤ end }
+    requires within { end ≤ vec_len cells.old }
+    requires unlinked { attrs.now.hyperlink ≡ None }
+    ensures len { vec_len cells.new ≡ vec_len cells.old }
+    ensures leads { IfOk result (λ next. Leads (W.width_of w.now) end attrs.now (row_of_cells cells.old.items) start text.now (row_of_cells cells.new.items) next.0 next.1.now) }
+{
+    let mut at = start;
+    let mut is_whole = false;
+    let mut left = text;
+    let mut next = first_apart(left);
+    while let Some(first) = next {
+        match set_lone(cells, at, end, is_whole, left, first, attrs, w)? {
+            None => return Ok((at, left)),
+            Some((place, rest, second)) => {
+                at = place;
+                is_whole = true;
+                left = rest;
+                next = second;
+            }
+        }
+    }
+    Ok((at, left))
+}
+
+// The same with any attributes: where they have a link nothing is set.
+#[inline(always)]
+fn set_lone_front<'a, W: Widths>(
+    cells: &mut Vec<Cell>,
+    at: usize,
+    end: usize,
+    text: &'a str,
+    attrs: &CellAttributes,
+    w: &W,
+) -> Result<(usize, &'a str), AllocError>
+    requires order { at ≤ end }
+    requires within { end ≤ vec_len cells.old }
+    ensures len { vec_len cells.new ≡ vec_len cells.old }
+    ensures leads { IfOk result (λ next. Leads (W.width_of w.now) end attrs.now (row_of_cells cells.old.items) at text.now (row_of_cells cells.new.items) next.0 next.1.now) }
+{
+    if attrs.hyperlink().is_some() {
+        return Ok((at, text));
+    }
+    let (column, left) = set_lone_run(cells, at, end, text, attrs, w)?;
+    Ok((column, left))
 }
 
 // Sets the first cluster of a text if it fits before `end`; answers the next column and the rest.
@@ -352,6 +599,7 @@ pub fn set_text<'a, W: Widths>(
     let mut left = text;
     while at < end {
         let (place, rest) = set_plain_front(cells, at, end, left, attrs, w)?;
+        let (place, rest) = set_lone_front(cells, place, end, rest, attrs, w)?;
         match set_first_cluster(alloc, cells, place, end, rest, attrs, w)? {
             None => return Ok((place, rest)),
             Some((next, behind)) => {

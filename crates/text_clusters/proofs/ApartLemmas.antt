@@ -1,20 +1,20 @@
 -- A character that stands apart is a cluster by itself where another such one follows, or none.
-use Rattle.std.proofs.Common.{◌≡◌, ℕ, zero, suc, ◌+◌, ◌-◌, ◌<◌, ◌≤◌, Bool, true, false, not, ◌&&◌, ◌||◌, List, [], ◌∷◌, ◌++◌, length, map, take, drop, get_or, unwrap_or, IsUtf8, IsCharBoundary, refl, sym, ap, ap₂, subst, ◌∙◌, append-nil, length-append, arith}
+use Rattle.std.proofs.Common.{◌≡◌, ℕ, zero, suc, ◌+◌, ◌-◌, ◌<◌, ◌≤◌, Bool, true, false, not, ◌&&◌, ◌||◌, List, [], ◌∷◌, ◌++◌, length, map, take, drop, get_or, unwrap_or, IsUtf8, IsCharBoundary, refl, sym, ap, ap₂, subst, ◌∙◌, append-nil, length-append, arith, inl, inr}
 use Rattle.std.specs.Prelude.{nat_le, nat_lt, min, encode_utf8, encode_utf8_all, if◌then◌else◌}
 use Rattle.std.specs.Int.{is_in_range}
 use Rattle.std.specs.List.{list_all, prefix_len}
 use Rattle.std.specs.Str.{chars}
-use Rattle.std.proofs.lemmas.Bool.{false≢true, and_parts, le-leb, lt-ltb, ltb-true, ltb-false}
+use Rattle.std.proofs.lemmas.Bool.{false≢true, and_parts, or_cases, le-leb, lt-ltb, ltb-true, ltb-false}
 use Rattle.std.proofs.lemmas.List.{take_at, drop_at}
 use Rattle.std.proofs.lemmas.List.Sums.{prefix_len-le-length, prefix_len_passes}
-use Rattle.std.proofs.lemmas.Str.{chars_past_char, encode_ascii, IsCharBoundary-start, IsCharBoundary-after_ascii, IsCharBoundary-at_seam}
+use Rattle.std.proofs.lemmas.Str.{chars_past_char, encode_ascii, IsCharBoundary-start, IsCharBoundary-after_ascii, IsCharBoundary-at_seam, IsUtf8-past_char}
 use Rattle.ucd_table.specs.Rows.{Range, in_ranges}
 use Rattle.ucd_table.proofs.Computing.{tables}
 use Rattle.ucd_table.proofs.Facts.{Stepped-everywhere}
 use Rattle.ucd_table.proofs.Stepped.{Stepped, of_ranges, zip_stepped}
 use Rattle.ucd_breaks.specs.GraphemeClusterBreak.{grapheme_cluster_break}
 use Rattle.ucd_breaks.specs.declared.GraphemeClusterBreak.{GraphemeClusterBreak}
-use Rattle.ucd_breaks.specs.declared.GraphemeClusterBreak.TheVariants.{Lv, Lvt, Other}
+use Rattle.ucd_breaks.specs.declared.GraphemeClusterBreak.TheVariants.{Lv, Lvt, Other, RegionalIndicator}
 use Rattle.ucd_breaks.proofs.Computing.{ucd_breaks}
 use Rattle.ucd_breaks.proofs.GraphemeClusterBreakLemmas.{grapheme_cluster_break_stepped}
 use Rattle.ucd_derived.specs.IndicConjunctBreak.{indic_conjunct_break}
@@ -25,7 +25,7 @@ use Rattle.ucd_derived.proofs.IndicConjunctBreakLemmas.{indic_conjunct_break_ste
 use Rattle.ucd_emoji.specs.Binary.{is_extended_pictographic}
 use Rattle.unicode_segmentation.specs.Grapheme.{graphemes, break_by_pair, ends_in_linker, ends_in_pictograph, ends_in_half_flag, is_consonant, is_zwj, is_regional, is_grapheme_break}
 use Rattle.unicode_segmentation.specs.Segments.{segments}
-use Rattle.text_clusters.specs.Apart.{is_early, is_sign, is_eastern, is_later, is_late, stands_apart, is_apart_first, begins_apart, printable_len}
+use Rattle.text_clusters.specs.Apart.{is_early, is_sign, is_eastern, is_later, is_late, stands_apart, is_flag_half, is_apart_first, begins_apart, BeginsWith, printable_len}
 use Rattle.text_clusters.specs.Plain.{is_printable, each}
 use Rattle.text_clusters.proofs.CharacterFacts.{is_conjunct_mark}
 use Rattle.text_clusters.proofs.CutLemmas.{by_test, breaks, pieces, forgets, cut_behind, cut_here, last_alone, pieces-nil}
@@ -129,27 +129,60 @@ apart_free c h =
     by_size (nat_lt c 0x800) (is_early c) (nat_lt c 0x2E00) (is_sign c) (nat_lt c 0xA670) (is_eastern c) (nat_lt c 0x10000) (is_later c) (is_late c) h
     (early_free c) (sign_free c) (eastern_free c) (later_free c) (late_free c)
 
+-- no rule joins a character of such a value to one before it that is free
+abbrev is_open : GraphemeClusterBreak → Bool
+is_open Lv = true
+is_open Lvt = true
+is_open Other = true
+is_open RegionalIndicator = true
+is_open _ = false
+
+free_open : (g : GraphemeClusterBreak) → is_free g ≡ true → is_open g ≡ true
+free_open Lv e = refl
+free_open Lvt e = refl
+free_open Other e = refl
+free_open _ e = absurd (false≢true e)
+
+abbrev flag_ranges : List Range
+flag_ranges = (0x1F1E6, 0x1F1FF) ∷ []
+
+flag_open : (c : ℕ) → is_flag_half c ≡ true → is_open (grapheme_cluster_break c) ≡ true
+unfolding tables ucd_breaks
+flag_open c h = implies_from (in_ranges flag_ranges c) (is_open (grapheme_cluster_break c))
+    (Stepped-everywhere (λ x. not (in_ranges flag_ranges x) || is_open (grapheme_cluster_break x))
+    (zip_stepped (λ r g. not r || is_open g) (in_ranges flag_ranges) grapheme_cluster_break (of_ranges flag_ranges refl) grapheme_cluster_break_stepped) refl c)
+    (ap (λ t. t || false) h)
+
+first_open : (c : ℕ) → (stands_apart c || is_flag_half c) ≡ true → is_open (grapheme_cluster_break c) ≡ true
+first_open c h = elim (or_cases (stands_apart c) (is_flag_half c) h) [
+  | inl a ↦ free_open (grapheme_cluster_break c) (and_parts (is_free (grapheme_cluster_break c)) (not (is_conjunct_mark (indic_conjunct_break c))) (apart_free c a)).0
+  | inr f ↦ flag_open c f
+]
+
 -- ---- a boundary between two of them
 
-behind_lv : (h : GraphemeClusterBreak) (r : Bool) → is_free h ≡ true → unwrap_or (break_by_pair true Lv h) r ≡ r
+behind_lv : (h : GraphemeClusterBreak) (r : Bool) → is_open h ≡ true → unwrap_or (break_by_pair true Lv h) r ≡ r
 behind_lv Lv r f = refl
 behind_lv Lvt r f = refl
 behind_lv Other r f = refl
+behind_lv RegionalIndicator r f = refl
 behind_lv _ r f = absurd (false≢true f)
 
-behind_lvt : (h : GraphemeClusterBreak) (r : Bool) → is_free h ≡ true → unwrap_or (break_by_pair true Lvt h) r ≡ r
+behind_lvt : (h : GraphemeClusterBreak) (r : Bool) → is_open h ≡ true → unwrap_or (break_by_pair true Lvt h) r ≡ r
 behind_lvt Lv r f = refl
 behind_lvt Lvt r f = refl
 behind_lvt Other r f = refl
+behind_lvt RegionalIndicator r f = refl
 behind_lvt _ r f = absurd (false≢true f)
 
-behind_other : (h : GraphemeClusterBreak) (r : Bool) → is_free h ≡ true → unwrap_or (break_by_pair true Other h) r ≡ r
+behind_other : (h : GraphemeClusterBreak) (r : Bool) → is_open h ≡ true → unwrap_or (break_by_pair true Other h) r ≡ r
 behind_other Lv r f = refl
 behind_other Lvt r f = refl
 behind_other Other r f = refl
+behind_other RegionalIndicator r f = refl
 behind_other _ r f = absurd (false≢true f)
 
-free_pair : (g h : GraphemeClusterBreak) (r : Bool) → is_free g ≡ true → is_free h ≡ true → unwrap_or (break_by_pair true g h) r ≡ r
+free_pair : (g h : GraphemeClusterBreak) (r : Bool) → is_free g ≡ true → is_open h ≡ true → unwrap_or (break_by_pair true g h) r ≡ r
 free_pair Lv h r e f = behind_lv h r f
 free_pair Lvt h r e f = behind_lvt h r f
 free_pair Other h r e f = behind_other h r f
@@ -174,12 +207,11 @@ no_linker InCb.None e = refl
 no_linker InCb.Extend e = absurd (false≢true e)
 no_linker InCb.Linker e = absurd (false≢true e)
 
-boundary : (c d : ℕ) (cs : List ℕ) → stands_apart c ≡ true → stands_apart d ≡ true → breaks (c ∷ []) (d ∷ cs) ≡ true
+boundary : (c d : ℕ) (cs : List ℕ) → stands_apart c ≡ true → (stands_apart d || is_flag_half d) ≡ true → breaks (c ∷ []) (d ∷ cs) ≡ true
 unfolding is_grapheme_break ends_in_half_flag
 boundary c d cs p q =
     let first = and_parts (is_free (grapheme_cluster_break c)) (not (is_conjunct_mark (indic_conjunct_break c))) (apart_free c p) in
-    let next = and_parts (is_free (grapheme_cluster_break d)) (not (is_conjunct_mark (indic_conjunct_break d))) (apart_free d q) in
-    free_pair (grapheme_cluster_break c) (grapheme_cluster_break d) _ first.0 next.0
+    free_pair (grapheme_cluster_break c) (grapheme_cluster_break d) _ first.0 (first_open d q)
     ∙ (λ i. not ((no_linker (indic_conjunct_break c) first.1 i && is_consonant (indic_conjunct_break d))
     || (no_joiner (grapheme_cluster_break c) first.0 i && ends_in_pictograph [] && is_extended_pictographic d)
     || ((no_regional (grapheme_cluster_break c) first.0 i && true) && is_regional (grapheme_cluster_break d))))
@@ -201,25 +233,35 @@ apart_cut text rest c u e p q =
     ∙ ap (map encode_utf8_all) (apart_first c (chars rest) p q)
     ∙ ap (λ (g : List ℕ). g ∷ graphemes true rest) (append-nil (encode_utf8 c))
 
--- the seam behind the first character
-pub apart_seam : (text rest : List ℕ) (c : ℕ) → text ≡ encode_utf8 c ++ rest → IsUtf8 rest → IsCharBoundary text (length text - length rest)
-apart_seam text rest c e u =
-    let long = ap length e in
-    let both = length-append (encode_utf8 c) rest in
-    let is : length (encode_utf8 c) ≡ length text - length rest = omega arith in
-    subst (IsCharBoundary text) is (IsCharBoundary-at_seam text (encode_utf8 c) rest e u)
+-- a text that begins with one, cut behind it
+module _ (text front back : List ℕ) (c n : ℕ) (u : IsUtf8 text) (b : BeginsWith text c n) where
+  l : n ≡ length (encode_utf8 c)
+  l = b.bytes
 
--- the same, cut at that seam
-pub apart_split : (text rest : List ℕ) (c : ℕ) (front back : List ℕ) → IsUtf8 text → text ≡ encode_utf8 c ++ rest
-    → front ≡ take (length text - length rest) text → back ≡ drop (length text - length rest) text → stands_apart c ≡ true → begins_apart rest ≡ true
-    → graphemes true text ≡ front ∷ graphemes true back
-apart_split text rest c front back u e f b p q =
-    let long = ap length e in
-    let both = length-append (encode_utf8 c) rest in
-    let is : length (encode_utf8 c) ≡ length text - length rest = omega arith in
-    apart_cut text rest c u e p q
-    ∙ (λ i. sym (f ∙ ap (take (length text - length rest)) e ∙ take_at (encode_utf8 c) rest (length text - length rest) is) i
-    ∷ graphemes true (sym (b ∙ ap (drop (length text - length rest)) e ∙ drop_at (encode_utf8 c) rest (length text - length rest) is) i))
+  rest_utf8 : IsUtf8 b.rest
+  rest_utf8 = IsUtf8-past_char text b.rest c u b.whole
+
+  pub lone_seam : IsCharBoundary text n
+  lone_seam = subst (IsCharBoundary text) (sym l) (IsCharBoundary-at_seam text (encode_utf8 c) b.rest b.whole rest_utf8)
+
+  module _ (f : front ≡ take n text) (e : back ≡ drop n text) where
+    back_is : back ≡ b.rest
+    back_is = e ∙ ap (drop n) b.whole ∙ drop_at (encode_utf8 c) b.rest n (sym l)
+
+    front_is : front ≡ encode_utf8 c
+    front_is = f ∙ ap (take n) b.whole ∙ take_at (encode_utf8 c) b.rest n (sym l)
+
+    pub cut_before : begins_apart back ≡ true → graphemes true text ≡ front ∷ graphemes true back
+    cut_before a =
+        apart_cut text b.rest c u b.whole b.stands (ap begins_apart (sym back_is) ∙ a)
+        ∙ (λ i. sym front_is i ∷ graphemes true (sym back_is i))
+
+    pub begins_next : (d m : ℕ) → BeginsWith back d m → begins_apart back ≡ true
+    unfolding begins_apart
+    begins_next d m p = ap is_apart_first (chars_past_char back p.rest d (subst IsUtf8 (sym back_is) rest_utf8) p.whole) ∙ ap (λ t. t || is_flag_half d) p.stands
+
+    pub lone_before : (d m : ℕ) → BeginsWith back d m → graphemes true text ≡ front ∷ graphemes true back
+    lone_before d m p = cut_before (begins_next d m p)
 
 -- ---- printable characters before those that stand apart
 
@@ -234,7 +276,7 @@ printable_apart c p =
 
 begins_printable : (c : ℕ) (rest : List ℕ) → is_printable c ≡ true → begins_apart (c ∷ rest) ≡ true
 unfolding begins_apart
-begins_printable c rest p = let below = printable_below c p in ap is_apart_first (chars-ascii c rest (omega arith)) ∙ printable_apart c p
+begins_printable c rest p = let below = printable_below c p in ap is_apart_first (chars-ascii c rest (omega arith)) ∙ ap (λ t. t || is_flag_half c) (printable_apart c p)
 
 ascii_cut : (c : ℕ) (rest : List ℕ) → is_printable c ≡ true → begins_apart rest ≡ true → graphemes true (c ∷ rest) ≡ (c ∷ []) ∷ graphemes true rest
 unfolding segments begins_apart

@@ -1,5 +1,5 @@
 -- Characters that stand apart: between any two of them lies a boundary of clusters.
-use Rattle.std.specs.Prelude.{ℕ, ◌-◌, Bool, true, ◌||◌, nat_lt, List, [], ◌∷◌, drop, if◌then◌else◌}
+use Rattle.std.specs.Prelude.{◌≡◌, ℕ, ◌-◌, Bool, true, ◌||◌, nat_lt, List, [], ◌∷◌, ◌++◌, drop, length, encode_utf8, Option, Some, None, if◌then◌else◌}
 use Rattle.std.specs.Int.{is_in_range}
 use Rattle.std.specs.List.{prefix_len}
 use Rattle.std.specs.Str.{chars}
@@ -34,14 +34,34 @@ stands_apart c =
     else if nat_lt c 0x10000 then is_later c
     else is_late c
 
--- the characters are none, or begin with one that stands apart
+-- a regional indicator, of which two make a flag
+abbrev pub is_flag_half : ℕ → Bool
+is_flag_half c = is_in_range 0x1F1E6 0x1F1FF c
+
+-- the characters are none, or begin with one that joins none before it that stands apart
 abbrev pub is_apart_first : List ℕ → Bool
 is_apart_first [] = true
-is_apart_first (c ∷ cs) = stands_apart c
+is_apart_first (c ∷ cs) = stands_apart c || is_flag_half c
 
 -- nothing at the front of the text joins a character before it that stands apart
 unfoldable pub begins_apart : List ℕ → Bool
 begins_apart text = is_apart_first (chars text)
+
+-- the first character, where it stands apart
+abbrev pub apart_front : List ℕ → Option ℕ
+apart_front [] = None
+apart_front (c ∷ cs) = if stands_apart c then Some c else None
+
+-- that of a text
+unfoldable pub first_apart : List ℕ → Option ℕ
+first_apart text = apart_front (chars text)
+
+-- the text begins with this character, which stands apart and has so many bytes
+pub record BeginsWith (text : List ℕ) (character len : ℕ) : Type 0 where
+  pub stands : stands_apart character ≡ true
+  pub bytes : len ≡ length (encode_utf8 character)
+  pub rest : List ℕ
+  pub whole : text ≡ encode_utf8 character ++ rest
 
 -- how many printable characters stand at the front, less the last one where what is behind it may join it
 abbrev pub printable_len : List ℕ → ℕ

@@ -1,5 +1,5 @@
 //! The front of a text, cut off so that the clusters of the text are those of both parts.
-ghost use Rattle.std.specs.Prelude.{◌≡◌, ◌↔◌, ◌++◌, ◌∷◌, ◌&&◌, [], true, not, nat_lt, min, length, map, take, drop, slice_index, IfSome, IsNone};
+ghost use Rattle.std.specs.Prelude.{◌≡◌, ◌↔◌, ◌++◌, ◌∷◌, ◌&&◌, ◌==◌, [], true, not, nat_lt, min, length, map, take, drop, slice_index, IfSome, IsNone};
 ghost use Rattle.std.specs.List.{list_all, prefix_len};
 ghost use Rattle.unicode_segmentation.specs.Grapheme.{graphemes};
 ghost use Rattle.text_clusters.specs.Apart.{printable_len as apart_len};
@@ -35,15 +35,26 @@ fn is_other_at(text: &str, place: usize) -> bool
     }
 }
 
-/// Whether a printable ASCII character (20h to 7Eh) stands at the front.
+// Whether a printable ASCII character stands at the front.
 #[inline(always)]
-pub fn begins_printable(text: &str) -> bool
+fn begins_printable(text: &str) -> bool
     ensures { result ≡ nat_lt 0 (prefix_len is_printable text.now) }
 {
     match text.as_bytes().first() {
         None => false,
         Some(byte) => is_printable(*byte),
     }
+}
+
+// So many plain characters at the front of a text are worth to be taken together.
+const RUN: usize = 8;
+
+/// Whether several printable ASCII characters (20h to 7Eh) stand at the front, so that it is worth to cut off a run of them.
+#[inline(always)]
+pub fn begins_plainly(text: &str) -> bool
+    ensures { result ≡ (prefix_len is_printable (take RUN text.now) == RUN) }
+{
+    printable_run(text, RUN) == RUN
 }
 
 // How many bytes of plain text stand at the front, of `most` at the most.

@@ -7,5 +7,6 @@ mod front;
 pub mod laws;
 mod printable;
 
-pub use front::{begins_printable, split_first_cluster, split_plain, split_printable};
+pub use apart::{first_apart, split_lone};
+pub use front::{begins_plainly, split_first_cluster, split_plain, split_printable};
 pub use printable::printable_len;

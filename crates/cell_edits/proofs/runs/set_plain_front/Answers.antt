@@ -11,8 +11,8 @@ pub returns-then-not-has_narrow_ascii-clause-leads : goal.returns-then-not-has_n
 returns-then-not-has_narrow_ascii-clause-leads g c =
     leads_same (g.W.Widths.width_of c.args.w.now) c.args.attrs.now _ c.args.at c.args.end c.args.text.now c.requires.order (joined_clusters c.args.text.now c.utf8.text)
 
-pub returns-then-not-begins_printable-clause-leads : goal.returns-then-not-begins_printable-clause-leads
-returns-then-not-begins_printable-clause-leads g c =
+pub returns-then-not-begins_plainly-clause-leads : goal.returns-then-not-begins_plainly-clause-leads
+returns-then-not-begins_plainly-clause-leads g c =
     leads_same (g.W.Widths.width_of c.args.w.now) c.args.attrs.now _ c.args.at c.args.end c.args.text.now c.requires.order (joined_clusters c.args.text.now c.utf8.text)
 
 pub returns-clause-leads : goal.returns-clause-leads

@@ -12,4 +12,4 @@ returns-in-None c = sym (ap is_apart_first (ap chars (sym c.chars.ensures.rest �
 pub returns-in-Some : goal.returns-in-Some
 unfolding begins_apart
 returns-in-Some c =
-    c.stands_apart.ensures ∙ sym (ap is_apart_first (chars_past_char c.args.text.now _ c.in-Some.character c.utf8.text (sym c.chars.ensures.rest ∙ c.in-Some.ensures.steps.0)))
+    c.joins_none.ensures ∙ sym (ap is_apart_first (chars_past_char c.args.text.now _ c.in-Some.character c.utf8.text (sym c.chars.ensures.rest ∙ c.in-Some.ensures.steps.0)))

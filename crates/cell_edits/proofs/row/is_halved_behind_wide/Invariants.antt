@@ -1,7 +1,7 @@
 use Rattle.std.proofs.Common.{◌≡◌, ◌≤◌, take}
 use Rattle.std.specs.Prelude.{not, if◌then◌else◌}
 use Rattle.cell_edits.specs.CellList.{ends_halved}
-use Rattle.cell_edits.proofs.row.is_halved.Given as goal
+use Rattle.cell_edits.proofs.row.is_halved_behind_wide.Given as goal
 
 -- each wide cell that was passed turns the answer round
 abbrev pub invariant-loop-place : goal.invariant-loop-place
