@@ -3,7 +3,7 @@ mod SgrLemmas
 mod PieceLemmas
 mod SgrTokens
 mod PlainLemmas
-mod SemicolonLemmas
+mod QuickLemmas
 mod TextSteps
 mod PlaceLemmas
 mod ReadingLemmas
@@ -24,4 +24,5 @@ mod SizeLemmas
 pub mod EqualValues
 mod LongestLemmas
 mod ColourLemmas
+mod SemicolonLemmas
 pub mod ShortLemmas

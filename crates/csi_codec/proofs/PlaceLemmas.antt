@@ -1,20 +1,30 @@
 -- Steps from place to place of a list.
-use Rattle.std.proofs.Common.{◌≡◌, ◌≢◌, ℕ, ◌+◌, ◌<◌, ◌≤◌, eqb, Bool, true, false, cond, List, [], ◌∷◌, length, length-drop, drop, drop-drop, Option, Some, None, Result, IfSome, IfNone, option_map, arith, refl, sym, ap, ◌∙◌, subst}
+use Rattle.std.proofs.Common.{◌≡◌, ◌≢◌, ℕ, zero, suc, ◌+◌, ◌-◌, ℤ, inl, inr, ◌<◌, ◌≤◌, eqb, Bool, true, false, cond, List, [], ◌∷◌, length, length-drop, drop, drop-drop, Option, Some, None, Result, IfSome, IfNone, option_map, option_and_then, arith, refl, sym, ap, ◌∙◌, subst}
 use Rattle.std.specs.Prelude.{is_some}
+use Rattle.std.specs.Option.{option_map_or}
+use Rattle.std.proofs.lemmas.Bool.{cases_Bool, eqb-true}
 use Rattle.std.proofs.lemmas.Bool.Decides.{nat_tests}
 use Rattle.std.specs.declared.alloc.AllocError.{AllocError}
 use Rattle.csi_codec.specs.declared.parameters.CsiParam.{CsiParam}
+use Rattle.csi_codec.specs.declared.parameters.CsiParam.TheVariants.{Integer, P}
+use Rattle.csi_codec.specs.declared.modes.Mode.{Mode}
 use Rattle.csi_codec.specs.declared.rendition.Sgr.{Sgr}
 use Rattle.csi_codec.specs.declared.rendition.Sgr.TheVariants.{Reset}
 use Rattle.csi_codec.specs.declared.sequences.CSI.{CSI}
 use Rattle.csi_codec.specs.Known.{found_action}
 use Rattle.csi_codec.specs.Parsing.{HasNoPiece, HasNoRendition, IsEnd, IsFirstPiece, IsFirstRendition, IsNext, actions_behind, list_kind}
-use Rattle.csi_codec.specs.Rendition.{sgr_piece}
+use Rattle.csi_codec.specs.Cursors.{cursor_reading}
+use Rattle.csi_codec.specs.Devices.{device_reading}
+use Rattle.csi_codec.specs.Edits.{edit_reading}
+use Rattle.csi_codec.specs.Modes.{dec_mode_of, lone_private_mode, private_mode_reading, private_step, switched_mode, switched_step}
+use Rattle.csi_codec.specs.Parameters.{begins_with_number, number_within, with_semicolon}
+use Rattle.csi_codec.specs.Rendition.{sgr_piece, taking}
 use Rattle.csi_codec.specs.Sequences.{HandsOut, action_of}
-use Rattle.csi_codec.specs.Actions.{Kind, Action, sgr, sgr_pieces, unspecified, rendition_piece, piece_of, pieces, all_sgr_tokens, sgr_reading, modes_or, lone_or, csi_reading}
+use Rattle.csi_codec.specs.Actions.{Kind, Action, sgr, sgr_pieces, mode, unspecified, private_mode_pieces, mode_piece, rendition_piece, piece_of, pieces, all_sgr_tokens, sgr_reading, modes_or, lone_reading, lone_or, standard_reading, csi_reading}
 use Rattle.csi_codec.proofs.PieceLemmas.{piece_of_takes, pieces_found, pieces_rest, pieces_none, pieces_ended}
 use Rattle.csi_codec.proofs.ReadingLemmas.{csi_reading-counted}
 use Rattle.csi_codec.proofs.SgrTokens.{sgr_tokens_behind}
+use Rattle.csi_codec.proofs.QuickLemmas.{IsQuick}
 
 -- ---- The first piece
 
@@ -148,6 +158,150 @@ pub next_piece : (k : Kind) (read n : ℕ) (ts us : List CsiParam) (final : ℕ)
     → IsNext read ts final a (read + n)
 next_piece k read n ts us final a h kind at first =
     next_further read n ts final a h (subst (λ x. IsFirstPiece (list_kind final ts) final x a n) at (subst (λ k. IsFirstPiece k final us a n) kind first))
+
+-- one that is read quickly: what stands behind it is as long as what is left
+quick_end : (read : ℕ) (ts us rest : List CsiParam) (v : Sgr) (q : IsQuick us v rest) → us ≡ drop read ts → read < length ts → read + q.len ≡ length ts - length rest
+quick_end read ts us rest v q at h = omega (arith, ap length at, length-drop read ts, ap length q.behind, length-drop q.len us, (rendition_fits us v q.len q.piece).1)
+
+pub quick_shorter : (read : ℕ) (ts us rest : List CsiParam) (v : Sgr) → IsQuick us v rest → us ≡ drop read ts → length rest ≤ length ts
+quick_shorter read ts us rest v q at = omega (arith, ap length at, length-drop read ts, ap length q.behind, length-drop q.len us)
+
+first_quick : (ts rest : List CsiParam) (v : Sgr) (q : IsQuick ts v rest) → 0 < length ts → all_sgr_tokens rest ≡ true → IsNext 0 ts 109 (sgr v) q.len
+first_quick ts rest v q h tokens =
+    next_rendition ts v q.len (rendition_found ts v q.len h q.piece (subst (λ x. all_sgr_tokens x ≡ true) q.behind tokens))
+
+further_quick : (read : ℕ) (ts us rest : List CsiParam) (v : Sgr) (q : IsQuick us v rest) → 0 < read → us ≡ drop read ts → IsNext read ts 109 (sgr v) (read + q.len)
+further_quick read ts us rest v q h at =
+    let fits = rendition_fits us v q.len q.piece in
+    next_piece sgr_pieces read q.len ts us 109 (sgr v) h refl at (record {
+      actions = λ truncated. pieces_found sgr_pieces truncated 109 us (sgr v) q.len (as_piece us v q.len q.piece);
+      some = fits.0;
+      within = fits.1;
+    })
+
+pub quick_next : (read : ℕ) (ts us rest : List CsiParam) (v : Sgr) → IsQuick us v rest → us ≡ drop read ts → read < length ts → (read ≡ 0 → all_sgr_tokens rest ≡ true)
+    → IsNext read ts 109 (sgr v) (length ts - length rest)
+quick_next zero ts us rest v q at h tokens =
+    let whole : IsQuick ts v rest = subst (λ x. IsQuick x v rest) at q in
+    subst (IsNext 0 ts 109 (sgr v)) (omega (arith, quick_end 0 ts ts rest v whole refl h)) (first_quick ts rest v whole h (tokens refl))
+quick_next (suc read) ts us rest v q at h tokens =
+    subst (IsNext (suc read) ts 109 (sgr v)) (quick_end (suc read) ts us rest v q at h) (further_quick (suc read) ts us rest v q (omega arith) at)
+
+no_tokens : (ts : List CsiParam) → length ts ≡ 0 → all_sgr_tokens ts ≡ true
+no_tokens [] h = refl
+no_tokens (t ∷ ts) h = absurd (omega arith)
+
+pub quick_last : (read : ℕ) (ts us rest : List CsiParam) (v : Sgr) → IsQuick us v rest → us ≡ drop read ts → read < length ts → length rest ≡ 0 → IsNext read ts 109 (sgr v) (length ts)
+quick_last read ts us rest v q at h last =
+    subst (IsNext read ts 109 (sgr v)) (omega (arith, last)) (quick_next read ts us rest v q at h (λ e. no_tokens rest last))
+
+not_both : (found : Option Action) (a : Action) → found ≡ None → found ≡ Some a → ⊥
+not_both found a none e = cc
+
+no_mode : (m : Mode) → None ≡ Some m → ⊥
+no_mode m e = cc
+
+-- the only one of a list with no sign at its front, by its reading: no such list before m, h or l has one
+other_final : (n final : ℕ) (ts : List CsiParam) (a : Action) → lone_reading n ts ≡ None → lone_reading final ts ≡ Some a → eqb final n ≡ false
+other_final n final ts a none e = elim (cases_Bool (eqb final n)) [
+  | inl h ↦ absurd (not_both (lone_reading n ts) a none (subst (λ k. lone_reading k ts ≡ Some a) (eqb-true final n h) e))
+  | inr h ↦ h
+]
+
+no_lone : (ts : List CsiParam) → (lone_reading 109 ts ≡ None) × ((lone_reading 104 ts ≡ None) × (lone_reading 108 ts ≡ None))
+unfolding cursor_reading edit_reading device_reading
+no_lone ts = (refl, (refl, refl))
+
+standard_is : (ts : List CsiParam) (truncated : Bool) (final : ℕ) (a : Action) → lone_reading final ts ≡ Some a → standard_reading truncated final ts ≡ a ∷ []
+standard_is ts truncated final a e =
+    rw (other_final 104 final ts a (no_lone ts).1.0 e, other_final 108 final ts a (no_lone ts).1.1 e)
+    (ap (λ found. option_map_or (λ known. known ∷ []) found (unspecified ts truncated final ∷ [])) e)
+
+abbrev HasNoSign : List CsiParam → Type 0
+HasNoSign [] = Unit {0}
+HasNoSign (Integer z ∷ ts) = Unit {0}
+HasNoSign (P b ∷ ts) = ⊥
+
+lone_is : (ts : List CsiParam) (truncated : Bool) (final : ℕ) (a : Action) → HasNoSign ts → lone_reading final ts ≡ Some a → csi_reading ts truncated final ≡ a ∷ []
+unfolding csi_reading
+lone_is [] truncated final a h e = rw (other_final 109 final [] a (no_lone []).0 e) (standard_is [] truncated final a e)
+lone_is (Integer z ∷ ts) truncated final a h e = rw (other_final 109 final (Integer z ∷ ts) a (no_lone (Integer z ∷ ts)).0 e) (standard_is (Integer z ∷ ts) truncated final a e)
+lone_is (P b ∷ ts) truncated final a h e = absurd h
+
+lone_next : (ts : List CsiParam) (final : ℕ) (a : Action) («end» : ℕ) → HasNoSign ts → lone_reading final ts ≡ Some a → 0 < «end» → length ts ≤ «end» → IsNext 0 ts final a «end»
+lone_next ts final a «end» plain e some h =
+    next_first «end» ts final a some
+    (λ truncated. lone_is ts truncated final a plain e ∙ ap (λ rest. a ∷ rest) (sym (pieces_ended (list_kind final ts) truncated final ts «end» h)))
+
+bare_next : (ts : List CsiParam) (final : ℕ) (a : Action) → lone_reading final [] ≡ Some a → length ts ≡ 0 → IsNext 0 ts final a 1
+bare_next [] final a e h = lone_next [] final a 1 tt e (omega arith) (omega arith)
+bare_next (t ∷ ts) final a e h = absurd (omega arith)
+
+pub bare_found : (final : ℕ) (found : Option CSI) → IfSome found (λ value. lone_reading final [] ≡ Some (action_of value))
+    → IfSome found (λ value. (ts : List CsiParam) → length ts ≡ 0 → IsNext 0 ts final (action_of value) 1)
+bare_found final None e = tt
+bare_found final (Some value) e = λ ts h. bare_next ts final (action_of value) e h
+
+pub numbered_next : (ts : List CsiParam) (final : ℕ) (a : Action) → begins_with_number ts ≡ true → lone_reading final ts ≡ Some a → IsNext 0 ts final a (length ts)
+numbered_next [] final a h e = cc
+numbered_next (P b ∷ ts) final a h e = cc
+numbered_next (Integer z ∷ ts) final a h e = lone_next (Integer z ∷ ts) final a (length (Integer z ∷ ts)) tt e (omega arith) (omega arith)
+
+pub numbered_found : (ts : List CsiParam) (final : ℕ) (found : Option CSI) → begins_with_number ts ≡ true → IfSome found (λ value. lone_reading final ts ≡ Some (action_of value))
+    → IfSome found (λ value. IsNext 0 ts final (action_of value) (length ts))
+numbered_found ts final None h e = tt
+numbered_found ts final (Some value) h e = numbered_next ts final (action_of value) h e
+
+-- the only mode of a list that is a ? and one number
+private_piece : (z : ℤ) (final : ℕ) (m : Mode) → private_mode_reading final z ≡ Some m → piece_of private_mode_pieces final (Integer z ∷ []) ≡ Some (mode m, 1)
+unfolding mode_piece
+private_piece z final m e = ap (λ read. with_semicolon (Integer z ∷ []) (taking 1 (option_map mode read))) e
+
+no_private_step : (n : Option ℕ) (m : Mode) → option_and_then (λ n. private_step 109 (dec_mode_of n)) n ≡ Some m → ⊥
+no_private_step None m e = cc
+no_private_step (Some n) m e = cc
+
+private_final : (final : ℕ) (z : ℤ) (m : Mode) → private_mode_reading final z ≡ Some m → eqb final 109 ≡ false
+unfolding private_mode_reading
+private_final final z m e = elim (cases_Bool (eqb final 109)) [
+  | inl h ↦ absurd (no_private_step (number_within 65535 z) m (subst (λ k. private_mode_reading k z ≡ Some m) (eqb-true final 109 h) e))
+  | inr h ↦ h
+]
+
+private_next_by : (z : ℤ) (final : ℕ) (m : Mode) → private_mode_reading final z ≡ Some m → eqb final 109 ≡ false → IsNext 0 (P 63 ∷ Integer z ∷ []) final (mode m) 2
+unfolding csi_reading
+private_next_by z final m e other =
+    next_first 2 (P 63 ∷ Integer z ∷ []) final (mode m) (omega arith)
+    (λ truncated. rw other (modes_found private_mode_pieces 1 1 (P 63 ∷ Integer z ∷ []) truncated final (mode m) (private_piece z final m e)))
+
+either_mode : (p q : Bool) (a b c : Option Mode) (m : Mode) → cond p a (cond q b None) ≡ Some m → cond p a (cond q b c) ≡ Some m
+either_mode true q a b c m e = e
+either_mode false true a b c m e = e
+either_mode false false a b c m e = absurd (no_mode m e)
+
+switched_is : (final : ℕ) (n : Option ℕ) (m : Mode) → option_and_then (λ n. switched_step final (dec_mode_of n)) n ≡ Some m → option_and_then (λ n. private_step final (dec_mode_of n)) n ≡ Some m
+switched_is final None m e = e
+switched_is final (Some n) m e = either_mode (eqb final 104) (eqb final 108) _ _ _ m e
+
+private_by : (z : ℤ) (final : ℕ) (m : Mode) → switched_mode final z ≡ Some m → IsNext 0 (P 63 ∷ Integer z ∷ []) final (mode m) 2
+unfolding switched_mode private_mode_reading
+private_by z final m e =
+    let read : private_mode_reading final z ≡ Some m = switched_is final (number_within 65535 z) m e in
+    private_next_by z final m read (private_final final z m read)
+
+pub private_next : (ts : List CsiParam) (final : ℕ) (m : Mode) → lone_private_mode final ts ≡ Some m → IsNext 0 ts final (mode m) (length ts)
+unfolding lone_private_mode
+private_next (P b ∷ Integer z ∷ []) final m e = elim (cases_Bool (eqb b 63)) [
+  | inl h ↦
+      let at : lone_private_mode final (P 63 ∷ Integer z ∷ []) ≡ Some m = subst (λ k. lone_private_mode final (P k ∷ Integer z ∷ []) ≡ Some m) (eqb-true b 63 h) e in
+      subst (λ k. IsNext 0 (P k ∷ Integer z ∷ []) final (mode m) 2) (sym (eqb-true b 63 h)) (private_by z final m at)
+  | inr h ↦ absurd (no_mode m (ap (λ v. cond v (switched_mode final z) None) (sym h) ∙ e))
+]
+private_next [] final m e = absurd (no_mode m e)
+private_next (Integer y ∷ ts) final m e = absurd (no_mode m e)
+private_next (P b ∷ []) final m e = absurd (no_mode m e)
+private_next (P b ∷ P d ∷ ts) final m e = absurd (no_mode m e)
+private_next (P b ∷ Integer y ∷ t ∷ ts) final m e = absurd (no_mode m e)
 
 -- ---- The end of a list
 

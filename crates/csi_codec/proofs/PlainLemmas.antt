@@ -1,12 +1,11 @@
 -- A piece of SGR that is one number, at the end of a list or in front of a `;`.
-use Rattle.std.proofs.Common.{◌≡◌, ℕ, ℤ, pos, negsuc, eqb, Bool, true, false, cond, List, [], ◌∷◌, Option, Some, None, IfSome, inl, inr, refl, sym, ap, ◌∙◌, subst}
-use Rattle.std.proofs.lemmas.Bool.{cases_Bool, eqb-true}
+use Rattle.std.proofs.Common.{◌≡◌, ℕ, ℤ, pos, negsuc, Bool, true, false, cond, List, [], ◌∷◌, Option, Some, None, refl, sym, ap, ◌∙◌, subst}
+use Rattle.std.proofs.lemmas.Bool.{eqb-true}
 use Rattle.csi_codec.specs.declared.parameters.CsiParam.{CsiParam}
 use Rattle.csi_codec.specs.declared.parameters.CsiParam.TheVariants.{Integer, P}
 use Rattle.csi_codec.specs.declared.rendition.Sgr.{Sgr}
 use Rattle.csi_codec.specs.Parameters.{is_number, with_semicolon}
 use Rattle.csi_codec.specs.Rendition.{single_code, plain_code, taking, underline_shape, underline_or_single, numbered_shape, sgr_shape, sgr_piece}
-use Rattle.csi_codec.specs.ColourCases.{plain_case}
 
 -- no number of a colour has a value of its own
 no_target : (n : ℕ) (z : ℤ) (v : Sgr) → plain_code (pos n) ≡ None → plain_code z ≡ Some v → is_number n z ≡ true → ⊥
@@ -42,27 +41,3 @@ unfolding sgr_piece sgr_shape
 plain_next z [] v e = ap (with_semicolon (Integer z ∷ P 59 ∷ [])) (plain_shape z (P 59 ∷ []) v refl e)
 plain_next z (P c ∷ ts) v e = ap (with_semicolon (Integer z ∷ P 59 ∷ P c ∷ ts)) (plain_shape z (P 59 ∷ P c ∷ ts) v refl e)
 plain_next z (Integer y ∷ ts) v e = ap (with_semicolon (Integer z ∷ P 59 ∷ Integer y ∷ ts)) (plain_shape z (P 59 ∷ Integer y ∷ ts) v refl e)
-
-abbrev IsPiece : List CsiParam → Option (Sgr × ℕ) → Type 0
-IsPiece ts found = IfSome found (λ f. sgr_piece ts ≡ Some f)
-
-last_by : (z : ℤ) (found : Option Sgr) → plain_code z ≡ found → IsPiece (Integer z ∷ []) (taking 1 found)
-last_by z None e = tt
-last_by z (Some v) e = plain_last z v e
-
-next_by : (z : ℤ) (ts : List CsiParam) (found : Option Sgr) → plain_code z ≡ found → IsPiece (Integer z ∷ P 59 ∷ ts) (taking 2 found)
-next_by z ts None e = tt
-next_by z ts (Some v) e = plain_next z ts v e
-
-plain_is_piece : (ts : List CsiParam) → IsPiece ts (plain_case ts)
-plain_is_piece [] = tt
-plain_is_piece (P b ∷ ts) = tt
-plain_is_piece (Integer z ∷ []) = last_by z (plain_code z) refl
-plain_is_piece (Integer z ∷ Integer y ∷ ts) = tt
-plain_is_piece (Integer z ∷ P b ∷ ts) = elim (cases_Bool (eqb b 59)) [
-  | inl e ↦ subst (λ k. IsPiece (Integer z ∷ P k ∷ ts) (plain_case (Integer z ∷ P k ∷ ts))) (sym (eqb-true b 59 e)) (next_by z ts (plain_code z) refl)
-  | inr e ↦ subst (λ v. IsPiece (Integer z ∷ P b ∷ ts) (cond v (taking 2 (plain_code z)) None)) (sym e) tt
-]
-
-pub plain_found : (ts : List CsiParam) (v : Sgr) (n : ℕ) → plain_case ts ≡ Some (v, n) → sgr_piece ts ≡ Some (v, n)
-plain_found ts v n e = subst (IsPiece ts) e (plain_is_piece ts)

@@ -1,6 +1,6 @@
 -- A piece of SGR that is a colour whose numbers stand apart by `;`.
 use Rattle.std.proofs.Common.{◌≡◌, ◌≤◌, ◌+◌, ℕ, ℤ, eqb, Bool, true, false, cond, List, [], ◌∷◌, Option, Some, None, IfSome, inl, inr, refl, sym, ap, ◌∙◌, subst}
-use Rattle.std.specs.Prelude.{option_and_then}
+use Rattle.std.specs.Prelude.{◌==◌, if◌then◌else◌, option_and_then}
 use Rattle.std.proofs.lemmas.Bool.{cases_Bool, eqb-true}
 use Rattle.cell_base.specs.declared.color.ColorSpec.{ColorSpec}
 use Rattle.csi_codec.specs.declared.parameters.CsiParam.{CsiParam}
@@ -8,8 +8,15 @@ use Rattle.csi_codec.specs.declared.parameters.CsiParam.TheVariants.{Integer, P}
 use Rattle.csi_codec.specs.declared.rendition.Sgr.{Sgr}
 use Rattle.csi_codec.specs.Parameters.{is_number, with_semicolon, semicolon_at}
 use Rattle.csi_codec.specs.Rendition.{taking, colour_form, numbered_shape, sgr_shape, sgr_piece}
-use Rattle.csi_codec.specs.ColourCases.{form_case, semicolon_form, semicolon_shape, targeted}
-use Rattle.csi_codec.proofs.ColourLemmas.{colour_form_is_case, colour_form_small}
+use Rattle.csi_codec.specs.ColourCases.{form_case, semicolon_form}
+use Rattle.csi_codec.specs.Short.{targeted}
+use Rattle.csi_codec.proofs.ColourLemmas.{colour_form_is_case}
+
+-- a colour whose numbers stand apart by `;`; the tokens are counted with its number
+abbrev pub semicolon_shape : List CsiParam → Option (Sgr × ℕ)
+semicolon_shape (Integer z ∷ P b ∷ Integer kind ∷ ts) =
+    if b == 59 then option_and_then (λ form. taking (form.1 + 1) (targeted z form.0)) (semicolon_form kind ts) else None
+semicolon_shape _ = None
 
 abbrev IsShape : List CsiParam → Option (Sgr × ℕ) → Type 0
 IsShape ts found = IfSome found (λ f. sgr_shape ts ≡ Some f)
@@ -51,8 +58,3 @@ semicolon_is_shape (Integer z ∷ P b ∷ Integer k ∷ ts) = elim (cases_Bool (
 pub semicolon_found : (ts : List CsiParam) (v : Sgr) (n : ℕ) → semicolon_shape ts ≡ Some (v, n) → sgr_piece ts ≡ Some (v, n + semicolon_at ts n)
 unfolding sgr_piece
 semicolon_found ts v n e = ap (with_semicolon ts) (subst (IsShape ts) e (semicolon_is_shape ts))
-
-pub semicolon_form_small : (k : ℤ) (ts : List CsiParam) → IfSome (semicolon_form k ts) (λ f. f.1 ≤ 11)
-unfolding form_case
-semicolon_form_small k ts =
-    subst (λ r. IfSome r (λ f. f.1 ≤ 11)) (sym (colour_form_is_case (P 59 ∷ Integer k ∷ ts))) (colour_form_small (P 59 ∷ Integer k ∷ ts))

@@ -1,16 +1,22 @@
--- Lists without parameters, and lists of one number: the only action of each.
-use Rattle.std.proofs.Common.{◌≡◌, ℕ, pos, Bool, true, false, List, [], ◌∷◌, Option, Some, None, IfSome, arith, refl, eqb}
+-- Lists of at most three numbers: the only action of each.
+use Rattle.std.proofs.Common.{◌≡◌, ◌≤◌, ℕ, pos, Bool, true, false, List, [], ◌∷◌, Option, Some, None, IfSome, arith, refl, sym, ◌∙◌, subst, eqb}
+use Rattle.std.specs.Prelude.{nat_le}
 use Rattle.std.proofs.lemmas.Bool.Decides.{nat_tests}
 use Rattle.csi_codec.specs.declared.parameters.CsiParam.{CsiParam}
 use Rattle.csi_codec.specs.declared.parameters.CsiParam.TheVariants.{Integer, P}
+use Rattle.cell_base.specs.declared.color.ColorSpec.TheVariants.{PaletteIndex}
+use Rattle.csi_codec.specs.declared.cursors.Cursor.{Cursor}
 use Rattle.csi_codec.specs.declared.rendition.Sgr.{Sgr}
 use Rattle.csi_codec.specs.declared.rendition.Sgr.TheVariants.{Reset}
 use Rattle.csi_codec.specs.declared.sequences.CSI.{CSI}
-use Rattle.csi_codec.specs.Actions.{Action, sgr, lone_or, csi_reading, pieces}
+use Rattle.csi_codec.specs.Actions.{Action, sgr, cursor, lone_or, csi_reading, pieces}
+use Rattle.csi_codec.specs.Cursors.{cursor_reading}
+use Rattle.csi_codec.specs.ColourCases.{semicolon_form, palette_case}
 use Rattle.csi_codec.specs.Rendition.{plain_code}
 use Rattle.csi_codec.specs.Sequences.{action_of}
-use Rattle.csi_codec.specs.Short.{BeginsAsNumber, IsOnly}
+use Rattle.csi_codec.specs.Short.{BeginsAsNumber, IsOnly, targeted}
 use Rattle.csi_codec.proofs.PlainLemmas.{plain_last}
+use Rattle.csi_codec.proofs.SemicolonLemmas.{semicolon_found, semicolon_shape}
 use Rattle.csi_codec.proofs.PlaceLemmas.{rendition_found}
 
 pub reset_only : IsOnly [] 109 (sgr Reset)
@@ -36,3 +42,26 @@ pub lone_found : (ts : List CsiParam) (final : ℕ) (found : Option CSI) → Beg
 lone_found ts final None h m set reset lone = tt
 lone_found ts final (Some value) h m set reset lone =
     lone_only ts final (action_of value) h (is_other final 109 m) (is_other final 104 set) (is_other final 108 reset) lone
+
+-- ---- two numbers, and three
+
+no_cursor : (ts : List CsiParam) (final other : ℕ) (c : Cursor) → cursor_reading other ts ≡ None → cursor_reading final ts ≡ Some c → final ≡ other → ⊥
+no_cursor ts final other c none e h = let f : None ≡ Some c = sym none ∙ subst (λ n. cursor_reading n ts ≡ Some c) h e in cc
+
+pub cursor_only : (ts : List CsiParam) (final : ℕ) (c : Cursor) → BeginsAsNumber ts → cursor_reading final ts ≡ Some c → IsOnly ts final (cursor c)
+unfolding cursor_reading
+cursor_only ts final c h e =
+    lone_only ts final (cursor c) h (is_other final 109 (no_cursor ts final 109 c refl e)) (is_other final 104 (no_cursor ts final 104 c refl e)) (is_other final 108 (no_cursor ts final 108 c refl e))
+    (λ truncated. rw e refl)
+
+palette_shape : (t n : ℕ) (v : Sgr) → n ≤ 255 → targeted (pos t) (PaletteIndex n) ≡ Some v
+    → semicolon_shape (Integer (pos t) ∷ P 59 ∷ Integer (pos 5) ∷ P 59 ∷ Integer (pos n) ∷ []) ≡ Some (v, 5)
+unfolding semicolon_form palette_case
+palette_shape t n v h e = let l : nat_le n 255 ≡ true = grind (arith, nat_tests) in rw (l, e) refl
+
+pub palette_only : (t n : ℕ) (v : Sgr) → n ≤ 255 → targeted (pos t) (PaletteIndex n) ≡ Some v
+    → IsOnly (Integer (pos t) ∷ P 59 ∷ Integer (pos 5) ∷ P 59 ∷ Integer (pos n) ∷ []) 109 (sgr v)
+unfolding csi_reading pieces
+palette_only t n v h e =
+    let ts : List CsiParam = Integer (pos t) ∷ P 59 ∷ Integer (pos 5) ∷ P 59 ∷ Integer (pos n) ∷ [] in
+    λ truncated. (rendition_found ts v 5 (omega arith) (semicolon_found ts v 5 (palette_shape t n v h e)) refl).actions truncated 109

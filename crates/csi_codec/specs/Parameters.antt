@@ -1,5 +1,5 @@
 -- Tokens of a CSI list, the slots that a list can have, and how tokens are written.
-use Rattle.std.specs.Prelude.{ℕ, ℤ, pos, negsuc, List, [], ◌∷◌, ◌++◌, ◌+◌, slice_get, Bool, false, Option, Some, None, nat_le, ◌==◌, if◌then◌else◌, encode_utf8, flat_map, option_map, option_and_then, unwrap_or}
+use Rattle.std.specs.Prelude.{ℕ, ℤ, pos, negsuc, List, [], ◌∷◌, ◌++◌, ◌+◌, slice_get, Bool, true, false, Option, Some, None, nat_le, ◌==◌, if◌then◌else◌, encode_utf8, flat_map, option_map, option_and_then, unwrap_or}
 use Rattle.std.specs.Fmt.{signed_decimal}
 use Rattle.std.specs.Option.{option_zip}
 use Rattle.csi_codec.specs.declared.parameters.CsiParam.{CsiParam}
@@ -62,6 +62,17 @@ count ts = option_and_then (place 1) (one_slot ts)
 -- two places, of which the second may have a default of its own
 abbrev pub place_pair : ℕ → List CsiParam → Option (ℕ × ℕ)
 place_pair default ts = option_and_then (λ slots. option_zip (place 1 slots.0) (place default slots.1)) (two_slots ts)
+
+-- the same of two numbers with a `;` between them, and no other list
+abbrev pub number_pair : List CsiParam → Option (ℕ × ℕ)
+number_pair (Integer a ∷ P s ∷ Integer b ∷ []) = if s == 59 then option_zip (place 1 (Some a)) (place 1 (Some b)) else None
+number_pair _ = None
+
+-- a list that begins with a number
+abbrev pub begins_with_number : List CsiParam → Bool
+begins_with_number [] = false
+begins_with_number (Integer z ∷ ts) = true
+begins_with_number (P b ∷ ts) = false
 
 -- the number in a slot, where absent is 0
 abbrev pub slot_number : Option ℤ → ℤ

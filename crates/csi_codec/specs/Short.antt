@@ -1,13 +1,21 @@
--- Lists without parameters, and lists of one number.
-use Rattle.std.specs.Prelude.{◌≡◌, ℕ, pos, Bool, List, [], ◌∷◌, Option, Some, None}
+-- Lists of at most three short numbers.
+use Rattle.std.specs.Prelude.{◌≡◌, ℕ, ℤ, pos, Bool, List, [], ◌∷◌, Option, Some, None, if◌then◌else◌}
+use Rattle.cell_base.specs.declared.color.ColorSpec.{ColorSpec}
 use Rattle.csi_codec.specs.Actions.{Action, csi_reading}
+use Rattle.csi_codec.specs.Parameters.{is_number}
 use Rattle.csi_codec.specs.declared.parameters.CsiParam.{CsiParam}
 use Rattle.csi_codec.specs.declared.parameters.CsiParam.TheVariants.{Integer, P}
+use Rattle.csi_codec.specs.declared.rendition.Sgr.{Sgr}
+use Rattle.csi_codec.specs.declared.rendition.Sgr.TheVariants as sgr
+use Rattle.csi_codec.specs.declared.short.ShortNumbers.{ShortNumbers}
+use Rattle.csi_codec.specs.declared.short.ShortNumbers.TheVariants.{Nothing, One, Two, Three}
 
--- no tokens, or one number
-abbrev pub short_list : Option ℕ → List CsiParam
-short_list None = []
-short_list (Some n) = Integer (pos n) ∷ []
+-- the numbers as tokens, with a `;` between two
+abbrev pub short_list : ShortNumbers → List CsiParam
+short_list Nothing = []
+short_list (One a) = Integer (pos a) ∷ []
+short_list (Two a b) = Integer (pos a) ∷ P 59 ∷ Integer (pos b) ∷ []
+short_list (Three a b c) = Integer (pos a) ∷ P 59 ∷ Integer (pos b) ∷ P 59 ∷ Integer (pos c) ∷ []
 
 -- the only action of a list before a final byte
 abbrev pub IsOnly : List CsiParam → ℕ → Action → Type 0
@@ -18,3 +26,11 @@ abbrev pub BeginsAsNumber : List CsiParam → Type 0
 BeginsAsNumber [] = Unit {0}
 BeginsAsNumber (Integer z ∷ ts) = Unit {0}
 BeginsAsNumber (P b ∷ ts) = ⊥
+
+-- what a number in front of a colour sets
+abbrev pub targeted : ℤ → ColorSpec → Option Sgr
+targeted z c =
+    if is_number 38 z then Some (sgr.Foreground c)
+    else (if is_number 48 z then Some (sgr.Background c)
+    else (if is_number 58 z then Some (sgr.UnderlineColor c)
+    else None))

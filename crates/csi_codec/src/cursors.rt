@@ -1,5 +1,6 @@
 //! Sequences that move the cursor, set tab stops and margins, and report or save a place.
-ghost use Rattle.std.specs.Prelude.{◌≡◌, Some};
+ghost use Rattle.std.specs.Prelude.{◌≡◌, IfSome, Some};
+ghost use Rattle.csi_codec.specs.Actions.{cursor, lone_reading};
 ghost use Rattle.csi_codec.specs.Cursors.{
   cursor_style_named,
   cursor_style_number,
@@ -16,7 +17,7 @@ ghost use Rattle.csi_codec.specs.Parameters.{sequence_text, spelled_text};
 
 use crate::one_based::OneBased;
 use crate::parameters::{
-    CsiParam, count, one_place, one_slot, place_pair, slot_and_space, slot_number,
+    CsiParam, count, number_pair, one_place, one_slot, place_pair, slot_and_space, slot_number,
 };
 use crate::spelling::{put_bare, put_count, put_number, put_pair};
 use crate::text::SequenceText;
@@ -279,6 +280,16 @@ pub(crate) fn cursor_reading(params: &[CsiParam], control: char) -> Option<Curso
         )?))?)),
         _ => None,
     }
+}
+
+/// The position that a list of two numbers with a `;` between them spells before `H`.
+#[tactic(auto, unfolding(crate::specs::Cursors::cursor_reading), using(crate::proofs::QuickLemmas::pair_placed))]
+#[inline(always)]
+pub(crate) fn position(params: &[CsiParam]) -> Option<Cursor>
+    ensures { IfSome result (λ value. lone_reading 72 params.now ≡ Some (cursor value)) }
+{
+    let (line, col) = number_pair(params)?;
+    Some(Cursor::Position { line, col })
 }
 
 fn save_or_margins(params: &[CsiParam]) -> Option<Cursor>

@@ -34,4 +34,4 @@ pub use parameters::{CrackError, CsiParam, Unspecified};
 pub use places::CSIPlace;
 pub use rendition::{Font, Sgr};
 pub use sequences::{CSI, CSIParser};
-pub use short::read_short;
+pub use short::{ShortNumbers, read_numbers, read_short};

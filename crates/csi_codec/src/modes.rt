@@ -10,6 +10,8 @@ ghost use Rattle.csi_codec.specs.Modes.{
   ansi_mode_of,
   ansi_mode_code,
   private_mode_reading,
+  switched_mode,
+  lone_private_mode,
   mode_reading,
   mode_spelling,
 };
@@ -61,6 +63,7 @@ pub enum DecPrivateModeCode {
 
 impl DecPrivateModeCode {
     /// The private mode of this number (behind the `?`), if there is one.
+    #[inline(never)]
     pub fn from_i64(value: i64) -> Option<Self>
         ensures { result ≡ dec_private_mode_named value }
     {
@@ -221,6 +224,7 @@ impl DecPrivateMode {
         }
     }
 
+    #[inline(always)]
     fn of_number(number: u16) -> Self
         ensures { result ≡ dec_mode_of number }
     {
@@ -266,6 +270,32 @@ pub(crate) fn private_mode_reading(value: i64, control: char) -> Option<Mode>
     }
 }
 
+/// What a list that is `?` and one number spells before a final byte, where a mode is set or reset.
+#[tactic(auto, unfolding(crate::specs::Modes::lone_private_mode))]
+#[inline(always)]
+pub(crate) fn lone_private_mode(params: &[CsiParam], control: char) -> Option<Mode>
+    ensures { result ≡ lone_private_mode control params.now }
+{
+    match params {
+        [CsiParam::P(b'?'), CsiParam::Integer(value)] => switched_mode(*value, control),
+        _ => None,
+    }
+}
+
+/// What a number behind `?` spells before a final byte, where a mode is set or reset.
+#[tactic(auto, unfolding(crate::specs::Modes::switched_mode))]
+#[inline(always)]
+fn switched_mode(value: i64, control: char) -> Option<Mode>
+    ensures { result ≡ switched_mode control value }
+{
+    let mode = DecPrivateMode::of_number(mode_number(value)?);
+    match control {
+        'h' => Some(Mode::SetDecPrivateMode(mode)),
+        'l' => Some(Mode::ResetDecPrivateMode(mode)),
+        _ => None,
+    }
+}
+
 /// What a number spells before a final byte.
 #[tactic(auto, unfolding(crate::specs::Modes::mode_reading))]
 pub(crate) fn mode_reading(value: i64, control: char) -> Option<Mode>
@@ -279,6 +309,7 @@ pub(crate) fn mode_reading(value: i64, control: char) -> Option<Mode>
     }
 }
 
+#[inline(always)]
 fn mode_number(value: i64) -> Option<u16>
     ensures { result ≡ number_within 65535 value }
 {

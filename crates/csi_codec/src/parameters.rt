@@ -1,7 +1,7 @@
 //! Tokens of a CSI list, the slots that a list can have, and how tokens are written.
 ghost use Rattle.std.specs.Prelude.{◌≡◌, ◌≤◌, ◌++◌, Some, IfOk, OnErr, OnOk, length, take};
 ghost use Rattle.std.specs.Fmt.{signed_decimal};
-ghost use Rattle.csi_codec.specs.Parameters.{number_within, token_text, sequence_text, spelled, spelled_text, one_slot, two_slots, slot_and_space, place, slot_number, count, place_pair, semicolon_at};
+ghost use Rattle.csi_codec.specs.Parameters.{number_within, token_text, sequence_text, spelled, spelled_text, one_slot, two_slots, slot_and_space, place, slot_number, count, place_pair, number_pair, begins_with_number, semicolon_at};
 ghost use Rattle.csi_codec.specs.Rests.{IsSameRest};
 
 use crate::one_based::OneBased;
@@ -224,6 +224,29 @@ pub(crate) fn place_pair(default: u32, params: &[CsiParam]) -> Option<(OneBased,
 {
     let (a, b) = two_slots(params)?;
     Some((place(1, a)?, place(default, b)?))
+}
+
+/// The two places of a list that is two numbers with a `;` between them, where 0 is 1.
+#[inline(always)]
+pub(crate) fn number_pair(params: &[CsiParam]) -> Option<(OneBased, OneBased)>
+    ensures { result ≡ number_pair params.now }
+{
+    match params {
+        [
+            CsiParam::Integer(a),
+            CsiParam::P(b';'),
+            CsiParam::Integer(b),
+        ] => Some((place(1, Some(*a))?, place(1, Some(*b))?)),
+        _ => None,
+    }
+}
+
+/// Whether a list begins with a number.
+#[inline(always)]
+pub(crate) fn begins_with_number(params: &[CsiParam]) -> bool
+    ensures { result ≡ begins_with_number params.now }
+{
+    matches!(params, [CsiParam::Integer(_), ..])
 }
 
 /// 1 where a `;` stands at a place of the list, else 0.

@@ -26,19 +26,43 @@ pub(crate) fn all_sgr_tokens(params: &[CsiParam]) -> bool
     all_tokens_in_turn(params)
 }
 
-/// The same, where most are numbers with a `;` behind each.
+/// The same, where most are numbers with a `;` behind each, which are taken two by two.
 #[inline(always)]
 fn all_tokens_in_turn(params: &[CsiParam]) -> bool
     ensures { result ≡ all_sgr_tokens params.now }
 {
     let mut others = params;
-    while let [CsiParam::Integer(_), CsiParam::P(b';'), behind @ ..] = others {
+    while let [
+        CsiParam::Integer(_),
+        CsiParam::P(b';'),
+        CsiParam::Integer(_),
+        CsiParam::P(b';'),
+        behind @ ..,
+    ] = others
+    {
         others = behind;
     }
-    all_tokens(others)
+    last_tokens(others)
+}
+
+/// The same, where most are one number, or two with a `;` between them.
+#[inline(always)]
+fn last_tokens(params: &[CsiParam]) -> bool
+    ensures { result ≡ all_sgr_tokens params.now }
+{
+    match params {
+        [CsiParam::Integer(_)]
+        | [
+            CsiParam::Integer(_),
+            CsiParam::P(b';'),
+            CsiParam::Integer(_),
+        ] => true,
+        _ => all_tokens(params),
+    }
 }
 
 /// The same, token by token.
+#[inline(never)]
 fn all_tokens(params: &[CsiParam]) -> bool
     ensures { result ≡ all_sgr_tokens params.now }
 {

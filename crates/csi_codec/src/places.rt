@@ -1,18 +1,21 @@
 //! Reading the actions of a list from place to place.
-ghost use Rattle.std.specs.Prelude.{◌≡◌, ◌≢◌, ◌<◌, ◌≤◌, ℕ, Bool, true, false, IfNone, IfSome, ◌∷◌, [], drop, length, option_map};
-ghost use Rattle.csi_codec.specs.Actions.{Kind as PieceKind, csi_reading, lone_or, modes_or, piece_of, pieces, private_mode_pieces, sgr_pieces, standard_mode_pieces, sgr_reading, unspecified};
+ghost use Rattle.std.specs.Prelude.{◌≡◌, ◌≢◌, ◌<◌, ◌≤◌, ℕ, Bool, List, true, false, IfNone, IfSome, Some, ◌∷◌, [], drop, length, option_map};
+ghost use Rattle.csi_codec.specs.Actions.{Kind as PieceKind, csi_reading, lone_or, lone_reading, modes_or, piece_of, pieces, private_mode_pieces, sgr, sgr_pieces, standard_mode_pieces, sgr_reading, unspecified};
 ghost use Rattle.csi_codec.specs.Known.{found_action};
 ghost use Rattle.csi_codec.specs.Parsing.{HasNoPiece, HasNoRendition, IsEnd, IsFirstPiece, IsFirstRendition, IsNext, IsStart, actions_behind, actions_from, kind_of, list_kind};
 ghost use Rattle.csi_codec.specs.Sequences.{action_of, HandsOut};
+ghost use Rattle.csi_codec.specs.declared.parameters.CsiParam.{CsiParam};
 
-use crate::cursors::cursor_reading;
+use crate::cursors::{Cursor, cursor_reading, position};
 use crate::devices::device_reading;
-use crate::edits::edit_reading;
-use crate::parameters::CsiParam;
+use crate::edits::{Edit, EraseInDisplay, EraseInLine, edit_reading};
+use crate::modes::lone_private_mode;
+use crate::one_based::OneBased;
+use crate::parameters::{CsiParam, begins_with_number};
 use crate::pieces::{Kind, all_sgr_tokens, private_mode_piece, standard_mode_piece};
 use crate::rendition::Sgr;
 use crate::sequences::{CSI, request, unspecified};
-use crate::sgr_reading::sgr_piece;
+use crate::sgr_reading::{quick_piece, sgr_piece};
 use std::alloc::{AllocError, Global};
 
 /// A place in a list of parameters before a final byte: how far its actions were read. It lends nothing, so it can be kept
@@ -44,19 +47,28 @@ impl CSIPlace {
         ensures { HandsOut (actions_from self.old params.now parameters_truncated control) result (actions_from self.new params.now parameters_truncated control) }
     {
         let read = self.index;
-        if read == 0 {
-            if let Some((value, behind)) = first_known(params, control) {
-                self.index = behind;
-                return Some(Ok(value));
-            }
-        } else {
-            if read >= params.len() {
+        if read >= params.len() {
+            if read > 0 {
                 return None;
             }
-            if let Some((value, behind)) = further_known(read, params, control) {
-                self.index = behind;
+            if let Some(value) = bare_action(control) {
+                self.index = 1;
                 return Some(Ok(value));
             }
+        } else if control == 'm' {
+            if let Some((value, behind)) = quick_rendition(read, params) {
+                self.index = behind;
+                return Some(Ok(CSI::Sgr(value)));
+            }
+        } else if read == 0 {
+            if let Some(value) = quick_other(params, control) {
+                self.index = params.len();
+                return Some(Ok(value));
+            }
+        }
+        if let Some((value, behind)) = known(read, params, control) {
+            self.index = behind;
+            return Some(Ok(value));
         }
         self.by_step(alloc, params, parameters_truncated, control)
     }
@@ -91,6 +103,123 @@ impl CSIPlace {
     }
 }
 
+/// The action of an empty list, where it is one of the most frequent.
+#[inline(always)]
+fn bare_action(control: char) -> Option<CSI>
+    ensures { IfSome result (λ value. (ts : List CsiParam) → length ts ≡ 0 → IsNext 0 ts control (action_of value) 1) }
+{
+    if control == 'm' {
+        return Some(CSI::Sgr(Sgr::Reset));
+    }
+    bare_lone(control)
+}
+
+/// What an empty list spells before a final byte, where it is one of the most frequent cursor sequences or edits.
+#[tactic(auto, unfolding(crate::specs::Cursors::cursor_reading, crate::specs::Edits::edit_reading))]
+#[inline(always)]
+fn bare_lone(control: char) -> Option<CSI>
+    ensures { IfSome result (λ value. lone_reading control [] ≡ Some (action_of value)) }
+{
+    match control {
+        'A' => Some(CSI::Cursor(Cursor::Up(1))),
+        'B' => Some(CSI::Cursor(Cursor::Down(1))),
+        'C' => Some(CSI::Cursor(Cursor::Right(1))),
+        'D' => Some(CSI::Cursor(Cursor::Left(1))),
+        'H' => Some(CSI::Cursor(Cursor::Position {
+            line: OneBased::new(1),
+            col: OneBased::new(1),
+        })),
+        'J' => Some(CSI::Edit(Edit::EraseInDisplay(EraseInDisplay::EraseToEndOfDisplay))),
+        'K' => Some(CSI::Edit(Edit::EraseInLine(EraseInLine::EraseToEndOfLine))),
+        _ => None,
+    }
+}
+
+/// The next setting of an SGR list, where it is one number or a colour told with `;`, and how many tokens are read then.
+#[inline(always)]
+fn quick_rendition(read: usize, params: &[CsiParam]) -> Option<(Sgr, usize)>
+    requires { read < length params.now }
+    ensures { IfSome result (λ found. IsNext read params.now 109 (sgr found.0) found.1) }
+{
+    let (value, rest) = quick_piece(behind(params, read))?;
+    if rest.is_empty() {
+        return Some((value, params.len()));
+    }
+    if read == 0 && !all_sgr_tokens(rest) {
+        return None;
+    }
+    Some((value, params.len() - rest.len()))
+}
+
+/// The only action of a list before any other final byte, where it is a mode that is set or reset, a cursor sequence or an
+/// edit.
+#[inline(always)]
+fn quick_other(params: &[CsiParam], control: char) -> Option<CSI>
+    ensures { IfSome result (λ value. IsNext 0 params.now control (action_of value) (length params.now)) }
+{
+    if let Some(mode) = lone_private_mode(params, control) {
+        return Some(CSI::Mode(mode));
+    }
+    quick_lone(params, control)
+}
+
+/// The only action of a list that begins with a number, where it is a cursor sequence or an edit.
+#[inline(always)]
+fn quick_lone(params: &[CsiParam], control: char) -> Option<CSI>
+    ensures { IfSome result (λ value. IsNext 0 params.now control (action_of value) (length params.now)) }
+{
+    if !begins_with_number(params) {
+        return None;
+    }
+    if control == 'H'
+        && let Some(value) = position(params)
+    {
+        return Some(CSI::Cursor(value));
+    }
+    any_lone(params, control)
+}
+
+/// What a whole list spells before a final byte, if it is a cursor sequence or an edit.
+#[inline(always)]
+fn any_lone(params: &[CsiParam], control: char) -> Option<CSI>
+    ensures { IfSome result (λ value. lone_reading control params.now ≡ Some (action_of value)) }
+{
+    lone_reading(params, control)
+}
+
+/// The same by a call, whose result is a place in memory of its own.
+#[inline(never)]
+fn lone_reading(params: &[CsiParam], control: char) -> Option<CSI>
+    ensures { IfSome result (λ value. lone_reading control params.now ≡ Some (action_of value)) }
+{
+    if let Some(value) = cursor_reading(params, control) {
+        return Some(CSI::Cursor(value));
+    }
+    Some(CSI::Edit(edit_reading(params, control)?))
+}
+
+/// The action at a place, where it takes no memory, and how many tokens are read then.
+#[inline(always)]
+fn known(read: usize, params: &[CsiParam], control: char) -> Option<(CSI, usize)>
+    ensures { IfSome result (λ found. IsNext read params.now control (action_of found.0) found.1) }
+{
+    known_at(read, params, control)
+}
+
+/// The same by a call, whose result is a place in memory of its own.
+#[inline(never)]
+fn known_at(read: usize, params: &[CsiParam], control: char) -> Option<(CSI, usize)>
+    ensures { IfSome result (λ found. IsNext read params.now control (action_of found.0) found.1) }
+{
+    if read == 0 {
+        return first_known(params, control);
+    }
+    if read >= params.len() {
+        return None;
+    }
+    further_known(read, params, control)
+}
+
 /// The first action of a list, where it takes no memory, and how many tokens are read then.
 #[inline(always)]
 fn first_known(params: &[CsiParam], control: char) -> Option<(CSI, usize)>
@@ -103,22 +232,12 @@ fn first_known(params: &[CsiParam], control: char) -> Option<(CSI, usize)>
         let (value, len) = first_sgr(params)?;
         return Some((CSI::Sgr(value), len));
     }
-    first_of_others(params, control)
-}
-
-/// The same by a call, whose result is a place in memory of its own.
-#[inline(always)]
-fn first_of_others(params: &[CsiParam], control: char) -> Option<(CSI, usize)>
-    requires { ¬ (control ≡ 109) }
-    ensures found { IfSome result (λ found. (truncated : Bool) → csi_reading params.now truncated control ≡ action_of found.0 ∷ pieces (list_kind control params.now) truncated control (drop found.1 params.now)) }
-    ensures some { IfSome result (λ found. 0 < found.1) }
-{
     first_other(params, control)
 }
 
 /// The same before any other final byte.
 #[tactic(auto, unfolding(crate::specs::Actions::csi_reading))]
-#[inline(never)]
+#[inline(always)]
 fn first_other(params: &[CsiParam], control: char) -> Option<(CSI, usize)>
     requires { ¬ (control ≡ 109) }
     ensures found { IfSome result (λ found. (truncated : Bool) → csi_reading params.now truncated control ≡ action_of found.0 ∷ pieces (list_kind control params.now) truncated control (drop found.1 params.now)) }
@@ -183,6 +302,7 @@ struct Step {
 }
 
 /// The step where so many tokens are read.
+#[cold]
 #[inline(never)]
 fn step_at(read: usize, alloc: Global, params: &[CsiParam], truncated: bool, control: char) -> Step
     ensures { HandsOut (actions_behind read params.now truncated control) result.action (actions_behind result.read params.now truncated control) }
@@ -373,7 +493,7 @@ fn piece(kind: Kind, params: &[CsiParam], control: char) -> Option<(CSI, usize)>
 }
 
 /// The private mode at the front of a list, and how many tokens it takes.
-#[inline(never)]
+#[inline(always)]
 fn private_piece(params: &[CsiParam], control: char) -> Option<(CSI, usize)>
     ensures { option_map found_action result ≡ piece_of private_mode_pieces control params.now }
 {
@@ -382,7 +502,7 @@ fn private_piece(params: &[CsiParam], control: char) -> Option<(CSI, usize)>
 }
 
 /// The mode of the standard at the front of a list, and how many tokens it takes.
-#[inline(never)]
+#[inline(always)]
 fn standard_piece(params: &[CsiParam], control: char) -> Option<(CSI, usize)>
     ensures { option_map found_action result ≡ piece_of standard_mode_pieces control params.now }
 {

@@ -1,6 +1,6 @@
 //! SGR: reading a piece, by the number that it begins with.
 ghost use Rattle.std.specs.Prelude.{◌≡◌, ◌≤◌, IfSome, Some, option_map};
-ghost use Rattle.csi_codec.specs.Parameters.{number_within};
+ghost use Rattle.csi_codec.specs.Parameters.{is_number, number_within};
 ghost use Rattle.csi_codec.specs.ColourCases.{
   number_behind,
   three_behind,
@@ -13,10 +13,18 @@ ghost use Rattle.csi_codec.specs.ColourCases.{
   alpha_case,
   colon_form,
   semicolon_form,
-  semicolon_shape,
-  targeted,
   form_case,
-  plain_case,
+  past_semicolon,
+  plain_piece,
+  told_palette,
+  told_opaque,
+  told_kind,
+  told_form,
+  told_color,
+  target_numbered,
+  set_to,
+  numbered_piece,
+  quick_piece,
 };
 ghost use Rattle.csi_codec.specs.Rendition.{
   colour_form,
@@ -188,7 +196,7 @@ fn color_form(params: &[CsiParam]) -> Option<(ColorSpec, usize)>
     form_case(params)
 }
 
-/// What a number that stands alone means: fonts from 11 to 19, and the first sixteen colours of the palette, by range.
+/// What a number that stands alone means: fonts from 11 to 19, and the bright colours of the palette, by range.
 #[tactic(auto, unfolding(crate::specs::Rendition::single_code))]
 #[inline(always)]
 fn single_code(code: u8) -> Option<Sgr>
@@ -224,8 +232,22 @@ fn single_code(code: u8) -> Option<Sgr>
         59 => Some(Sgr::UnderlineColor(ColorSpec::Default)),
         38 | 48 | 58 => None,
         11..=19 => Some(Sgr::Font(Font::Alternate(code - 10))),
-        30..=37 => Some(Sgr::Foreground(ColorSpec::PaletteIndex(code - 30))),
-        40..=47 => Some(Sgr::Background(ColorSpec::PaletteIndex(code - 40))),
+        30 => Some(Sgr::Foreground(ColorSpec::PaletteIndex(0))),
+        31 => Some(Sgr::Foreground(ColorSpec::PaletteIndex(1))),
+        32 => Some(Sgr::Foreground(ColorSpec::PaletteIndex(2))),
+        33 => Some(Sgr::Foreground(ColorSpec::PaletteIndex(3))),
+        34 => Some(Sgr::Foreground(ColorSpec::PaletteIndex(4))),
+        35 => Some(Sgr::Foreground(ColorSpec::PaletteIndex(5))),
+        36 => Some(Sgr::Foreground(ColorSpec::PaletteIndex(6))),
+        37 => Some(Sgr::Foreground(ColorSpec::PaletteIndex(7))),
+        40 => Some(Sgr::Background(ColorSpec::PaletteIndex(0))),
+        41 => Some(Sgr::Background(ColorSpec::PaletteIndex(1))),
+        42 => Some(Sgr::Background(ColorSpec::PaletteIndex(2))),
+        43 => Some(Sgr::Background(ColorSpec::PaletteIndex(3))),
+        44 => Some(Sgr::Background(ColorSpec::PaletteIndex(4))),
+        45 => Some(Sgr::Background(ColorSpec::PaletteIndex(5))),
+        46 => Some(Sgr::Background(ColorSpec::PaletteIndex(6))),
+        47 => Some(Sgr::Background(ColorSpec::PaletteIndex(7))),
         90..=97 => Some(Sgr::Foreground(ColorSpec::PaletteIndex(code - 82))),
         100..=107 => Some(Sgr::Background(ColorSpec::PaletteIndex(code - 92))),
         _ => None,
@@ -265,18 +287,6 @@ pub(crate) fn plain_code(value: i64) -> Option<Sgr>
     ensures { result ≡ plain_code value }
 {
     single_code(number_within(255, value)? as u8)
-}
-
-/// The piece at the front of a list where it is one number, and how many tokens it takes with the `;` right behind it.
-#[inline(always)]
-fn plain_piece(params: &[CsiParam]) -> Option<(Sgr, usize)>
-    ensures { result ≡ plain_case params.now }
-{
-    match params {
-        [CsiParam::Integer(value)] => Some((plain_code(*value)?, 1)),
-        [CsiParam::Integer(value), CsiParam::P(b';'), ..] => Some((plain_code(*value)?, 2)),
-        _ => None,
-    }
 }
 
 /// What the longest shape at the front of a list that begins with a number stands for, and how many tokens it takes.
@@ -320,92 +330,165 @@ fn sgr_shape(params: &[CsiParam]) -> Option<(Sgr, usize)>
 }
 
 /// What the piece at the front of a list stands for, and how many tokens it takes with the `;` right behind it.
-#[inline(always)]
-pub(crate) fn sgr_piece(params: &[CsiParam]) -> Option<(Sgr, usize)>
-    ensures { result ≡ sgr_piece params.now }
-{
-    match plain_piece(params) {
-        Some(found) => Some(found),
-        None => longer_piece(params),
-    }
-}
-
-/// The same by a call, whose result is a place in memory of its own.
-#[inline(always)]
-fn longer_piece(params: &[CsiParam]) -> Option<(Sgr, usize)>
-    ensures { result ≡ sgr_piece params.now }
-{
-    any_piece(params)
-}
-
-/// The same, where most are colours.
-#[inline(never)]
-fn any_piece(params: &[CsiParam]) -> Option<(Sgr, usize)>
-    ensures { result ≡ sgr_piece params.now }
-{
-    match semicolon_piece(params) {
-        Some(found) => Some(found),
-        None => shaped_piece(params),
-    }
-}
-
-/// A colour whose numbers stand apart by `;`, and how many tokens it takes with the `;` right behind it.
-#[inline(always)]
-fn semicolon_piece(params: &[CsiParam]) -> Option<(Sgr, usize)>
-    ensures { IfSome result (λ found. Some found ≡ sgr_piece params.now) }
-{
-    let (value, len) = semicolon_shape(params)?;
-    Some((value, len + semicolon_at(params, len)))
-}
-
-/// A colour whose numbers stand apart by `;`, and how many tokens it takes.
-#[inline(always)]
-fn semicolon_shape(params: &[CsiParam]) -> Option<(Sgr, usize)>
-    ensures shape { result ≡ semicolon_shape params.now }
-    ensures short { IfSome result (λ found. found.1 ≤ 12) }
-{
-    match params {
-        [
-            CsiParam::Integer(target),
-            CsiParam::P(b';'),
-            CsiParam::Integer(kind),
-            rest @ ..,
-        ] => {
-            let (color, len) = semicolon_color(*kind, rest)?;
-            Some((targeted(*target, color)?, len + 1))
-        }
-        _ => None,
-    }
-}
-
-/// The colour behind its kind, and how many tokens its form takes.
-#[inline(always)]
-fn semicolon_color(kind: i64, params: &[CsiParam]) -> Option<(ColorSpec, usize)>
-    ensures form { result ≡ semicolon_form kind params.now }
-    ensures short { IfSome result (λ found. found.1 ≤ 11) }
-{
-    semicolon_form(kind, params)
-}
-
-/// What a number in front of a colour sets.
-#[inline(always)]
-fn targeted(target: i64, color: ColorSpec) -> Option<Sgr>
-    ensures { result ≡ targeted target color }
-{
-    match target {
-        38 => Some(Sgr::Foreground(color)),
-        48 => Some(Sgr::Background(color)),
-        58 => Some(Sgr::UnderlineColor(color)),
-        _ => None,
-    }
-}
-
-/// The same, by the shapes.
 #[tactic(auto, unfolding(crate::specs::Rendition::sgr_piece))]
 #[inline(never)]
-fn shaped_piece(params: &[CsiParam]) -> Option<(Sgr, usize)>
+pub(crate) fn sgr_piece(params: &[CsiParam]) -> Option<(Sgr, usize)>
     ensures { result ≡ sgr_piece params.now }
 {
     let (value, len) = sgr_shape(params)?;
     Some((value, len + semicolon_at(params, len)))
+}
+
+/// The same, and what stands behind the piece, where it is one number or a colour whose numbers stand apart by `;`.
+#[tactic(auto, unfolding(crate::specs::ColourCases::quick_piece))]
+#[inline(always)]
+pub(crate) fn quick_piece(params: &[CsiParam]) -> Option<(Sgr, &[CsiParam])>
+    ensures { option_map (λ found. (found.0, found.1.now)) result ≡ quick_piece params.now }
+{
+    match params {
+        [CsiParam::Integer(value), ..] => numbered_piece(*value, params),
+        _ => None,
+    }
+}
+
+/// The same of a list that begins with this number.
+#[tactic(auto, unfolding(crate::specs::ColourCases::numbered_piece))]
+#[inline(always)]
+fn numbered_piece(value: i64, params: &[CsiParam]) -> Option<(Sgr, &[CsiParam])>
+    ensures { option_map (λ found. (found.0, found.1.now)) result ≡ numbered_piece value params.now }
+{
+    if !is_foreground(value)
+        && let Some(sgr) = plain_code(value)
+    {
+        return plain_piece(sgr, params);
+    }
+    told_color(value, params)
+}
+
+/// Whether a number stands in front of a colour of the foreground, which is the most frequent.
+#[inline(always)]
+fn is_foreground(value: i64) -> bool
+    ensures { result ≡ is_number 38 value }
+{
+    value == 38
+}
+
+/// A setting whose number stands alone, and what stands behind it and its `;`.
+#[inline(always)]
+fn plain_piece(value: Sgr, params: &[CsiParam]) -> Option<(Sgr, &[CsiParam])>
+    ensures { option_map (λ found. (found.0, found.1.now)) result ≡ plain_piece value params.now }
+{
+    match params {
+        [_] => Some((value, &[])),
+        [_, CsiParam::P(b';'), behind @ ..] => Some((value, behind)),
+        _ => None,
+    }
+}
+
+/// A colour behind its target's number, and what stands behind it and its `;`.
+#[tactic(auto, unfolding(crate::specs::ColourCases::told_color))]
+#[inline(always)]
+fn told_color(value: i64, params: &[CsiParam]) -> Option<(Sgr, &[CsiParam])>
+    ensures { option_map (λ found. (found.0, found.1.now)) result ≡ told_color value params.now }
+{
+    let target = Target::of_number(value)?;
+    let (color, rest) = told_form(params)?;
+    Some((target.set_to(color), past_semicolon(rest)))
+}
+
+/// What stands behind the `;` at the front of a list, if one stands there.
+#[inline(always)]
+fn past_semicolon(params: &[CsiParam]) -> &[CsiParam]
+    ensures { result.now ≡ past_semicolon params.now }
+{
+    match params {
+        [CsiParam::P(b';'), behind @ ..] => behind,
+        _ => params,
+    }
+}
+
+/// A colour whose numbers stand apart by `;`, behind the first token, and what stands behind it.
+#[tactic(auto, unfolding(crate::specs::ColourCases::told_form, crate::specs::ColourCases::told_numbers))]
+#[inline(always)]
+fn told_form(params: &[CsiParam]) -> Option<(ColorSpec, &[CsiParam])>
+    ensures { option_map (λ found. (found.0, found.1.now)) result ≡ told_form params.now }
+{
+    if params.len() < 5 {
+        return None;
+    }
+    match params {
+        [_, CsiParam::P(b';'), CsiParam::Integer(kind), behind @ ..] => told_kind(*kind, behind),
+        _ => None,
+    }
+}
+
+/// The colour behind its kind, and what stands behind it.
+#[tactic(auto, unfolding(crate::specs::ColourCases::told_kind))]
+#[inline(always)]
+fn told_kind(kind: i64, params: &[CsiParam]) -> Option<(ColorSpec, &[CsiParam])>
+    ensures { option_map (λ found. (found.0, found.1.now)) result ≡ told_kind kind params.now }
+{
+    match kind {
+        5 => told_palette(params),
+        2 => told_opaque(params),
+        _ => None,
+    }
+}
+
+/// The colour of the palette whose index stands behind a `;`, and what stands behind it.
+#[tactic(auto, unfolding(crate::specs::ColourCases::told_palette))]
+#[inline(always)]
+fn told_palette(params: &[CsiParam]) -> Option<(ColorSpec, &[CsiParam])>
+    ensures { option_map (λ found. (found.0, found.1.now)) result ≡ told_palette params.now }
+{
+    let (index, rest) = number_behind(b';', params)?;
+    Some((ColorSpec::PaletteIndex(channel(index)?), rest))
+}
+
+/// The opaque colour whose three numbers stand behind a `;` each, and what stands behind it.
+#[tactic(auto, unfolding(crate::specs::ColourCases::told_opaque, crate::specs::ColourCases::told_channels))]
+#[inline(always)]
+fn told_opaque(params: &[CsiParam]) -> Option<(ColorSpec, &[CsiParam])>
+    ensures { option_map (λ found. (found.0, found.1.now)) result ≡ told_opaque params.now }
+{
+    if params.len() < 6 {
+        return None;
+    }
+    let (red, green, blue, rest) = three_behind(b';', params)?;
+    Some((opaque_of(red, green, blue)?, rest))
+}
+
+/// What a colour is for.
+#[derive(Clone, Copy, Debug)]
+enum Target {
+    Foreground,
+    Background,
+    Underline,
+}
+
+impl Target {
+    /// The target of this number, if there is one.
+    #[inline(always)]
+    fn of_number(value: i64) -> Option<Self>
+        ensures { result ≡ target_numbered value }
+    {
+        match value {
+            38 => Some(Self::Foreground),
+            48 => Some(Self::Background),
+            58 => Some(Self::Underline),
+            _ => None,
+        }
+    }
+
+    /// The setting of this target to a colour.
+    #[inline(always)]
+    fn set_to(self, color: ColorSpec) -> Sgr
+        ensures { result ≡ set_to self color }
+    {
+        match self {
+            Target::Foreground => Sgr::Foreground(color),
+            Target::Background => Sgr::Background(color),
+            Target::Underline => Sgr::UnderlineColor(color),
+        }
+    }
 }

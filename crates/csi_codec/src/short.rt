@@ -1,26 +1,54 @@
-//! Lists without parameters, and lists of one short number.
-ghost use Rattle.std.specs.Prelude.{◌≡◌, ◌≤◌, ℕ, Bool, pos, ◌∷◌, [], IfSome, length};
+//! Lists of at most three short numbers.
+ghost use Rattle.std.specs.Prelude.{◌≡◌, ◌≤◌, ℕ, Bool, pos, ◌∷◌, [], Some, IfSome, length};
+ghost use Rattle.cell_base.specs.declared.color.ColorSpec.TheVariants.{PaletteIndex};
 ghost use Rattle.csi_codec.specs.Actions.{csi_reading};
+ghost use Rattle.csi_codec.specs.Cursors.{cursor_reading};
+ghost use Rattle.csi_codec.specs.Parameters.{place_pair};
 ghost use Rattle.csi_codec.specs.Sequences.{action_of};
-ghost use Rattle.csi_codec.specs.Short.{BeginsAsNumber, IsOnly, short_list};
-ghost use Rattle.csi_codec.specs.declared.parameters.CsiParam.TheVariants.{Integer};
+ghost use Rattle.csi_codec.specs.Short.{BeginsAsNumber, IsOnly, short_list, targeted};
+ghost use Rattle.csi_codec.specs.declared.parameters.CsiParam.TheVariants.{Integer, P};
 
-use crate::parameters::CsiParam;
+use crate::cursors::Cursor;
+use crate::one_based::OneBased;
+use crate::parameters::{CsiParam, place};
 use crate::places::lone_action;
 use crate::rendition::Sgr;
 use crate::sequences::CSI;
 use crate::sgr_reading::plain_code;
+use cell_base::ColorSpec;
+
+/// At most three numbers, each of at most 255, with a `;` between two.
+#[derive(Clone, Copy, Debug, PartialEq, Eq)]
+pub enum ShortNumbers {
+    Nothing,
+    One(u8),
+    Two(u8, u8),
+    Three(u8, u8, u8),
+}
 
 /// The action of a list without parameters, or of one number of at most 255, before a final byte, where it is the only one
-/// and takes no memory: no mode, no request, and no list without a reading. For these, which it leaves to `CSIPlace::next`,
-/// it answers `None`, which is never wrong.
+/// and takes no memory: no mode, no request, and no list without a reading. For these, which it leaves to
+/// `CSIPlace::next`, and for more numbers, it answers `None`, which is never wrong.
 #[inline(always)]
-pub fn read_short(number: Option<u8>, control: u8) -> Option<CSI>
-    ensures { IfSome result (λ value. IsOnly (short_list number) control (action_of value)) }
+pub fn read_short(numbers: ShortNumbers, control: u8) -> Option<CSI>
+    ensures { IfSome result (λ value. IsOnly (short_list numbers) control (action_of value)) }
 {
-    match number {
-        None => bare_action(control),
-        Some(number) => numbered_action(number, control),
+    match numbers {
+        ShortNumbers::Nothing => bare_action(control),
+        ShortNumbers::One(number) => numbered_action(number, control),
+        ShortNumbers::Two(..) | ShortNumbers::Three(..) => None,
+    }
+}
+
+/// The same of a list of two or three numbers, where it is a position, margins, or a colour of the palette.
+#[inline(always)]
+pub fn read_numbers(numbers: ShortNumbers, control: u8) -> Option<CSI>
+    ensures { IfSome result (λ value. IsOnly (short_list numbers) control (action_of value)) }
+{
+    match numbers {
+        ShortNumbers::Nothing | ShortNumbers::One(_) => None,
+        ShortNumbers::Two(first, second) => pair_action(first, second, control),
+        ShortNumbers::Three(target, kind, index) => palette_action(target, kind, index, control),
     }
 }
 
@@ -56,5 +84,81 @@ fn only_action(params: &[CsiParam], control: u8) -> Option<CSI>
     match control {
         b'h' | b'l' => None,
         _ => lone_action(params, char::from(control)),
+    }
+}
+
+/// The same of a list of two numbers, where it is a position or margins.
+#[inline(always)]
+fn pair_action(first: u8, second: u8, control: u8) -> Option<CSI>
+    ensures { IfSome result (λ value. IsOnly (Integer (pos first) ∷ P 59 ∷ Integer (pos second) ∷ []) control (action_of value)) }
+{
+    let value = pair_cursor(first, second, control)?;
+    Some(CSI::Cursor(value))
+}
+
+/// The position or the margins that two numbers before a final byte spell.
+#[tactic(auto, unfolding(crate::specs::Cursors::cursor_reading))]
+#[inline(always)]
+fn pair_cursor(first: u8, second: u8, control: u8) -> Option<Cursor>
+    ensures { IfSome result (λ value. cursor_reading control (Integer (pos first) ∷ P 59 ∷ Integer (pos second) ∷ []) ≡ Some value) }
+{
+    match control {
+        b'H' => {
+            let (line, col) = places(1, first, second)?;
+            Some(Cursor::Position { line, col })
+        }
+        b'f' => {
+            let (line, col) = places(1, first, second)?;
+            Some(Cursor::CharacterAndLinePosition { line, col })
+        }
+        b'r' => {
+            let (top, bottom) = places(u32::MAX, first, second)?;
+            Some(Cursor::SetTopAndBottomMargins { top, bottom })
+        }
+        b's' => {
+            let (left, right) = places(u32::MAX, first, second)?;
+            Some(Cursor::SetLeftAndRightMargins { left, right })
+        }
+        _ => None,
+    }
+}
+
+/// The places of two numbers, where 0 is 1, or `default` for the second.
+#[inline(always)]
+fn places(default: u32, first: u8, second: u8) -> Option<(OneBased, OneBased)>
+    requires { 1 ≤ default }
+    ensures { result ≡ place_pair default (Integer (pos first) ∷ P 59 ∷ Integer (pos second) ∷ []) }
+{
+    let first = place(1, Some(i64::from(first)))?;
+    let second = place(default, Some(i64::from(second)))?;
+    Some((first, second))
+}
+
+/// The same of a list of three numbers, where it is a colour of the palette.
+#[inline(always)]
+fn palette_action(target: u8, kind: u8, index: u8, control: u8) -> Option<CSI>
+    ensures { IfSome result (λ value. IsOnly (Integer (pos target) ∷ P 59 ∷ Integer (pos kind) ∷ P 59 ∷ Integer (pos index) ∷ []) control (action_of value)) }
+{
+    if control != b'm' {
+        return None;
+    }
+    if kind != 5 {
+        return None;
+    }
+    let value = palette_color(target, index)?;
+    Some(CSI::Sgr(value))
+}
+
+/// The colour of the palette that a number in front of its index sets.
+#[inline(always)]
+fn palette_color(target: u8, index: u8) -> Option<Sgr>
+    ensures { result ≡ targeted (pos target) (PaletteIndex index) }
+{
+    let color = ColorSpec::PaletteIndex(index);
+    match target {
+        38 => Some(Sgr::Foreground(color)),
+        48 => Some(Sgr::Background(color)),
+        58 => Some(Sgr::UnderlineColor(color)),
+        _ => None,
     }
 }

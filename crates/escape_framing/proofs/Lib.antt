@@ -32,3 +32,4 @@ mod QuickLemmas
 mod NumberLemmas
 mod RunLemmas
 mod SkipLemmas
+mod ShortLemmas

@@ -7,7 +7,8 @@ use Rattle.std.proofs.lemmas.List.{map-append, take-append-drop, length-take-le}
 use Rattle.std.proofs.lemmas.List.Sums.{prefix_len-le-length}
 use Rattle.escape_framing.specs.Bytes.{is_control, is_stop, is_embedded, is_intermediate, is_parameter, is_final, is_escape_final, is_string_opener, is_opener, is_cut}
 use Rattle.escape_framing.specs.Dispatch.{Dispatch, Print, Control, Escape, ControlSequence, OperatingSystemCommand, Enter, Data, Exit, escape_dispatch}
-use Rattle.escape_framing.specs.Parameters.{Parameters, no_parameters, number_alone, with_byte, IsNumberAlone}
+use Rattle.csi_codec.specs.declared.short.ShortNumbers.{ShortNumbers}
+use Rattle.escape_framing.specs.Parameters.{Parameters, no_parameters, with_byte}
 use Rattle.escape_framing.specs.Held.{InCharacter, InEscape, InControlSequence, InCommand, Step, before, Held, Handed, handed, escape_step, opened, control_sequence_step, command_step, fresh_step, held_step, nothing_held, hand_out}
 use Rattle.escape_framing.specs.Framed.{Framed, Lone, placed_behind, framed_behind, begun_bytes, no_text, IsReached, Frames, IsTextLen}
 use Rattle.escape_framing.specs.Dispatched.{dispatches_in}
@@ -165,30 +166,18 @@ module _ (others : List ℕ) (n : ℕ) (is : n ≡ prefix_len is_parameter other
       (omega (arith, length-append front (b ∷ []))) refl (omega (arith, length-append front (b ∷ []), length-take-le n others within))
       (ap (λ (x : Handed). x.dispatches) (sym h)) (ap (λ (x : Handed). x.held) h ∙ sym e ∙ sym a) (subst PrintNone (ap (λ (x : Handed). x.dispatches) (sym h)) tt) (rw (a, e) refl)
 
--- ---- a control sequence without parameters, or with one number
+-- ---- a control sequence of short numbers
 
-final_alone : (b : ℕ) → is_final b ≡ true → is_parameter b ≡ false
+pub final_alone : (b : ℕ) → is_final b ≡ true → is_parameter b ≡ false
 unfolding is_final is_parameter
 final_alone b h = grind (arith, nat_tests)
 
-pub short_none : (b : ℕ) (rest others : List ℕ) → others ≡ b ∷ rest → is_final b ≡ true → IsShort others None b 3
-short_none b rest others e h = subst (λ (l : List ℕ). IsShort l None b 3) (sym e) (record {
-  len = 0;
-  counted = rw (final_alone b h) refl;
-  is_short = refl;
-  last = (h, (rest, refl));
-  read = refl;
-})
-
-pub short_number : (others : List ℕ) (n digits b : ℕ) (rest : List ℕ) → IsNumberAlone others n digits → is_final b ≡ true → drop digits others ≡ b ∷ rest → IsShort others (Some n) b (digits + 3)
-short_number others n digits b rest a h d = record { len = digits; counted = a.counted; is_short = a.is_number; last = (h, (rest, d)); read = refl }
-
-pub short_reads : (held : Held) (bytes others : List ℕ) (number : Option ℕ) (control count : ℕ) → held ≡ nothing_held → bytes ≡ 0x1B ∷ 0x5B ∷ others → IsShort others number control count
-    → Reads (short_parameters number) held bytes (lone_step (lone.ControlSequence control count)) held
-short_reads held bytes others number control count e b s =
-    subst (λ (l : List ℕ). Reads (short_parameters number) held l (lone_step (lone.ControlSequence control count)) held) (sym b)
-    (subst (λ (n : ℕ). Reads (short_parameters number) held (0x1B ∷ 0x5B ∷ others) (lone_step (lone.ControlSequence control n)) held) (sym s.read)
-    (sequence_reads others s.len s.counted (short_parameters number) held held control s.last.1.0 e s.is_short refl s.last.0 s.last.1.1))
+pub short_reads : (held : Held) (bytes others : List ℕ) (numbers : ShortNumbers) (control count : ℕ) → held ≡ nothing_held → bytes ≡ 0x1B ∷ 0x5B ∷ others → IsShort others numbers control count
+    → Reads (short_parameters numbers) held bytes (lone_step (lone.ControlSequence control count)) held
+short_reads held bytes others numbers control count e b s =
+    subst (λ (l : List ℕ). Reads (short_parameters numbers) held l (lone_step (lone.ControlSequence control count)) held) (sym b)
+    (subst (λ (n : ℕ). Reads (short_parameters numbers) held (0x1B ∷ 0x5B ∷ others) (lone_step (lone.ControlSequence control n)) held) (sym s.read)
+    (sequence_reads others s.len s.counted (short_parameters numbers) held held control s.last.1.0 e s.is_short refl s.last.0 s.last.1.1))
 
 pub one_more : (b : ℕ) (xs : List ℕ) → is_parameter b ≡ true → prefix_len is_parameter (b ∷ xs) ≡ 1 + prefix_len is_parameter xs
 one_more b xs h = rw h refl

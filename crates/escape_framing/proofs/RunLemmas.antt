@@ -18,7 +18,7 @@ use Rattle.escape_framing.proofs.QuickLemmas.{fold_more, count_more}
 -- ---- one digit more
 
 -- the last token is a number
-abbrev begun : Parameters → ℕ → Parameters
+abbrev pub begun : Parameters → ℕ → Parameters
 begun p n = with_token p (Integer (pos n)) (Some n)
 
 front : (ts : List CsiParam) (t : CsiParam) → take (length (ts ++ t ∷ []) - 1) (ts ++ t ∷ []) ≡ ts
@@ -39,7 +39,7 @@ renumbered_begun p n m e =
     ∙ renumbers (nat_lt (length p.tokens) most_tokens) p n m e
     ∙ sym (with_token_is p (Integer (pos m)) (Some m))
 
-digit_behind : (p : Parameters) (n b : ℕ) → p.truncated ≡ false → is_ascii_digit b ≡ true → with_byte (begun p n) b ≡ begun p (next_number (Some n) b)
+pub digit_behind : (p : Parameters) (n b : ℕ) → p.truncated ≡ false → is_ascii_digit b ≡ true → with_byte (begun p n) b ≡ begun p (next_number (Some n) b)
 unfolding with_byte
 digit_behind p n b e d = rw (d, numbered p (Integer (pos n)) (Some n)) (renumbered_begun p n (next_number (Some n) b) e)
 
@@ -69,7 +69,7 @@ run_goes_on (b ∷ bytes) p n e = by_test (is_ascii_digit b) refl (run_goes_on b
               ∙ fold_more (begun p n) b bytes (b ∷ bytes) refl h;
         })
 
-first_digit : (p : Parameters) (b : ℕ) → p.number ≡ None → is_ascii_digit b ≡ true → b - 48 ≤ largest_number → with_byte p b ≡ begun p (b - 48)
+pub first_digit : (p : Parameters) (b : ℕ) → p.number ≡ None → is_ascii_digit b ≡ true → b - 48 ≤ largest_number → with_byte p b ≡ begun p (b - 48)
 unfolding with_byte
 first_digit p b none d fits =
     let e : next_number None b ≡ b - 48 = omega (arith, fits) in

@@ -1,7 +1,7 @@
 -- The tokens of a control sequence that are kept while its bytes come.
 use Rattle.std.specs.Prelude.{◌≡◌, ◌<◌, ℕ, pos, ◌+◌, ◌-◌, ◌*◌, min, Bool, true, false, nat_lt, List, [], ◌∷◌, ◌++◌, Option, Some, None, unwrap_or, is_some, length, take, fold, if◌then◌else◌}
 use Rattle.std.specs.Char.{is_ascii_digit}
-use Rattle.std.specs.List.{prefix_len}
+use Rattle.std.specs.List.{prefix_len, list_all}
 use Rattle.escape_framing.specs.Bytes.{is_parameter}
 use Rattle.csi_codec.specs.Texts.{largest_number}
 use Rattle.csi_codec.specs.Fronts.{most_tokens}
@@ -54,17 +54,19 @@ pub record IsPushed (p : Parameters) (bytes left : List ℕ) (after : Parameters
   pub counted : length bytes - length left + prefix_len is_parameter left ≡ prefix_len is_parameter bytes
   pub folded : fold with_byte after (take (prefix_len is_parameter left) left) ≡ fold with_byte p (take (prefix_len is_parameter bytes) bytes)
 
--- ---- a short list
+-- ---- short numbers
 
 -- a digit by its value
 abbrev pub digit_of : ℕ → Option ℕ
 digit_of b = if is_ascii_digit b then Some (b - 48) else None
 
--- a number, whose digits may go on
-abbrev pub number_alone : ℕ → Parameters
-number_alone n = record { tokens = Integer (pos n) ∷ []; truncated = false; number = Some n }
+-- Some parameter bytes at the front were read behind these parameters, and this is left.
+pub record IsFront (p : Parameters) (bytes left : List ℕ) (after : Parameters) : Type 0 where
+  pub front : List ℕ
+  pub parted : bytes ≡ front ++ left
+  pub all : list_all is_parameter front ≡ true
+  pub folded : fold with_byte p front ≡ after
 
--- the parameter bytes at the front are so many, and they are the number's digits
-pub record IsNumberAlone (bytes : List ℕ) (n count : ℕ) : Type 0 where
-  pub counted : count ≡ prefix_len is_parameter bytes
-  pub is_number : number_alone n ≡ parameters_of (take count bytes)
+-- The bytes at the front are digits of a number, and this is left: behind any parameters they make this number.
+abbrev pub IsNumberFront : List ℕ → ℕ → List ℕ → Type 0
+IsNumberFront bytes n left = (p : Parameters) → p.number ≡ None → p.truncated ≡ false → IsFront p bytes left (with_token p (Integer (pos n)) (Some n))

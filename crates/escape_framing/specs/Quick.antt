@@ -1,8 +1,11 @@
 -- What a framer reads at once where nothing is unfinished, as a step.
-use Rattle.std.specs.Prelude.{◌≡◌, ◌≢◌, ◌<◌, ◌≤◌, ℕ, ◌+◌, Bool, true, not, ◌&&◌, ◌==◌, List, [], ◌∷◌, length, take, drop, Option, Some, None, if◌then◌else◌}
+use Rattle.std.specs.Prelude.{◌≡◌, ◌≢◌, ◌<◌, ◌≤◌, ℕ, ◌+◌, Bool, true, false, not, ◌&&◌, ◌==◌, List, [], ◌∷◌, length, take, drop, Option, Some, None, if◌then◌else◌}
 use Rattle.std.specs.List.{prefix_len}
 use Rattle.escape_framing.specs.Bytes.{is_control, is_final, is_parameter}
-use Rattle.escape_framing.specs.Parameters.{Parameters, no_parameters, number_alone, parameters_of}
+use Rattle.csi_codec.specs.Short.{short_list}
+use Rattle.csi_codec.specs.declared.short.ShortNumbers.{ShortNumbers}
+use Rattle.csi_codec.specs.declared.short.ShortNumbers.TheVariants.{Nothing, One, Two, Three}
+use Rattle.escape_framing.specs.Parameters.{Parameters, parameters_of}
 use Rattle.escape_framing.specs.Held.{Held, nothing_held, hand_out}
 use Rattle.escape_framing.specs.Dispatch.{OperatingSystemCommand}
 use Rattle.escape_framing.specs.Framed.{begun_bytes, Lone, IsReached, IsCarried, Frames}
@@ -27,16 +30,22 @@ abbrev pub IsLastAt : List ℕ → ℕ → Option ℕ → Type 0
 IsLastAt bytes count None = Unit {0}
 IsLastAt bytes count (Some b) = (is_final b ≡ true) × ((rest : List ℕ) × (drop count bytes ≡ b ∷ rest))
 
--- no parameters, or one number
-abbrev pub short_parameters : Option ℕ → Parameters
-short_parameters None = no_parameters
-short_parameters (Some n) = number_alone n
+-- the last of some numbers
+abbrev pub last_number : ShortNumbers → Option ℕ
+last_number Nothing = None
+last_number (One a) = Some a
+last_number (Two a b) = Some b
+last_number (Three a b c) = Some c
+
+-- some numbers as the parameters of a control sequence
+abbrev pub short_parameters : ShortNumbers → Parameters
+short_parameters numbers = record { tokens = short_list numbers; truncated = false; number = last_number numbers }
 
 -- Behind ESC [ stand these parameters and this final byte; so many bytes are read with the introducer.
-pub record IsShort (others : List ℕ) (number : Option ℕ) (control count : ℕ) : Type 0 where
+pub record IsShort (others : List ℕ) (numbers : ShortNumbers) (control count : ℕ) : Type 0 where
   pub len : ℕ
   pub counted : len ≡ prefix_len is_parameter others
-  pub is_short : short_parameters number ≡ parameters_of (take len others)
+  pub is_short : short_parameters numbers ≡ parameters_of (take len others)
   pub last : IsLastAt others len (Some control)
   pub read : count ≡ len + 3
 

@@ -3,7 +3,7 @@ ghost use Rattle.std.specs.Prelude.{◌≡◌, ℕ, ◌<◌, ◌≤◌, ◌∷�
 ghost use Rattle.std.specs.List.{prefix_len};
 ghost use Rattle.escape_framing.specs.Bytes.{is_parameter as in_parameters};
 ghost use Rattle.std.specs.Char.{IsAsciiDigit};
-ghost use Rattle.escape_framing.specs.Parameters.{no_parameters, digit_of, with_token, with_number, with_byte, IsNumberAlone, IsPushed};
+ghost use Rattle.escape_framing.specs.Parameters.{no_parameters, digit_of, with_token, with_number, with_byte, IsNumberFront, IsPushed};
 ghost use Rattle.escape_framing.specs.Parameters.{next_number as number_behind, number_run as number_with};
 
 use csi_codec::CsiParam;
@@ -75,23 +75,27 @@ fn digit(byte: u8) -> Option<u8>
     }
 }
 
-/// The number at the front, of one or two digits with another byte than a parameter's behind them; and how many it has.
+/// The number of the digits at the front, which are at most three, where it is at most 255 and a byte stands behind them;
+/// and what is left. A fourth digit is left too.
 #[inline(always)]
-pub(crate) fn short_number(bytes: &[u8]) -> Option<(u8, usize)>
-    ensures { IfSome result (λ n. IsNumberAlone bytes.now n.0 n.1) }
+pub(crate) fn short_number(bytes: &[u8]) -> Option<(u8, &[u8])>
+    ensures { IfSome result (λ n. IsNumberFront bytes.now n.0 n.1.now) }
 {
     let (first, others) = bytes.split_first()?;
-    let tens = digit(*first)?;
+    let hundreds = digit(*first)?;
     let (second, behind) = others.split_first()?;
-    if !is_parameter(*second) {
-        return Some((tens, 1));
-    }
-    let ones = digit(*second)?;
-    let (third, _) = behind.split_first()?;
-    if is_parameter(*third) {
+    let Some(tens) = digit(*second) else {
+        return Some((hundreds, others));
+    };
+    let (third, last) = behind.split_first()?;
+    let Some(ones) = digit(*third) else {
+        return Some((hundreds * 10 + tens, behind));
+    };
+    let number = u16::from(hundreds * 10 + tens) * 10 + u16::from(ones);
+    if number > 255 {
         return None;
     }
-    Some((tens * 10 + ones, 2))
+    Some((number as u8, last))
 }
 
 /// The first tokens of a control sequence.

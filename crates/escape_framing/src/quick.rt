@@ -4,15 +4,14 @@ ghost use Rattle.std.specs.List.{prefix_len};
 ghost use Rattle.escape_framing.specs.Bytes.{is_final as in_finals, is_escape_final as in_escape_finals};
 ghost use Rattle.escape_framing.specs.Held.{nothing_held};
 ghost use Rattle.escape_framing.specs.Stepped.{Reads};
-ghost use Rattle.escape_framing.specs.Quick.{text_step, lone_step, IsLastAt, short_parameters, IsShort, is_body_byte as in_bodies, ender_len as ender_read, ReadsCommand, IsSkipped};
+ghost use Rattle.escape_framing.specs.Quick.{text_step, lone_step, IsLastAt, short_parameters, is_body_byte as in_bodies, ender_len as ender_read, ReadsCommand, IsSkipped};
 ghost use Rattle.escape_framing.specs.declared.lone.Lone.TheVariants.{Nothing, Control, Escape, ControlSequence};
 
 use crate::error::ParseError;
 use crate::framer::{Framer, State, is_control, is_opener};
 use crate::lone::Lone;
-use crate::parameters::short_number;
 use crate::plain::plain_len;
-use crate::short::ShortSequence;
+use crate::short::{ShortSequence, numbers_sequence, short_sequence};
 use crate::texts::text_len;
 use std::alloc::AllocError;
 
@@ -47,9 +46,9 @@ fn behind(bytes: &[u8], count: usize) -> &[u8]
     &bytes[count..]
 }
 
-// The final byte of a control sequence behind so many bytes, if it stands there.
+/// The final byte of a control sequence behind so many bytes, if it stands there.
 #[inline(always)]
-fn last_at(bytes: &[u8], count: usize) -> Option<u8>
+pub(crate) fn last_at(bytes: &[u8], count: usize) -> Option<u8>
     requires { count ≤ length bytes.now }
     ensures { IsLastAt bytes.now count result }
 {
@@ -66,28 +65,6 @@ fn behind_introducer(bytes: &[u8]) -> Option<&[u8]>
         [0x1b, b'[', others @ ..] => Some(others),
         _ => None,
     }
-}
-
-// What stands behind ESC [, where it is a control sequence without parameters or with a short number.
-#[inline(always)]
-fn short_sequence(others: &[u8]) -> Option<ShortSequence>
-    ensures { IfSome result (λ s. IsShort others.now s.number s.control s.count) }
-{
-    let (first, _) = others.split_first()?;
-    if is_final(*first) {
-        return Some(ShortSequence {
-            number: None,
-            control: *first,
-            count: 3,
-        });
-    }
-    let (number, digits) = short_number(others)?;
-    let control = last_at(others, digits)?;
-    Some(ShortSequence {
-        number: Some(number),
-        control,
-        count: digits + 3,
-    })
 }
 
 // What stands behind ESC ].
@@ -208,18 +185,31 @@ impl Framer {
         self.whole_sequence(others)
     }
 
-    /// The control sequence at the front of some bytes of one call, without parameters or with one number of one or two
-    /// digits, where nothing is unfinished and all its bytes stand there. It is read by this, as `next` reads it, since it
-    /// leaves nothing; the framer lends no parameters for it.
+    /// The control sequence at the front of some bytes of one call, without parameters or with one number of at most 255 and
+    /// of one to three digits, where nothing is unfinished and all its bytes stand there. It is read by this, as `next` reads
+    /// it, since it leaves nothing; the framer lends no parameters for it.
     #[inline(always)]
     pub fn next_short(&self, bytes: &[u8]) -> Option<ShortSequence>
-        ensures { IfSome result (λ s. Reads (short_parameters s.number) self.now.held bytes.now (lone_step (ControlSequence s.control s.count)) self.now.held) }
+        ensures { IfSome result (λ s. Reads (short_parameters s.numbers) self.now.held bytes.now (lone_step (ControlSequence s.control s.count)) self.now.held) }
     {
         let others = behind_introducer(bytes)?;
         if !self.is_idle() {
             return None;
         }
         let short = short_sequence(others)?;
+        Some(short)
+    }
+
+    /// The same with two or three such numbers, and a `;` between two.
+    #[inline(always)]
+    pub fn next_numbers(&self, bytes: &[u8]) -> Option<ShortSequence>
+        ensures { IfSome result (λ s. Reads (short_parameters s.numbers) self.now.held bytes.now (lone_step (ControlSequence s.control s.count)) self.now.held) }
+    {
+        let others = behind_introducer(bytes)?;
+        if !self.is_idle() {
+            return None;
+        }
+        let short = numbers_sequence(others)?;
         Some(short)
     }
 

@@ -398,13 +398,13 @@ given_before old mid new piece h g = record {
 with_parameters : Pieces → Parameters → Pieces
 with_parameters it p = record it { parser = record it.parser { now = record it.parser.now { parameters = p } } }
 
-pub gives_short : (old new : Pieces) (a : Action) (s : ShortSequence) → IsUnderWay old → ((p : Parameters) → queue_actions p old.queue ≡ []) → IsShortAt old s → sequence_values (short_parameters s.number) s.control ≡ value_of a ∷ []
+pub gives_short : (old new : Pieces) (a : Action) (s : ShortSequence) → IsUnderWay old → ((p : Parameters) → queue_actions p old.queue ≡ []) → IsShortAt old s → sequence_values (short_parameters s.numbers) s.control ≡ value_of a ∷ []
     → new.parser.now ≡ old.parser.now → new.bytes ≡ old.bytes → new.count ≡ old.count + s.count → new.queue ≡ old.queue → HasGiven old (Some (code.Action a)) new
 unfolding with_parameters
 gives_short old new a s u q r v p b n w =
-    let mid = with_parameters new (short_parameters s.number) in
+    let mid = with_parameters new (short_parameters s.numbers) in
     let e : (x : Parameters) → queue_actions x new.queue ≡ [] = λ x. rw w (q x) in
     let h : HasReadSequence old s.control mid = record { len = s.count; reads = rw p r; count = n } in
-    let k : value_of a ∷ queue_actions (short_parameters s.number) new.queue ≡ value_of a ∷ [] = ap (λ (l : List StreamAction). value_of a ∷ l) (e (short_parameters s.number)) in
+    let k : value_of a ∷ queue_actions (short_parameters s.numbers) new.queue ≡ value_of a ∷ [] = ap (λ (l : List StreamAction). value_of a ∷ l) (e (short_parameters s.numbers)) in
     let g = sequence_gives old mid mid s.control (Some a) u q h b (record { parser = refl; bytes = refl; count = refl }) (v ∙ sym k) a refl in
     given_before old mid new (code.Action a) g (forgets mid new g.ready e refl refl refl refl)

@@ -3,6 +3,7 @@ use Rattle.std.proofs.Common.{◌≡◌, ◌<◌, ℕ, Bool, List, [], ◌∷◌
 use Rattle.std.specs.Prelude.{IsTrue, IfSome, is_some, false}
 use Rattle.csi_codec.specs.Actions as csi_action
 use Rattle.csi_codec.specs.Short.{IsOnly, short_list}
+use Rattle.csi_codec.specs.declared.short.ShortNumbers.{ShortNumbers}
 use Rattle.escape_framing.specs.Quick.{short_parameters}
 use Rattle.std.proofs.lemmas.Grind.{flat_map-append}
 use Rattle.escape_framing.specs.Dispatched.{optional, dispatch_of}
@@ -88,6 +89,5 @@ both_none now after waiting z n w = (λ i. (n ∙ z) i ++ w i)
 
 -- ---- the only action of a control sequence
 
-pub short_values : (number : Option ℕ) (control : ℕ) (action : csi_action.Action) → IsOnly (short_list number) control action → sequence_values (short_parameters number) control ≡ csi action ∷ []
-short_values None control action h = ap (map csi) (h false)
-short_values (Some n) control action h = ap (map csi) (h false)
+pub short_values : (numbers : ShortNumbers) (control : ℕ) (action : csi_action.Action) → IsOnly (short_list numbers) control action → sequence_values (short_parameters numbers) control ≡ csi action ∷ []
+short_values numbers control action h = ap (map csi) (h false)

@@ -124,9 +124,9 @@ pub record IsControlAt (it : Pieces) (control : ControlCode) : Type 0 where
 abbrev pub IsPairAt : Pieces → ℕ → Type 0
 IsPairAt it control = Reads it.parser.now.parameters it.parser.now.held (drop it.count it.bytes.now) (lone_step (lone.Escape control)) it.parser.now.held
 
--- a control sequence without parameters or with one short number stands there
+-- a control sequence of short numbers stands there
 abbrev pub IsShortAt : Pieces → ShortSequence → Type 0
-IsShortAt it s = Reads (short_parameters s.number) it.parser.now.held (drop it.count it.bytes.now) (lone_step (lone.ControlSequence s.control s.count)) it.parser.now.held
+IsShortAt it s = Reads (short_parameters s.numbers) it.parser.now.held (drop it.count it.bytes.now) (lone_step (lone.ControlSequence s.control s.count)) it.parser.now.held
 
 -- the command of this body stands at the front of the bytes that are left, and so many of them are read with it
 abbrev pub IsCommandAt : Pieces → List ℕ → ℕ → Type 0

@@ -159,9 +159,17 @@ impl Parser {
     // The control sequence at the front without parameters or with one short number, where nothing is unfinished.
     #[inline(always)]
     pub(crate) fn read_short(&self, bytes: &[u8]) -> Option<ShortSequence>
-        ensures { IfSome result (λ s. Reads (short_parameters s.number) self.now.held bytes.now (lone_step (ControlSequence s.control s.count)) self.now.held) }
+        ensures { IfSome result (λ s. Reads (short_parameters s.numbers) self.now.held bytes.now (lone_step (ControlSequence s.control s.count)) self.now.held) }
     {
         self.framer.next_short(bytes)
+    }
+
+    // The same with two or three short numbers.
+    #[inline(always)]
+    pub(crate) fn read_numbers(&self, bytes: &[u8]) -> Option<ShortSequence>
+        ensures { IfSome result (λ s. Reads (short_parameters s.numbers) self.now.held bytes.now (lone_step (ControlSequence s.control s.count)) self.now.held) }
+    {
+        self.framer.next_numbers(bytes)
     }
 
     // The final byte of the escape sequence of two bytes at the front, where nothing is unfinished.

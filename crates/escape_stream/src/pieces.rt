@@ -13,7 +13,7 @@ use crate::action::Action;
 use crate::control::ControlCode;
 use crate::parser::Parser;
 use crate::pending::{command_action, control_action};
-use crate::queue::{Queue, short_action};
+use crate::queue::{Queue, numbers_action, short_action};
 use csi_codec::Esc;
 use escape_framing::{Lone, ParseError, ShortSequence, Step};
 use std::alloc::AllocError;
@@ -95,6 +95,17 @@ fn behind(bytes: &[u8], count: usize) -> &[u8]
     ensures { result.now ≡ drop count bytes.now }
 {
     &bytes[count..]
+}
+
+// Whether this may be the second of two numbers, and another final byte than `m`.
+#[inline(always)]
+fn may_end_pair(bytes: &[u8]) -> bool {
+    match bytes {
+        [_, b'0'..=b'9', b'0'..=b'9', behind, ..] => *behind != b'm',
+        [_, b'0'..=b'9', behind, ..] => *behind != b'm' && *behind != b';',
+        [_, behind, ..] => *behind != b'm' && *behind != b';',
+        _ => false,
+    }
 }
 
 impl<'a> Pieces<'a> {
@@ -372,12 +383,40 @@ impl<'a> Pieces<'a> {
     #[inline(always)]
     fn short(&self) -> Option<(ShortSequence, Action)>
         requires within { self.now.count ≤ length self.now.bytes.now }
-        ensures { IfSome result (λ s. IsShortAt self.now s.0 × (sequence_values (short_parameters s.0.number) s.0.control ≡ value_of s.1 ∷ [])) }
+        ensures { IfSome result (λ s. IsShortAt self.now s.0 × (sequence_values (short_parameters s.0.numbers) s.0.control ≡ value_of s.1 ∷ [])) }
     {
         let bytes = self.bytes;
         let short = self.parser.read_short(behind(bytes, self.count))?;
         let action = short_action(short)?;
         Some((short, action))
+    }
+
+    // The same of a control sequence of two or three short numbers.
+    #[inline(always)]
+    fn numbers(&self) -> Option<(ShortSequence, Action)>
+        requires within { self.now.count ≤ length self.now.bytes.now }
+        ensures { IfSome result (λ s. IsShortAt self.now s.0 × (sequence_values (short_parameters s.0.numbers) s.0.control ≡ value_of s.1 ∷ [])) }
+    {
+        let bytes = self.bytes;
+        let numbers = self.parser.read_numbers(behind(bytes, self.count))?;
+        let action = numbers_action(numbers)?;
+        Some((numbers, action))
+    }
+
+    // Whether two or three numbers with one action may stand behind ESC [: a colour of the palette, or two numbers before
+    // another final byte than `m`, before which most numbers mean something by themselves. Whatever it answers is right.
+    #[inline(always)]
+    fn may_be_numbers(&self) -> bool
+        requires { self.now.count ≤ length self.now.bytes.now }
+    {
+        let bytes = self.bytes;
+        match behind(bytes, self.count) {
+            [_, _, b'3' | b'4' | b'5', b'8', b';', b'5', b';', ..] => true,
+            [_, _, _, b';', left @ ..] => may_end_pair(left),
+            [_, _, _, _, b';', left @ ..] => may_end_pair(left),
+            [_, _, _, _, _, b';', left @ ..] => may_end_pair(left),
+            _ => false,
+        }
     }
 
     // Hands out the only action of a short control sequence.
@@ -386,7 +425,7 @@ impl<'a> Pieces<'a> {
         requires within { self.old.count ≤ length self.old.bytes.now }
         requires empty { IsEmpty self.old.queue }
         requires stands { IsShortAt self.old short }
-        requires only { sequence_values (short_parameters short.number) short.control ≡ value_of action ∷ [] }
+        requires only { sequence_values (short_parameters short.numbers) short.control ≡ value_of action ∷ [] }
         ensures same { lender_of self.new ≡ lender_of self.old }
         ensures stage { self.new.stage ≡ self.old.stage }
         ensures parser { self.new.parser.now ≡ self.old.parser.now }
@@ -406,6 +445,38 @@ impl<'a> Pieces<'a> {
         ensures { PiecesGo self.old result self.new }
     {
         match self.short() {
+            Some((short, action)) => Some(Ok(self.take_short(short, action))),
+            None => self.next_by_more(),
+        }
+    }
+
+    // The same, where what stands there isn't a sequence of one number: one of two or three numbers by a call of its own,
+    // anything else step by step.
+    #[inline(always)]
+    fn next_by_more(&mut self) -> Option<Result<Piece<'a>, ParseError>>
+        requires open { IsOpen self.old }
+        requires ready { IsUnderWay self.old }
+        requires failed { self.old.parser.now.failed ≡ true }
+        requires empty { IsEmpty self.old.queue }
+        ensures { PiecesGo self.old result self.new }
+    {
+        if self.may_be_numbers() {
+            self.next_by_numbers()
+        } else {
+            self.next_by_list()
+        }
+    }
+
+    // The same, where two or three numbers may stand there.
+    #[inline(never)]
+    fn next_by_numbers(&mut self) -> Option<Result<Piece<'a>, ParseError>>
+        requires open { IsOpen self.old }
+        requires ready { IsUnderWay self.old }
+        requires failed { self.old.parser.now.failed ≡ true }
+        requires empty { IsEmpty self.old.queue }
+        ensures { PiecesGo self.old result self.new }
+    {
+        match self.numbers() {
             Some((short, action)) => Some(Ok(self.take_short(short, action))),
             None => self.next_by_list(),
         }

@@ -12,7 +12,7 @@ ghost use Rattle.escape_framing.specs.Dispatch.{ControlSequence};
 use crate::action::Action;
 use crate::device::DeviceControlMode;
 use crate::pending::{command_action, control_action, enter_action};
-use csi_codec::{CSIPlace, CsiParam, Esc, read_short};
+use csi_codec::{CSIPlace, CsiParam, Esc, read_numbers, read_short};
 use escape_framing::{Dispatch, ShortSequence};
 use std::alloc::{AllocError, Global};
 
@@ -95,9 +95,18 @@ impl Sequence {
 /// The action of a short control sequence, where it is the only one and takes no memory.
 #[inline(always)]
 pub(crate) fn short_action(short: ShortSequence) -> Option<Action>
-    ensures { IfSome result (λ action. sequence_values (short_parameters short.number) short.control ≡ value_of action ∷ []) }
+    ensures { IfSome result (λ action. sequence_values (short_parameters short.numbers) short.control ≡ value_of action ∷ []) }
 {
-    let csi = read_short(short.number, short.control)?;
+    let csi = read_short(short.numbers, short.control)?;
+    Some(Action::CSI(csi))
+}
+
+/// The same of one of two or three numbers.
+#[inline(always)]
+pub(crate) fn numbers_action(short: ShortSequence) -> Option<Action>
+    ensures { IfSome result (λ action. sequence_values (short_parameters short.numbers) short.control ≡ value_of action ∷ []) }
+{
+    let csi = read_numbers(short.numbers, short.control)?;
     Some(Action::CSI(csi))
 }
 

@@ -10,4 +10,4 @@ pub returns-then-control-eq109 : goal.returns-then-control-eq109
 returns-then-control-eq109 c = rw c.if-control-eq109.true (next_rendition c.args.params.now c.in_ok-value.value c.in_ok-value.len c.in_ok-value.ensures.found)
 
 pub returns : goal.returns
-returns c = next_found c.args.params.now c.args.control c.first_of_others.result c.first_of_others.ensures.found c.first_of_others.ensures.some
+returns c = next_found c.args.params.now c.args.control c.first_other.result c.first_other.ensures.found c.first_other.ensures.some

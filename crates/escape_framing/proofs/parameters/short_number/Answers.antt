@@ -1,15 +1,16 @@
-use Rattle.std.proofs.Common.{◌≡◌, false, rules}
-use Rattle.escape_framing.specs.Bytes.{is_parameter}
-use Rattle.escape_framing.proofs.NumberLemmas.{one_alone, two_alone}
+use Rattle.std.proofs.Common.{rules, arith, ◌+◌, ◌*◌}
+use Rattle.escape_framing.proofs.ShortLemmas.{one_front, two_front, three_front}
 use Rattle.escape_framing.proofs.parameters.short_number.Goals as goal
 
-pub returns-then-not-is_parameter : goal.returns-then-not-is_parameter
-returns-then-not-is_parameter c =
-    let p : is_parameter c.in_ok-second.second.now ≡ false = search rules in
-    one_alone c.args.bytes.now c.in_ok-first.others.now c.in_ok-second.behind.now c.in_ok-first.first.now c.in_ok-second.second.now c.in_ok-tens.tens c.in_ok-first.ensures.cases.0 c.in_ok-second.ensures.cases.0 (search rules) p
+pub returns-in_default : goal.returns-in_default
+returns-in_default c = one_front c.args.bytes.now c.in_ok-first.others.now c.in_ok-first.first.now c.in_ok-hundreds.hundreds c.in_ok-first.ensures.cases.0 (search rules)
+
+pub returns-in_default-digit : goal.returns-in_default-digit
+returns-in_default-digit c =
+    two_front c.args.bytes.now c.in_ok-first.others.now c.in_ok-second.behind.now c.in_ok-first.first.now c.in_ok-second.second.now c.in_ok-hundreds.hundreds c.in-Some.tens
+    c.in_ok-first.ensures.cases.0 c.in_ok-second.ensures.cases.0 (search rules) (search rules)
 
 pub returns : goal.returns
 returns c =
-    let p : is_parameter c.in_ok-third.third.now ≡ false = search rules in
-    two_alone c.args.bytes.now c.in_ok-first.others.now c.in_ok-second.behind.now c.in_ok-third.field-0-1.now c.in_ok-first.first.now c.in_ok-second.second.now c.in_ok-third.third.now c.in_ok-tens.tens c.in_ok-ones.ones
-    c.in_ok-first.ensures.cases.0 c.in_ok-second.ensures.cases.0 c.in_ok-third.ensures.cases.0 (search rules) (search rules) p
+    three_front c.args.bytes.now c.in_ok-first.others.now c.in_ok-second.behind.now c.in_ok-third.last.now c.in_ok-first.first.now c.in_ok-second.second.now c.in_ok-third.third.now c.in_ok-hundreds.hundreds c.in-Some.tens c.in-Some-digit.ones
+    (c.from.result * 10 + c.from-2.result) c.in_ok-first.ensures.cases.0 c.in_ok-second.ensures.cases.0 c.in_ok-third.ensures.cases.0 (search rules) (search rules) (search rules) (omega (arith, c.from.ensures, c.from-2.ensures))
