@@ -450,8 +450,8 @@ impl<'a> Pieces<'a> {
         }
     }
 
-    // The same, where what stands there isn't a sequence of one number: one of two or three numbers by a call of its own,
-    // anything else step by step.
+    // The same, where what stands there isn't a sequence of at most one short number: one of two or three by a call of its
+    // own, anything else as any control sequence.
     #[inline(always)]
     fn next_by_more(&mut self) -> Option<Result<Piece<'a>, ParseError>>
         requires open { IsOpen self.old }
