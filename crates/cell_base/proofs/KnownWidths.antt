@@ -1,10 +1,10 @@
 -- Letters that take two columns each, and letters that take one.
-use Rattle.std.proofs.Common.{◌≡◌, ℕ, ◌<◌, Bool, true, false, not, ◌||◌, ◌&&◌, [], ◌∷◌, List, refl, ap, sym, ◌∙◌, Some, unwrap_or, arith}
+use Rattle.std.proofs.Common.{◌≡◌, ℕ, ◌<◌, ◌≤◌, inl, inr, Bool, true, false, not, ◌||◌, ◌&&◌, [], ◌∷◌, List, refl, ap, sym, ◌∙◌, Some, unwrap_or, arith}
 use Rattle.std.specs.Prelude.{min, nat_lt, nat_le, encode_utf8}
 use Rattle.std.specs.Char.{IsScalar}
 use Rattle.std.specs.Int.{is_in_range}
 use Rattle.std.specs.Str.{chars}
-use Rattle.std.proofs.lemmas.Bool.{false≢true, and_parts, or_cases}
+use Rattle.std.proofs.lemmas.Bool.{false≢true, and_parts, or_cases, leb-true}
 use Rattle.std.proofs.lemmas.Str.{IsUtf8-encode}
 use Rattle.std.proofs.lemmas.Bool.Decides.{nat_tests}
 use Rattle.ucd_table.specs.Rows.{Range, in_ranges}
@@ -17,6 +17,7 @@ use Rattle.unicode_width.specs.Kind.{kind}
 use Rattle.unicode_width.specs.Width.{alone, char_width, of_kind, str_width}
 use Rattle.unicode_width.proofs.Computing.{unicode_width}
 use Rattle.unicode_width.proofs.KindLemmas.{kind_stepped}
+use Rattle.text_clusters.specs.Apart.{stands_apart}
 use Rattle.cell_base.specs.Cluster.{program_width}
 use Rattle.cell_base.specs.KnownWidths.{is_eastern_letter, is_western_letter}
 use Rattle.cell_base.proofs.LoneWidths.{lone_width}
@@ -97,3 +98,50 @@ eastern_width c s h = letter_width c 2 s (eastern_high c h) (two_columns c (kind
 
 pub western_width : (c : ℕ) → IsScalar c → is_western_letter c ≡ true → program_width (encode_utf8 c) ≡ 1
 western_width c s h = letter_width c 1 s (western_high c h) (one_column c (kind c) (western_one c h))
+
+-- ---- they stand apart
+
+within : (c lo hi : ℕ) → is_in_range lo hi c ≡ true → (lo ≤ c) × (c ≤ hi)
+within c lo hi h = let p = and_parts (nat_le lo c) (nat_le c hi) h in (leb-true lo c p.0, leb-true c hi p.1)
+
+kana_apart : (c : ℕ) → 0x3041 ≤ c → c ≤ 0x3096 → stands_apart c ≡ true
+unfolding stands_apart
+kana_apart c l h = grind (arith, nat_tests)
+
+katakana_apart : (c : ℕ) → 0x30A0 ≤ c → c ≤ 0x30FF → stands_apart c ≡ true
+unfolding stands_apart
+katakana_apart c l h = grind (arith, nat_tests)
+
+ideograph_apart : (c : ℕ) → 0x4E00 ≤ c → c ≤ 0x9FFF → stands_apart c ≡ true
+unfolding stands_apart
+ideograph_apart c l h = grind (arith, nat_tests)
+
+syllable_apart : (c : ℕ) → 0xAC00 ≤ c → c ≤ 0xD7A3 → stands_apart c ≡ true
+unfolding stands_apart
+syllable_apart c l h = grind (arith, nat_tests)
+
+latin_apart : (c : ℕ) → 0xC0 ≤ c → c ≤ 0x2AF → stands_apart c ≡ true
+unfolding stands_apart
+latin_apart c l h = grind (arith, nat_tests)
+
+cyrillic_apart : (c : ℕ) → 0x400 ≤ c → c ≤ 0x481 → stands_apart c ≡ true
+unfolding stands_apart
+cyrillic_apart c l h = grind (arith, nat_tests)
+
+pub eastern_apart : (c : ℕ) → is_eastern_letter c ≡ true → stands_apart c ≡ true
+eastern_apart c h = elim (or_cases (is_in_range 0x3041 0x3096 c || is_in_range 0x30A0 0x30FF c || is_in_range 0x4E00 0x9FFF c) (is_in_range 0xAC00 0xD7A3 c) h) [
+  | inl p ↦ elim (or_cases (is_in_range 0x3041 0x3096 c || is_in_range 0x30A0 0x30FF c) (is_in_range 0x4E00 0x9FFF c) p) [
+    | inl q ↦ elim (or_cases (is_in_range 0x3041 0x3096 c) (is_in_range 0x30A0 0x30FF c) q) [
+      | inl r ↦ let b = within c 0x3041 0x3096 r in kana_apart c b.0 b.1
+      | inr r ↦ let b = within c 0x30A0 0x30FF r in katakana_apart c b.0 b.1
+    ]
+    | inr q ↦ let b = within c 0x4E00 0x9FFF q in ideograph_apart c b.0 b.1
+  ]
+  | inr p ↦ let b = within c 0xAC00 0xD7A3 p in syllable_apart c b.0 b.1
+]
+
+pub western_apart : (c : ℕ) → is_western_letter c ≡ true → stands_apart c ≡ true
+western_apart c h = elim (or_cases (is_in_range 0xC0 0x2AF c) (is_in_range 0x400 0x481 c) h) [
+  | inl p ↦ let b = within c 0xC0 0x2AF p in latin_apart c b.0 b.1
+  | inr p ↦ let b = within c 0x400 0x481 p in cyrillic_apart c b.0 b.1
+]

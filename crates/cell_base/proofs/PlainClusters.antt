@@ -10,6 +10,7 @@ use Rattle.text_clusters.proofs.PlainLemmas.{one_alone, printable_front, run, wh
 use Rattle.text_clusters.proofs.TextLemmas.{same_at_clusters}
 use Rattle.std.specs.Str.Lossy.{replacement_bytes}
 use Rattle.std.proofs.lemmas.List.{take_all}
+use Rattle.std.proofs.lemmas.Str.{IsUtf8-from_ascii}
 use Rattle.cell_base.specs.Cluster.{read_cluster, clusters}
 
 -- what by itself is one cluster is read as it is
@@ -46,3 +47,6 @@ ascii_one [] l h i = absurd (omega arith)
 ascii_one (x ∷ []) l h zero = h
 ascii_one (x ∷ []) l h (suc i) = omega arith
 ascii_one (x ∷ y ∷ rest) l h i = absurd (omega arith)
+
+pub ascii_text : (byte : ℕ) → byte < 128 → IsUtf8 (byte ∷ [])
+ascii_text byte h = IsUtf8-from_ascii (byte ∷ []) (ascii_one (byte ∷ []) refl h)

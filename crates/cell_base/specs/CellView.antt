@@ -4,4 +4,4 @@ use Rattle.cell_base.specs.CellContent.{CellContent}
 use Rattle.cell_base.specs.declared.cell.Cell.TheInside.{Inside}
 
 abbrev pub content_of : Inside → CellContent
-content_of a = record { text = text_bytes a.text; width = columns_of a.text a.wide; attributes = a.attributes }
+content_of a = record { text = text_bytes a.text; width = columns_of a.text; attributes = a.attributes }

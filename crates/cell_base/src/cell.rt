@@ -1,9 +1,11 @@
 //! Cells: a text of one cluster with its width and attributes.
-ghost use Rattle.std.specs.Prelude.{◌≡◌, ◌≤◌, ◌↔◌, ◌==◌, ◌&&◌, true, false, not, None, [], ◌∷◌, length, encode_utf8, IfOk, IfSome, OnOk, OnErr, IsTrue};
+ghost use Rattle.std.specs.Prelude.{◌≡◌, ◌≤◌, ◌↔◌, ◌==◌, ◌&&◌, true, false, not, None, [], ◌∷◌, length, take, encode_utf8, IfOk, IfSome, OnOk, OnErr, IsTrue};
 ghost use Rattle.std.specs.Borrow.{sem};
+ghost use Rattle.std.specs.Str.{IsUtf8};
 ghost use Rattle.cell_base.specs.Attributes.{Attributes, plain};
 ghost use Rattle.cell_base.specs.CellContent.{cell_of, blank_cell, shows_as_space};
 ghost use Rattle.cell_base.specs.LawfulCell.{IsCell};
+ghost use Rattle.cell_base.specs.declared.cell_text.LongText.TheVariants.{Absent};
 ghost use Rattle.text_clusters.specs.Plain.{is_printable};
 
 use crate::cell_attributes::CellAttributes;
@@ -17,8 +19,6 @@ use std::marker::Model;
 #[derive(Debug, Drop)]
 pub struct Cell {
     text: CellText,
-    // Isn't looked at where the text is a letter.
-    wide: bool,
     attributes: CellAttributes,
 }
 
@@ -81,7 +81,6 @@ impl Cell {
         let wide = is_wide(text, width);
         Ok(Cell {
             text: CellText::new(alloc, text, wide)?,
-            wide,
             attributes: attrs,
         })
     }
@@ -104,7 +103,6 @@ impl Cell {
     {
         Cell {
             text: CellText::of_ascii(character),
-            wide: false,
             attributes: attrs,
         }
     }
@@ -119,6 +117,7 @@ impl Cell {
     {
         self.attributes.copy_from(attrs)?;
         self.text.set_ascii(character);
+        shed_text(&mut self.text);
         Ok(())
     }
 
@@ -129,7 +128,8 @@ impl Cell {
         ensures refused { OnErr result (self.new ≡ self.old) }
     {
         self.attributes.copy_from(attrs)?;
-        self.text.set_ascii(b' ');
+        self.text.set_space();
+        shed_text(&mut self.text);
         Ok(())
     }
 
@@ -140,8 +140,9 @@ impl Cell {
         requires unlinked { attrs.now.hyperlink ≡ None }
         ensures { self.new ≡ cell_of (character ∷ []) 1 attrs.now }
     {
-        self.attributes.copy_without_link(attrs);
+        self.attributes.copy_look(attrs);
         self.text.set_ascii(character);
+        shed(&mut self.text, &mut self.attributes);
     }
 
     /// The same as `set_blank`, with attributes that have no link: it can't be refused.
@@ -150,8 +151,9 @@ impl Cell {
         requires { attrs.now.hyperlink ≡ None }
         ensures { self.new ≡ blank_cell attrs.now }
     {
-        self.attributes.copy_without_link(attrs);
-        self.text.set_ascii(b' ');
+        self.attributes.copy_look(attrs);
+        self.text.set_space();
+        shed(&mut self.text, &mut self.attributes);
     }
 
     /// Becomes the cell of a cluster of `width` columns, of which none count as one; a refused one
@@ -195,24 +197,32 @@ impl Cell {
         ensures refused { OnErr result (self.new ≡ self.old) }
     {
         self.attributes.copy_from(attrs)?;
-        self.text.set_few(text);
-        self.wide = width == 2;
+        self.text.set_front(text, text.len(), width == 2);
+        shed_text(&mut self.text);
         Ok(())
     }
 
-    /// The same as `set_grapheme_with_width` for a cluster of at most four bytes that is kept as it is, with attributes that have
-    /// no link: it can't be refused.
+    /// The same as `set_grapheme_with_width` for the cluster that is the first `len` bytes of a text, at most four, and is kept as
+    /// it is, with attributes that have no link: it can't be refused.
     #[inline(always)]
-    pub fn set_few_without_link(&mut self, text: &str, width: usize, attrs: &CellAttributes)
+    pub fn set_front_without_link(
+        &mut self,
+        text: &str,
+        len: usize,
+        width: usize,
+        attrs: &CellAttributes,
+    )
         requires most { width ≤ 2 }
-        requires few { length text.now ≤ 4 }
-        requires kept { shows_as_space text.now ≡ false }
+        requires few { len ≤ 4 }
+        requires within { len ≤ length text.now }
+        requires cut { IsUtf8 (take len text.now) }
+        requires kept { shows_as_space (take len text.now) ≡ false }
         requires unlinked { attrs.now.hyperlink ≡ None }
-        ensures { self.new ≡ cell_of text.now width attrs.now }
+        ensures { self.new ≡ cell_of (take len text.now) width attrs.now }
     {
-        self.attributes.copy_without_link(attrs);
-        self.text.set_few(text);
-        self.wide = width == 2;
+        self.attributes.copy_look(attrs);
+        self.text.set_front(text, len, width == 2);
+        shed(&mut self.text, &mut self.attributes);
     }
 
     // The same for any text.
@@ -232,7 +242,6 @@ impl Cell {
         let text = CellText::new(alloc, text, wide)?;
         self.attributes.copy_from(attrs)?;
         self.text = text;
-        self.wide = wide;
         Ok(())
     }
 
@@ -249,7 +258,6 @@ impl Cell {
     {
         Cell {
             text: CellText::of_ascii(b' '),
-            wide: false,
             attributes: attrs,
         }
     }
@@ -267,7 +275,7 @@ impl Cell {
         ensures some { 1 ≤ result }
         ensures most { result ≤ 2 }
     {
-        self.text.columns(self.wide)
+        self.text.columns()
     }
 
     /// The attributes.
@@ -307,9 +315,40 @@ impl Cell {
     {
         Ok(Cell {
             text: self.text.try_clone()?,
-            wide: self.wide,
             attributes: self.attributes.try_clone()?,
         })
+    }
+}
+
+// No longer text and no link are left.
+#[inline(always)]
+fn shed(text: &mut CellText, attributes: &mut CellAttributes)
+    ensures text { text.new ≡ record text.old { long = Absent } }
+    ensures attributes { attributes.new ≡ record attributes.old { hyperlink = None } }
+{
+    if text.is_long() | attributes.is_linked() {
+        drop_both(text, attributes);
+    }
+}
+
+// The same where there is one of both.
+#[cold]
+#[inline(never)]
+fn drop_both(text: &mut CellText, attributes: &mut CellAttributes)
+    ensures text { text.new ≡ record text.old { long = Absent } }
+    ensures attributes { attributes.new ≡ record attributes.old { hyperlink = None } }
+{
+    text.drop_long();
+    attributes.drop_link();
+}
+
+// No longer text is left.
+#[inline(always)]
+fn shed_text(text: &mut CellText)
+    ensures { text.new ≡ record text.old { long = Absent } }
+{
+    if text.is_long() {
+        text.drop_long();
     }
 }
 

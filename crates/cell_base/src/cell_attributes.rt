@@ -1,5 +1,5 @@
 //! The attributes of a cell.
-ghost use Rattle.std.specs.Prelude.{◌≡◌, ◌↔◌, None, IfOk, OnOk, OnErr, IsTrue};
+ghost use Rattle.std.specs.Prelude.{◌≡◌, ◌↔◌, false, None, IfOk, OnOk, OnErr, IsTrue};
 ghost use Rattle.std.specs.Option.{option_map};
 ghost use Rattle.cell_base.specs.Attributes.{plain, sgr_only, style_of};
 ghost use Rattle.cell_base.specs.AttributeChange.{changed_by};
@@ -444,22 +444,24 @@ impl CellAttributes {
         Ok(())
     }
 
-    /// Becomes a copy of other attributes, which have no link.
+    // Becomes a copy of other attributes, but keeps its link.
     #[inline(always)]
-    pub(crate) fn copy_without_link(&mut self, other: &CellAttributes)
-        requires { other.now.hyperlink ≡ None }
-        ensures { self.new ≡ other.now }
+    pub(crate) fn copy_look(&mut self, other: &CellAttributes)
+        ensures { self.new ≡ record other.now { hyperlink = self.old.hyperlink } }
     {
         self.look = other.look;
-        if self.hyperlink.is_some() {
-            self.drop_link();
-        }
+    }
+
+    // Whether there is a link.
+    #[inline(always)]
+    pub(crate) fn is_linked(&self) -> bool
+        ensures { result ≡ false → self.now.hyperlink ≡ None }
+    {
+        self.hyperlink.is_some()
     }
 
     // No link is left.
-    #[cold]
-    #[inline(never)]
-    fn drop_link(&mut self)
+    pub(crate) fn drop_link(&mut self)
         ensures { self.new ≡ record self.old { hyperlink = None } }
     {
         self.hyperlink = None;

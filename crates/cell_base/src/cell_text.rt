@@ -1,20 +1,29 @@
 //! The text of a cell.
-ghost use Rattle.std.specs.Prelude.{◌≡◌, ℕ, ◌<◌, ◌≤◌, Bool, true, false, [], ◌∷◌, length, IfOk, IsTrue, if◌then◌else◌};
+ghost use Rattle.std.specs.Prelude.{◌≡◌, ℕ, ◌≤◌, ◌<◌, List, true, false, [], ◌∷◌, length, take, IfOk, IsTrue, if◌then◌else◌};
+ghost use Rattle.std.specs.Str.{IsUtf8};
 ghost use Rattle.cell_base.specs.CellContent.{cell_text, shows_as_space};
-ghost use Rattle.cell_base.specs.CellText.{columns_of, text_bytes};
+ghost use Rattle.cell_base.specs.CellText.{columns_of, few_bytes, long_bytes, text_bytes};
+ghost use Rattle.cell_base.specs.declared.cell_text.LongText.TheVariants.{Absent};
 
 use crate::few_text::FewText;
-use crate::letter::Letter;
 use crate::short_text::ShortText;
 use std::alloc::{AllocError, Global};
 
-// A lone ASCII character, which takes one column, and a text of a few bytes or a short one take no memory.
+// A text of more than four bytes, if there is one: a short one takes no memory.
 #[derive(Debug, Drop)]
-pub(crate) enum CellText {
-    Letter(Letter),
-    Few(FewText),
+pub(crate) enum LongText {
+    Absent,
     Short(ShortText),
     Owned(String),
+}
+
+// A text, and whether it takes two columns. One of a few bytes lies in the value itself, and is written there by moves alone;
+// it isn't looked at where there is a longer one.
+#[derive(Debug, Drop)]
+pub(crate) struct CellText {
+    wide: bool,
+    few: FewText,
+    long: LongText,
 }
 
 impl CellText {
@@ -23,100 +32,160 @@ impl CellText {
     pub(crate) fn new(alloc: Global, text: &str, wide: bool) -> Result<CellText, AllocError>
         requires { wide ≡ true → shows_as_space text.now ≡ false }
         ensures text { IfOk result (λ t. text_bytes t ≡ cell_text text.now) }
-        ensures columns { IfOk result (λ t. columns_of t wide ≡ (if wide then 2 else 1)) }
+        ensures columns { IfOk result (λ t. columns_of t ≡ (if wide then 2 else 1)) }
     {
         if shows_as_space(text) {
             return Ok(CellText::of_ascii(b' '));
         }
-        if let [byte] = text.as_bytes() {
-            if !wide && *byte < 128 {
-                return Ok(CellText::of_ascii(*byte));
-            }
-        }
         if text.len() <= 4 {
-            return Ok(CellText::Few(FewText::of(text)));
+            return Ok(CellText {
+                few: FewText::of(text),
+                wide,
+                long: LongText::Absent,
+            });
         }
-        if let Some(short) = ShortText::new(text) {
-            return Ok(CellText::Short(short));
-        }
-        Ok(CellText::Owned(String::from_str(alloc, text)?))
+        Ok(CellText {
+            few: FewText::of_ascii(b' '),
+            wide,
+            long: LongText::new(alloc, text)?,
+        })
     }
 
     // The text of one ASCII character of one column.
     pub(crate) fn of_ascii(byte: u8) -> CellText
         requires { byte < 128 }
         ensures text { text_bytes result ≡ byte ∷ [] }
-        ensures columns { (wide : Bool) → columns_of result wide ≡ 1 }
+        ensures columns { columns_of result ≡ 1 }
     {
-        CellText::Letter(Letter::new(byte))
+        CellText {
+            few: FewText::of_ascii(byte),
+            wide: false,
+            long: LongText::Absent,
+        }
     }
 
-    // Becomes the text of one ASCII character of one column.
+    // What is looked at where there is no longer text becomes one ASCII character of one column.
     #[inline(always)]
     pub(crate) fn set_ascii(&mut self, byte: u8)
         requires { byte < 128 }
-        ensures text { text_bytes self.new ≡ byte ∷ [] }
-        ensures columns { (wide : Bool) → columns_of self.new wide ≡ 1 }
+        ensures text { few_bytes self.new ≡ byte ∷ [] }
+        ensures columns { columns_of self.new ≡ 1 }
+        ensures long { self.new.long ≡ self.old.long }
     {
-        if let CellText::Letter(letter) = self {
-            *letter = Letter::new(byte);
-        } else {
-            self.replace(byte);
+        self.wide = false;
+        self.few = self.few.with_ascii(byte);
+    }
+
+    // The same for a space.
+    #[inline(always)]
+    pub(crate) fn set_space(&mut self)
+        ensures text { few_bytes self.new ≡ 32 ∷ [] }
+        ensures columns { columns_of self.new ≡ 1 }
+        ensures long { self.new.long ≡ self.old.long }
+    {
+        self.wide = false;
+        self.few = self.few.with_space();
+    }
+
+    // The same for the first bytes of a text, of which there are at most four.
+    #[inline(always)]
+    pub(crate) fn set_front(&mut self, text: &str, len: usize, wide: bool)
+        requires few { len ≤ 4 }
+        requires within { len ≤ length text.now }
+        requires cut { IsUtf8 (take len text.now) }
+        ensures text { few_bytes self.new ≡ take len text.now }
+        ensures columns { columns_of self.new ≡ (if wide then 2 else 1) }
+        ensures long { self.new.long ≡ self.old.long }
+    {
+        self.wide = wide;
+        match FewText::of_front(text, len) {
+            Some(few) => self.few = few,
+            None => self.set_few(text, len),
         }
     }
 
-    // The same where another text is dropped.
+    // The same by moves of one byte each.
+    #[inline(never)]
+    fn set_few(&mut self, text: &str, len: usize)
+        requires few { len ≤ 4 }
+        requires within { len ≤ length text.now }
+        requires cut { IsUtf8 (take len text.now) }
+        ensures text { few_bytes self.new ≡ take len text.now }
+        ensures wide { self.new.wide ≡ self.old.wide }
+        ensures long { self.new.long ≡ self.old.long }
+    {
+        let (front, _) = text.split_at(len);
+        self.few = FewText::of(front);
+    }
+
+    // Whether there is a longer text.
+    #[inline(always)]
+    pub(crate) fn is_long(&self) -> bool
+        ensures { result ≡ false → self.now.long ≡ Absent }
+    {
+        match self.long {
+            LongText::Absent => false,
+            _ => true,
+        }
+    }
+
+    // No longer text is left.
     #[cold]
     #[inline(never)]
-    fn replace(&mut self, byte: u8)
-        requires { byte < 128 }
-        ensures text { text_bytes self.new ≡ byte ∷ [] }
-        ensures columns { (wide : Bool) → columns_of self.new wide ≡ 1 }
+    pub(crate) fn drop_long(&mut self)
+        ensures { self.new ≡ record self.old { long = Absent } }
     {
-        *self = CellText::of_ascii(byte);
+        self.long = LongText::Absent;
     }
 
-    // Becomes a text of at most four bytes.
-    #[inline(always)]
-    pub(crate) fn set_few(&mut self, text: &str)
-        requires few { length text.now ≤ 4 }
-        requires kept { shows_as_space text.now ≡ false }
-        ensures text { text_bytes self.new ≡ cell_text text.now }
-        ensures columns { (wide : Bool) → columns_of self.new wide ≡ (if wide then 2 else 1) }
+    // How many columns the text takes.
+    pub(crate) fn columns(&self) -> usize
+        ensures { result ≡ columns_of self.now }
     {
-        *self = CellText::Few(FewText::of(text));
-    }
-
-    // How many columns the text takes where wide ones take two.
-    pub(crate) fn columns(&self, wide: bool) -> usize
-        ensures { result ≡ columns_of self.now wide }
-    {
-        match self {
-            CellText::Letter(_) => 1,
-            _ => { if wide { 2 } else { 1 } }
-        }
+        if self.wide { 2 } else { 1 }
     }
 
     pub(crate) fn as_str(&self) -> &str
         ensures { result.now ≡ text_bytes self.now }
     {
-        match self {
-            CellText::Letter(letter) => letter.as_str(),
-            CellText::Few(text) => text.as_str(),
-            CellText::Short(text) => text.as_str(),
-            CellText::Owned(text) => text.as_str(),
+        match &self.long {
+            LongText::Absent => self.few.as_str(),
+            LongText::Short(text) => text.as_str(),
+            LongText::Owned(text) => text.as_str(),
         }
     }
 
     pub(crate) fn try_clone(&self) -> Result<CellText, AllocError>
         ensures text { IfOk result (λ copy. text_bytes copy ≡ text_bytes self.now) }
-        ensures columns { IfOk result (λ copy. (wide : Bool) → columns_of copy wide ≡ columns_of self.now wide) }
+        ensures columns { IfOk result (λ copy. columns_of copy ≡ columns_of self.now) }
+    {
+        Ok(CellText {
+            few: self.few,
+            wide: self.wide,
+            long: self.long.try_clone()?,
+        })
+    }
+}
+
+impl LongText {
+    // The text, of more than four bytes.
+    #[inline(always)]
+    fn new(alloc: Global, text: &str) -> Result<LongText, AllocError>
+        ensures { IfOk result (λ long. (few : List ℕ) → long_bytes few long ≡ text.now) }
+    {
+        match ShortText::new(text) {
+            Some(short) => Ok(LongText::Short(short)),
+            None => Ok(LongText::Owned(String::from_str(alloc, text)?)),
+        }
+    }
+
+    fn try_clone(&self) -> Result<LongText, AllocError>
+        ensures { IfOk result (λ copy. (few : List ℕ) → long_bytes few copy ≡ long_bytes few self.now) }
     {
         match self {
-            CellText::Letter(letter) => Ok(CellText::Letter(*letter)),
-            CellText::Few(text) => Ok(CellText::Few(*text)),
-            CellText::Short(text) => Ok(CellText::Short(*text)),
-            CellText::Owned(text) => Ok(CellText::Owned(text.clone()?)),
+            LongText::Absent => Ok(LongText::Absent),
+            LongText::Short(text) => Ok(LongText::Short(*text)),
+            LongText::Owned(text) => Ok(LongText::Owned(text.clone()?)),
         }
     }
 }

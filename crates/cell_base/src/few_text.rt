@@ -1,5 +1,5 @@
 //! Texts of a few bytes.
-ghost use Rattle.std.specs.Prelude.{◌≡◌, ◌≤◌, take, length};
+ghost use Rattle.std.specs.Prelude.{◌≡◌, ◌≤◌, ◌<◌, [], ◌∷◌, take, length, IfSome};
 ghost use Rattle.std.specs.Str.{IsUtf8};
 
 use std::str;
@@ -22,8 +22,8 @@ fn padded(bytes: &[u8]) -> [u8; 4]
 // A text of at most four bytes, which lie in the value itself: of one character, mostly.
 #[derive(Debug, Clone, Copy)]
 pub(crate) struct FewText {
-    pub(crate) bytes: [u8; 4],
     pub(crate) len: u8,
+    pub(crate) bytes: [u8; 4],
     ghost fits: { len ≤ 4 },
     ghost text: { ∥ IsUtf8 (take len bytes) ∥₁ },
 }
@@ -36,8 +36,62 @@ impl FewText {
         ensures { take result.len result.bytes ≡ text.now }
     {
         FewText {
-            bytes: padded(text.as_bytes()),
             len: text.len() as u8,
+            bytes: padded(text.as_bytes()),
+        }
+    }
+
+    // The first bytes of a text, of which there are at most four. Four are copied at once, so that
+    // nothing is answered where the text is shorter.
+    #[inline(always)]
+    pub(crate) fn of_front(text: &str, len: usize) -> Option<FewText>
+        requires few { len ≤ 4 }
+        requires cut { IsUtf8 (take len text.now) }
+        ensures { IfSome result (λ few. take few.len few.bytes ≡ take len text.now) }
+    {
+        match text.as_bytes() {
+            [a, b, c, d, ..] => Some(FewText {
+                len: len as u8,
+                bytes: [*a, *b, *c, *d],
+            }),
+            _ => None,
+        }
+    }
+
+    // The text of one ASCII character.
+    #[inline(always)]
+    pub(crate) fn of_ascii(byte: u8) -> FewText
+        requires { byte < 128 }
+        ensures { take result.len result.bytes ≡ byte ∷ [] }
+    {
+        FewText {
+            len: 1,
+            bytes: [byte, 0, 0, 0],
+        }
+    }
+
+    // The same, with the bytes behind it that are there.
+    #[inline(always)]
+    pub(crate) fn with_ascii(&self, byte: u8) -> FewText
+        requires { byte < 128 }
+        ensures { take result.len result.bytes ≡ byte ∷ [] }
+    {
+        let [_, b, c, d] = self.bytes;
+        FewText {
+            len: 1,
+            bytes: [byte, b, c, d],
+        }
+    }
+
+    // A space, with the last bytes that are there: what is written is one move of four bytes, with what stands before it.
+    #[inline(always)]
+    pub(crate) fn with_space(&self) -> FewText
+        ensures { take result.len result.bytes ≡ 32 ∷ [] }
+    {
+        let [_, _, c, d] = self.bytes;
+        FewText {
+            len: 1,
+            bytes: [b' ', 0, c, d],
         }
     }
 

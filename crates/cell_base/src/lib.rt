@@ -14,7 +14,6 @@ mod columns;
 mod few_text;
 mod hyperlink;
 pub mod laws;
-mod letter;
 mod link_error;
 mod link_reading;
 mod ranges;

@@ -5,6 +5,7 @@ ghost use Rattle.std.proofs.Common.{arith};
 ghost use Rattle.cell_base.specs.Cluster.{program_width, program_width_le, program_width-space};
 ghost use Rattle.cell_base.specs.KnownWidths.{is_eastern_letter, is_western_letter};
 ghost use Rattle.std.specs.Int.{is_in_range};
+ghost use Rattle.text_clusters.specs.Apart.{stands_apart};
 ghost use Rattle.text_clusters.specs.Plain.{is_printable};
 
 use unicode_width::{UnicodeWidthChar, UnicodeWidthStr};
@@ -25,6 +26,17 @@ pub trait Widths {
     {
         let mut buffer = [0u8; 4];
         self.width(character.encode_utf8(&mut buffer))
+    }
+
+    /// The columns of a character by itself, if it is one of those of which they are known without a look at a table and that
+    /// stand apart, so that a boundary of clusters lies between any two of them. To answer `None` is never wrong.
+    fn letter_columns(&self, character: char) -> Option<u8>
+        ensures value { IfSome result (λ columns. columns ≡ width_of self.now (encode_utf8 character)) }
+        ensures some { IfSome result (λ columns. 1 ≤ columns) }
+        ensures apart { IfSome result (λ columns. stands_apart character ≡ true) }
+    {
+        let _character = character;
+        None
     }
 
     /// Whether it is known that each printable ASCII character (20h to 7Eh) by itself takes one
@@ -72,6 +84,15 @@ impl Widths for ProgramWidth {
             Some(columns) => columns,
             None => lone_columns(character),
         }
+    }
+
+    #[inline(always)]
+    fn letter_columns(&self, character: char) -> Option<u8>
+        ensures value { IfSome result (λ columns. columns ≡ program_width (encode_utf8 character)) }
+        ensures some { IfSome result (λ columns. 1 ≤ columns) }
+        ensures apart { IfSome result (λ columns. stands_apart character ≡ true) }
+    {
+        known_columns(character)
     }
 
     fn has_narrow_ascii(&self) -> bool
@@ -134,7 +155,9 @@ fn is_in(code: u32, first: u32, last: u32) -> bool
 // The columns of a character of which they are known without a look at the table: of most letters.
 #[inline(always)]
 fn known_columns(character: char) -> Option<u8>
-    ensures { IfSome result (λ columns. columns ≡ program_width (encode_utf8 character)) }
+    ensures value { IfSome result (λ columns. columns ≡ program_width (encode_utf8 character)) }
+    ensures some { IfSome result (λ columns. 1 ≤ columns) }
+    ensures apart { IfSome result (λ columns. stands_apart character ≡ true) }
 {
     let code = character as u32;
     if is_eastern_letter(code) {

@@ -1,18 +1,19 @@
 -- Characters that stand apart, as cells.
-use Rattle.std.proofs.Common.{◌≡◌, ℕ, ◌<◌, ◌≤◌, true, false, List, [], ◌∷◌, ◌++◌, length, take, drop, set, refl, sym, ap, ◌∙◌, arith, inl, inr}
+use Rattle.std.proofs.Common.{◌≡◌, ℕ, ◌<◌, ◌≤◌, true, false, List, [], ◌∷◌, ◌++◌, ◌-◌, IsUtf8, length, length-append, take, drop, set, refl, sym, ap, ◌∙◌, arith, inl, inr}
 use Rattle.std.specs.Prelude.{◌+◌, ◌/◌, ◌%◌, nat_lt, nat_le, max, if◌then◌else◌}
 use Rattle.std.specs.Char.{encode_utf8}
 use Rattle.std.proofs.lemmas.Bool.{ltb-true}
 use Rattle.std.proofs.lemmas.Bool.Decides.{leb_tells, nat_tests}
-use Rattle.std.proofs.lemmas.List.{length-set, length-take-le, take_at}
-use Rattle.std.proofs.lemmas.Str.{encode_ascii}
-use Rattle.text_clusters.specs.Apart.{stands_apart}
+use Rattle.std.proofs.lemmas.List.{length-take-le, take_at}
+use Rattle.std.proofs.lemmas.Str.{encode_ascii, IsUtf8-take}
+use Rattle.text_clusters.specs.Apart.{stands_apart, BeginsWith}
+use Rattle.text_clusters.proofs.ApartLemmas.{lone_seam}
 use Rattle.cell_base.specs.Attributes.{Attributes}
 use Rattle.cell_base.specs.CellContent.{CellContent, blank_cell, cell_of, is_control, row_of_cells, shows_as_space}
 use Rattle.cell_base.specs.Row.{set_columns}
 use Rattle.cell_edits.specs.CellList.{cell_columns, ends_halved}
 use Rattle.cell_edits.specs.RowEdits.{cut, cut_front}
-use Rattle.cell_edits.proofs.CellLemmas.{by_test}
+use Rattle.cell_edits.proofs.CellLemmas.{before_clean, behind_clean, by_test}
 use Rattle.cell_edits.proofs.CutLemmas.{between_narrow, between_wide, columns_narrow, columns_wide, set_one, set_two, whole_narrow, whole_wide}
 
 low : (c : ℕ) → c < 128 → stands_apart c ≡ true → is_control c ≡ false
@@ -90,3 +91,57 @@ module _ (cells x : List CellContent) (at : ℕ) (cell : CellContent) (whole : e
     wide_whole =
         let n = length-take-le at x (omega arith) in
         whole_wide (take at x) (drop (at + 2) x) cell blank _ (at + 2) (omega arith) (set_two x at cell blank (omega arith)) whole wide
+
+-- ---- a character that is set where no wide cell's columns stand on both sides of its place, nor of the place behind it
+
+module _ (cells new : List CellContent) (at width : ℕ) (text : List ℕ) (a : Attributes) (whole : ends_halved (take at cells) ≡ false) (clear : ends_halved (take (at + (width - 1) + 1) cells) ≡ false) (fits : at + width ≤ length cells) where
+  before : row_of_cells (take at cells) ≡ cut at (row_of_cells cells)
+  before = before_clean cells at whole
+
+  behind : (n : ℕ) → at + (width - 1) + 1 ≡ n → row_of_cells (drop n cells) ≡ cut_front n (row_of_cells cells)
+  behind n e = behind_clean cells n (ap (λ m. ends_halved (take m cells)) (sym e) ∙ clear)
+
+  module _ (two : width ≡ 2) (kept : shows_as_space text ≡ false) (made : new ≡ set (set cells (at + 1) (blank_cell a)) at (cell_of text width a)) where
+    wide : nat_le 2 (cell_of text width a).width ≡ true
+    wide = ap (λ n. nat_le 2 (cell_of text n a).width) two ∙ lone_wide text a kept
+
+    pub wide_front : row_of_cells new ≡ set_columns (row_of_cells cells) at (cell_columns (cell_of text width a))
+    wide_front =
+        let on : at + (width - 1) + 1 ≡ at + 2 = omega arith in
+        ap row_of_cells made ∙ wide_row cells cells at (cell_of text width a) whole before (blank_cell a) wide (omega arith) (behind (at + 2) on)
+
+    pub wide_front_whole : ends_halved (take (at + width) new) ≡ false
+    wide_front_whole =
+        let on : at + width ≡ at + 2 = omega arith in
+        (λ i. ends_halved (take (on i) (made i))) ∙ wide_whole cells cells at (cell_of text width a) whole before (blank_cell a) wide (omega arith)
+
+  module _ (one : width ≡ 1) (made : new ≡ set cells at (cell_of text width a)) where
+    narrow : nat_le 2 (cell_of text width a).width ≡ false
+    narrow = ap (λ n. nat_le 2 (cell_of text n a).width) one ∙ lone_narrow text a
+
+    pub narrow_front : row_of_cells new ≡ set_columns (row_of_cells cells) at (cell_columns (cell_of text width a))
+    narrow_front =
+        let on : at + (width - 1) + 1 ≡ at + 1 = omega arith in
+        ap row_of_cells made ∙ narrow_row cells cells at (cell_of text width a) whole before narrow (omega arith) (behind (at + 1) on)
+
+    pub narrow_front_whole : ends_halved (take (at + width) new) ≡ false
+    narrow_front_whole =
+        let on : at + width ≡ at + 1 = omega arith in
+        (λ i. ends_halved (take (on i) (made i))) ∙ narrow_whole cells cells at (cell_of text width a) whole before narrow (omega arith)
+
+-- its bytes
+module _ (text : List ℕ) (c n : ℕ) (b : BeginsWith text c n) where
+  pub first_bytes : take n text ≡ encode_utf8 c
+  first_bytes = ap (take n) b.whole ∙ take_at (encode_utf8 c) b.rest n (sym b.bytes)
+
+  pub first_few : n ≤ 4
+  first_few = let few = lone_few c in let l = b.bytes in omega arith
+
+  pub first_inside : n ≤ length text
+  first_inside = let l = b.bytes in let all = ap length b.whole in let both = length-append (encode_utf8 c) b.rest in omega arith
+
+  pub first_utf8 : IsUtf8 text → IsUtf8 (take n text)
+  first_utf8 u = IsUtf8-take text n u (lone_seam text text text c n u b)
+
+  pub first_kept : shows_as_space (take n text) ≡ false
+  first_kept = ap shows_as_space first_bytes ∙ lone_kept c b.stands

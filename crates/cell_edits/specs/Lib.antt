@@ -1,5 +1,6 @@
 pub mod CellList
 pub mod Links
+pub mod LoneText
 pub mod RowEdits
 pub mod ShownCells
 pub mod TextRuns

@@ -32,10 +32,19 @@ pub fn is_halved(cells: &[Cell], at: usize) -> bool
     if at == 0 {
         return false;
     }
-    if cells[at - 1].width() < 2 {
+    is_halved_behind(cells, at - 1)
+}
+
+// The same behind the cell at a place.
+#[inline(always)]
+pub(crate) fn is_halved_behind(cells: &[Cell], place: usize) -> bool
+    requires { place < length cells.now }
+    ensures { result ≡ ends_halved (take (place + 1) cells.now) }
+{
+    if cells[place].width() < 2 {
         return false;
     }
-    is_halved_behind_wide(cells, at)
+    is_halved_behind_wide(cells, place + 1)
 }
 
 // The same where a wide cell is stored before `at`, by the run of wide cells there.
@@ -110,48 +119,7 @@ fn cut_at(cells: &mut Vec<Cell>, at: usize) -> Result<(), AllocError>
     Ok(())
 }
 
-// The same where it may be known already that there is no such cell.
-#[inline(always)]
-fn cut_unless_whole(cells: &mut Vec<Cell>, at: usize, is_whole: bool) -> Result<(), AllocError>
-    requires within { at ≤ vec_len cells.old }
-    requires known { is_whole ≡ true → ends_halved (take at cells.old.items) ≡ false }
-    ensures len { vec_len cells.new ≡ vec_len cells.old }
-    ensures whole { OnOk result (ends_halved (take at cells.new.items) ≡ false) }
-    ensures before { OnOk result (row_of_cells (take at cells.new.items) ≡ cut at (row_of_cells cells.old.items)) }
-    ensures behind { OnOk result (row_of_cells (drop at cells.new.items) ≡ cut_front at (row_of_cells cells.old.items)) }
-{
-    if is_whole {
-        return Ok(());
-    }
-    cut_at(cells, at)?;
-    Ok(())
-}
-
-// Wide cells whose columns stand on both sides of `start`, or of `end`, become blanks; it may be known already that none stands
-// so at `start`.
-#[inline(always)]
-pub(crate) fn open_from(
-    cells: &mut Vec<Cell>,
-    start: usize,
-    end: usize,
-    is_whole: bool,
-) -> Result<(), AllocError>
-    requires order { start ≤ end }
-    requires within { end ≤ vec_len cells.old }
-    requires known { is_whole ≡ true → ends_halved (take start cells.old.items) ≡ false }
-    ensures len { vec_len cells.new ≡ vec_len cells.old }
-    ensures whole { OnOk result (ends_halved (take start cells.new.items) ≡ false) }
-    ensures before { OnOk result (row_of_cells (take start cells.new.items) ≡ cut start (row_of_cells cells.old.items)) }
-    ensures behind { OnOk result (row_of_cells (drop end cells.new.items) ≡ cut_front end (row_of_cells cells.old.items)) }
-{
-    cut_unless_whole(cells, start, is_whole)?;
-    if start < end {
-        cut_at(cells, end)?;
-    }
-    Ok(())
-}
-
-// The same where nothing is known.
+// Wide cells whose columns stand on both sides of `start`, or of `end`, become blanks.
 pub(crate) fn open(cells: &mut Vec<Cell>, start: usize, end: usize) -> Result<(), AllocError>
     requires order { start ≤ end }
     requires within { end ≤ vec_len cells.old }
@@ -160,7 +128,10 @@ pub(crate) fn open(cells: &mut Vec<Cell>, start: usize, end: usize) -> Result<()
     ensures before { OnOk result (row_of_cells (take start cells.new.items) ≡ cut start (row_of_cells cells.old.items)) }
     ensures behind { OnOk result (row_of_cells (drop end cells.new.items) ≡ cut_front end (row_of_cells cells.old.items)) }
 {
-    open_from(cells, start, end, false)?;
+    cut_at(cells, start)?;
+    if start < end {
+        cut_at(cells, end)?;
+    }
     Ok(())
 }
 

@@ -1,20 +1,23 @@
 //! Columns of a row that are set at once: blanks, and the cells of a text as far as they fit.
-ghost use Rattle.std.specs.Prelude.{◌≡◌, ◌+◌, ◌-◌, ◌≤◌, ◌<◌, ◌++◌, [], ◌∷◌, true, false, None, max, length, take, drop, map, replicate, slice_set, vec_len, encode_utf8, OnOk, IfOk, IfSome, MatchOption};
+ghost use Rattle.std.specs.Prelude.{◌≡◌, ◌+◌, ◌-◌, ◌≤◌, ◌<◌, ◌++◌, [], ◌∷◌, true, false, None, length, take, drop, replicate, slice_set, vec_len, OnOk, IfOk, IfSome, IsTrue, MatchOption};
 ghost use Rattle.std.specs.List.{list_all};
-ghost use Rattle.text_clusters.specs.Apart.{BeginsWith, stands_apart};
+ghost use Rattle.std.specs.Str.{IsCharBoundary, IsUtf8};
+ghost use Rattle.text_clusters.specs.Apart.{begins_apart};
 ghost use Rattle.text_clusters.specs.Plain.{is_printable};
 ghost use Rattle.cell_base.specs.Attributes.{Attributes};
 ghost use Rattle.cell_base.specs.CellContent.{row_of_cells, blank_cell, cell_of, shows_as_space};
 ghost use Rattle.cell_base.specs.Row.{set_columns, blank};
 ghost use Rattle.cell_edits.specs.CellList.{cell_columns, ends_halved};
+ghost use Rattle.cell_edits.specs.LoneText.{BeginsLone};
 ghost use Rattle.cell_edits.specs.RowEdits.{overlaid};
 ghost use Rattle.cell_edits.specs.TextRuns.{place_behind, plain_cells, text_on, text_left, Leads, Stops};
 
-use crate::row::{open, open_from, push_blanks_with};
+use crate::row::{is_halved, is_halved_behind, open, push_blanks_with};
 use cell_base::{Cell, CellAttributes, Widths};
 use std::alloc::{AllocError, Global};
 use text_clusters::{
-    begins_plainly, first_apart, split_first_cluster, split_lone, split_printable,
+    begins_apart, begins_plainly, begins_printable, first_character, split_first_cluster,
+    split_printable, stands_apart,
 };
 
 // The cell at a place becomes that of a printable character.
@@ -31,15 +34,6 @@ fn put_ascii(
     ensures items { OnOk result (cells.new.items ≡ slice_set cells.old.items at (cell_of (character ∷ []) 1 attrs.now)) }
 {
     cells[at].set_ascii(character, attrs)
-}
-
-// Whether a character is a printable ASCII one (20h to 7Eh).
-#[inline(always)]
-fn is_printable(character: char) -> bool
-    ensures { result ≡ is_printable character }
-{
-    let code = character as u32;
-    0x20 <= code && code < 0x7f
 }
 
 // The cell at a place becomes a space.
@@ -73,25 +67,6 @@ fn put_ascii_without_link(cells: &mut [Cell], at: usize, character: u8, attrs: &
     cells[at].set_ascii_without_link(character, attrs);
 }
 
-// The cell at a place becomes that of a cluster of at most four bytes, with attributes without a link.
-#[inline(always)]
-fn put_few_without_link(
-    cells: &mut [Cell],
-    at: usize,
-    cluster: &str,
-    width: usize,
-    attrs: &CellAttributes,
-)
-    requires most { width ≤ 2 }
-    requires few { length cluster.now ≤ 4 }
-    requires kept { shows_as_space cluster.now ≡ false }
-    requires within { at < length cells.old }
-    requires unlinked { attrs.now.hyperlink ≡ None }
-    ensures { cells.new ≡ slice_set cells.old at (cell_of cluster.now width attrs.now) }
-{
-    cells[at].set_few_without_link(cluster, width, attrs);
-}
-
 // The cell at a place becomes that of a cluster.
 #[inline(always)]
 fn put_cluster(
@@ -110,7 +85,18 @@ fn put_cluster(
     cells[at].set_grapheme_with_width(alloc, cluster, width, attrs)
 }
 
-// Blanks with attributes without a link stand in the places of a range.
+// Blanks with attributes without a link stand in all places.
+#[inline(always)]
+fn fill_without_link(cells: &mut [Cell], attrs: &CellAttributes)
+    requires { attrs.now.hyperlink ≡ None }
+    ensures { cells.new ≡ replicate (length cells.old) (blank_cell attrs.now) }
+{
+    for cell in cells.iter_mut() {
+        cell.set_blank_without_link(attrs);
+    }
+}
+
+// The same in the places of a range.
 #[inline(always)]
 fn write_blanks_without_link(cells: &mut [Cell], start: usize, end: usize, attrs: &CellAttributes)
     requires order { start ≤ end }
@@ -118,9 +104,7 @@ fn write_blanks_without_link(cells: &mut [Cell], start: usize, end: usize, attrs
     requires unlinked { attrs.now.hyperlink ≡ None }
     ensures { cells.new ≡ take start cells.old ++ replicate (end - start) (blank_cell attrs.now) ++ drop end cells.old }
 {
-    for at in start..end {
-        put_blank_without_link(cells, at, attrs);
-    }
+    fill_without_link(&mut cells[start..end], attrs);
 }
 
 // Blanks stand in the places of a range.
@@ -327,198 +311,171 @@ fn write_cluster(
     Ok(())
 }
 
-// How many columns a character takes by itself; none count as one.
+// The first character of a text, where it stands apart: of how many bytes it is, and how many columns it takes by itself, of which
+// none count as one.
 #[inline(always)]
-fn lone_columns<W: Widths>(character: char, w: &W) -> usize
-    ensures value { result ≡ max 1 (W.width_of w.now (encode_utf8 character)) }
-    ensures most { result ≤ 2 }
+fn first_lone<W: Widths>(text: &str, w: &W) -> Option<(usize, usize)>
+    ensures lone { IfSome result (λ first. BeginsLone (W.width_of w.now) text.now first.0 first.1) }
+    ensures cut { IfSome result (λ first. IsCharBoundary text.now first.0) }
+    ensures apart { IfSome result (λ first. begins_apart text.now ≡ true) }
 {
-    if is_printable(character) && w.has_narrow_ascii() {
-        return 1;
+    if begins_printable(text) && w.has_narrow_ascii() {
+        return Some((1, 1));
     }
-    usize::from(w.character_width(character)).max(1)
-}
-
-// The cell at a place becomes that of a character of one column that stands apart, with attributes without a link.
-#[inline(always)]
-fn put_narrow(cells: &mut [Cell], at: usize, character: char, text: &str, attrs: &CellAttributes)
-    requires lone { text.now ≡ encode_utf8 character }
-    requires apart { stands_apart character ≡ true }
-    requires within { at < length cells.old }
-    requires unlinked { attrs.now.hyperlink ≡ None }
-    ensures { cells.new ≡ slice_set cells.old at (cell_of text.now 1 attrs.now) }
-{
-    if is_printable(character) {
-        put_ascii_without_link(cells, at, character as u8, attrs);
-    } else {
-        put_few_without_link(cells, at, text, 1, attrs);
+    let (character, len) = first_character(text)?;
+    if let Some(columns) = w.letter_columns(character) {
+        return Some((len, usize::from(columns)));
     }
+    if stands_apart(character) {
+        return Some((len, usize::from(w.character_width(character)).max(1)));
+    }
+    None
 }
 
-// The same of one of two columns, with a blank behind it.
+// The cell at a place becomes that of the cluster that is the first bytes of a text, with attributes without a link.
 #[inline(always)]
-fn put_wide(cells: &mut [Cell], at: usize, character: char, text: &str, attrs: &CellAttributes)
-    requires lone { text.now ≡ encode_utf8 character }
-    requires apart { stands_apart character ≡ true }
-    requires within { at + 1 < length cells.old }
-    requires unlinked { attrs.now.hyperlink ≡ None }
-    ensures { cells.new ≡ slice_set (slice_set cells.old (at + 1) (blank_cell attrs.now)) at (cell_of text.now 2 attrs.now) }
-{
-    let _character = character;
-    put_blank_without_link(cells, at + 1, attrs);
-    put_few_without_link(cells, at, text, 2, attrs);
-}
-
-// The cell of a character of one column that stands apart takes its column at `at`, where it may be known that no wide cell's
-// columns stand on both sides of `at`; behind it none stands so.
-#[inline(always)]
-fn write_narrow(
-    cells: &mut Vec<Cell>,
+fn put_front(
+    cells: &mut [Cell],
     at: usize,
-    is_whole: bool,
-    character: char,
     text: &str,
-    attrs: &CellAttributes,
-) -> Result<(), AllocError>
-    requires lone { text.now ≡ encode_utf8 character }
-    requires apart { stands_apart character ≡ true }
-    requires within { at + 1 ≤ vec_len cells.old }
-    requires unlinked { attrs.now.hyperlink ≡ None }
-    requires known { is_whole ≡ true → ends_halved (take at cells.old.items) ≡ false }
-    ensures len { vec_len cells.new ≡ vec_len cells.old }
-    ensures whole { OnOk result (ends_halved (take (at + 1) cells.new.items) ≡ false) }
-    ensures row { OnOk result (row_of_cells cells.new.items ≡ set_columns (row_of_cells cells.old.items) at (cell_columns (cell_of text.now 1 attrs.now))) }
-{
-    open_from(cells, at, at + 1, is_whole)?;
-    put_narrow(cells, at, character, text, attrs);
-    Ok(())
-}
-
-// The same of one of two columns.
-#[inline(always)]
-fn write_wide(
-    cells: &mut Vec<Cell>,
-    at: usize,
-    is_whole: bool,
-    character: char,
-    text: &str,
-    attrs: &CellAttributes,
-) -> Result<(), AllocError>
-    requires lone { text.now ≡ encode_utf8 character }
-    requires apart { stands_apart character ≡ true }
-    requires within { at + 2 ≤ vec_len cells.old }
-    requires unlinked { attrs.now.hyperlink ≡ None }
-    requires known { is_whole ≡ true → ends_halved (take at cells.old.items) ≡ false }
-    ensures len { vec_len cells.new ≡ vec_len cells.old }
-    ensures whole { OnOk result (ends_halved (take (at + 2) cells.new.items) ≡ false) }
-    ensures row { OnOk result (row_of_cells cells.new.items ≡ set_columns (row_of_cells cells.old.items) at (cell_columns (cell_of text.now 2 attrs.now))) }
-{
-    open_from(cells, at, at + 2, is_whole)?;
-    put_wide(cells, at, character, text, attrs);
-    Ok(())
-}
-
-// The same of one of so many columns.
-#[inline(always)]
-fn write_lone(
-    cells: &mut Vec<Cell>,
-    at: usize,
-    is_whole: bool,
-    character: char,
-    text: &str,
+    len: usize,
     width: usize,
     attrs: &CellAttributes,
-) -> Result<(), AllocError>
-    requires lone { text.now ≡ encode_utf8 character }
-    requires apart { stands_apart character ≡ true }
+)
+    requires most { width ≤ 2 }
+    requires few { len ≤ 4 }
+    requires inside { len ≤ length text.now }
+    requires cut { IsUtf8 (take len text.now) }
+    requires kept { shows_as_space (take len text.now) ≡ false }
+    requires within { at < length cells.old }
+    requires unlinked { attrs.now.hyperlink ≡ None }
+    ensures { cells.new ≡ slice_set cells.old at (cell_of (take len text.now) width attrs.now) }
+{
+    cells[at].set_front_without_link(text, len, width, attrs);
+}
+
+// The cell of the cluster that is the first bytes of a text takes its columns, one or two, from `at` on, where no wide cell's
+// columns stand on both sides of `at`. Nothing is written, and `false` is answered, where those of one stand on both sides of what
+// it takes.
+#[inline(always)]
+fn write_front(
+    cells: &mut [Cell],
+    at: usize,
+    text: &str,
+    len: usize,
+    width: usize,
+    attrs: &CellAttributes,
+) -> bool
     requires some { 1 ≤ width }
     requires most { width ≤ 2 }
-    requires within { at + width ≤ vec_len cells.old }
+    requires few { len ≤ 4 }
+    requires inside { len ≤ length text.now }
+    requires cut { IsUtf8 (take len text.now) }
+    requires kept { shows_as_space (take len text.now) ≡ false }
+    requires within { at + width ≤ length cells.old }
     requires unlinked { attrs.now.hyperlink ≡ None }
-    requires known { is_whole ≡ true → ends_halved (take at cells.old.items) ≡ false }
-    ensures len { vec_len cells.new ≡ vec_len cells.old }
-    ensures whole { OnOk result (ends_halved (take (at + width) cells.new.items) ≡ false) }
-    ensures row { OnOk result (row_of_cells cells.new.items ≡ set_columns (row_of_cells cells.old.items) at (cell_columns (cell_of text.now width attrs.now))) }
+    requires whole { ends_halved (take at cells.old) ≡ false }
+    ensures len { length cells.new ≡ length cells.old }
+    ensures kept { result ≡ false → cells.new ≡ cells.old }
+    ensures whole { IsTrue result → ends_halved (take (at + width) cells.new) ≡ false }
+    ensures row { IsTrue result → row_of_cells cells.new ≡ set_columns (row_of_cells cells.old) at (cell_columns (cell_of (take len text.now) width attrs.now)) }
 {
-    match width {
-        1 => write_narrow(cells, at, is_whole, character, text, attrs)?,
-        _ => write_wide(cells, at, is_whole, character, text, attrs)?,
+    if is_halved_behind(cells, at + (width - 1)) {
+        return false;
     }
-    Ok(())
+    if width == 2 {
+        put_blank_without_link(cells, at + 1, attrs);
+    }
+    put_front(cells, at, text, len, width, attrs);
+    true
 }
 
-// Sets the first character of a text, which stands apart and has so many bytes, if it is a cluster by itself and fits before
-// `end`, where it may be known that no wide cell's columns stand on both sides of `at`; answers the next column, the rest, and
-// the first character of the rest, where that stands apart.
+// Sets the first character of a text, which is a cluster by itself, if it fits before `end` and halves no wide cell, where no wide
+// cell's columns stand on both sides of `at`. Answers whether it is set.
 #[inline(always)]
-fn set_lone<'a, W: Widths>(
-    cells: &mut Vec<Cell>,
+fn set_lone<W: Widths>(
+    cells: &mut [Cell],
     at: usize,
     end: usize,
-    is_whole: bool,
-    text: &'a str,
-    first: (char, usize),
+    text: &str,
+    first: (usize, usize),
     attrs: &CellAttributes,
     w: &W,
-) -> Result<Option<(usize, &'a str, Option<(char, usize)>)>, AllocError>
-    requires first { BeginsWith text.now first.0 first.1 }
+) -> bool
+    requires lone { BeginsLone (W.width_of w.now) text.now first.0 first.1 }
+    requires apart { begins_apart (drop first.0 text.now) ≡ true }
     requires order { at ≤ end }
-    requires within { end ≤ vec_len cells.old }
+    requires within { end ≤ length cells.old }
     requires unlinked { attrs.now.hyperlink ≡ None }
-    requires known { is_whole ≡ true → ends_halved (take at cells.old.items) ≡ false }
-    ensures len { vec_len cells.new ≡ vec_len cells.old }
-    ensures whole { IfOk result (λ next. IfSome next (λ n. ends_halved (take n.0 cells.new.items) ≡ false)) }
-    ensures leads { IfOk result (λ next. MatchOption next
-        (row_of_cells cells.new.items ≡ row_of_cells cells.old.items)
-        (λ n. (at < n.0) × Leads (W.width_of w.now) end attrs.now (row_of_cells cells.old.items) at text.now (row_of_cells cells.new.items) n.0 n.1.now)) }
-    ensures first { IfOk result (λ next. IfSome next (λ n. IfSome n.2 (λ c. BeginsWith n.1.now c.0 c.1))) }
+    requires whole { ends_halved (take at cells.old) ≡ false }
+    ensures len { length cells.new ≡ length cells.old }
+    ensures kept { result ≡ false → cells.new ≡ cells.old }
+    ensures fits { IsTrue result → at + first.1 ≤ end }
+    ensures whole { IsTrue result → ends_halved (take (at + first.1) cells.new) ≡ false }
+    ensures leads { IsTrue result → Leads (W.width_of w.now) end attrs.now (row_of_cells cells.old) at text.now (row_of_cells cells.new) (at + first.1) (drop first.0 text.now) }
 {
-    let (character, len) = first;
-    let Some((cluster, rest, next)) = split_lone(text, character, len) else {
-        return Ok(None);
-    };
-    let width = lone_columns(character, w);
+    let _widths = w;
+    let (len, width) = first;
     if end - at < width {
-        return Ok(None);
+        return false;
     }
-    write_lone(cells, at, is_whole, character, cluster, width, attrs)?;
-    Ok(Some((at + width, rest, next)))
+    write_front(cells, at, text, len, width, attrs)
 }
 
-// Sets the characters at the front of a text that are clusters by themselves, as far as they fit before `end`, with attributes
-// without a link; answers the next column and the rest. Each character is decoded once. A function of its own, so that no other
-// loop takes its registers.
+// What stands behind so many bytes.
+#[inline(always)]
+fn behind(text: &str, len: usize) -> &str
+    requires { IsCharBoundary text.now len }
+    ensures { result.now ≡ drop len text.now }
+{
+    let (_, rest) = text.split_at(len);
+    rest
+}
+
+// Sets the characters at the front of a text that are clusters by themselves, as far as they fit before `end` and halve no wide
+// cell, with attributes without a link; answers the next column and the rest. Each character is decoded once. A function of its
+// own, so that no other loop takes its registers.
 #[inline(never)]
 fn set_lone_run<'a, W: Widths>(
-    cells: &mut Vec<Cell>,
+    cells: &mut [Cell],
     start: usize,
     end: usize,
     text: &'a str,
     attrs: &CellAttributes,
     w: &W,
-) -> Result<(usize, &'a str), AllocError>
+) -> (usize, &'a str)
     requires order { start ≤ end }
-    requires within { end ≤ vec_len cells.old }
+    requires within { end ≤ length cells.old }
     requires unlinked { attrs.now.hyperlink ≡ None }
-    ensures len { vec_len cells.new ≡ vec_len cells.old }
-    ensures leads { IfOk result (λ next. Leads (W.width_of w.now) end attrs.now (row_of_cells cells.old.items) start text.now (row_of_cells cells.new.items) next.0 next.1.now) }
+    ensures len { length cells.new ≡ length cells.old }
+    ensures leads { Leads (W.width_of w.now) end attrs.now (row_of_cells cells.old) start text.now (row_of_cells cells.new) result.0 result.1.now }
 {
-    let mut at = start;
-    let mut is_whole = false;
-    let mut left = text;
-    let mut next = first_apart(left);
-    while let Some(first) = next {
-        match set_lone(cells, at, end, is_whole, left, first, attrs, w)? {
-            None => return Ok((at, left)),
-            Some((place, rest, second)) => {
-                at = place;
-                is_whole = true;
-                left = rest;
-                next = second;
-            }
-        }
+    if is_halved(cells, start) {
+        return (start, text);
     }
-    Ok((at, left))
+    let Some(one) = first_lone(text, w) else {
+        return (start, text);
+    };
+    let mut at = start;
+    let mut left = text;
+    let mut first = one;
+    let mut rest = behind(left, first.0);
+    while let Some(next) = first_lone(rest, w) {
+        if !set_lone(cells, at, end, left, first, attrs, w) {
+            return (at, left);
+        }
+        at += first.1;
+        left = rest;
+        first = next;
+        rest = behind(left, first.0);
+    }
+    if !begins_apart(rest) {
+        return (at, left);
+    }
+    if !set_lone(cells, at, end, left, first, attrs, w) {
+        return (at, left);
+    }
+    (at + first.1, rest)
 }
 
 // The same with any attributes: where they have a link nothing is set.
@@ -530,17 +487,16 @@ fn set_lone_front<'a, W: Widths>(
     text: &'a str,
     attrs: &CellAttributes,
     w: &W,
-) -> Result<(usize, &'a str), AllocError>
+) -> (usize, &'a str)
     requires order { at ≤ end }
     requires within { end ≤ vec_len cells.old }
     ensures len { vec_len cells.new ≡ vec_len cells.old }
-    ensures leads { IfOk result (λ next. Leads (W.width_of w.now) end attrs.now (row_of_cells cells.old.items) at text.now (row_of_cells cells.new.items) next.0 next.1.now) }
+    ensures leads { Leads (W.width_of w.now) end attrs.now (row_of_cells cells.old.items) at text.now (row_of_cells cells.new.items) result.0 result.1.now }
 {
     if attrs.hyperlink().is_some() {
-        return Ok((at, text));
+        return (at, text);
     }
-    let (column, left) = set_lone_run(cells, at, end, text, attrs, w)?;
-    Ok((column, left))
+    set_lone_run(cells, at, end, text, attrs, w)
 }
 
 // Sets the first cluster of a text if it fits before `end`; answers the next column and the rest.
@@ -599,7 +555,7 @@ pub fn set_text<'a, W: Widths>(
     let mut left = text;
     while at < end {
         let (place, rest) = set_plain_front(cells, at, end, left, attrs, w)?;
-        let (place, rest) = set_lone_front(cells, place, end, rest, attrs, w)?;
+        let (place, rest) = set_lone_front(cells, place, end, rest, attrs, w);
         match set_first_cluster(alloc, cells, place, end, rest, attrs, w)? {
             None => return Ok((place, rest)),
             Some((next, behind)) => {

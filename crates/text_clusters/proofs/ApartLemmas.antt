@@ -1,8 +1,8 @@
 -- A character that stands apart is a cluster by itself where another such one follows, or none.
 use Rattle.std.proofs.Common.{◌≡◌, ℕ, zero, suc, ◌+◌, ◌-◌, ◌<◌, ◌≤◌, Bool, true, false, not, ◌&&◌, ◌||◌, List, [], ◌∷◌, ◌++◌, length, map, take, drop, get_or, unwrap_or, IsUtf8, IsCharBoundary, refl, sym, ap, ap₂, subst, ◌∙◌, append-nil, length-append, arith, inl, inr}
-use Rattle.std.specs.Prelude.{nat_le, nat_lt, min, encode_utf8, encode_utf8_all, if◌then◌else◌}
+use Rattle.std.specs.Prelude.{Some, nat_le, nat_lt, min, encode_utf8, encode_utf8_all, if◌then◌else◌}
 use Rattle.std.specs.Int.{is_in_range}
-use Rattle.std.specs.List.{list_all, prefix_len}
+use Rattle.std.specs.List.{list_all, prefix_len, slice_get}
 use Rattle.std.specs.Str.{chars}
 use Rattle.std.proofs.lemmas.Bool.{false≢true, and_parts, or_cases, le-leb, lt-ltb, ltb-true, ltb-false}
 use Rattle.std.proofs.lemmas.List.{take_at, drop_at}
@@ -25,7 +25,7 @@ use Rattle.ucd_derived.proofs.IndicConjunctBreakLemmas.{indic_conjunct_break_ste
 use Rattle.ucd_emoji.specs.Binary.{is_extended_pictographic}
 use Rattle.unicode_segmentation.specs.Grapheme.{graphemes, break_by_pair, ends_in_linker, ends_in_pictograph, ends_in_half_flag, is_consonant, is_zwj, is_regional, is_grapheme_break}
 use Rattle.unicode_segmentation.specs.Segments.{segments}
-use Rattle.text_clusters.specs.Apart.{is_early, is_sign, is_eastern, is_later, is_late, stands_apart, is_flag_half, is_apart_first, begins_apart, BeginsWith, printable_len}
+use Rattle.text_clusters.specs.Apart.{is_early, is_sign, is_eastern, is_later, is_late, stands_apart, is_flag_half, is_apart_first, begins_apart, BeginsWith, BeginsPrintable, IsFirst, printable_len}
 use Rattle.text_clusters.specs.Plain.{is_printable, each}
 use Rattle.text_clusters.proofs.CharacterFacts.{is_conjunct_mark}
 use Rattle.text_clusters.proofs.CutLemmas.{by_test, breaks, pieces, forgets, cut_behind, cut_here, last_alone, pieces-nil}
@@ -263,6 +263,14 @@ module _ (text front back : List ℕ) (c n : ℕ) (u : IsUtf8 text) (b : BeginsW
     pub lone_before : (d m : ℕ) → BeginsWith back d m → graphemes true text ≡ front ∷ graphemes true back
     lone_before d m p = cut_before (begins_next d m p)
 
+-- a text that begins with one begins so
+pub begins_front : (text : List ℕ) (c n : ℕ) → IsUtf8 text → BeginsWith text c n → begins_apart text ≡ true
+unfolding begins_apart
+begins_front text c n u b = ap is_apart_first (chars_past_char text b.rest c u b.whole) ∙ ap (λ t. t || is_flag_half c) b.stands
+
+pub with_stands : (text : List ℕ) (c n : ℕ) → stands_apart c ≡ true → IsFirst text c n → BeginsWith text c n
+with_stands text c n s f = record { stands = s; bytes = f.bytes; rest = f.rest; whole = f.whole }
+
 -- ---- printable characters before those that stand apart
 
 printable_apart : (c : ℕ) → is_printable c ≡ true → stands_apart c ≡ true
@@ -285,6 +293,26 @@ ascii_cut c rest p b =
     ap (λ (cs : List ℕ). map encode_utf8_all (pieces [] cs)) (chars-ascii c rest (omega arith))
     ∙ ap (map encode_utf8_all) (apart_first c (chars rest) (printable_apart c p) b)
     ∙ ap (λ (g : List ℕ). (g ++ []) ∷ graphemes true rest) (encode_ascii c (omega arith))
+
+pub front_begins : (text : List ℕ) → 0 < prefix_len is_printable text → BeginsPrintable text
+front_begins [] h = absurd (omega arith)
+front_begins (c ∷ rest) h =
+    let p = front_printable c rest h in
+    let below = printable_below c p in
+    let e : encode_utf8 c ≡ c ∷ [] = encode_ascii c (omega arith) in
+    let one = ap length e in record {
+      character = c;
+      printable = p;
+      alone = e;
+      begins = record { stands = printable_apart c p; bytes = sym one; rest = rest; whole = ap (λ (s : List ℕ). s ++ rest) (sym e) };
+    }
+
+pub byte_begins : (text : List ℕ) (byte : ℕ) → slice_get text 0 ≡ Some byte → is_printable byte ≡ true → BeginsPrintable text
+byte_begins [] byte e p = cc
+byte_begins (c ∷ rest) byte e p =
+    let same : c ≡ byte = cc in
+    let some = front_len c rest (ap is_printable same ∙ p) in
+    front_begins (c ∷ rest) (omega arith)
 
 printable_at : (n : ℕ) (text : List ℕ) → n < prefix_len is_printable text → begins_apart (drop n text) ≡ true
 printable_at n [] h = absurd (omega arith)

@@ -56,12 +56,25 @@ apart_front (c ∷ cs) = if stands_apart c then Some c else None
 unfoldable pub first_apart : List ℕ → Option ℕ
 first_apart text = apart_front (chars text)
 
+-- the text begins with this character, which has so many bytes
+pub record IsFirst (text : List ℕ) (character len : ℕ) : Type 0 where
+  pub bytes : len ≡ length (encode_utf8 character)
+  pub rest : List ℕ
+  pub whole : text ≡ encode_utf8 character ++ rest
+
 -- the text begins with this character, which stands apart and has so many bytes
 pub record BeginsWith (text : List ℕ) (character len : ℕ) : Type 0 where
   pub stands : stands_apart character ≡ true
   pub bytes : len ≡ length (encode_utf8 character)
   pub rest : List ℕ
   pub whole : text ≡ encode_utf8 character ++ rest
+
+-- the text begins with a printable character
+pub record BeginsPrintable (text : List ℕ) : Type 0 where
+  pub character : ℕ
+  pub printable : is_printable character ≡ true
+  pub alone : encode_utf8 character ≡ character ∷ []
+  pub begins : BeginsWith text character 1
 
 -- how many printable characters stand at the front, less the last one where what is behind it may join it
 abbrev pub printable_len : List ℕ → ℕ

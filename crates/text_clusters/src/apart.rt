@@ -3,7 +3,7 @@ ghost use Rattle.std.specs.Prelude.{◌≡◌, ◌↔◌, true, false, [], ◌�
 ghost use Rattle.std.specs.Int.{is_in_range};
 ghost use Rattle.std.specs.Option.{option_map};
 ghost use Rattle.unicode_segmentation.specs.Grapheme.{graphemes};
-ghost use Rattle.text_clusters.specs.Apart.{is_early, is_sign, is_eastern, is_later, is_late, stands_apart, is_flag_half, begins_apart, first_apart as apart_character, BeginsWith};
+ghost use Rattle.text_clusters.specs.Apart.{is_early, is_sign, is_eastern, is_later, is_late, stands_apart, is_flag_half, begins_apart, first_apart as apart_character, BeginsWith, IsFirst};
 
 // Whether a number lies between two others, or is one of them.
 #[inline(always)]
@@ -61,10 +61,10 @@ fn is_late(code: u32) -> bool
     is_in(code, 0x1f000, 0x1f1e5) || is_in(code, 0x1f200, 0x1f3fa) || is_in(code, 0x1f400, 0x3ffff)
 }
 
-// Whether a character stands apart.
+/// Whether a character stands apart: between two of these lies a boundary of clusters.
 #[inline(always)]
 #[tactic(auto, unfolding(crate::specs::Apart::stands_apart))]
-fn stands_apart(character: char) -> bool
+pub fn stands_apart(character: char) -> bool
     ensures { result ≡ stands_apart character }
 {
     let code = character as u32;
@@ -97,16 +97,27 @@ fn joins_none(character: char) -> bool
     stands_apart(character) || is_flag_half(character as u32)
 }
 
-// Whether the text is empty or begins with a character that joins none before it that stands apart: another such one, or half
-// of a flag.
+/// Whether the text is empty or begins with a character that joins none before it that stands apart: another such one, or half
+/// of a flag.
 #[inline(always)]
-pub(crate) fn begins_apart(text: &str) -> bool
+pub fn begins_apart(text: &str) -> bool
     ensures { result ≡ begins_apart text.now }
 {
     match text.chars().next() {
         None => true,
         Some(character) => joins_none(character),
     }
+}
+
+/// The first character of a text, and of how many bytes it is.
+#[inline(always)]
+pub fn first_character(text: &str) -> Option<(char, usize)>
+    ensures none { IsNone result ↔ (text.now ≡ []) }
+    ensures begins { IfSome result (λ first. IsFirst text.now first.0 first.1) }
+{
+    let mut characters = text.chars();
+    let first = characters.next()?;
+    Some((first, text.len() - characters.as_str().len()))
 }
 
 /// The first character of a text, where it stands apart, as most letters, ideographs, syllables and signs do, and printable

@@ -1,8 +1,8 @@
 //! The front of a text, cut off so that the clusters of the text are those of both parts.
-ghost use Rattle.std.specs.Prelude.{◌≡◌, ◌↔◌, ◌++◌, ◌∷◌, ◌&&◌, ◌==◌, [], true, not, nat_lt, min, length, map, take, drop, slice_index, IfSome, IsNone};
+ghost use Rattle.std.specs.Prelude.{◌≡◌, ◌↔◌, ◌++◌, ◌∷◌, ◌&&◌, ◌==◌, [], true, not, nat_lt, min, length, map, take, drop, slice_index, IfSome, IsNone, IsTrue};
 ghost use Rattle.std.specs.List.{list_all, prefix_len};
 ghost use Rattle.unicode_segmentation.specs.Grapheme.{graphemes};
-ghost use Rattle.text_clusters.specs.Apart.{printable_len as apart_len};
+ghost use Rattle.text_clusters.specs.Apart.{printable_len as apart_len, BeginsPrintable};
 ghost use Rattle.text_clusters.specs.Plain.{is_printable, each, plain_len};
 
 use crate::apart::{begins_apart, split_apart};
@@ -35,10 +35,11 @@ fn is_other_at(text: &str, place: usize) -> bool
     }
 }
 
-// Whether a printable ASCII character stands at the front.
+/// Whether a printable ASCII character (20h to 7Eh) stands at the front.
 #[inline(always)]
-fn begins_printable(text: &str) -> bool
-    ensures { result ≡ nat_lt 0 (prefix_len is_printable text.now) }
+pub fn begins_printable(text: &str) -> bool
+    ensures value { result ≡ nat_lt 0 (prefix_len is_printable text.now) }
+    ensures first { IsTrue result → BeginsPrintable text.now }
 {
     match text.as_bytes().first() {
         None => false,
