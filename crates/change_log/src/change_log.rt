@@ -6,6 +6,7 @@ ghost use Rattle.cell_change.specs.ValueOf.{value_of};
 ghost use Rattle.change_log.specs.Log.{due, new_log};
 ghost use Rattle.change_log.specs.LogSteps.{Forgotten, Logged, Resized, step_of_kept};
 
+use crate::spare_texts::SpareTexts;
 use cell_base::SequenceNo;
 use cell_change::{Change, cloned_changes};
 use std::alloc::{AllocError, Global};
@@ -23,12 +24,8 @@ pub struct ChangeLog {
     end: usize,
     most: usize,
     number: SequenceNo,
-    // The memory of a text that was stored, for one to come.
-    spare: String,
+    spare: SpareTexts,
 }
-
-// A text that is gone leaves its memory for another if it has at most so many bytes.
-const MOST_SPARE: usize = 1024;
 
 impl Model for ChangeLog {
     ghost use Rattle.change_log.specs.LogSteps.{Sized};
@@ -66,13 +63,11 @@ fn replace(changes: &mut [Change], at: usize, change: Change) -> Change
     mem::replace(&mut changes[at], change)
 }
 
-// The memory of a text, unless it is much.
+// The memory of a text.
 #[inline(always)]
-fn save_memory(spare: &mut String, change: Change) {
+fn save_memory(spare: &mut SpareTexts, change: Change) {
     if let Change::Text(text) = change {
-        if text.capacity() <= MOST_SPARE {
-            *spare = text;
-        }
+        spare.put(text);
     }
 }
 
@@ -80,7 +75,7 @@ fn save_memory(spare: &mut String, change: Change) {
 #[inline(always)]
 fn store(
     changes: &mut Vec<Change>,
-    spare: &mut String,
+    spare: &mut SpareTexts,
     at: usize,
     change: Change,
 ) -> Result<(), AllocError>
@@ -120,6 +115,26 @@ fn without_gone(changes: &mut Vec<Change>, start: usize, end: usize, most: usize
     0
 }
 
+// Keeps the last of the changes from `start` to `end`, at most so many; answers where they begin and end.
+#[inline(always)]
+fn keep_last(changes: &mut Vec<Change>, start: usize, end: usize, most: usize) -> (usize, usize)
+    requires order { start ≤ end }
+    requires within { end ≤ vec_len changes.old }
+    requires gone { start ≤ most }
+    requires few { vec_len changes.old ≤ max (most + most) end }
+    ensures rest { drop result.0 (take result.1 changes.new.items) ≡ drop (max start (end - most)) (take end changes.old.items) }
+    ensures gone { result.0 ≤ most }
+    ensures len { result.1 ≡ result.0 + (end - max start (end - most)) }
+    ensures stored { result.1 ≤ vec_len changes.new }
+    ensures twice { vec_len changes.new ≤ most + most }
+{
+    if end - start <= most {
+        return (start, end);
+    }
+    let first = without_gone(changes, end - most, end, most);
+    (first, first + most)
+}
+
 impl ChangeLog {
     /// A log of no change, of which at most so many may be due.
     pub fn new(alloc: Global, most: usize) -> ChangeLog
@@ -132,7 +147,7 @@ impl ChangeLog {
             end: 0,
             most,
             number: 0,
-            spare: String::new(alloc),
+            spare: SpareTexts::new(alloc),
         }
     }
 
@@ -160,11 +175,9 @@ impl ChangeLog {
     {
         store(&mut self.changes, &mut self.spare, self.end, change)?;
         self.number += 1;
-        let end = self.end + 1;
-        let start = self.start.max(end.saturating_sub(self.most));
-        let first = without_gone(&mut self.changes, start, end, self.most);
-        self.end = first + (end - start);
-        self.start = first;
+        let (start, end) = keep_last(&mut self.changes, self.start, self.end + 1, self.most);
+        self.start = start;
+        self.end = end;
         Ok(())
     }
 
@@ -173,10 +186,7 @@ impl ChangeLog {
         ensures empty { string_bytes result ≡ [] }
         ensures same { self.new ≡ self.old }
     {
-        let none = String::new(*self.changes.allocator());
-        let mut text = mem::replace(&mut self.spare, none);
-        text.clear();
-        text
+        self.spare.take(*self.changes.allocator())
     }
 
     /// Forgets the changes before a number; none where it lies above the current one.
@@ -227,7 +237,7 @@ impl ChangeLog {
             end,
             most: self.most,
             number: self.number,
-            spare: String::new(alloc),
+            spare: SpareTexts::new(alloc),
         })
     }
 

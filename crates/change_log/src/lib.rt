@@ -4,5 +4,6 @@
 
 mod change_log;
 pub mod laws;
+mod spare_texts;
 
 pub use change_log::ChangeLog;
