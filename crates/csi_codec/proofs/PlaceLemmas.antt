@@ -1,5 +1,5 @@
 -- Steps from place to place of a list.
-use Rattle.std.proofs.Common.{◌≡◌, ◌≢◌, ℕ, zero, suc, ◌+◌, ◌-◌, ℤ, inl, inr, ◌<◌, ◌≤◌, eqb, Bool, true, false, cond, List, [], ◌∷◌, length, length-drop, drop, drop-drop, Option, Some, None, Result, IfSome, IfNone, option_map, option_and_then, arith, refl, sym, ap, ◌∙◌, subst}
+use Rattle.std.proofs.Common.{◌≡◌, ◌≢◌, ℕ, ◌+◌, ℤ, pos, slice_index_or, inl, inr, ◌<◌, ◌≤◌, eqb, Bool, true, false, cond, List, [], ◌∷◌, length, length-drop, drop, drop-drop, Option, Some, None, Result, IfSome, IfNone, option_map, option_and_then, arith, refl, sym, ap, ◌∙◌, subst}
 use Rattle.std.specs.Prelude.{is_some}
 use Rattle.std.specs.Option.{option_map_or}
 use Rattle.std.proofs.lemmas.Bool.{cases_Bool, eqb-true}
@@ -18,13 +18,14 @@ use Rattle.csi_codec.specs.Devices.{device_reading}
 use Rattle.csi_codec.specs.Edits.{edit_reading}
 use Rattle.csi_codec.specs.Modes.{dec_mode_of, lone_private_mode, private_mode_reading, private_step, switched_mode, switched_step}
 use Rattle.csi_codec.specs.Parameters.{begins_with_number, number_within, with_semicolon}
-use Rattle.csi_codec.specs.Rendition.{sgr_piece, taking}
+use Rattle.csi_codec.specs.Rendition.{plain_code, sgr_piece, taking}
 use Rattle.csi_codec.specs.Sequences.{HandsOut, action_of}
 use Rattle.csi_codec.specs.Actions.{Kind, Action, sgr, sgr_pieces, mode, unspecified, private_mode_pieces, mode_piece, rendition_piece, piece_of, pieces, all_sgr_tokens, sgr_reading, modes_or, lone_reading, lone_or, standard_reading, csi_reading}
 use Rattle.csi_codec.proofs.PieceLemmas.{piece_of_takes, pieces_found, pieces_rest, pieces_none, pieces_ended}
 use Rattle.csi_codec.proofs.ReadingLemmas.{csi_reading-counted}
 use Rattle.csi_codec.proofs.SgrTokens.{sgr_tokens_behind}
-use Rattle.csi_codec.proofs.QuickLemmas.{IsQuick}
+use Rattle.csi_codec.proofs.PlainLemmas.{plain_last, plain_next}
+use Rattle.csi_codec.specs.ColourCases.{begins_with}
 
 -- ---- The first piece
 
@@ -159,41 +160,64 @@ pub next_piece : (k : Kind) (read n : ℕ) (ts us : List CsiParam) (final : ℕ)
 next_piece k read n ts us final a h kind at first =
     next_further read n ts final a h (subst (λ x. IsFirstPiece (list_kind final ts) final x a n) at (subst (λ k. IsFirstPiece k final us a n) kind first))
 
--- one that is read quickly: what stands behind it is as long as what is left
-quick_end : (read : ℕ) (ts us rest : List CsiParam) (v : Sgr) (q : IsQuick us v rest) → us ≡ drop read ts → read < length ts → read + q.len ≡ length ts - length rest
-quick_end read ts us rest v q at h = omega (arith, ap length at, length-drop read ts, ap length q.behind, length-drop q.len us, (rendition_fits us v q.len q.piece).1)
+-- a setting that is read quickly, the first of its list or a further one
+tokens_within : (ts : List CsiParam) (n : ℕ) → n ≡ length ts → all_sgr_tokens (drop n ts) ≡ true
+tokens_within ts n e = no_tokens (drop n ts) (omega (arith, e, length-drop n ts))
+  where
+    no_tokens : (us : List CsiParam) → length us ≡ 0 → all_sgr_tokens us ≡ true
+    no_tokens [] h = refl
+    no_tokens (t ∷ us) h = absurd (omega arith)
 
-pub quick_shorter : (read : ℕ) (ts us rest : List CsiParam) (v : Sgr) → IsQuick us v rest → us ≡ drop read ts → length rest ≤ length ts
-quick_shorter read ts us rest v q at = omega (arith, ap length at, length-drop read ts, ap length q.behind, length-drop q.len us)
+pub first_quick : (ts : List CsiParam) (v : Sgr) (n : ℕ) → 0 < length ts → sgr_piece ts ≡ Some (v, n) → all_sgr_tokens (drop n ts) ≡ true → IsNext 0 ts 109 (sgr v) n
+first_quick ts v n h e tokens = next_rendition ts v n (rendition_found ts v n h e tokens)
 
-first_quick : (ts rest : List CsiParam) (v : Sgr) (q : IsQuick ts v rest) → 0 < length ts → all_sgr_tokens rest ≡ true → IsNext 0 ts 109 (sgr v) q.len
-first_quick ts rest v q h tokens =
-    next_rendition ts v q.len (rendition_found ts v q.len h q.piece (subst (λ x. all_sgr_tokens x ≡ true) q.behind tokens))
+pub whole_quick : (ts : List CsiParam) (v : Sgr) (n : ℕ) → 0 < length ts → sgr_piece ts ≡ Some (v, n) → n ≡ length ts → IsNext 0 ts 109 (sgr v) n
+whole_quick ts v n h e same = first_quick ts v n h e (tokens_within ts n same)
 
-further_quick : (read : ℕ) (ts us rest : List CsiParam) (v : Sgr) (q : IsQuick us v rest) → 0 < read → us ≡ drop read ts → IsNext read ts 109 (sgr v) (read + q.len)
-further_quick read ts us rest v q h at =
-    let fits = rendition_fits us v q.len q.piece in
-    next_piece sgr_pieces read q.len ts us 109 (sgr v) h refl at (record {
-      actions = λ truncated. pieces_found sgr_pieces truncated 109 us (sgr v) q.len (as_piece us v q.len q.piece);
+pub further_quick : (read : ℕ) (ts us : List CsiParam) (v : Sgr) (n : ℕ) → 0 < read → us ≡ drop read ts → sgr_piece us ≡ Some (v, n) → IsNext read ts 109 (sgr v) (read + n)
+further_quick read ts us v n h at e =
+    let fits = rendition_fits us v n e in
+    next_piece sgr_pieces read n ts us 109 (sgr v) h refl at (record {
+      actions = λ truncated. pieces_found sgr_pieces truncated 109 us (sgr v) n (as_piece us v n e);
       some = fits.0;
       within = fits.1;
     })
 
-pub quick_next : (read : ℕ) (ts us rest : List CsiParam) (v : Sgr) → IsQuick us v rest → us ≡ drop read ts → read < length ts → (read ≡ 0 → all_sgr_tokens rest ≡ true)
-    → IsNext read ts 109 (sgr v) (length ts - length rest)
-quick_next zero ts us rest v q at h tokens =
-    let whole : IsQuick ts v rest = subst (λ x. IsQuick x v rest) at q in
-    subst (IsNext 0 ts 109 (sgr v)) (omega (arith, quick_end 0 ts ts rest v whole refl h)) (first_quick ts rest v whole h (tokens refl))
-quick_next (suc read) ts us rest v q at h tokens =
-    subst (IsNext (suc read) ts 109 (sgr v)) (quick_end (suc read) ts us rest v q at h) (further_quick (suc read) ts us rest v q (omega arith) at)
+pub first_alone : (ts : List CsiParam) (v : Sgr) (z : ℤ) → length ts < 2 → begins_with z ts → plain_code z ≡ Some v → IsNext 0 ts 109 (sgr v) (length ts)
+first_alone [] v z h front e = absurd front
+first_alone (P b ∷ ts) v z h front e = absurd front
+first_alone (Integer y ∷ []) v z h front e = whole_quick (Integer y ∷ []) v 1 (omega arith) (plain_last y v (ap plain_code front ∙ e)) refl
+first_alone (Integer y ∷ t ∷ ts) v z h front e = absurd (omega arith)
 
-no_tokens : (ts : List CsiParam) → length ts ≡ 0 → all_sgr_tokens ts ≡ true
-no_tokens [] h = refl
-no_tokens (t ∷ ts) h = absurd (omega arith)
+pub further_alone : (read : ℕ) (ts us : List CsiParam) (v : Sgr) (z : ℤ) → 0 < read → us ≡ drop read ts → length us < 2 → begins_with z us → plain_code z ≡ Some v
+    → IsNext read ts 109 (sgr v) (length ts)
+further_alone read ts [] v z some at h front e = absurd front
+further_alone read ts (P b ∷ us) v z some at h front e = absurd front
+further_alone read ts (Integer y ∷ []) v z some at h front e =
+    subst (IsNext read ts 109 (sgr v)) (omega (arith, ap length at, length-drop read ts)) (further_quick read ts (Integer y ∷ []) v 1 some at (plain_last y v (ap plain_code front ∙ e)))
+further_alone read ts (Integer y ∷ t ∷ us) v z some at h front e = absurd (omega arith)
 
-pub quick_last : (read : ℕ) (ts us rest : List CsiParam) (v : Sgr) → IsQuick us v rest → us ≡ drop read ts → read < length ts → length rest ≡ 0 → IsNext read ts 109 (sgr v) (length ts)
-quick_last read ts us rest v q at h last =
-    subst (IsNext read ts 109 (sgr v)) (omega (arith, last)) (quick_next read ts us rest v q at h (λ e. no_tokens rest last))
+-- the number's own `;` is read with it
+signed_piece : (ts : List CsiParam) (v : Sgr) (z : ℤ) → 2 ≤ length ts → slice_index_or ts 1 (Integer (pos 0)) ≡ P 59 → begins_with z ts → plain_code z ≡ Some v → sgr_piece ts ≡ Some (v, 2)
+signed_piece [] v z h sign front e = absurd front
+signed_piece (P b ∷ ts) v z h sign front e = absurd front
+signed_piece (Integer y ∷ []) v z h sign front e = absurd (omega arith)
+signed_piece (Integer y ∷ t ∷ ts) v z h sign front e = ap (λ x. sgr_piece (Integer y ∷ x ∷ ts)) sign ∙ plain_next y ts v (ap plain_code front ∙ e)
+
+pub first_signed : (ts : List CsiParam) (v : Sgr) (z : ℤ) → 2 ≤ length ts → slice_index_or ts 1 (Integer (pos 0)) ≡ P 59 → all_sgr_tokens (drop 2 ts) ≡ true → begins_with z ts → plain_code z ≡ Some v
+    → IsNext 0 ts 109 (sgr v) 2
+first_signed ts v z h sign tokens front e = first_quick ts v 2 (omega arith) (signed_piece ts v z h sign front e) tokens
+
+pub further_signed : (read : ℕ) (ts us : List CsiParam) (v : Sgr) (z : ℤ) → 0 < read → us ≡ drop read ts → 2 ≤ length us → slice_index_or us 1 (Integer (pos 0)) ≡ P 59 → begins_with z us
+    → plain_code z ≡ Some v → IsNext read ts 109 (sgr v) (read + 2)
+further_signed read ts us v z some at h sign front e = further_quick read ts us v 2 some at (signed_piece us v z h sign front e)
+
+pub told_some : (ts : List CsiParam) (v : Sgr) (n : ℕ) → sgr_piece ts ≡ Some (v, n) → 0 < length ts
+told_some ts v n e = let fits = rendition_fits ts v n e in omega (arith, fits.0, fits.1)
+
+pub begun_some : (z : ℤ) (ts : List CsiParam) → begins_with z ts → 0 < length ts
+begun_some z [] h = absurd h
+begun_some z (t ∷ ts) h = omega arith
 
 not_both : (found : Option Action) (a : Action) → found ≡ None → found ≡ Some a → ⊥
 not_both found a none e = cc

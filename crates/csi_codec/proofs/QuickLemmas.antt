@@ -1,133 +1,119 @@
--- A piece of SGR that is one number, or a colour whose numbers stand apart by `;`: it is the piece at the front, and what
--- stands behind it.
-use Rattle.std.proofs.Common.{◌≡◌, ◌+◌, ℕ, zero, suc, ℤ, eqb, ltb, Bool, true, false, cond, List, [], ◌∷◌, length, drop, drop-drop, Option, Some, None, IfSome, inl, inr, arith, refl, sym, ap, ◌∙◌, subst, option_map, option_and_then}
+-- A setting of SGR that is a colour whose numbers stand apart by `;`: it is the piece at the front of its list.
+use Rattle.std.proofs.Common.{◌≡◌, ◌<◌, ◌≤◌, ◌+◌, ◌-◌, ℕ, ℤ, pos, eqb, cond, List, [], ◌∷◌, length, length-drop, drop, take, slice_index_or, Option, Some, None, IfSome, inl, inr, arith, refl, sym, ap, ◌∙◌, subst}
+use Rattle.std.proofs.lemmas.List.{drop_more, get_or-drop, take_all}
 use Rattle.std.proofs.lemmas.Bool.{cases_Bool, eqb-true}
 use Rattle.cell_base.specs.declared.color.ColorSpec.{ColorSpec}
-use Rattle.cell_base.specs.declared.color.ColorSpec.TheVariants as color
 use Rattle.csi_codec.specs.declared.parameters.CsiParam.{CsiParam}
 use Rattle.csi_codec.specs.declared.parameters.CsiParam.TheVariants.{Integer, P}
-use Rattle.csi_codec.specs.declared.rendition.Sgr.{Sgr}
 use Rattle.csi_codec.specs.declared.sgr_reading.Target.{Target}
-use Rattle.csi_codec.specs.Parameters.{is_number, number_within, place, number_pair, place_pair, with_semicolon, semicolon_at}
-use Rattle.std.specs.Option.{option_zip}
-use Rattle.csi_codec.specs.Rendition.{taking, plain_code, colour_form, numbered_shape, sgr_shape, sgr_piece}
-use Rattle.csi_codec.specs.ColourCases as cases
-use Rattle.csi_codec.specs.ColourCases.{number_behind, three_behind, opaque_of, palette_case, opaque_case, semicolon_form, form_case, past_semicolon, told_palette, told_channels, told_opaque, told_kind, told_numbers, told_form, told_color, target_numbered, set_to, quick_piece}
-use Rattle.csi_codec.proofs.ColourLemmas.{colour_form_is_case}
-use Rattle.csi_codec.proofs.PlainLemmas.{plain_last, plain_next}
+use Rattle.csi_codec.specs.declared.sgr_reading.Target.TheVariants as target
+use Rattle.csi_codec.specs.declared.rendition.Sgr.TheVariants.{Foreground}
+use Rattle.csi_codec.specs.Parameters.{is_number, place, number_pair, place_pair, with_semicolon, semicolon_at}
+use Rattle.std.specs.Option.{option_zip, option_map}
+use Rattle.csi_codec.specs.Rendition.{taking, colour_form, numbered_shape, sgr_shape, sgr_piece}
+use Rattle.csi_codec.specs.ColourCases.{begins_with, opaque_of, palette_of, told_color, target_numbered, set_to}
 
--- ---- A colour behind its kind: how many tokens its numbers take
+-- ---- A list by its tokens
 
--- so many tokens are the numbers of the colour, with the kind and the sign in front of it
-record IsTold (k : ℤ) (ts : List CsiParam) (c : ColorSpec) (rest : List CsiParam) : Type 0 where
-  len : ℕ
-  form : semicolon_form k ts ≡ Some (c, len + 2)
-  behind : rest ≡ drop len ts
+-- the token at a place
+abbrev token : List CsiParam → ℕ → CsiParam
+token ts n = slice_index_or ts n (Integer (pos 0))
 
-number_rest : (ts : List CsiParam) → IfSome (number_behind 59 ts) (λ f. f.1 ≡ drop 2 ts)
-number_rest [] = tt
-number_rest (Integer z ∷ ts) = tt
-number_rest (P b ∷ []) = tt
-number_rest (P b ∷ P c ∷ ts) = tt
-number_rest (P b ∷ Integer z ∷ ts) = elim (cases_Bool (eqb b 59)) [
-  | inl e ↦ rw e refl
-  | inr e ↦ rw e tt
-]
+next_token : (ts : List CsiParam) (i : ℕ) (t : CsiParam) → i < length ts → token ts i ≡ t → drop i ts ≡ t ∷ drop (i + 1) ts
+next_token ts i t h e = drop_more ts i (Integer (pos 0)) h ∙ ap (λ x. x ∷ drop (i + 1) ts) e
 
-third : (ts us : List CsiParam) (r g : ℤ) (found : Option (ℤ × List CsiParam)) → us ≡ drop 4 ts → IfSome found (λ f. f.1 ≡ drop 2 us)
-    → IfSome {T = ℤ × ℤ × ℤ × List CsiParam} (option_map (λ b. (r, g, b.0, b.1)) found) (λ c. c.3 ≡ drop 6 ts)
-third ts us r g None at h = tt
-third ts us r g (Some f) at h = h ∙ ap (drop 2) at ∙ drop-drop 2 4 ts
+-- the numbers of a colour of the palette behind any token
+abbrev palette_list : CsiParam → ℤ → List CsiParam → List CsiParam
+palette_list t n us = t ∷ P 59 ∷ Integer (pos 5) ∷ P 59 ∷ Integer n ∷ us
 
-second : (ts us : List CsiParam) (r : ℤ) (found : Option (ℤ × List CsiParam)) → us ≡ drop 2 ts → IfSome found (λ f. f.1 ≡ drop 2 us)
-    → IfSome {T = ℤ × ℤ × ℤ × List CsiParam} (option_and_then (λ g. option_map (λ b. (r, g.0, b.0, b.1)) (number_behind 59 g.1)) found) (λ c. c.3 ≡ drop 6 ts)
-second ts us r None at h = tt
-second ts us r (Some f) at h = third ts f.1 r f.0 (number_behind 59 f.1) (h ∙ ap (drop 2) at ∙ drop-drop 2 2 ts) (number_rest f.1)
+palette_listed : (ts : List CsiParam) (n : ℤ) → 5 ≤ length ts → token ts 1 ≡ P 59 → token ts 2 ≡ Integer (pos 5) → token ts 3 ≡ P 59 → token ts 4 ≡ Integer n
+    → ts ≡ palette_list (token ts 0) n (drop 5 ts)
+palette_listed ts n h a b c d =
+    next_token ts 0 (token ts 0) (omega arith) refl
+    ∙ ap (λ us. token ts 0 ∷ us) (next_token ts 1 _ (omega arith) a
+    ∙ ap (λ us. P 59 ∷ us) (next_token ts 2 _ (omega arith) b
+    ∙ ap (λ us. Integer (pos 5) ∷ us) (next_token ts 3 _ (omega arith) c
+    ∙ ap (λ us. P 59 ∷ us) (next_token ts 4 _ (omega arith) d))))
 
-first : (ts : List CsiParam) (found : Option (ℤ × List CsiParam)) → IfSome found (λ f. f.1 ≡ drop 2 ts)
-    → IfSome {T = ℤ × ℤ × ℤ × List CsiParam} (option_and_then (λ r. option_and_then (λ g. option_map (λ b. (r.0, g.0, b.0, b.1)) (number_behind 59 g.1)) (number_behind 59 r.1)) found) (λ c. c.3 ≡ drop 6 ts)
-first ts None h = tt
-first ts (Some f) h = second ts f.1 f.0 (number_behind 59 f.1) h (number_rest f.1)
+palette_told : (t : CsiParam) (n : ℤ) (us : List CsiParam) (c : ColorSpec) → Some c ≡ palette_of n
+    → told_color (palette_list t n us) ≡ Some (c, 5 + semicolon_at us 0)
+unfolding told_color colour_form
+palette_told t n us c e = ap (λ found. with_semicolon (palette_list t n us) (option_map (λ form. (form.0, form.1 + 1)) (taking 4 found))) (sym e)
 
-three_rest : (ts : List CsiParam) → IfSome (three_behind 59 ts) (λ c. c.3 ≡ drop 6 ts)
-three_rest ts = first ts (number_behind 59 ts) (number_rest ts)
+no_more : (us : List CsiParam) → length us ≡ 0 → semicolon_at us 0 ≡ 0
+no_more [] h = refl
+no_more (t ∷ ts) h = absurd (omega arith)
 
-index_told : (ts rest : List CsiParam) (found : Option ℕ) → rest ≡ drop 2 ts
-    → IfSome {T = ColorSpec × List CsiParam} (option_map (λ index. (color.PaletteIndex index, rest)) found) (λ f. (taking 4 (option_map color.PaletteIndex found) ≡ Some (f.0, 4)) × (f.1 ≡ drop 2 ts))
-index_told ts rest None h = tt
-index_told ts rest (Some n) h = (refl, h)
+next_semicolon : (us : List CsiParam) → 1 ≤ length us → token us 0 ≡ P 59 → semicolon_at us 0 ≡ 1
+next_semicolon [] h e = absurd (omega arith)
+next_semicolon (t ∷ ts) h e = ap (λ x. semicolon_at (x ∷ ts) 0) e
 
-palette_by : (ts : List CsiParam) (found : Option (ℤ × List CsiParam)) → IfSome found (λ f. f.1 ≡ drop 2 ts)
-    → IfSome {T = ColorSpec × List CsiParam} (option_and_then (λ n. option_map (λ index. (color.PaletteIndex index, n.1)) (number_within 255 n.0)) found)
-    (λ f. (option_and_then (λ n. taking 4 (option_map color.PaletteIndex (number_within 255 n.0))) found ≡ Some (f.0, 4)) × (f.1 ≡ drop 2 ts))
-palette_by ts None h = tt
-palette_by ts (Some n) h = index_told ts n.1 (number_within 255 n.0) h
+pub palette_ends : (ts : List CsiParam) (n : ℤ) (c : ColorSpec) → 5 ≤ length ts → length ts < 6 → token ts 1 ≡ P 59 → token ts 2 ≡ Integer (pos 5) → token ts 3 ≡ P 59 → token ts 4 ≡ Integer n
+    → Some c ≡ palette_of n → told_color ts ≡ Some (c, length ts)
+palette_ends ts n c h l a b d e found =
+    let at = palette_listed ts n h a b d e in
+    let last : semicolon_at (drop 5 ts) 0 ≡ 0 = no_more (drop 5 ts) (omega (arith, length-drop 5 ts)) in
+    ap told_color at ∙ palette_told (token ts 0) n (drop 5 ts) c found ∙ ap (λ k. Some (c, k)) (omega (arith, last))
 
-palette_told : (ts : List CsiParam) → IfSome (told_palette ts) (λ f. (palette_case 59 ts ≡ Some (f.0, 4)) × (f.1 ≡ drop 2 ts))
-unfolding told_palette palette_case
-palette_told ts = palette_by ts (number_behind 59 ts) (number_rest ts)
+pub palette_next : (ts : List CsiParam) (n : ℤ) (c : ColorSpec) → 6 ≤ length ts → token ts 1 ≡ P 59 → token ts 2 ≡ Integer (pos 5) → token ts 3 ≡ P 59 → token ts 4 ≡ Integer n
+    → token ts 5 ≡ P 59 → Some c ≡ palette_of n → told_color ts ≡ Some (c, 6)
+palette_next ts n c h a b d e g found =
+    let at = palette_listed ts n (omega arith) a b d e in
+    let more : semicolon_at (drop 5 ts) 0 ≡ 1 = next_semicolon (drop 5 ts) (omega (arith, length-drop 5 ts)) (get_or-drop 5 ts 0 (Integer (pos 0)) ∙ g) in
+    ap told_color at ∙ palette_told (token ts 0) n (drop 5 ts) c found ∙ ap (λ k. Some (c, 5 + k)) more
 
-opaque_told : (ts rest : List CsiParam) (found : Option ColorSpec) → rest ≡ drop 6 ts
-    → IfSome {T = ColorSpec × List CsiParam} (option_map (λ c. (c, rest)) found) (λ f. (taking 8 found ≡ Some (f.0, 8)) × (f.1 ≡ drop 6 ts))
-opaque_told ts rest None h = tt
-opaque_told ts rest (Some c) h = (refl, h)
+-- the numbers of an opaque colour behind any token
+abbrev opaque_list : CsiParam → ℤ → ℤ → ℤ → List CsiParam → List CsiParam
+opaque_list t x y z us = t ∷ P 59 ∷ Integer (pos 2) ∷ P 59 ∷ Integer x ∷ P 59 ∷ Integer y ∷ P 59 ∷ Integer z ∷ us
 
-channels_by : (ts : List CsiParam) (found : Option (ℤ × ℤ × ℤ × List CsiParam)) → IfSome found (λ c. c.3 ≡ drop 6 ts)
-    → IfSome {T = ColorSpec × List CsiParam} (option_and_then (λ c. option_map (λ color. (color, c.3)) (opaque_of c.0 c.1 c.2)) found)
-    (λ f. (option_and_then (λ c. taking 8 (opaque_of c.0 c.1 c.2)) found ≡ Some (f.0, 8)) × (f.1 ≡ drop 6 ts))
-channels_by ts None h = tt
-channels_by ts (Some c) h = opaque_told ts c.3 (opaque_of c.0 c.1 c.2) h
+opaque_listed : (ts : List CsiParam) (x y z : ℤ) → 9 ≤ length ts → token ts 1 ≡ P 59 → token ts 2 ≡ Integer (pos 2) → token ts 3 ≡ P 59 → token ts 4 ≡ Integer x
+    → token ts 5 ≡ P 59 → token ts 6 ≡ Integer y → token ts 7 ≡ P 59 → token ts 8 ≡ Integer z → ts ≡ opaque_list (token ts 0) x y z (drop 9 ts)
+opaque_listed ts x y z h a b c d e f g i =
+    next_token ts 0 (token ts 0) (omega arith) refl
+    ∙ ap (λ us. token ts 0 ∷ us) (next_token ts 1 _ (omega arith) a
+    ∙ ap (λ us. P 59 ∷ us) (next_token ts 2 _ (omega arith) b
+    ∙ ap (λ us. Integer (pos 2) ∷ us) (next_token ts 3 _ (omega arith) c
+    ∙ ap (λ us. P 59 ∷ us) (next_token ts 4 _ (omega arith) d
+    ∙ ap (λ us. Integer x ∷ us) (next_token ts 5 _ (omega arith) e
+    ∙ ap (λ us. P 59 ∷ us) (next_token ts 6 _ (omega arith) f
+    ∙ ap (λ us. Integer y ∷ us) (next_token ts 7 _ (omega arith) g
+    ∙ ap (λ us. P 59 ∷ us) (next_token ts 8 _ (omega arith) i))))))))
 
-channels_told : (ts : List CsiParam) → IfSome (told_channels ts) (λ f. (opaque_case 59 8 ts ≡ Some (f.0, 8)) × (f.1 ≡ drop 6 ts))
-unfolding told_channels opaque_case
-channels_told ts = channels_by ts (three_behind 59 ts) (three_rest ts)
+opaque_told : (t : CsiParam) (x y z : ℤ) (us : List CsiParam) (c : ColorSpec) → Some c ≡ opaque_of x y z
+    → told_color (opaque_list t x y z us) ≡ Some (c, 9 + semicolon_at us 0)
+unfolding told_color colour_form
+opaque_told t x y z us c e = ap (λ found. with_semicolon (opaque_list t x y z us) (option_map (λ form. (form.0, form.1 + 1)) (taking 8 found))) (sym e)
 
-palette_is : (k : ℤ) (ts : List CsiParam) (found : Option (ColorSpec × List CsiParam)) → semicolon_form k ts ≡ palette_case 59 ts
-    → IfSome found (λ f. (palette_case 59 ts ≡ Some (f.0, 4)) × (f.1 ≡ drop 2 ts)) → IfSome found (λ f. IsTold k ts f.0 f.1)
-palette_is k ts None e h = tt
-palette_is k ts (Some f) e h = record { len = 2; form = e ∙ h.0; behind = h.1 }
+-- the tokens of an opaque colour behind the first one
+pub record IsOpaque (ts : List CsiParam) (x y z : ℤ) : Type 0 where
+  pub long : 9 ≤ length ts
+  pub listed : ts ≡ opaque_list (token ts 0) x y z (drop 9 ts)
 
-opaque_is : (k : ℤ) (ts : List CsiParam) (found : Option (ColorSpec × List CsiParam)) → semicolon_form k ts ≡ opaque_case 59 8 ts
-    → IfSome found (λ f. (opaque_case 59 8 ts ≡ Some (f.0, 8)) × (f.1 ≡ drop 6 ts)) → IfSome found (λ f. IsTold k ts f.0 f.1)
-opaque_is k ts None e h = tt
-opaque_is k ts (Some f) e h = record { len = 6; form = e ∙ h.0; behind = h.1 }
+pub opaque_tokens : (ts : List CsiParam) (x y z : ℤ) → 9 ≤ length ts → token ts 1 ≡ P 59 → token ts 2 ≡ Integer (pos 2) → token ts 3 ≡ P 59 → token ts 4 ≡ Integer x
+    → token ts 5 ≡ P 59 → token ts 6 ≡ Integer y → token ts 7 ≡ P 59 → token ts 8 ≡ Integer z → IsOpaque ts x y z
+opaque_tokens ts x y z h a b c d e f g i = record { long = h; listed = opaque_listed ts x y z h a b c d e f g i }
 
-kind_told : (k : ℤ) (ts : List CsiParam) → IfSome (told_kind k ts) (λ f. IsTold k ts f.0 f.1)
-unfolding told_kind told_opaque semicolon_form
-kind_told k ts = elim (cases_Bool (is_number 5 k)) [
-  | inl h ↦ rw h (palette_is k ts (told_palette ts) (rw h refl) (palette_told ts))
-  | inr h ↦ elim (cases_Bool (is_number 2 k)) [
-    | inl i ↦ rw (h, i) elim (cases_Bool (ltb (length ts) 6)) [
-      | inl j ↦ rw j tt
-      | inr j ↦ rw j (opaque_is k ts (told_channels ts) (rw (h, i) refl) (channels_told ts))
-    ]
-    | inr i ↦ rw (h, i) tt
-  ]
-]
+pub opaque_ends : (ts : List CsiParam) (x y z : ℤ) (c : ColorSpec) → IsOpaque ts x y z → length ts < 10 → Some c ≡ opaque_of x y z → told_color ts ≡ Some (c, length ts)
+opaque_ends ts x y z c h l found =
+    let last : semicolon_at (drop 9 ts) 0 ≡ 0 = no_more (drop 9 ts) (omega (arith, length-drop 9 ts)) in
+    ap told_color h.listed ∙ opaque_told (token ts 0) x y z (drop 9 ts) c found ∙ ap (λ k. Some (c, k)) (omega (arith, last, h.long))
 
--- ---- The piece at the front, and what stands behind it
+pub opaque_next : (ts : List CsiParam) (x y z : ℤ) (c : ColorSpec) → IsOpaque ts x y z → 10 ≤ length ts → token ts 9 ≡ P 59 → Some c ≡ opaque_of x y z → told_color ts ≡ Some (c, 10)
+opaque_next ts x y z c h l e found =
+    let more : semicolon_at (drop 9 ts) 0 ≡ 1 = next_semicolon (drop 9 ts) (omega (arith, length-drop 9 ts)) (get_or-drop 9 ts 0 (Integer (pos 0)) ∙ e) in
+    ap told_color h.listed ∙ opaque_told (token ts 0) x y z (drop 9 ts) c found ∙ ap (λ k. Some (c, 9 + k)) more
 
--- the piece takes so many tokens, and the rest stands behind them
-pub record IsQuick (ts : List CsiParam) (v : Sgr) (rest : List CsiParam) : Type 0 where
-  pub len : ℕ
-  pub piece : sgr_piece ts ≡ Some (v, len)
-  pub behind : rest ≡ drop len ts
+-- what stands behind nine tokens
+whole_rest : (ts : List CsiParam) → 9 ≤ length ts → take (length ts - 9) (drop 9 ts) ≡ drop 9 ts
+whole_rest ts h = take_all (length ts - 9) (drop 9 ts) (omega (arith, length-drop 9 ts))
 
-past_byte : (ts : List CsiParam) (b : ℕ) → past_semicolon (P b ∷ ts) ≡ drop (cond (eqb b 59) 1 0) (P b ∷ ts)
-past_byte ts b = elim (cases_Bool (eqb b 59)) [
-  | inl e ↦ rw e refl
-  | inr e ↦ rw e refl
-]
+pub rest_long : (ts : List CsiParam) → 9 ≤ length ts → length (take (length ts - 9) (drop 9 ts)) + 9 ≡ length ts
+rest_long ts h = ap (λ us. length us + 9) (whole_rest ts h) ∙ omega (arith, length-drop 9 ts)
 
-past_front : (ts : List CsiParam) (n : ℕ) → past_semicolon (drop n ts) ≡ drop (semicolon_at ts n) (drop n ts)
-past_front [] zero = refl
-past_front [] (suc n) = refl
-past_front (Integer z ∷ ts) zero = refl
-past_front (P b ∷ ts) zero = past_byte ts b
-past_front (t ∷ ts) (suc n) = past_front ts n
+pub rest_at : (ts : List CsiParam) → 9 ≤ length ts → token (take (length ts - 9) (drop 9 ts)) 0 ≡ token ts 9
+rest_at ts h = ap (λ us. token us 0) (whole_rest ts h) ∙ get_or-drop 9 ts 0 (Integer (pos 0))
 
-past_drop : (ts : List CsiParam) (n : ℕ) → past_semicolon (drop n ts) ≡ drop (n + semicolon_at ts n) ts
-past_drop ts n = past_front ts n ∙ drop-drop (semicolon_at ts n) n ts
+-- ---- A colour behind its target's number
 
 coloured : (z : ℤ) (us : List CsiParam) (c : ColorSpec) (n : ℕ) → colour_form us ≡ Some (c, n) → IfSome (target_numbered z) (λ t. sgr_shape (Integer z ∷ us) ≡ Some (set_to t c, n + 1))
 unfolding sgr_shape numbered_shape
@@ -142,91 +128,32 @@ coloured z us c n e = elim (cases_Bool (is_number 38 z)) [
   ]
 ]
 
-with_sign : (ts rest : List CsiParam) (v : Sgr) (n : ℕ) → sgr_shape ts ≡ Some (v, n) → rest ≡ drop n ts → IsQuick ts v (past_semicolon rest)
+targeted : (z : ℤ) (us : List CsiParam) (t : Target) (c : ColorSpec) (n : ℕ) (found : Option (ColorSpec × ℕ)) → colour_form us ≡ found → target_numbered z ≡ Some t
+    → with_semicolon (Integer z ∷ us) (option_map (λ form. (form.0, form.1 + 1)) found) ≡ Some (c, n) → sgr_piece (Integer z ∷ us) ≡ Some (set_to t c, n)
 unfolding sgr_piece
-with_sign ts rest v n e h = record { len = n + semicolon_at ts n; piece = ap (with_semicolon ts) e; behind = ap past_semicolon h ∙ past_drop ts n }
+targeted z us t c n None form target e = absurd (nothing_told e)
+  where
+    nothing_told : {A : Type 0} {a : A} → None ≡ Some a → ⊥
+    nothing_told e = cc
+targeted z us t c n (Some f) form target e =
+    let shape : sgr_shape (Integer z ∷ us) ≡ Some (set_to t f.0, f.1 + 1) =
+    subst (λ found. IfSome found (λ t. sgr_shape (Integer z ∷ us) ≡ Some (set_to t f.0, f.1 + 1))) target (coloured z us f.0 f.1 form) in
+    ap (with_semicolon (Integer z ∷ us)) shape ∙ ap (option_map (λ told. (set_to t told.0, told.1))) e
 
--- a colour that is set, with what stands behind it
-abbrev set_form : Option Target → Option (ColorSpec × List CsiParam) → Option (Sgr × List CsiParam)
-set_form target found = option_and_then (λ t. option_map (λ form. (set_to t form.0, past_semicolon form.1)) found) target
+pub target_told : (z : ℤ) (ts : List CsiParam) (t : Target) (c : ColorSpec) (n : ℕ) → begins_with z ts → target_numbered z ≡ Some t → told_color ts ≡ Some (c, n)
+    → sgr_piece ts ≡ Some (set_to t c, n)
+unfolding told_color
+target_told z [] t c n h target e = absurd h
+target_told z (P b ∷ us) t c n h target e = absurd h
+target_told z (Integer y ∷ us) t c n h target e = targeted y us t c n (colour_form us) refl (ap target_numbered h ∙ target) e
 
--- a colour told behind a number
-told_by : (z k : ℤ) (ts rest : List CsiParam) (c : ColorSpec) (target : Option Target) → IsTold k ts c rest
-    → ((n : ℕ) → colour_form (P 59 ∷ Integer k ∷ ts) ≡ Some (c, n) → IfSome target (λ t. sgr_shape (Integer z ∷ P 59 ∷ Integer k ∷ ts) ≡ Some (set_to t c, n + 1)))
-    → IfSome target (λ t. IsQuick (Integer z ∷ P 59 ∷ Integer k ∷ ts) (set_to t c) (past_semicolon rest))
-unfolding form_case
-told_by z k ts rest c None told shape = tt
-told_by z k ts rest c (Some t) told shape =
-    let whole = Integer z ∷ P 59 ∷ Integer k ∷ ts in
-    let same : 3 + told.len ≡ told.len + 2 + 1 = omega arith in
-    with_sign whole rest (set_to t c) (told.len + 2 + 1)
-    (shape (told.len + 2) (sym (colour_form_is_case (P 59 ∷ Integer k ∷ ts)) ∙ told.form))
-    (told.behind ∙ drop-drop told.len 3 whole ∙ ap (λ n. drop n whole) same)
-
-numbers_told : (z k : ℤ) (ts : List CsiParam) (target : Option Target) (found : Option (ColorSpec × List CsiParam)) → target_numbered z ≡ target
-    → IfSome found (λ f. IsTold k ts f.0 f.1)
-    → IfSome (set_form target found) (λ f. IsQuick (Integer z ∷ P 59 ∷ Integer k ∷ ts) f.0 f.1)
-numbers_told z k ts None found e h = tt
-numbers_told z k ts (Some t) None e h = tt
-numbers_told z k ts (Some t) (Some f) e h =
-    told_by z k ts f.1 f.0 (Some t) h (λ n shape. subst (λ target. IfSome target (λ t. sgr_shape (Integer z ∷ P 59 ∷ Integer k ∷ ts) ≡ Some (set_to t f.0, n + 1))) e (coloured z (P 59 ∷ Integer k ∷ ts) f.0 n shape))
-
-abbrev IsQuickly : List CsiParam → Option (Sgr × List CsiParam) → Type 0
-IsQuickly ts found = IfSome found (λ f. IsQuick ts f.0 f.1)
-
-nothing_told : (ts : List CsiParam) (target : Option Target) → IsQuickly ts (set_form target None)
-nothing_told ts None = tt
-nothing_told ts (Some t) = tt
-
--- whatever the list's length is
-abbrev told_if : Bool → ℤ → List CsiParam → Option (Sgr × List CsiParam)
-told_if short z ts = set_form (target_numbered z) (cond short None (told_numbers ts))
-
-told_any : (short : Bool) (z : ℤ) (us : List CsiParam) → IsQuickly (Integer z ∷ us) (told_if short z (Integer z ∷ us))
-unfolding told_numbers
-told_any true z us = nothing_told (Integer z ∷ us) (target_numbered z)
-told_any false z [] = nothing_told (Integer z ∷ []) (target_numbered z)
-told_any false z (Integer y ∷ ts) = nothing_told (Integer z ∷ Integer y ∷ ts) (target_numbered z)
-told_any false z (P b ∷ []) = nothing_told (Integer z ∷ P b ∷ []) (target_numbered z)
-told_any false z (P b ∷ P c ∷ ts) = nothing_told (Integer z ∷ P b ∷ P c ∷ ts) (target_numbered z)
-told_any false z (P b ∷ Integer k ∷ ts) = elim (cases_Bool (eqb b 59)) [
-  | inl e ↦ subst (λ s. IsQuickly (Integer z ∷ P s ∷ Integer k ∷ ts) (told_if false z (Integer z ∷ P s ∷ Integer k ∷ ts))) (sym (eqb-true b 59 e))
-      (numbers_told z k ts (target_numbered z) (told_kind k ts) refl (kind_told k ts))
-  | inr e ↦ rw e (nothing_told (Integer z ∷ P b ∷ Integer k ∷ ts) (target_numbered z))
-]
-
-color_is_quick : (z : ℤ) (us : List CsiParam) → IsQuickly (Integer z ∷ us) (told_color z (Integer z ∷ us))
-unfolding told_color told_form
-color_is_quick z us = told_any (ltb (length (Integer z ∷ us)) 5) z us
-
-plain_is_quick : (z : ℤ) (us : List CsiParam) (v : Sgr) → plain_code z ≡ Some v → IsQuickly (Integer z ∷ us) (cases.plain_piece v (Integer z ∷ us))
-plain_is_quick z [] v e = record { len = 1; piece = plain_last z v e; behind = refl }
-plain_is_quick z (Integer y ∷ ts) v e = tt
-plain_is_quick z (P b ∷ ts) v e = elim (cases_Bool (eqb b 59)) [
-  | inl h ↦ subst (λ s. IsQuickly (Integer z ∷ P s ∷ ts) (cases.plain_piece v (Integer z ∷ P s ∷ ts))) (sym (eqb-true b 59 h))
-      (record { len = 2; piece = plain_next z ts v e; behind = refl })
-  | inr h ↦ rw h tt
-]
-
-plain_or_told_is_quick : (z : ℤ) (us : List CsiParam) (found : Option Sgr) → plain_code z ≡ found → IsQuickly (Integer z ∷ us) (cases.plain_or_told z (Integer z ∷ us) found)
-plain_or_told_is_quick z us None e = color_is_quick z us
-plain_or_told_is_quick z us (Some v) e = plain_is_quick z us v e
-
-number_is_quick : (z : ℤ) (us : List CsiParam) → IsQuickly (Integer z ∷ us) (cases.numbered_piece z (Integer z ∷ us))
-unfolding cases.numbered_piece
-number_is_quick z us = elim (cases_Bool (is_number 38 z)) [
-  | inl h ↦ rw h (color_is_quick z us)
-  | inr h ↦ rw h (plain_or_told_is_quick z us (plain_code z) refl)
-]
-
-pub quick_is_piece : (ts : List CsiParam) → IsQuickly ts (quick_piece ts)
-unfolding quick_piece
-quick_is_piece [] = tt
-quick_is_piece (P b ∷ ts) = tt
-quick_is_piece (Integer z ∷ ts) = number_is_quick z ts
-
-pub quick_found : (ts : List CsiParam) (v : Sgr) (rest : List CsiParam) → quick_piece ts ≡ Some (v, rest) → IsQuick ts v rest
-quick_found ts v rest e = subst (IsQuickly ts) e (quick_is_piece ts)
+pub foreground_told : (ts : List CsiParam) (c : ColorSpec) (n : ℕ) → token ts 0 ≡ Integer (pos 38) → told_color ts ≡ Some (c, n) → sgr_piece ts ≡ Some (Foreground c, n)
+foreground_told [] c n h e = absurd (different h)
+  where
+    different : Integer (pos 0) ≡ Integer (pos 38) → ⊥
+    different h = cc
+foreground_told (t ∷ ts) c n h e =
+    ap (λ x. sgr_piece (x ∷ ts)) h ∙ target_told (pos 38) (Integer (pos 38) ∷ ts) target.Foreground c n refl refl (ap (λ x. told_color (x ∷ ts)) (sym h) ∙ e)
 
 -- ---- Two places
 

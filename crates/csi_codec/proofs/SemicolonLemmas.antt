@@ -1,5 +1,5 @@
 -- A piece of SGR that is a colour whose numbers stand apart by `;`.
-use Rattle.std.proofs.Common.{◌≡◌, ◌≤◌, ◌+◌, ℕ, ℤ, eqb, Bool, true, false, cond, List, [], ◌∷◌, Option, Some, None, IfSome, inl, inr, refl, sym, ap, ◌∙◌, subst}
+use Rattle.std.proofs.Common.{◌≡◌, ◌+◌, ℕ, ℤ, eqb, List, [], ◌∷◌, Option, Some, None, IfSome, inl, inr, refl, sym, ap, subst}
 use Rattle.std.specs.Prelude.{◌==◌, if◌then◌else◌, option_and_then}
 use Rattle.std.proofs.lemmas.Bool.{cases_Bool, eqb-true}
 use Rattle.cell_base.specs.declared.color.ColorSpec.{ColorSpec}

@@ -9,12 +9,16 @@ use Rattle.csi_codec.specs.declared.cursors.Cursor.{Cursor}
 use Rattle.csi_codec.specs.declared.rendition.Sgr.{Sgr}
 use Rattle.csi_codec.specs.declared.rendition.Sgr.TheVariants.{Reset}
 use Rattle.csi_codec.specs.declared.sequences.CSI.{CSI}
-use Rattle.csi_codec.specs.Actions.{Action, sgr, cursor, lone_or, csi_reading, pieces}
+use Rattle.csi_codec.specs.declared.edits.Edit.{Edit}
+use Rattle.csi_codec.specs.declared.short.ShortNumbers.{ShortNumbers}
+use Rattle.csi_codec.specs.declared.short.ShortNumbers.TheVariants.{Nothing, One, Two, Three}
+use Rattle.csi_codec.specs.Actions.{Action, sgr, cursor, edit, lone_or, csi_reading, pieces}
 use Rattle.csi_codec.specs.Cursors.{cursor_reading}
 use Rattle.csi_codec.specs.ColourCases.{semicolon_form, palette_case}
+use Rattle.csi_codec.specs.Edits.{edit_reading}
 use Rattle.csi_codec.specs.Rendition.{plain_code}
 use Rattle.csi_codec.specs.Sequences.{action_of}
-use Rattle.csi_codec.specs.Short.{BeginsAsNumber, IsOnly, targeted}
+use Rattle.csi_codec.specs.Short.{BeginsAsNumber, IsOnly, short_list, targeted}
 use Rattle.csi_codec.proofs.PlainLemmas.{plain_last}
 use Rattle.csi_codec.proofs.SemicolonLemmas.{semicolon_found, semicolon_shape}
 use Rattle.csi_codec.proofs.PlaceLemmas.{rendition_found}
@@ -48,11 +52,32 @@ lone_found ts final (Some value) h m set reset lone =
 no_cursor : (ts : List CsiParam) (final other : ℕ) (c : Cursor) → cursor_reading other ts ≡ None → cursor_reading final ts ≡ Some c → final ≡ other → ⊥
 no_cursor ts final other c none e h = let f : None ≡ Some c = sym none ∙ subst (λ n. cursor_reading n ts ≡ Some c) h e in cc
 
+begins : (numbers : ShortNumbers) → BeginsAsNumber (short_list numbers)
+begins Nothing = tt
+begins (One a) = tt
+begins (Two a b) = tt
+begins (Three a b c) = tt
+
 pub cursor_only : (ts : List CsiParam) (final : ℕ) (c : Cursor) → BeginsAsNumber ts → cursor_reading final ts ≡ Some c → IsOnly ts final (cursor c)
 unfolding cursor_reading
 cursor_only ts final c h e =
     lone_only ts final (cursor c) h (is_other final 109 (no_cursor ts final 109 c refl e)) (is_other final 104 (no_cursor ts final 104 c refl e)) (is_other final 108 (no_cursor ts final 108 c refl e))
     (λ truncated. rw e refl)
+
+-- ---- at most one number
+
+pub short_move : (numbers : ShortNumbers) (final : ℕ) (c : Cursor) → cursor_reading final (short_list numbers) ≡ Some c → IsOnly (short_list numbers) final (cursor c)
+short_move numbers final c e = cursor_only (short_list numbers) final c (begins numbers) e
+
+erased : (ts : List CsiParam) (e : Edit) → BeginsAsNumber ts → cursor_reading 75 ts ≡ None → edit_reading 75 ts ≡ Some e → IsOnly ts 75 (edit e)
+erased ts e h none some = lone_only ts 75 (edit e) h refl refl refl (λ truncated. rw (none, some) refl)
+
+pub short_erasure : (numbers : ShortNumbers) (e : Edit) → edit_reading 75 (short_list numbers) ≡ Some e → IsOnly (short_list numbers) 75 (edit e)
+unfolding cursor_reading
+short_erasure Nothing e some = erased [] e tt refl some
+short_erasure (One a) e some = erased (Integer (pos a) ∷ []) e tt refl some
+short_erasure (Two a b) e some = erased (short_list (Two a b)) e tt refl some
+short_erasure (Three a b c) e some = erased (short_list (Three a b c)) e tt refl some
 
 palette_shape : (t n : ℕ) (v : Sgr) → n ≤ 255 → targeted (pos t) (PaletteIndex n) ≡ Some v
     → semicolon_shape (Integer (pos t) ∷ P 59 ∷ Integer (pos 5) ∷ P 59 ∷ Integer (pos n) ∷ []) ≡ Some (v, 5)

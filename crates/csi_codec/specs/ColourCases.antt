@@ -1,16 +1,16 @@
 -- The forms of a colour by cases, as the code reads them: it looks at the sign and the kind, and then at the numbers
 -- behind them. It is only there for the contracts of private steps; what a colour is stands in `Rendition`.
-use Rattle.std.specs.Prelude.{ℕ, ℤ, List, [], ◌∷◌, length, Option, Some, None, ◌==◌, nat_lt, if◌then◌else◌, option_map, option_and_then}
+use Rattle.std.specs.Prelude.{◌≡◌, ℕ, ℤ, List, [], ◌∷◌, drop, Option, Some, None, ◌==◌, ◌+◌, if◌then◌else◌, option_map, option_and_then}
 use Rattle.cell_base.specs.declared.color.ColorSpec.{ColorSpec}
 use Rattle.cell_base.specs.declared.color.ColorSpec.TheVariants as color
 use Rattle.csi_codec.specs.declared.parameters.CsiParam.{CsiParam}
 use Rattle.csi_codec.specs.declared.parameters.CsiParam.TheVariants.{Integer, P}
-use Rattle.csi_codec.specs.Parameters.{is_number, number_within}
+use Rattle.csi_codec.specs.Parameters.{is_number, number_within, with_semicolon}
 use Rattle.csi_codec.specs.declared.rendition.Sgr.{Sgr}
 use Rattle.csi_codec.specs.declared.rendition.Sgr.TheVariants as sgr
 use Rattle.csi_codec.specs.declared.sgr_reading.Target.{Target}
 use Rattle.csi_codec.specs.declared.sgr_reading.Target.TheVariants as target
-use Rattle.csi_codec.specs.Rendition.{colour, taking, plain_code}
+use Rattle.csi_codec.specs.Rendition.{colour, colour_form, taking}
 
 -- the number behind a sign, and what follows it
 abbrev pub number_behind : ℕ → List CsiParam → Option (ℤ × List CsiParam)
@@ -68,42 +68,21 @@ unfoldable pub form_case : List CsiParam → Option (ColorSpec × ℕ)
 form_case (P b ∷ Integer kind ∷ ts) = if b == 58 then colon_form kind ts else (if b == 59 then semicolon_form kind ts else None)
 form_case _ = None
 
--- ---- Pieces of SGR that are one number, or a colour whose numbers stand apart by `;`, each with what stands behind it
+-- ---- Settings of SGR that are one number, or a colour whose numbers stand apart by `;`
 
--- what stands behind the `;` at the front, if one stands there
-abbrev pub past_semicolon : List CsiParam → List CsiParam
-past_semicolon [] = []
-past_semicolon (Integer z ∷ ts) = Integer z ∷ ts
-past_semicolon (P b ∷ ts) = if b == 59 then ts else P b ∷ ts
+-- a list begins with this number
+abbrev pub begins_with : ℤ → List CsiParam → Type 0
+begins_with z [] = ⊥
+begins_with z (P b ∷ ts) = ⊥
+begins_with z (Integer y ∷ ts) = y ≡ z
 
--- the first token stands alone: at the end of a list, or in front of a `;`
-abbrev pub plain_piece : Sgr → List CsiParam → Option (Sgr × List CsiParam)
-plain_piece v [] = None
-plain_piece v (t ∷ []) = Some (v, [])
-plain_piece v (t ∷ Integer z ∷ ts) = None
-plain_piece v (t ∷ P b ∷ ts) = if b == 59 then Some (v, ts) else None
+-- the colour of the palette that a number names
+abbrev pub palette_of : ℤ → Option ColorSpec
+palette_of n = option_map color.PaletteIndex (number_within 255 n)
 
--- n behind 5
-unfoldable pub told_palette : List CsiParam → Option (ColorSpec × List CsiParam)
-told_palette ts = option_and_then (λ n. option_map (λ index. (color.PaletteIndex index, n.1)) (number_within 255 n.0)) (number_behind 59 ts)
-
--- r, g and b behind 2, six tokens
-unfoldable pub told_channels : List CsiParam → Option (ColorSpec × List CsiParam)
-told_channels ts = option_and_then (λ c. option_map (λ found. (found, c.3)) (opaque_of c.0 c.1 c.2)) (three_behind 59 ts)
-
-unfoldable pub told_opaque : List CsiParam → Option (ColorSpec × List CsiParam)
-told_opaque ts = if nat_lt (length ts) 6 then None else told_channels ts
-
-unfoldable pub told_kind : ℤ → List CsiParam → Option (ColorSpec × List CsiParam)
-told_kind kind ts = if is_number 5 kind then told_palette ts else (if is_number 2 kind then told_opaque ts else None)
-
--- a kind and its numbers behind the first token, in all five tokens or more
-unfoldable pub told_numbers : List CsiParam → Option (ColorSpec × List CsiParam)
-told_numbers (t ∷ P b ∷ Integer kind ∷ ts) = if b == 59 then told_kind kind ts else None
-told_numbers _ = None
-
-unfoldable pub told_form : List CsiParam → Option (ColorSpec × List CsiParam)
-told_form ts = if nat_lt (length ts) 5 then None else told_numbers ts
+-- the colour behind the first token, and how many tokens it takes with that and with the `;` right behind it
+unfoldable pub told_color : List CsiParam → Option (ColorSpec × ℕ)
+told_color ts = with_semicolon ts (option_map (λ form. (form.0, form.1 + 1)) (colour_form (drop 1 ts)))
 
 -- what a number in front of a colour sets
 abbrev pub target_numbered : ℤ → Option Target
@@ -117,19 +96,3 @@ abbrev pub set_to : Target → ColorSpec → Sgr
 set_to target.Foreground c = sgr.Foreground c
 set_to target.Background c = sgr.Background c
 set_to target.Underline c = sgr.UnderlineColor c
-
-unfoldable pub told_color : ℤ → List CsiParam → Option (Sgr × List CsiParam)
-told_color z ts = option_and_then (λ t. option_map (λ form. (set_to t form.0, past_semicolon form.1)) (told_form ts)) (target_numbered z)
-
--- a list whose first number has a value of its own, or none
-abbrev pub plain_or_told : ℤ → List CsiParam → Option Sgr → Option (Sgr × List CsiParam)
-plain_or_told z ts (Some v) = plain_piece v ts
-plain_or_told z ts None = told_color z ts
-
-unfoldable pub numbered_piece : ℤ → List CsiParam → Option (Sgr × List CsiParam)
-numbered_piece z ts = if is_number 38 z then told_color z ts else plain_or_told z ts (plain_code z)
-
-unfoldable pub quick_piece : List CsiParam → Option (Sgr × List CsiParam)
-quick_piece [] = None
-quick_piece (P b ∷ ts) = None
-quick_piece (Integer z ∷ ts) = numbered_piece z (Integer z ∷ ts)

@@ -288,7 +288,9 @@ pub(crate) fn cursor_reading(params: &[CsiParam], control: char) -> Option<Curso
 pub(crate) fn position(params: &[CsiParam]) -> Option<Cursor>
     ensures { IfSome result (λ value. lone_reading 72 params.now ≡ Some (cursor value)) }
 {
-    let (line, col) = number_pair(params)?;
+    let Some((line, col)) = number_pair(params) else {
+        return None;
+    };
     Some(Cursor::Position { line, col })
 }
 

@@ -17,7 +17,7 @@ ghost use Rattle.csi_codec.specs.Modes.{
 };
 ghost use Rattle.csi_codec.specs.Parameters.{number_within, private_tokens, sequence_text, spelled, spelled_text};
 
-use crate::parameters::{CsiParam, number_within};
+use crate::parameters::CsiParam;
 use crate::spelling::put_number;
 use crate::text::SequenceText;
 use std::fmt;
@@ -288,7 +288,10 @@ pub(crate) fn lone_private_mode(params: &[CsiParam], control: char) -> Option<Mo
 fn switched_mode(value: i64, control: char) -> Option<Mode>
     ensures { result ≡ switched_mode control value }
 {
-    let mode = DecPrivateMode::of_number(mode_number(value)?);
+    let Some(number) = mode_number(value) else {
+        return None;
+    };
+    let mode = DecPrivateMode::of_number(number);
     match control {
         'h' => Some(Mode::SetDecPrivateMode(mode)),
         'l' => Some(Mode::ResetDecPrivateMode(mode)),
@@ -313,5 +316,9 @@ pub(crate) fn mode_reading(value: i64, control: char) -> Option<Mode>
 fn mode_number(value: i64) -> Option<u16>
     ensures { result ≡ number_within 65535 value }
 {
-    Some(number_within(65535, value)? as u16)
+    if 0 <= value && value <= 65535 {
+        Some(value as u16)
+    } else {
+        None
+    }
 }

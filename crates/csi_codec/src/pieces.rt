@@ -1,5 +1,5 @@
 //! Pieces of lists: what they can be, and those of modes.
-ghost use Rattle.std.specs.Prelude.{◌≡◌, option_map};
+ghost use Rattle.std.specs.Prelude.{◌≡◌, true, drop, option_map};
 ghost use Rattle.csi_codec.specs.Actions.{all_sgr_tokens, mode_piece};
 ghost use Rattle.csi_codec.specs.Known.{found_mode};
 ghost use Rattle.csi_codec.specs.Modes.{mode_reading, private_mode_reading};
@@ -24,6 +24,98 @@ pub(crate) fn all_sgr_tokens(params: &[CsiParam]) -> bool
         return true;
     }
     all_tokens_in_turn(params)
+}
+
+/// Whether a list has only the tokens of SGR behind its first two, which are not looked at.
+#[inline(always)]
+pub(crate) fn all_behind_two(params: &[CsiParam]) -> bool
+    ensures { result ≡ true → all_sgr_tokens (drop 2 params.now) ≡ true }
+{
+    is_one_more(params) || are_two_more(params) || are_three_more(params) || are_more(params)
+}
+
+/// Whether one number stands behind the first two tokens.
+#[inline(always)]
+fn is_one_more(params: &[CsiParam]) -> bool
+    ensures { result ≡ true → all_sgr_tokens (drop 2 params.now) ≡ true }
+{
+    matches!(params, [_, _, CsiParam::Integer(_)])
+}
+
+/// Whether two numbers stand there, with a `;` between them.
+#[inline(always)]
+fn are_two_more(params: &[CsiParam]) -> bool
+    ensures { result ≡ true → all_sgr_tokens (drop 2 params.now) ≡ true }
+{
+    matches!(
+        params,
+        [
+            _,
+            _,
+            CsiParam::Integer(_),
+            CsiParam::P(b';'),
+            CsiParam::Integer(_),
+        ]
+    )
+}
+
+/// Whether three numbers stand there, with a `;` between two.
+#[inline(always)]
+fn are_three_more(params: &[CsiParam]) -> bool
+    ensures { result ≡ true → all_sgr_tokens (drop 2 params.now) ≡ true }
+{
+    match params {
+        [
+            _,
+            _,
+            first,
+            CsiParam::P(b';'),
+            CsiParam::Integer(_),
+            CsiParam::P(b';'),
+            last,
+        ] => first.is_number() & last.is_number(),
+        _ => false,
+    }
+}
+
+/// Whether four numbers stand there, with a `;` between two, or else any tokens of SGR.
+#[inline(never)]
+fn are_more(params: &[CsiParam]) -> bool
+    ensures { result ≡ true → all_sgr_tokens (drop 2 params.now) ≡ true }
+{
+    are_four_more(params) || all_behind(params, 2)
+}
+
+/// Whether four numbers stand there, with a `;` between two.
+#[inline(always)]
+fn are_four_more(params: &[CsiParam]) -> bool
+    ensures { result ≡ true → all_sgr_tokens (drop 2 params.now) ≡ true }
+{
+    matches!(
+        params,
+        [
+            _,
+            _,
+            CsiParam::Integer(_),
+            CsiParam::P(b';'),
+            CsiParam::Integer(_),
+            CsiParam::P(b';'),
+            CsiParam::Integer(_),
+            CsiParam::P(b';'),
+            CsiParam::Integer(_),
+        ]
+    )
+}
+
+/// Whether a list has only the tokens of SGR behind so many.
+#[inline(never)]
+pub(crate) fn all_behind(params: &[CsiParam], len: usize) -> bool
+    ensures { result ≡ true → all_sgr_tokens (drop len params.now) ≡ true }
+{
+    match params.get(len..) {
+        Some(rest) => all_sgr_tokens(rest),
+        None => false,
+    }
 }
 
 /// The same, where most are numbers with a `;` behind each, which are taken two by two.

@@ -1,8 +1,10 @@
 //! Reading the actions of a list from place to place.
-ghost use Rattle.std.specs.Prelude.{◌≡◌, ◌≢◌, ◌<◌, ◌≤◌, ℕ, Bool, List, true, false, IfNone, IfSome, Some, ◌∷◌, [], drop, length, option_map};
+ghost use Rattle.std.specs.Prelude.{◌≡◌, ◌≢◌, ◌<◌, ◌≤◌, ℕ, ℤ, Bool, List, true, false, IfNone, IfSome, Some, ◌∷◌, [], drop, length, option_map};
 ghost use Rattle.csi_codec.specs.Actions.{Kind as PieceKind, csi_reading, lone_or, lone_reading, modes_or, piece_of, pieces, private_mode_pieces, sgr, sgr_pieces, standard_mode_pieces, sgr_reading, unspecified};
 ghost use Rattle.csi_codec.specs.Known.{found_action};
+ghost use Rattle.csi_codec.specs.ColourCases.{begins_with};
 ghost use Rattle.csi_codec.specs.Parsing.{HasNoPiece, HasNoRendition, IsEnd, IsFirstPiece, IsFirstRendition, IsNext, IsStart, actions_behind, actions_from, kind_of, list_kind};
+ghost use Rattle.csi_codec.specs.Rendition.{plain_code};
 ghost use Rattle.csi_codec.specs.Sequences.{action_of, HandsOut};
 ghost use Rattle.csi_codec.specs.declared.parameters.CsiParam.{CsiParam};
 
@@ -12,10 +14,12 @@ use crate::edits::{Edit, EraseInDisplay, EraseInLine, edit_reading};
 use crate::modes::lone_private_mode;
 use crate::one_based::OneBased;
 use crate::parameters::{CsiParam, begins_with_number};
-use crate::pieces::{Kind, all_sgr_tokens, private_mode_piece, standard_mode_piece};
+use crate::pieces::{
+    Kind, all_behind, all_behind_two, all_sgr_tokens, private_mode_piece, standard_mode_piece,
+};
 use crate::rendition::Sgr;
 use crate::sequences::{CSI, request, unspecified};
-use crate::sgr_reading::{quick_piece, sgr_piece};
+use crate::sgr_reading::{is_foreground, lone_foreground, plain_code, sgr_piece, told_setting};
 use std::alloc::{AllocError, Global};
 
 /// A place in a list of parameters before a final byte: how far its actions were read. It lends nothing, so it can be kept
@@ -47,24 +51,28 @@ impl CSIPlace {
         ensures { HandsOut (actions_from self.old params.now parameters_truncated control) result (actions_from self.new params.now parameters_truncated control) }
     {
         let read = self.index;
-        if read >= params.len() {
-            if read > 0 {
-                return None;
-            }
-            if let Some(value) = bare_action(control) {
-                self.index = 1;
-                return Some(Ok(value));
-            }
-        } else if control == 'm' {
-            if let Some((value, behind)) = quick_rendition(read, params) {
-                self.index = behind;
-                return Some(Ok(CSI::Sgr(value)));
-            }
-        } else if read == 0 {
-            if let Some(value) = quick_other(params, control) {
+        if read == 0 {
+            if params.is_empty() {
+                if let Some(value) = bare_action(control) {
+                    self.index = 1;
+                    return Some(Ok(value));
+                }
+            } else if control == 'm' {
+                if let Some((value, behind)) = first_setting(params) {
+                    self.index = behind;
+                    return Some(Ok(CSI::Sgr(value)));
+                }
+            } else if let Some(value) = quick_other(params, control) {
                 self.index = params.len();
                 return Some(Ok(value));
             }
+        } else if read >= params.len() {
+            return None;
+        } else if control == 'm'
+            && let Some((value, behind)) = further_setting(read, params)
+        {
+            self.index = behind;
+            return Some(Ok(CSI::Sgr(value)));
         }
         if let Some((value, behind)) = known(read, params, control) {
             self.index = behind;
@@ -135,20 +143,108 @@ fn bare_lone(control: char) -> Option<CSI>
     }
 }
 
-/// The next setting of an SGR list, where it is one number or a colour told with `;`, and how many tokens are read then.
+/// The first setting of an SGR list, where it is one number or a colour told with `;`, and how many tokens are read then.
 #[inline(always)]
-fn quick_rendition(read: usize, params: &[CsiParam]) -> Option<(Sgr, usize)>
-    requires { read < length params.now }
+fn first_setting(params: &[CsiParam]) -> Option<(Sgr, usize)>
+    ensures { IfSome result (λ found. IsNext 0 params.now 109 (sgr found.0) found.1) }
+{
+    if let Some(color) = lone_foreground(params) {
+        return Some((Sgr::Foreground(color), params.len()));
+    }
+    let [CsiParam::Integer(value), ..] = params else {
+        return None;
+    };
+    first_numbered(*value, params)
+}
+
+/// The same of a list that begins with this number.
+#[inline(always)]
+fn first_numbered(value: i64, params: &[CsiParam]) -> Option<(Sgr, usize)>
+    requires { begins_with value params.now }
+    ensures { IfSome result (λ found. IsNext 0 params.now 109 (sgr found.0) found.1) }
+{
+    if !is_foreground(value)
+        && let Some(setting) = plain_code(value)
+    {
+        return first_plain(setting, params);
+    }
+    let Some((setting, len)) = told_setting(value, params) else {
+        return None;
+    };
+    if len == params.len() || all_behind(params, len) {
+        Some((setting, len))
+    } else {
+        None
+    }
+}
+
+/// The same where the number has this meaning of its own.
+#[inline(always)]
+fn first_plain(setting: Sgr, params: &[CsiParam]) -> Option<(Sgr, usize)>
+    ensures { IfSome result (λ found. (z : ℤ) → begins_with z params.now → plain_code z ≡ Some setting → IsNext 0 params.now 109 (sgr found.0) found.1) }
+{
+    match params {
+        [_] => Some((setting, params.len())),
+        [_, CsiParam::P(b';'), ..] if all_behind_two(params) => Some((setting, 2)),
+        _ => None,
+    }
+}
+
+/// A further setting of an SGR list, where it is one number or a colour told with `;`, and how many tokens are read then.
+#[inline(always)]
+fn further_setting(read: usize, params: &[CsiParam]) -> Option<(Sgr, usize)>
+    requires some { 0 < read }
+    requires within { read < length params.now }
     ensures { IfSome result (λ found. IsNext read params.now 109 (sgr found.0) found.1) }
 {
-    let (value, rest) = quick_piece(behind(params, read))?;
-    if rest.is_empty() {
-        return Some((value, params.len()));
-    }
-    if read == 0 && !all_sgr_tokens(rest) {
+    let others = behind(params, read);
+    let [CsiParam::Integer(value), ..] = others else {
         return None;
+    };
+    further_numbered(*value, read, others, params)
+}
+
+/// The same where this number stands at the front of the others.
+#[inline(always)]
+fn further_numbered(
+    value: i64,
+    read: usize,
+    others: &[CsiParam],
+    params: &[CsiParam],
+) -> Option<(Sgr, usize)>
+    requires some { 0 < read }
+    requires behind { others.now ≡ drop read params.now }
+    requires front { begins_with value others.now }
+    ensures { IfSome result (λ found. IsNext read params.now 109 (sgr found.0) found.1) }
+{
+    if !is_foreground(value)
+        && let Some(setting) = plain_code(value)
+    {
+        return further_plain(setting, read, others, params);
     }
-    Some((value, params.len() - rest.len()))
+    let Some((setting, len)) = told_setting(value, others) else {
+        return None;
+    };
+    Some((setting, read + len))
+}
+
+/// The same where the number has this meaning of its own.
+#[inline(always)]
+fn further_plain(
+    setting: Sgr,
+    read: usize,
+    others: &[CsiParam],
+    params: &[CsiParam],
+) -> Option<(Sgr, usize)>
+    requires some { 0 < read }
+    requires behind { others.now ≡ drop read params.now }
+    ensures { IfSome result (λ found. (z : ℤ) → begins_with z others.now → plain_code z ≡ Some setting → IsNext read params.now 109 (sgr found.0) found.1) }
+{
+    match others {
+        [_] => Some((setting, params.len())),
+        [_, CsiParam::P(b';'), ..] => Some((setting, read + 2)),
+        _ => None,
+    }
 }
 
 /// The only action of a list before any other final byte, where it is a mode that is set or reset, a cursor sequence or an

@@ -1,11 +1,12 @@
 //! SGR: reading a piece, by the number that it begins with.
-ghost use Rattle.std.specs.Prelude.{◌≡◌, ◌≤◌, IfSome, Some, option_map};
+ghost use Rattle.std.specs.Prelude.{◌≡◌, ◌<◌, ◌≤◌, true, IfSome, Some, is_some, length, option_map};
 ghost use Rattle.csi_codec.specs.Parameters.{is_number, number_within};
 ghost use Rattle.csi_codec.specs.ColourCases.{
   number_behind,
   three_behind,
   opaque_of,
   alpha_of,
+  palette_of,
   palette_case,
   opaque_case,
   bare_case,
@@ -14,17 +15,10 @@ ghost use Rattle.csi_codec.specs.ColourCases.{
   colon_form,
   semicolon_form,
   form_case,
-  past_semicolon,
-  plain_piece,
-  told_palette,
-  told_opaque,
-  told_kind,
-  told_form,
+  begins_with,
   told_color,
   target_numbered,
   set_to,
-  numbered_piece,
-  quick_piece,
 };
 ghost use Rattle.csi_codec.specs.Rendition.{
   colour_form,
@@ -36,10 +30,123 @@ ghost use Rattle.csi_codec.specs.Rendition.{
   sgr_shape,
   sgr_piece,
 };
+ghost use Rattle.csi_codec.specs.declared.rendition.Sgr.TheVariants.{Foreground};
 
 use crate::parameters::{CsiParam, number_within, semicolon_at};
 use crate::rendition::{Font, Sgr};
 use cell_base::{Blink, ColorSpec, Intensity, SrgbaTuple, Underline, VerticalAlign};
+
+/// What the numbers below 108 mean, where they stand alone.
+static CODES: [Option<Sgr>; 108] = [
+    Some(Sgr::Reset),
+    Some(Sgr::Intensity(Intensity::Bold)),
+    Some(Sgr::Intensity(Intensity::Half)),
+    Some(Sgr::Italic(true)),
+    Some(Sgr::Underline(Underline::Single)),
+    Some(Sgr::Blink(Blink::Slow)),
+    Some(Sgr::Blink(Blink::Rapid)),
+    Some(Sgr::Inverse(true)),
+    Some(Sgr::Invisible(true)),
+    Some(Sgr::StrikeThrough(true)),
+    Some(Sgr::Font(Font::Default)),
+    Some(Sgr::Font(Font::Alternate(1))),
+    Some(Sgr::Font(Font::Alternate(2))),
+    Some(Sgr::Font(Font::Alternate(3))),
+    Some(Sgr::Font(Font::Alternate(4))),
+    Some(Sgr::Font(Font::Alternate(5))),
+    Some(Sgr::Font(Font::Alternate(6))),
+    Some(Sgr::Font(Font::Alternate(7))),
+    Some(Sgr::Font(Font::Alternate(8))),
+    Some(Sgr::Font(Font::Alternate(9))),
+    None,
+    Some(Sgr::Underline(Underline::Double)),
+    Some(Sgr::Intensity(Intensity::Normal)),
+    Some(Sgr::Italic(false)),
+    Some(Sgr::Underline(Underline::None)),
+    Some(Sgr::Blink(Blink::None)),
+    None,
+    Some(Sgr::Inverse(false)),
+    Some(Sgr::Invisible(false)),
+    Some(Sgr::StrikeThrough(false)),
+    Some(Sgr::Foreground(ColorSpec::PaletteIndex(0))),
+    Some(Sgr::Foreground(ColorSpec::PaletteIndex(1))),
+    Some(Sgr::Foreground(ColorSpec::PaletteIndex(2))),
+    Some(Sgr::Foreground(ColorSpec::PaletteIndex(3))),
+    Some(Sgr::Foreground(ColorSpec::PaletteIndex(4))),
+    Some(Sgr::Foreground(ColorSpec::PaletteIndex(5))),
+    Some(Sgr::Foreground(ColorSpec::PaletteIndex(6))),
+    Some(Sgr::Foreground(ColorSpec::PaletteIndex(7))),
+    None,
+    Some(Sgr::Foreground(ColorSpec::Default)),
+    Some(Sgr::Background(ColorSpec::PaletteIndex(0))),
+    Some(Sgr::Background(ColorSpec::PaletteIndex(1))),
+    Some(Sgr::Background(ColorSpec::PaletteIndex(2))),
+    Some(Sgr::Background(ColorSpec::PaletteIndex(3))),
+    Some(Sgr::Background(ColorSpec::PaletteIndex(4))),
+    Some(Sgr::Background(ColorSpec::PaletteIndex(5))),
+    Some(Sgr::Background(ColorSpec::PaletteIndex(6))),
+    Some(Sgr::Background(ColorSpec::PaletteIndex(7))),
+    None,
+    Some(Sgr::Background(ColorSpec::Default)),
+    None,
+    None,
+    None,
+    Some(Sgr::Overline(true)),
+    None,
+    Some(Sgr::Overline(false)),
+    None,
+    None,
+    None,
+    Some(Sgr::UnderlineColor(ColorSpec::Default)),
+    None,
+    None,
+    None,
+    None,
+    None,
+    None,
+    None,
+    None,
+    None,
+    None,
+    None,
+    None,
+    None,
+    Some(Sgr::VerticalAlign(VerticalAlign::SuperScript)),
+    Some(Sgr::VerticalAlign(VerticalAlign::SubScript)),
+    Some(Sgr::VerticalAlign(VerticalAlign::BaseLine)),
+    None,
+    None,
+    None,
+    None,
+    None,
+    None,
+    None,
+    None,
+    None,
+    None,
+    None,
+    None,
+    None,
+    None,
+    Some(Sgr::Foreground(ColorSpec::PaletteIndex(8))),
+    Some(Sgr::Foreground(ColorSpec::PaletteIndex(9))),
+    Some(Sgr::Foreground(ColorSpec::PaletteIndex(10))),
+    Some(Sgr::Foreground(ColorSpec::PaletteIndex(11))),
+    Some(Sgr::Foreground(ColorSpec::PaletteIndex(12))),
+    Some(Sgr::Foreground(ColorSpec::PaletteIndex(13))),
+    Some(Sgr::Foreground(ColorSpec::PaletteIndex(14))),
+    Some(Sgr::Foreground(ColorSpec::PaletteIndex(15))),
+    None,
+    None,
+    Some(Sgr::Background(ColorSpec::PaletteIndex(8))),
+    Some(Sgr::Background(ColorSpec::PaletteIndex(9))),
+    Some(Sgr::Background(ColorSpec::PaletteIndex(10))),
+    Some(Sgr::Background(ColorSpec::PaletteIndex(11))),
+    Some(Sgr::Background(ColorSpec::PaletteIndex(12))),
+    Some(Sgr::Background(ColorSpec::PaletteIndex(13))),
+    Some(Sgr::Background(ColorSpec::PaletteIndex(14))),
+    Some(Sgr::Background(ColorSpec::PaletteIndex(15))),
+];
 
 /// The number behind a sign at the front of a list, and what follows it.
 #[inline(always)]
@@ -59,9 +166,15 @@ fn number_behind(sign: u8, params: &[CsiParam]) -> Option<(i64, &[CsiParam])>
 fn three_behind(sign: u8, params: &[CsiParam]) -> Option<(i64, i64, i64, &[CsiParam])>
     ensures { option_map (λ found. (found.0, found.1, found.2, found.3.now)) result ≡ three_behind sign params.now }
 {
-    let (red, rest) = number_behind(sign, params)?;
-    let (green, rest) = number_behind(sign, rest)?;
-    let (blue, rest) = number_behind(sign, rest)?;
+    let Some((red, rest)) = number_behind(sign, params) else {
+        return None;
+    };
+    let Some((green, rest)) = number_behind(sign, rest) else {
+        return None;
+    };
+    let Some((blue, rest)) = number_behind(sign, rest) else {
+        return None;
+    };
     Some((red, green, blue, rest))
 }
 
@@ -70,8 +183,45 @@ fn three_behind(sign: u8, params: &[CsiParam]) -> Option<(i64, i64, i64, &[CsiPa
 fn opaque_of(red: i64, green: i64, blue: i64) -> Option<ColorSpec>
     ensures { result ≡ opaque_of red green blue }
 {
-    let color = SrgbaTuple(channel(red)?, channel(green)?, channel(blue)?, 255);
-    Some(ColorSpec::TrueColor(color))
+    if are_bytes(red, green, blue) {
+        Some(opaque(red, green, blue))
+    } else {
+        None
+    }
+}
+
+/// Whether three numbers are bytes.
+#[inline(always)]
+fn are_bytes(red: i64, green: i64, blue: i64) -> bool
+    ensures { result ≡ is_some (opaque_of red green blue) }
+{
+    is_byte(red) & is_byte(green) & is_byte(blue)
+}
+
+/// The opaque colour of three bytes.
+#[inline(always)]
+fn opaque(red: i64, green: i64, blue: i64) -> ColorSpec
+    requires { is_some (opaque_of red green blue) ≡ true }
+    ensures { Some result ≡ opaque_of red green blue }
+{
+    ColorSpec::TrueColor(SrgbaTuple(red as u8, green as u8, blue as u8, 255))
+}
+
+/// The colour of the palette that a byte names.
+#[inline(always)]
+fn palette(index: i64) -> ColorSpec
+    requires { is_some (number_within 255 index) ≡ true }
+    ensures { Some result ≡ palette_of index }
+{
+    ColorSpec::PaletteIndex(index as u8)
+}
+
+/// Whether a number is a byte.
+#[inline(always)]
+fn is_byte(value: i64) -> bool
+    ensures { result ≡ is_some (number_within 255 value) }
+{
+    0 <= value && value <= 255
 }
 
 /// The colour of four numbers, if they are bytes.
@@ -196,64 +346,6 @@ fn color_form(params: &[CsiParam]) -> Option<(ColorSpec, usize)>
     form_case(params)
 }
 
-/// What a number that stands alone means: fonts from 11 to 19, and the bright colours of the palette, by range.
-#[tactic(auto, unfolding(crate::specs::Rendition::single_code))]
-#[inline(always)]
-fn single_code(code: u8) -> Option<Sgr>
-    ensures { result ≡ single_code code }
-{
-    match code {
-        0 => Some(Sgr::Reset),
-        1 => Some(Sgr::Intensity(Intensity::Bold)),
-        2 => Some(Sgr::Intensity(Intensity::Half)),
-        22 => Some(Sgr::Intensity(Intensity::Normal)),
-        24 => Some(Sgr::Underline(Underline::None)),
-        4 => Some(Sgr::Underline(Underline::Single)),
-        21 => Some(Sgr::Underline(Underline::Double)),
-        5 => Some(Sgr::Blink(Blink::Slow)),
-        6 => Some(Sgr::Blink(Blink::Rapid)),
-        25 => Some(Sgr::Blink(Blink::None)),
-        3 => Some(Sgr::Italic(true)),
-        23 => Some(Sgr::Italic(false)),
-        7 => Some(Sgr::Inverse(true)),
-        27 => Some(Sgr::Inverse(false)),
-        8 => Some(Sgr::Invisible(true)),
-        28 => Some(Sgr::Invisible(false)),
-        9 => Some(Sgr::StrikeThrough(true)),
-        29 => Some(Sgr::StrikeThrough(false)),
-        53 => Some(Sgr::Overline(true)),
-        55 => Some(Sgr::Overline(false)),
-        10 => Some(Sgr::Font(Font::Default)),
-        73 => Some(Sgr::VerticalAlign(VerticalAlign::SuperScript)),
-        74 => Some(Sgr::VerticalAlign(VerticalAlign::SubScript)),
-        75 => Some(Sgr::VerticalAlign(VerticalAlign::BaseLine)),
-        39 => Some(Sgr::Foreground(ColorSpec::Default)),
-        49 => Some(Sgr::Background(ColorSpec::Default)),
-        59 => Some(Sgr::UnderlineColor(ColorSpec::Default)),
-        38 | 48 | 58 => None,
-        11..=19 => Some(Sgr::Font(Font::Alternate(code - 10))),
-        30 => Some(Sgr::Foreground(ColorSpec::PaletteIndex(0))),
-        31 => Some(Sgr::Foreground(ColorSpec::PaletteIndex(1))),
-        32 => Some(Sgr::Foreground(ColorSpec::PaletteIndex(2))),
-        33 => Some(Sgr::Foreground(ColorSpec::PaletteIndex(3))),
-        34 => Some(Sgr::Foreground(ColorSpec::PaletteIndex(4))),
-        35 => Some(Sgr::Foreground(ColorSpec::PaletteIndex(5))),
-        36 => Some(Sgr::Foreground(ColorSpec::PaletteIndex(6))),
-        37 => Some(Sgr::Foreground(ColorSpec::PaletteIndex(7))),
-        40 => Some(Sgr::Background(ColorSpec::PaletteIndex(0))),
-        41 => Some(Sgr::Background(ColorSpec::PaletteIndex(1))),
-        42 => Some(Sgr::Background(ColorSpec::PaletteIndex(2))),
-        43 => Some(Sgr::Background(ColorSpec::PaletteIndex(3))),
-        44 => Some(Sgr::Background(ColorSpec::PaletteIndex(4))),
-        45 => Some(Sgr::Background(ColorSpec::PaletteIndex(5))),
-        46 => Some(Sgr::Background(ColorSpec::PaletteIndex(6))),
-        47 => Some(Sgr::Background(ColorSpec::PaletteIndex(7))),
-        90..=97 => Some(Sgr::Foreground(ColorSpec::PaletteIndex(code - 82))),
-        100..=107 => Some(Sgr::Background(ColorSpec::PaletteIndex(code - 92))),
-        _ => None,
-    }
-}
-
 fn underline_numbered(kind: i64) -> Option<Underline>
     ensures { result ≡ underline_numbered kind }
 {
@@ -286,7 +378,20 @@ fn underline_shape(params: &[CsiParam]) -> Option<(Sgr, usize)>
 pub(crate) fn plain_code(value: i64) -> Option<Sgr>
     ensures { result ≡ plain_code value }
 {
-    single_code(number_within(255, value)? as u8)
+    if 0 <= value && value < 108 {
+        listed_code(value as usize)
+    } else {
+        None
+    }
+}
+
+/// What a number below 108 means.
+#[inline(always)]
+fn listed_code(code: usize) -> Option<Sgr>
+    requires { code < 108 }
+    ensures { result ≡ single_code code }
+{
+    CODES[code]
 }
 
 /// What the longest shape at the front of a list that begins with a number stands for, and how many tokens it takes.
@@ -339,123 +444,129 @@ pub(crate) fn sgr_piece(params: &[CsiParam]) -> Option<(Sgr, usize)>
     Some((value, len + semicolon_at(params, len)))
 }
 
-/// The same, and what stands behind the piece, where it is one number or a colour whose numbers stand apart by `;`.
-#[tactic(auto, unfolding(crate::specs::ColourCases::quick_piece))]
+/// The colour that a list sets, where it is a foreground's red, green and blue that stand apart by `;`.
 #[inline(always)]
-pub(crate) fn quick_piece(params: &[CsiParam]) -> Option<(Sgr, &[CsiParam])>
-    ensures { option_map (λ found. (found.0, found.1.now)) result ≡ quick_piece params.now }
+pub(crate) fn lone_foreground(params: &[CsiParam]) -> Option<ColorSpec>
+    ensures { IfSome result (λ color. sgr_piece params.now ≡ Some (Foreground color, length params.now)) }
 {
     match params {
-        [CsiParam::Integer(value), ..] => numbered_piece(*value, params),
+        [
+            CsiParam::Integer(38),
+            CsiParam::P(b';'),
+            CsiParam::Integer(2),
+            CsiParam::P(b';'),
+            CsiParam::Integer(red),
+            CsiParam::P(b';'),
+            CsiParam::Integer(green),
+            CsiParam::P(b';'),
+            CsiParam::Integer(blue),
+        ] if are_bytes(*red, *green, *blue) => Some(opaque(*red, *green, *blue)),
         _ => None,
     }
 }
 
-/// The same of a list that begins with this number.
-#[tactic(auto, unfolding(crate::specs::ColourCases::numbered_piece))]
+/// A colour whose numbers stand apart by `;`, at the front of a list that begins with its target's number, as a setting, and
+/// how many tokens it takes with the `;` right behind it.
 #[inline(always)]
-fn numbered_piece(value: i64, params: &[CsiParam]) -> Option<(Sgr, &[CsiParam])>
-    ensures { option_map (λ found. (found.0, found.1.now)) result ≡ numbered_piece value params.now }
+pub(crate) fn told_setting(value: i64, params: &[CsiParam]) -> Option<(Sgr, usize)>
+    requires { begins_with value params.now }
+    ensures { IfSome result (λ found. sgr_piece params.now ≡ Some found) }
 {
-    if !is_foreground(value)
-        && let Some(sgr) = plain_code(value)
-    {
-        return plain_piece(sgr, params);
+    let Some(target) = Target::of_number(value) else {
+        return None;
+    };
+    let Some((color, len)) = told_color(params) else {
+        return None;
+    };
+    Some((target.set_to(color), len))
+}
+
+/// A colour whose numbers stand apart by `;`, behind the first token, and how many tokens it takes with that and with the `;`
+/// right behind it.
+#[inline(always)]
+fn told_color(params: &[CsiParam]) -> Option<(ColorSpec, usize)>
+    ensures { IfSome result (λ found. told_color params.now ≡ Some found) }
+{
+    if let Some(color) = lone_palette(params) {
+        return Some((color, params.len()));
     }
-    told_color(value, params)
+    if let Some(color) = longer_palette(params) {
+        return Some((color, 6));
+    }
+    told_opaque(params)
+}
+
+/// The colour of the palette whose numbers stand behind the first token and in front of a `;`.
+#[inline(always)]
+fn longer_palette(params: &[CsiParam]) -> Option<ColorSpec>
+    ensures { IfSome result (λ color. told_color params.now ≡ Some (color, 6)) }
+{
+    match params {
+        [
+            _,
+            CsiParam::P(b';'),
+            CsiParam::Integer(5),
+            CsiParam::P(b';'),
+            CsiParam::Integer(index),
+            CsiParam::P(b';'),
+            ..
+        ] if is_byte(*index) => Some(palette(*index)),
+        _ => None,
+    }
+}
+
+/// The opaque colour whose numbers stand behind the first token, at the end of a list or in front of a `;`.
+#[inline(always)]
+fn told_opaque(params: &[CsiParam]) -> Option<(ColorSpec, usize)>
+    ensures { IfSome result (λ found. told_color params.now ≡ Some found) }
+{
+    match params {
+        [
+            _,
+            CsiParam::P(b';'),
+            CsiParam::Integer(2),
+            CsiParam::P(b';'),
+            CsiParam::Integer(red),
+            CsiParam::P(b';'),
+            CsiParam::Integer(green),
+            CsiParam::P(b';'),
+            CsiParam::Integer(blue),
+            rest @ ..,
+        ] if are_bytes(*red, *green, *blue) => {
+            let color = opaque(*red, *green, *blue);
+            match rest {
+                [] => Some((color, params.len())),
+                [CsiParam::P(b';'), ..] => Some((color, 10)),
+                _ => None,
+            }
+        }
+        _ => None,
+    }
+}
+
+/// The colour of the palette that ends a list whose first token is its target's number.
+#[inline(always)]
+fn lone_palette(params: &[CsiParam]) -> Option<ColorSpec>
+    ensures { IfSome result (λ color. told_color params.now ≡ Some (color, length params.now)) }
+{
+    match params {
+        [
+            _,
+            CsiParam::P(b';'),
+            CsiParam::Integer(5),
+            CsiParam::P(b';'),
+            CsiParam::Integer(index),
+        ] if is_byte(*index) => Some(palette(*index)),
+        _ => None,
+    }
 }
 
 /// Whether a number stands in front of a colour of the foreground, which is the most frequent.
 #[inline(always)]
-fn is_foreground(value: i64) -> bool
+pub(crate) fn is_foreground(value: i64) -> bool
     ensures { result ≡ is_number 38 value }
 {
     value == 38
-}
-
-/// A setting whose number stands alone, and what stands behind it and its `;`.
-#[inline(always)]
-fn plain_piece(value: Sgr, params: &[CsiParam]) -> Option<(Sgr, &[CsiParam])>
-    ensures { option_map (λ found. (found.0, found.1.now)) result ≡ plain_piece value params.now }
-{
-    match params {
-        [_] => Some((value, &[])),
-        [_, CsiParam::P(b';'), behind @ ..] => Some((value, behind)),
-        _ => None,
-    }
-}
-
-/// A colour behind its target's number, and what stands behind it and its `;`.
-#[tactic(auto, unfolding(crate::specs::ColourCases::told_color))]
-#[inline(always)]
-fn told_color(value: i64, params: &[CsiParam]) -> Option<(Sgr, &[CsiParam])>
-    ensures { option_map (λ found. (found.0, found.1.now)) result ≡ told_color value params.now }
-{
-    let target = Target::of_number(value)?;
-    let (color, rest) = told_form(params)?;
-    Some((target.set_to(color), past_semicolon(rest)))
-}
-
-/// What stands behind the `;` at the front of a list, if one stands there.
-#[inline(always)]
-fn past_semicolon(params: &[CsiParam]) -> &[CsiParam]
-    ensures { result.now ≡ past_semicolon params.now }
-{
-    match params {
-        [CsiParam::P(b';'), behind @ ..] => behind,
-        _ => params,
-    }
-}
-
-/// A colour whose numbers stand apart by `;`, behind the first token, and what stands behind it.
-#[tactic(auto, unfolding(crate::specs::ColourCases::told_form, crate::specs::ColourCases::told_numbers))]
-#[inline(always)]
-fn told_form(params: &[CsiParam]) -> Option<(ColorSpec, &[CsiParam])>
-    ensures { option_map (λ found. (found.0, found.1.now)) result ≡ told_form params.now }
-{
-    if params.len() < 5 {
-        return None;
-    }
-    match params {
-        [_, CsiParam::P(b';'), CsiParam::Integer(kind), behind @ ..] => told_kind(*kind, behind),
-        _ => None,
-    }
-}
-
-/// The colour behind its kind, and what stands behind it.
-#[tactic(auto, unfolding(crate::specs::ColourCases::told_kind))]
-#[inline(always)]
-fn told_kind(kind: i64, params: &[CsiParam]) -> Option<(ColorSpec, &[CsiParam])>
-    ensures { option_map (λ found. (found.0, found.1.now)) result ≡ told_kind kind params.now }
-{
-    match kind {
-        5 => told_palette(params),
-        2 => told_opaque(params),
-        _ => None,
-    }
-}
-
-/// The colour of the palette whose index stands behind a `;`, and what stands behind it.
-#[tactic(auto, unfolding(crate::specs::ColourCases::told_palette))]
-#[inline(always)]
-fn told_palette(params: &[CsiParam]) -> Option<(ColorSpec, &[CsiParam])>
-    ensures { option_map (λ found. (found.0, found.1.now)) result ≡ told_palette params.now }
-{
-    let (index, rest) = number_behind(b';', params)?;
-    Some((ColorSpec::PaletteIndex(channel(index)?), rest))
-}
-
-/// The opaque colour whose three numbers stand behind a `;` each, and what stands behind it.
-#[tactic(auto, unfolding(crate::specs::ColourCases::told_opaque, crate::specs::ColourCases::told_channels))]
-#[inline(always)]
-fn told_opaque(params: &[CsiParam]) -> Option<(ColorSpec, &[CsiParam])>
-    ensures { option_map (λ found. (found.0, found.1.now)) result ≡ told_opaque params.now }
-{
-    if params.len() < 6 {
-        return None;
-    }
-    let (red, green, blue, rest) = three_behind(b';', params)?;
-    Some((opaque_of(red, green, blue)?, rest))
 }
 
 /// What a colour is for.

@@ -3,12 +3,14 @@ ghost use Rattle.std.specs.Prelude.{◌≡◌, ◌≤◌, ℕ, Bool, pos, ◌∷
 ghost use Rattle.cell_base.specs.declared.color.ColorSpec.TheVariants.{PaletteIndex};
 ghost use Rattle.csi_codec.specs.Actions.{csi_reading};
 ghost use Rattle.csi_codec.specs.Cursors.{cursor_reading};
-ghost use Rattle.csi_codec.specs.Parameters.{place_pair};
+ghost use Rattle.csi_codec.specs.Edits.{edit_reading};
+ghost use Rattle.csi_codec.specs.Parameters.{count, place_pair};
 ghost use Rattle.csi_codec.specs.Sequences.{action_of};
 ghost use Rattle.csi_codec.specs.Short.{BeginsAsNumber, IsOnly, short_list, targeted};
 ghost use Rattle.csi_codec.specs.declared.parameters.CsiParam.TheVariants.{Integer, P};
 
 use crate::cursors::Cursor;
+use crate::edits::{Edit, EraseInLine};
 use crate::one_based::OneBased;
 use crate::parameters::{CsiParam, place};
 use crate::places::lone_action;
@@ -33,9 +35,65 @@ pub enum ShortNumbers {
 pub fn read_short(numbers: ShortNumbers, control: u8) -> Option<CSI>
     ensures { IfSome result (λ value. IsOnly (short_list numbers) control (action_of value)) }
 {
+    match control {
+        b'A' | b'B' | b'C' | b'D' => Some(CSI::Cursor(short_move(numbers, control)?)),
+        b'K' => Some(CSI::Edit(short_erasure(numbers)?)),
+        _ => other_action(numbers, control),
+    }
+}
+
+/// The same before any final byte, frequent or not.
+#[inline(always)]
+fn other_action(numbers: ShortNumbers, control: u8) -> Option<CSI>
+    ensures { IfSome result (λ value. IsOnly (short_list numbers) control (action_of value)) }
+{
     match numbers {
         ShortNumbers::Nothing => bare_action(control),
         ShortNumbers::One(number) => numbered_action(number, control),
+        ShortNumbers::Two(..) | ShortNumbers::Three(..) => None,
+    }
+}
+
+/// The count that at most one number spells, where absent and 0 are 1.
+#[inline(always)]
+fn short_count(numbers: ShortNumbers) -> Option<u32>
+    ensures { IfSome result (λ n. count (short_list numbers) ≡ Some n) }
+{
+    match numbers {
+        ShortNumbers::Nothing | ShortNumbers::One(0) => Some(1),
+        ShortNumbers::One(number) => Some(u32::from(number)),
+        ShortNumbers::Two(..) | ShortNumbers::Three(..) => None,
+    }
+}
+
+/// The move up, down, right or left that at most one number spells.
+#[tactic(auto, unfolding(crate::specs::Cursors::cursor_reading))]
+#[inline(always)]
+fn short_move(numbers: ShortNumbers, control: u8) -> Option<Cursor>
+    ensures { IfSome result (λ value. cursor_reading control (short_list numbers) ≡ Some value) }
+{
+    let count = short_count(numbers)?;
+    match control {
+        b'A' => Some(Cursor::Up(count)),
+        b'B' => Some(Cursor::Down(count)),
+        b'C' => Some(Cursor::Right(count)),
+        b'D' => Some(Cursor::Left(count)),
+        _ => None,
+    }
+}
+
+/// The erasure within a row that at most one number spells before `K`.
+#[tactic(auto, unfolding(crate::specs::Edits::edit_reading))]
+#[inline(always)]
+fn short_erasure(numbers: ShortNumbers) -> Option<Edit>
+    ensures { IfSome result (λ value. edit_reading 75 (short_list numbers) ≡ Some value) }
+{
+    match numbers {
+        ShortNumbers::Nothing => Some(Edit::EraseInLine(EraseInLine::EraseToEndOfLine)),
+        ShortNumbers::One(number) => {
+            let extent = EraseInLine::from_i64(i64::from(number))?;
+            Some(Edit::EraseInLine(extent))
+        }
         ShortNumbers::Two(..) | ShortNumbers::Three(..) => None,
     }
 }

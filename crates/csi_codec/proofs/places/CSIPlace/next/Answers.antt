@@ -4,8 +4,8 @@ use Rattle.csi_codec.proofs.PieceLemmas.{pieces_ended}
 use Rattle.csi_codec.proofs.PlaceLemmas.{behind_some}
 use Rattle.csi_codec.proofs.places.CSIPlace.next.Goals as goal
 
-pub returns-then-read-gt0 : goal.returns-then-read-gt0
-returns-then-read-gt0 c =
+pub returns-then-read-params : goal.returns-then-read-params
+returns-then-read-params c =
     let ended = behind_some c.args.self.now.index c.args.params.now c.args.parameters_truncated c.args.control (omega arith)
     ∙ pieces_ended (list_kind c.args.control c.args.params.now) c.args.parameters_truncated c.args.control c.args.params.now c.args.self.now.index (omega arith) in
     (ended, ended)

@@ -1,0 +1,21 @@
+use Rattle.std.proofs.Common.{rules, ◌≡◌, length, pos, slice_index_or, Some}
+use Rattle.csi_codec.specs.declared.parameters.CsiParam.TheVariants.{Integer, P}
+use Rattle.csi_codec.specs.ColourCases.{opaque_of}
+use Rattle.csi_codec.proofs.QuickLemmas.{foreground_told, opaque_ends, opaque_tokens}
+use Rattle.csi_codec.proofs.sgr_reading.lone_foreground.Goals as goal
+
+pub returns-in-Integer : goal.returns-in-Integer
+returns-in-Integer c =
+    let z : slice_index_or c.args.params.now 0 (Integer (pos 0)) ≡ Integer (pos 38) = search rules in
+    let a : slice_index_or c.args.params.now 1 (Integer (pos 0)) ≡ P 59 = search rules in
+    let b : slice_index_or c.args.params.now 2 (Integer (pos 0)) ≡ Integer (pos 2) = search rules in
+    let d : slice_index_or c.args.params.now 3 (Integer (pos 0)) ≡ P 59 = search rules in
+    let e : slice_index_or c.args.params.now 4 (Integer (pos 0)) ≡ Integer c.in-Integer.red = search rules in
+    let f : slice_index_or c.args.params.now 5 (Integer (pos 0)) ≡ P 59 = search rules in
+    let g : slice_index_or c.args.params.now 6 (Integer (pos 0)) ≡ Integer c.in-Integer.green = search rules in
+    let h : slice_index_or c.args.params.now 7 (Integer (pos 0)) ≡ P 59 = search rules in
+    let i : slice_index_or c.args.params.now 8 (Integer (pos 0)) ≡ Integer c.in-Integer.blue = search rules in
+    let told = opaque_tokens c.args.params.now c.in-Integer.red c.in-Integer.green c.in-Integer.blue c.in-Integer.len_at_least a b d e f g h i in
+    let j : Some c.opaque.result ≡ opaque_of c.in-Integer.red c.in-Integer.green c.in-Integer.blue = search rules in
+    foreground_told c.args.params.now c.opaque.result (length c.args.params.now) z
+    (opaque_ends c.args.params.now c.in-Integer.red c.in-Integer.green c.in-Integer.blue c.opaque.result told c.in-Integer.len_below j)
