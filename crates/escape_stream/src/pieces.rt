@@ -97,14 +97,13 @@ fn behind(bytes: &[u8], count: usize) -> &[u8]
     &bytes[count..]
 }
 
-// Whether this may be the second of two numbers, and another final byte than `m`.
+// Whether these three bytes may begin the second of two numbers, with another final byte than `m` behind it.
 #[inline(always)]
-fn may_end_pair(bytes: &[u8]) -> bool {
-    match bytes {
-        [_, b'0'..=b'9', b'0'..=b'9', behind, ..] => *behind != b'm',
-        [_, b'0'..=b'9', behind, ..] => *behind != b'm' && *behind != b';',
-        [_, behind, ..] => *behind != b'm' && *behind != b';',
-        _ => false,
+fn may_end_pair(first: u8, second: u8, third: u8) -> bool {
+    match second {
+        b'0'..=b'9' => first.is_ascii_digit() && third != b'm',
+        b'm' | b';' => false,
+        _ => first.is_ascii_digit(),
     }
 }
 
@@ -410,11 +409,16 @@ impl<'a> Pieces<'a> {
         requires { self.now.count ≤ length self.now.bytes.now }
     {
         let bytes = self.bytes;
-        match behind(bytes, self.count) {
-            [_, _, b'3' | b'4' | b'5', b'8', b';', b'5', b';', ..] => true,
-            [_, _, _, b';', left @ ..] => may_end_pair(left),
-            [_, _, _, _, b';', left @ ..] => may_end_pair(left),
-            [_, _, _, _, _, b';', left @ ..] => may_end_pair(left),
+        let [_, _, _, second, third, fourth, fifth, sixth, seventh, ..] =
+            behind(bytes, self.count)
+        else {
+            return false;
+        };
+        match (*second, *third, *fourth) {
+            (b'8', b';', b'5') if *fifth == b';' => true,
+            (b';', _, _) => may_end_pair(*third, *fourth, *fifth),
+            (_, b';', _) => may_end_pair(*fourth, *fifth, *sixth),
+            (_, _, b';') => may_end_pair(*fifth, *sixth, *seventh),
             _ => false,
         }
     }
@@ -467,9 +471,21 @@ impl<'a> Pieces<'a> {
         }
     }
 
+    // The same, where two or three numbers may stand there, called where it is wanted, as `next_by_loop` is.
+    #[inline(always)]
+    fn next_by_numbers(&mut self) -> Option<Result<Piece<'a>, ParseError>>
+        requires open { IsOpen self.old }
+        requires ready { IsUnderWay self.old }
+        requires failed { self.old.parser.now.failed ≡ true }
+        requires empty { IsEmpty self.old.queue }
+        ensures { PiecesGo self.old result self.new }
+    {
+        self.next_of_numbers()
+    }
+
     // The same, where two or three numbers may stand there.
     #[inline(never)]
-    fn next_by_numbers(&mut self) -> Option<Result<Piece<'a>, ParseError>>
+    fn next_of_numbers(&mut self) -> Option<Result<Piece<'a>, ParseError>>
         requires open { IsOpen self.old }
         requires ready { IsUnderWay self.old }
         requires failed { self.old.parser.now.failed ≡ true }
@@ -568,9 +584,21 @@ impl<'a> Pieces<'a> {
         Piece::Action(Action::Esc(Esc::parse(None, control)))
     }
 
+    // The same of an escape sequence of two bytes or a command at once, called where it is wanted, as `next_by_loop` is.
+    #[inline(always)]
+    fn next_by_command(&mut self) -> Option<Result<Piece<'a>, ParseError>>
+        requires open { IsOpen self.old }
+        requires ready { IsUnderWay self.old }
+        requires failed { self.old.parser.now.failed ≡ true }
+        requires empty { IsEmpty self.old.queue }
+        ensures { PiecesGo self.old result self.new }
+    {
+        self.next_of_command()
+    }
+
     // The next item of pieces that are open, where nothing waits: of an escape sequence of two bytes or a command at once.
     #[inline(never)]
-    fn next_by_command(&mut self) -> Option<Result<Piece<'a>, ParseError>>
+    fn next_of_command(&mut self) -> Option<Result<Piece<'a>, ParseError>>
         requires open { IsOpen self.old }
         requires ready { IsUnderWay self.old }
         requires failed { self.old.parser.now.failed ≡ true }

@@ -1,6 +1,6 @@
 use Rattle.std.proofs.Common.{ap, ◌∙◌}
 use Rattle.escape_framing.specs.Framing.{Framing}
-use Rattle.escape_stream.proofs.pieces.Pieces.next_by_numbers.Goals as goal
+use Rattle.escape_stream.proofs.pieces.Pieces.next_of_numbers.Goals as goal
 
 pub returns-in-Some : goal.returns-in-Some
 returns-in-Some c =

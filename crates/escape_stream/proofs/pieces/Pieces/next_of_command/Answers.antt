@@ -1,6 +1,6 @@
 use Rattle.std.proofs.Common.{ap, ◌∙◌}
 use Rattle.escape_framing.specs.Framing.{Framing}
-use Rattle.escape_stream.proofs.pieces.Pieces.next_by_command.Goals as goal
+use Rattle.escape_stream.proofs.pieces.Pieces.next_of_command.Goals as goal
 
 pub returns-in-Ok : goal.returns-in-Ok
 returns-in-Ok c =
