@@ -14,6 +14,19 @@ use cell_change::Change;
 use cell_surface::{Surface, SurfaceError};
 
 // One change.
+#[inline(never)]
+fn add_one<W: Widths + Drop>(surface: &mut Surface<W>, change: Change) -> Result<(), SurfaceError>
+    ensures added { IfOk result (λ _. AddsAll (λ w. W.width_of w) surface.old surface.new (value_of change ∷ [])) }
+    ensures failed { IsErrOf result SurfaceError.Failed → surface.old.is_failed ≡ true }
+    ensures numbers { IsErrOf result SurfaceError.Number → 2 ^ 64 ≤ number_of surface.old + 1 }
+    ensures memory { IsErrOf result SurfaceError.Memory → surface.new.is_failed ≡ true }
+{
+    surface.add_change(change)?;
+    Ok(())
+}
+
+// The same, called where it is wanted: the room for what is added is only cleared there.
+#[inline(always)]
 pub(crate) fn add<W: Widths + Drop>(
     surface: &mut Surface<W>,
     change: Change,
@@ -23,8 +36,7 @@ pub(crate) fn add<W: Widths + Drop>(
     ensures numbers { IsErrOf result SurfaceError.Number → 2 ^ 64 ≤ number_of surface.old + 1 }
     ensures memory { IsErrOf result SurfaceError.Memory → surface.new.is_failed ≡ true }
 {
-    surface.add_change(change)?;
-    Ok(())
+    add_one(surface, change)
 }
 
 // A text.
@@ -42,7 +54,8 @@ pub(crate) fn add_run<W: Widths + Drop>(
 }
 
 // One attribute of the pen.
-pub(crate) fn add_attribute<W: Widths + Drop>(
+#[inline(never)]
+fn add_one_attribute<W: Widths + Drop>(
     surface: &mut Surface<W>,
     change: AttributeChange,
 ) -> Result<(), SurfaceError>
@@ -54,7 +67,32 @@ pub(crate) fn add_attribute<W: Widths + Drop>(
     Ok(())
 }
 
+// The same, called where it is wanted: the room for what is added is only cleared there.
+#[inline(always)]
+pub(crate) fn add_attribute<W: Widths + Drop>(
+    surface: &mut Surface<W>,
+    change: AttributeChange,
+) -> Result<(), SurfaceError>
+    ensures added { IfOk result (λ _. AddsAll (λ w. W.width_of w) surface.old surface.new (Attribute (attribute_value change) ∷ [])) }
+    ensures failed { IsErrOf result SurfaceError.Failed → surface.old.is_failed ≡ true }
+    ensures numbers { IsErrOf result SurfaceError.Number → 2 ^ 64 ≤ number_of surface.old + 1 }
+{
+    add_one_attribute(surface, change)
+}
+
 // All attributes of the pen.
+#[inline(never)]
+fn add_whole_pen<W: Widths + Drop>(surface: &mut Surface<W>, pen: Pen) -> Result<(), SurfaceError>
+    ensures added { IfOk result (λ _. AddsAll (λ w. W.width_of w) surface.old surface.new (pen_change pen ∷ [])) }
+    ensures failed { IsErrOf result SurfaceError.Failed → surface.old.is_failed ≡ true }
+    ensures numbers { IsErrOf result SurfaceError.Number → 2 ^ 64 ≤ number_of surface.old + 1 }
+{
+    surface.add_change(pen)?;
+    Ok(())
+}
+
+// The same, called where it is wanted: the room for what is added is only cleared there.
+#[inline(always)]
 pub(crate) fn add_pen<W: Widths + Drop>(
     surface: &mut Surface<W>,
     pen: Pen,
@@ -63,8 +101,7 @@ pub(crate) fn add_pen<W: Widths + Drop>(
     ensures failed { IsErrOf result SurfaceError.Failed → surface.old.is_failed ≡ true }
     ensures numbers { IsErrOf result SurfaceError.Number → 2 ^ 64 ≤ number_of surface.old + 1 }
 {
-    surface.add_change(pen)?;
-    Ok(())
+    add_whole_pen(surface, pen)
 }
 
 // A place for the cursor.
@@ -109,6 +146,7 @@ pub(crate) fn add_cursor<W: Widths + Drop>(
 }
 
 // A copy of a text.
+#[inline(always)]
 pub(crate) fn add_text<W: Widths + Drop>(
     surface: &mut Surface<W>,
     text: &str,
