@@ -409,8 +409,7 @@ impl<'a> Pieces<'a> {
         requires { self.now.count ≤ length self.now.bytes.now }
     {
         let bytes = self.bytes;
-        let [_, _, _, second, third, fourth, fifth, sixth, seventh, ..] =
-            behind(bytes, self.count)
+        let [_, _, _, second, third, fourth, fifth, sixth, seventh, ..] = behind(bytes, self.count)
         else {
             return false;
         };
