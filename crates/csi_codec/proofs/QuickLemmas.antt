@@ -1,17 +1,17 @@
 -- A setting of SGR that is a colour whose numbers stand apart by `;`: it is the piece at the front of its list.
 use Rattle.std.proofs.Common.{◌≡◌, ◌<◌, ◌≤◌, ◌+◌, ◌-◌, ℕ, ℤ, pos, eqb, cond, List, [], ◌∷◌, length, length-drop, drop, take, slice_index_or, Option, Some, None, IfSome, inl, inr, arith, refl, sym, ap, ◌∙◌, subst}
-use Rattle.std.proofs.lemmas.List.{drop_more, get_or-drop, take_all}
+use Rattle.std.proofs.lemmas.List.{drop_more, take_all}
 use Rattle.std.proofs.lemmas.Bool.{cases_Bool, eqb-true}
 use Rattle.cell_base.specs.declared.color.ColorSpec.{ColorSpec}
 use Rattle.csi_codec.specs.declared.parameters.CsiParam.{CsiParam}
 use Rattle.csi_codec.specs.declared.parameters.CsiParam.TheVariants.{Integer, P}
 use Rattle.csi_codec.specs.declared.sgr_reading.Target.{Target}
 use Rattle.csi_codec.specs.declared.sgr_reading.Target.TheVariants as target
-use Rattle.csi_codec.specs.declared.rendition.Sgr.TheVariants.{Foreground}
 use Rattle.csi_codec.specs.Parameters.{is_number, place, number_pair, place_pair, with_semicolon, semicolon_at}
+use Rattle.csi_codec.specs.declared.rendition.Sgr.TheVariants.{Foreground}
 use Rattle.std.specs.Option.{option_zip, option_map}
 use Rattle.csi_codec.specs.Rendition.{taking, colour_form, numbered_shape, sgr_shape, sgr_piece}
-use Rattle.csi_codec.specs.ColourCases.{begins_with, opaque_of, palette_of, told_color, target_numbered, set_to}
+use Rattle.csi_codec.specs.ColourCases.{begins_with, opaque_of, palette_of, tells_kind, told_color, target_numbered, set_to}
 
 -- ---- A list by its tokens
 
@@ -21,6 +21,23 @@ token ts n = slice_index_or ts n (Integer (pos 0))
 
 next_token : (ts : List CsiParam) (i : ℕ) (t : CsiParam) → i < length ts → token ts i ≡ t → drop i ts ≡ t ∷ drop (i + 1) ts
 next_token ts i t h e = drop_more ts i (Integer (pos 0)) h ∙ ap (λ x. x ∷ drop (i + 1) ts) e
+
+-- the tokens of a list that tells a kind
+kind_semicolon : (z : ℤ) (ts : List CsiParam) → tells_kind z ts → token ts 1 ≡ P 59
+kind_semicolon z (t ∷ P b ∷ Integer y ∷ ts) h = ap P h.0
+kind_semicolon z [] h = absurd h
+kind_semicolon z (t ∷ []) h = absurd h
+kind_semicolon z (t ∷ Integer a ∷ ts) h = absurd h
+kind_semicolon z (t ∷ P b ∷ []) h = absurd h
+kind_semicolon z (t ∷ P b ∷ P c ∷ ts) h = absurd h
+
+kind_number : (z : ℤ) (ts : List CsiParam) → tells_kind z ts → token ts 2 ≡ Integer z
+kind_number z (t ∷ P b ∷ Integer y ∷ ts) h = ap Integer h.1
+kind_number z [] h = absurd h
+kind_number z (t ∷ []) h = absurd h
+kind_number z (t ∷ Integer a ∷ ts) h = absurd h
+kind_number z (t ∷ P b ∷ []) h = absurd h
+kind_number z (t ∷ P b ∷ P c ∷ ts) h = absurd h
 
 -- the numbers of a colour of the palette behind any token
 abbrev palette_list : CsiParam → ℤ → List CsiParam → List CsiParam
@@ -40,27 +57,14 @@ palette_told : (t : CsiParam) (n : ℤ) (us : List CsiParam) (c : ColorSpec) →
 unfolding told_color colour_form
 palette_told t n us c e = ap (λ found. with_semicolon (palette_list t n us) (option_map (λ form. (form.0, form.1 + 1)) (taking 4 found))) (sym e)
 
-no_more : (us : List CsiParam) → length us ≡ 0 → semicolon_at us 0 ≡ 0
-no_more [] h = refl
-no_more (t ∷ ts) h = absurd (omega arith)
+-- what stands behind so many tokens
+whole_rest : (n : ℕ) (ts : List CsiParam) → n ≤ length ts → take (length ts - n) (drop n ts) ≡ drop n ts
+whole_rest n ts h = take_all (length ts - n) (drop n ts) (omega (arith, length-drop n ts))
 
-next_semicolon : (us : List CsiParam) → 1 ≤ length us → token us 0 ≡ P 59 → semicolon_at us 0 ≡ 1
-next_semicolon [] h e = absurd (omega arith)
-next_semicolon (t ∷ ts) h e = ap (λ x. semicolon_at (x ∷ ts) 0) e
-
-pub palette_ends : (ts : List CsiParam) (n : ℤ) (c : ColorSpec) → 5 ≤ length ts → length ts < 6 → token ts 1 ≡ P 59 → token ts 2 ≡ Integer (pos 5) → token ts 3 ≡ P 59 → token ts 4 ≡ Integer n
-    → Some c ≡ palette_of n → told_color ts ≡ Some (c, length ts)
-palette_ends ts n c h l a b d e found =
-    let at = palette_listed ts n h a b d e in
-    let last : semicolon_at (drop 5 ts) 0 ≡ 0 = no_more (drop 5 ts) (omega (arith, length-drop 5 ts)) in
-    ap told_color at ∙ palette_told (token ts 0) n (drop 5 ts) c found ∙ ap (λ k. Some (c, k)) (omega (arith, last))
-
-pub palette_next : (ts : List CsiParam) (n : ℤ) (c : ColorSpec) → 6 ≤ length ts → token ts 1 ≡ P 59 → token ts 2 ≡ Integer (pos 5) → token ts 3 ≡ P 59 → token ts 4 ≡ Integer n
-    → token ts 5 ≡ P 59 → Some c ≡ palette_of n → told_color ts ≡ Some (c, 6)
-palette_next ts n c h a b d e g found =
-    let at = palette_listed ts n (omega arith) a b d e in
-    let more : semicolon_at (drop 5 ts) 0 ≡ 1 = next_semicolon (drop 5 ts) (omega (arith, length-drop 5 ts)) (get_or-drop 5 ts 0 (Integer (pos 0)) ∙ g) in
-    ap told_color at ∙ palette_told (token ts 0) n (drop 5 ts) c found ∙ ap (λ k. Some (c, 5 + k)) more
+pub palette_front : (ts : List CsiParam) (n : ℤ) (c : ColorSpec) → 5 ≤ length ts → tells_kind (pos 5) ts → token ts 3 ≡ P 59 → token ts 4 ≡ Integer n
+    → Some c ≡ palette_of n → told_color ts ≡ Some (c, 5 + semicolon_at (take (length ts - 5) (drop 5 ts)) 0)
+palette_front ts n c h k d e found =
+    ap told_color (palette_listed ts n h (kind_semicolon (pos 5) ts k) (kind_number (pos 5) ts k) d e) ∙ palette_told (token ts 0) n (drop 5 ts) c found ∙ ap (λ us. Some (c, 5 + semicolon_at us 0)) (sym (whole_rest 5 ts h))
 
 -- the numbers of an opaque colour behind any token
 abbrev opaque_list : CsiParam → ℤ → ℤ → ℤ → List CsiParam → List CsiParam
@@ -84,34 +88,20 @@ opaque_told : (t : CsiParam) (x y z : ℤ) (us : List CsiParam) (c : ColorSpec) 
 unfolding told_color colour_form
 opaque_told t x y z us c e = ap (λ found. with_semicolon (opaque_list t x y z us) (option_map (λ form. (form.0, form.1 + 1)) (taking 8 found))) (sym e)
 
--- the tokens of an opaque colour behind the first one
-pub record IsOpaque (ts : List CsiParam) (x y z : ℤ) : Type 0 where
-  pub long : 9 ≤ length ts
-  pub listed : ts ≡ opaque_list (token ts 0) x y z (drop 9 ts)
+pub opaque_front : (ts : List CsiParam) (x y z : ℤ) (c : ColorSpec) → 9 ≤ length ts → tells_kind (pos 2) ts → token ts 3 ≡ P 59 → token ts 4 ≡ Integer x
+    → token ts 5 ≡ P 59 → token ts 6 ≡ Integer y → token ts 7 ≡ P 59 → token ts 8 ≡ Integer z → Some c ≡ opaque_of x y z
+    → told_color ts ≡ Some (c, 9 + semicolon_at (take (length ts - 9) (drop 9 ts)) 0)
+opaque_front ts x y z c h k d e f g i j found =
+    ap told_color (opaque_listed ts x y z h (kind_semicolon (pos 2) ts k) (kind_number (pos 2) ts k) d e f g i j) ∙ opaque_told (token ts 0) x y z (drop 9 ts) c found ∙ ap (λ us. Some (c, 9 + semicolon_at us 0)) (sym (whole_rest 9 ts h))
 
-pub opaque_tokens : (ts : List CsiParam) (x y z : ℤ) → 9 ≤ length ts → token ts 1 ≡ P 59 → token ts 2 ≡ Integer (pos 2) → token ts 3 ≡ P 59 → token ts 4 ≡ Integer x
-    → token ts 5 ≡ P 59 → token ts 6 ≡ Integer y → token ts 7 ≡ P 59 → token ts 8 ≡ Integer z → IsOpaque ts x y z
-opaque_tokens ts x y z h a b c d e f g i = record { long = h; listed = opaque_listed ts x y z h a b c d e f g i }
+no_more : (us : List CsiParam) → length us ≡ 0 → semicolon_at us 0 ≡ 0
+no_more [] h = refl
+no_more (t ∷ ts) h = absurd (omega arith)
 
-pub opaque_ends : (ts : List CsiParam) (x y z : ℤ) (c : ColorSpec) → IsOpaque ts x y z → length ts < 10 → Some c ≡ opaque_of x y z → told_color ts ≡ Some (c, length ts)
-opaque_ends ts x y z c h l found =
+opaque_ends : (ts : List CsiParam) (x y z : ℤ) (c : ColorSpec) → length ts ≡ 9 → ts ≡ opaque_list (token ts 0) x y z (drop 9 ts) → Some c ≡ opaque_of x y z → told_color ts ≡ Some (c, length ts)
+opaque_ends ts x y z c h listed found =
     let last : semicolon_at (drop 9 ts) 0 ≡ 0 = no_more (drop 9 ts) (omega (arith, length-drop 9 ts)) in
-    ap told_color h.listed ∙ opaque_told (token ts 0) x y z (drop 9 ts) c found ∙ ap (λ k. Some (c, k)) (omega (arith, last, h.long))
-
-pub opaque_next : (ts : List CsiParam) (x y z : ℤ) (c : ColorSpec) → IsOpaque ts x y z → 10 ≤ length ts → token ts 9 ≡ P 59 → Some c ≡ opaque_of x y z → told_color ts ≡ Some (c, 10)
-opaque_next ts x y z c h l e found =
-    let more : semicolon_at (drop 9 ts) 0 ≡ 1 = next_semicolon (drop 9 ts) (omega (arith, length-drop 9 ts)) (get_or-drop 9 ts 0 (Integer (pos 0)) ∙ e) in
-    ap told_color h.listed ∙ opaque_told (token ts 0) x y z (drop 9 ts) c found ∙ ap (λ k. Some (c, 9 + k)) more
-
--- what stands behind nine tokens
-whole_rest : (ts : List CsiParam) → 9 ≤ length ts → take (length ts - 9) (drop 9 ts) ≡ drop 9 ts
-whole_rest ts h = take_all (length ts - 9) (drop 9 ts) (omega (arith, length-drop 9 ts))
-
-pub rest_long : (ts : List CsiParam) → 9 ≤ length ts → length (take (length ts - 9) (drop 9 ts)) + 9 ≡ length ts
-rest_long ts h = ap (λ us. length us + 9) (whole_rest ts h) ∙ omega (arith, length-drop 9 ts)
-
-pub rest_at : (ts : List CsiParam) → 9 ≤ length ts → token (take (length ts - 9) (drop 9 ts)) 0 ≡ token ts 9
-rest_at ts h = ap (λ us. token us 0) (whole_rest ts h) ∙ get_or-drop 9 ts 0 (Integer (pos 0))
+    ap told_color listed ∙ opaque_told (token ts 0) x y z (drop 9 ts) c found ∙ ap (λ k. Some (c, k)) (omega (arith, last, h))
 
 -- ---- A colour behind its target's number
 
@@ -147,13 +137,26 @@ target_told z [] t c n h target e = absurd h
 target_told z (P b ∷ us) t c n h target e = absurd h
 target_told z (Integer y ∷ us) t c n h target e = targeted y us t c n (colour_form us) refl (ap target_numbered h ∙ target) e
 
-pub foreground_told : (ts : List CsiParam) (c : ColorSpec) (n : ℕ) → token ts 0 ≡ Integer (pos 38) → told_color ts ≡ Some (c, n) → sgr_piece ts ≡ Some (Foreground c, n)
-foreground_told [] c n h e = absurd (different h)
+pub foreground_told : (ts : List CsiParam) (x y z : ℤ) (c : ColorSpec) → length ts ≡ 9 → token ts 0 ≡ Integer (pos 38) → token ts 1 ≡ P 59 → token ts 2 ≡ Integer (pos 2)
+    → token ts 3 ≡ P 59 → token ts 4 ≡ Integer x → token ts 5 ≡ P 59 → token ts 6 ≡ Integer y → token ts 7 ≡ P 59 → token ts 8 ≡ Integer z → Some c ≡ opaque_of x y z
+    → sgr_piece ts ≡ Some (Foreground c, length ts)
+foreground_told ts x y z c h t a b d e f g i j found =
+    let listed = opaque_listed ts x y z (omega (arith, h)) a b d e f g i j in
+    target_told (pos 38) ts target.Foreground c (length ts) (begun ts t) refl (opaque_ends ts x y z c h listed found)
   where
-    different : Integer (pos 0) ≡ Integer (pos 38) → ⊥
-    different h = cc
-foreground_told (t ∷ ts) c n h e =
-    ap (λ x. sgr_piece (x ∷ ts)) h ∙ target_told (pos 38) (Integer (pos 38) ∷ ts) target.Foreground c n refl refl (ap (λ x. told_color (x ∷ ts)) (sym h) ∙ e)
+    begun : (us : List CsiParam) → token us 0 ≡ Integer (pos 38) → begins_with (pos 38) us
+    begun [] e = different e
+      where
+        different : Integer (pos 0) ≡ Integer (pos 38) → ⊥
+        different h = cc
+    begun (P b ∷ us) e = other e
+      where
+        other : P b ≡ Integer (pos 38) → ⊥
+        other h = cc
+    begun (Integer y ∷ us) e = same e
+      where
+        same : Integer y ≡ Integer (pos 38) → y ≡ pos 38
+        same h = cc
 
 -- ---- Two places
 

@@ -76,6 +76,11 @@ begins_with z [] = ⊥
 begins_with z (P b ∷ ts) = ⊥
 begins_with z (Integer y ∷ ts) = y ≡ z
 
+-- behind a list's first token stand a `;` and this number, the kind of a colour
+abbrev pub tells_kind : ℤ → List CsiParam → Type 0
+tells_kind z (t ∷ P b ∷ Integer y ∷ ts) = (b ≡ 59) × (y ≡ z)
+tells_kind z _ = ⊥
+
 -- the colour of the palette that a number names
 abbrev pub palette_of : ℤ → Option ColorSpec
 palette_of n = option_map color.PaletteIndex (number_within 255 n)

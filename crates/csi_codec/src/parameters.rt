@@ -275,6 +275,7 @@ pub(crate) fn begins_with_number(params: &[CsiParam]) -> bool
 }
 
 /// 1 where a `;` stands at a place of the list, else 0.
+#[inline(always)]
 pub(crate) fn semicolon_at(params: &[CsiParam], place: usize) -> usize
     ensures same { result ≡ semicolon_at params.now place }
     ensures small { result ≤ 1 }

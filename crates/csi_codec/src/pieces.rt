@@ -70,10 +70,10 @@ fn are_three_more(params: &[CsiParam]) -> bool
             _,
             first,
             CsiParam::P(b';'),
-            CsiParam::Integer(_),
+            second,
             CsiParam::P(b';'),
-            last,
-        ] => first.is_number() & last.is_number(),
+            third,
+        ] => first.is_number() & second.is_number() & third.is_number(),
         _ => false,
     }
 }

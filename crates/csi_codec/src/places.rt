@@ -19,7 +19,7 @@ use crate::pieces::{
 };
 use crate::rendition::Sgr;
 use crate::sequences::{CSI, request, unspecified};
-use crate::sgr_reading::{is_foreground, lone_foreground, plain_code, sgr_piece, told_setting};
+use crate::sgr_reading::{are_bytes, is_foreground, opaque, plain_code, sgr_piece, told_setting};
 use std::alloc::{AllocError, Global};
 
 /// A place in a list of parameters before a final byte: how far its actions were read. It lends nothing, so it can be kept
@@ -148,13 +148,24 @@ fn bare_lone(control: char) -> Option<CSI>
 fn first_setting(params: &[CsiParam]) -> Option<(Sgr, usize)>
     ensures { IfSome result (λ found. IsNext 0 params.now 109 (sgr found.0) found.1) }
 {
-    if let Some(color) = lone_foreground(params) {
-        return Some((Sgr::Foreground(color), params.len()));
+    match params {
+        [
+            CsiParam::Integer(38),
+            CsiParam::P(b';'),
+            CsiParam::Integer(2),
+            CsiParam::P(b';'),
+            CsiParam::Integer(red),
+            CsiParam::P(b';'),
+            CsiParam::Integer(green),
+            CsiParam::P(b';'),
+            CsiParam::Integer(blue),
+        ] if are_bytes(*red, *green, *blue) => {
+            let color = opaque(*red, *green, *blue);
+            Some((Sgr::Foreground(color), params.len()))
+        }
+        [CsiParam::Integer(value), ..] => first_numbered(*value, params),
+        _ => None,
     }
-    let [CsiParam::Integer(value), ..] = params else {
-        return None;
-    };
-    first_numbered(*value, params)
 }
 
 /// The same of a list that begins with this number.

@@ -1,6 +1,6 @@
 //! SGR: reading a piece, by the number that it begins with.
-ghost use Rattle.std.specs.Prelude.{◌≡◌, ◌<◌, ◌≤◌, true, IfSome, Some, is_some, length, option_map};
-ghost use Rattle.csi_codec.specs.Parameters.{is_number, number_within};
+ghost use Rattle.std.specs.Prelude.{◌≡◌, ◌+◌, pos, ◌<◌, ◌≤◌, true, IfSome, Some, is_some, length, option_map};
+ghost use Rattle.csi_codec.specs.Parameters.{is_number, number_within, semicolon_at};
 ghost use Rattle.csi_codec.specs.ColourCases.{
   number_behind,
   three_behind,
@@ -16,6 +16,7 @@ ghost use Rattle.csi_codec.specs.ColourCases.{
   semicolon_form,
   form_case,
   begins_with,
+  tells_kind,
   told_color,
   target_numbered,
   set_to,
@@ -30,7 +31,6 @@ ghost use Rattle.csi_codec.specs.Rendition.{
   sgr_shape,
   sgr_piece,
 };
-ghost use Rattle.csi_codec.specs.declared.rendition.Sgr.TheVariants.{Foreground};
 
 use crate::parameters::{CsiParam, number_within, semicolon_at};
 use crate::rendition::{Font, Sgr};
@@ -192,7 +192,7 @@ fn opaque_of(red: i64, green: i64, blue: i64) -> Option<ColorSpec>
 
 /// Whether three numbers are bytes.
 #[inline(always)]
-fn are_bytes(red: i64, green: i64, blue: i64) -> bool
+pub(crate) fn are_bytes(red: i64, green: i64, blue: i64) -> bool
     ensures { result ≡ is_some (opaque_of red green blue) }
 {
     is_byte(red) & is_byte(green) & is_byte(blue)
@@ -200,7 +200,7 @@ fn are_bytes(red: i64, green: i64, blue: i64) -> bool
 
 /// The opaque colour of three bytes.
 #[inline(always)]
-fn opaque(red: i64, green: i64, blue: i64) -> ColorSpec
+pub(crate) fn opaque(red: i64, green: i64, blue: i64) -> ColorSpec
     requires { is_some (opaque_of red green blue) ≡ true }
     ensures { Some result ≡ opaque_of red green blue }
 {
@@ -444,27 +444,6 @@ pub(crate) fn sgr_piece(params: &[CsiParam]) -> Option<(Sgr, usize)>
     Some((value, len + semicolon_at(params, len)))
 }
 
-/// The colour that a list sets, where it is a foreground's red, green and blue that stand apart by `;`.
-#[inline(always)]
-pub(crate) fn lone_foreground(params: &[CsiParam]) -> Option<ColorSpec>
-    ensures { IfSome result (λ color. sgr_piece params.now ≡ Some (Foreground color, length params.now)) }
-{
-    match params {
-        [
-            CsiParam::Integer(38),
-            CsiParam::P(b';'),
-            CsiParam::Integer(2),
-            CsiParam::P(b';'),
-            CsiParam::Integer(red),
-            CsiParam::P(b';'),
-            CsiParam::Integer(green),
-            CsiParam::P(b';'),
-            CsiParam::Integer(blue),
-        ] if are_bytes(*red, *green, *blue) => Some(opaque(*red, *green, *blue)),
-        _ => None,
-    }
-}
-
 /// A colour whose numbers stand apart by `;`, at the front of a list that begins with its target's number, as a setting, and
 /// how many tokens it takes with the `;` right behind it.
 #[inline(always)]
@@ -487,44 +466,36 @@ pub(crate) fn told_setting(value: i64, params: &[CsiParam]) -> Option<(Sgr, usiz
 fn told_color(params: &[CsiParam]) -> Option<(ColorSpec, usize)>
     ensures { IfSome result (λ found. told_color params.now ≡ Some found) }
 {
-    if let Some(color) = lone_palette(params) {
-        return Some((color, params.len()));
-    }
-    if let Some(color) = longer_palette(params) {
-        return Some((color, 6));
-    }
-    told_opaque(params)
-}
-
-/// The colour of the palette whose numbers stand behind the first token and in front of a `;`.
-#[inline(always)]
-fn longer_palette(params: &[CsiParam]) -> Option<ColorSpec>
-    ensures { IfSome result (λ color. told_color params.now ≡ Some (color, 6)) }
-{
     match params {
-        [
-            _,
-            CsiParam::P(b';'),
-            CsiParam::Integer(5),
-            CsiParam::P(b';'),
-            CsiParam::Integer(index),
-            CsiParam::P(b';'),
-            ..
-        ] if is_byte(*index) => Some(palette(*index)),
+        [_, CsiParam::P(b';'), CsiParam::Integer(kind), ..] => told_of_kind(*kind, params),
         _ => None,
     }
 }
 
-/// The opaque colour whose numbers stand behind the first token, at the end of a list or in front of a `;`.
+/// The same where this number stands behind the first `;`: it decides which numbers follow.
+#[inline(always)]
+fn told_of_kind(kind: i64, params: &[CsiParam]) -> Option<(ColorSpec, usize)>
+    requires { tells_kind kind params.now }
+    ensures { IfSome result (λ found. told_color params.now ≡ Some found) }
+{
+    match kind {
+        2 => told_opaque(params),
+        5 => told_palette(params),
+        _ => None,
+    }
+}
+
+/// The opaque colour whose numbers stand behind its kind, and how many tokens it takes.
 #[inline(always)]
 fn told_opaque(params: &[CsiParam]) -> Option<(ColorSpec, usize)>
+    requires { tells_kind (pos 2) params.now }
     ensures { IfSome result (λ found. told_color params.now ≡ Some found) }
 {
     match params {
         [
             _,
-            CsiParam::P(b';'),
-            CsiParam::Integer(2),
+            _,
+            _,
             CsiParam::P(b';'),
             CsiParam::Integer(red),
             CsiParam::P(b';'),
@@ -532,31 +503,57 @@ fn told_opaque(params: &[CsiParam]) -> Option<(ColorSpec, usize)>
             CsiParam::P(b';'),
             CsiParam::Integer(blue),
             rest @ ..,
-        ] if are_bytes(*red, *green, *blue) => {
-            let color = opaque(*red, *green, *blue);
-            match rest {
-                [] => Some((color, params.len())),
-                [CsiParam::P(b';'), ..] => Some((color, 10)),
-                _ => None,
+        ] => {
+            let Some(len) = told_len(9, rest) else {
+                return None;
+            };
+            if are_bytes(*red, *green, *blue) {
+                Some((opaque(*red, *green, *blue), len))
+            } else {
+                None
             }
         }
         _ => None,
     }
 }
 
-/// The colour of the palette that ends a list whose first token is its target's number.
+/// The colour of the palette whose number stands behind its kind, and how many tokens it takes.
 #[inline(always)]
-fn lone_palette(params: &[CsiParam]) -> Option<ColorSpec>
-    ensures { IfSome result (λ color. told_color params.now ≡ Some (color, length params.now)) }
+fn told_palette(params: &[CsiParam]) -> Option<(ColorSpec, usize)>
+    requires { tells_kind (pos 5) params.now }
+    ensures { IfSome result (λ found. told_color params.now ≡ Some found) }
 {
     match params {
         [
             _,
-            CsiParam::P(b';'),
-            CsiParam::Integer(5),
+            _,
+            _,
             CsiParam::P(b';'),
             CsiParam::Integer(index),
-        ] if is_byte(*index) => Some(palette(*index)),
+            rest @ ..,
+        ] => {
+            let Some(len) = told_len(5, rest) else {
+                return None;
+            };
+            if is_byte(*index) {
+                Some((palette(*index), len))
+            } else {
+                None
+            }
+        }
+        _ => None,
+    }
+}
+
+/// So many tokens and the `;` right behind them, where it stands there; none where another token does.
+#[inline(always)]
+fn told_len(len: usize, behind: &[CsiParam]) -> Option<usize>
+    requires { len < 100 }
+    ensures { IfSome result (λ told. told ≡ len + semicolon_at behind.now 0) }
+{
+    match behind {
+        [] => Some(len),
+        [CsiParam::P(b';'), ..] => Some(len + 1),
         _ => None,
     }
 }
