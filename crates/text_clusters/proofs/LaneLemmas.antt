@@ -1,6 +1,7 @@
 -- Bytes that are counted sixteen bytes at a time.
-use Rattle.std.proofs.Common.{◌≡◌, ℕ, zero, suc, ◌+◌, ◌%◌, ◌^◌, ◌<◌, ◌≤◌, Bool, true, false, not, List, [], ◌∷◌, map, take, drop, length, get_or, replicate, Fits, w8, refl, sym, ap, ap₂, ◌∙◌, arith, inl, inr}
+use Rattle.std.proofs.Common.{◌≡◌, ℕ, zero, suc, ◌+◌, ◌-◌, ◌%◌, ◌^◌, ◌<◌, ◌≤◌, Bool, true, false, not, List, [], ◌∷◌, map, take, drop, length, length-drop, get_or, replicate, Fits, w8, refl, sym, ap, ap₂, ◌∙◌, arith, inl, inr}
 use Rattle.std.specs.List.{prefix_len}
+use Rattle.std.proofs.lemmas.List.{take_all}
 use Rattle.std.proofs.lemmas.Bool.{agree_below, agree_below_at, cases_eq, eq-eqb, ne_eqb, cond-true, cond-false}
 use Rattle.std.proofs.lemmas.Simd.{map-map, mask_l-mod, leading_from_mask_l, trailing_mask_l}
 use Rattle.std.proofs.lemmas.List.{length-map}
@@ -115,3 +116,23 @@ passed p q h (x ∷ xs) = by_test (p x) refl (passed p q h xs)
         let a = prefix_stop p x xs e in
         let c = ap (λ n. prefix_len q (drop n (x ∷ xs))) a in
         omega (arith, a, c)
+
+-- what is known to pass may be left out
+pub front_passes : (p : ℕ → Bool) (n : ℕ) (xs : List ℕ) → n ≤ prefix_len p xs → prefix_len p xs ≡ n + prefix_len p (drop n xs)
+front_passes p zero xs h = omega arith
+front_passes p (suc n) [] h = absurd (omega arith)
+front_passes p (suc n) (x ∷ xs) h = by_test (p x) refl h (λ k. front_passes p n xs k)
+  where
+    by_test : (t : Bool) → p x ≡ t → suc n ≤ prefix_len p (x ∷ xs) → (n ≤ prefix_len p xs → prefix_len p xs ≡ n + prefix_len p (drop n xs)) → prefix_len p (x ∷ xs) ≡ suc n + prefix_len p (drop (suc n) (x ∷ xs))
+    by_test true e h k =
+        let a = prefix_cons p x xs e in
+        let b : prefix_len p xs ≡ n + prefix_len p (drop n xs) = k (omega (arith, a, h)) in
+        omega (arith, a, b)
+    by_test false e h k = let a = prefix_stop p x xs e in absurd (omega (arith, a, h))
+
+-- the last bytes, so many, after others that pass
+pub last_block : (p : ℕ → Bool) (n last : ℕ) (xs block : List ℕ) → n ≤ length xs → last ≡ length xs - n → block ≡ drop last xs → last ≤ prefix_len p xs
+    → prefix_len p xs ≡ last + prefix_len p (take n block)
+last_block p n last xs block h l b k =
+    let long : length block ≡ n = ap length b ∙ length-drop last xs ∙ omega (arith, h, l) in
+    front_passes p last xs k ∙ ap (λ ys. last + prefix_len p ys) (sym b ∙ sym (take_all n block (omega (arith, long))))

@@ -1,4 +1,4 @@
-//! Printable characters at the front of some bytes, sixteen bytes at a time.
+//! Printable characters at the front of some bytes, sixteen bytes at a time, or eight of fewer.
 ghost use Rattle.std.specs.Prelude.{◌≡◌, ◌≤◌, length, take, drop};
 ghost use Rattle.std.specs.List.{prefix_len};
 ghost use Rattle.text_clusters.specs.Lanes.{first_set as place_of};
@@ -49,18 +49,49 @@ fn behind(bytes: &[u8], count: usize) -> &[u8]
     &bytes[count..]
 }
 
-// How many printable characters stand at the front of a few bytes.
+// How many of the first eight bytes are printable, up to one that isn't.
 #[inline(always)]
-fn few_len(bytes: &[u8]) -> usize
+fn half_block_len(bytes: &[u8]) -> usize
+    requires { 8 ≤ length bytes.now }
+    ensures { result ≡ prefix_len is_printable (take 8 bytes.now) }
+{
+    let from_space = u8x8::from_slice(bytes) - u8x8::splat(0x20);
+    let stops = from_space.simd_ge(u8x8::splat(0x5f));
+    first_set(stops.to_bitmask(), 8)
+}
+
+// How many printable characters stand at the front of a few bytes, one looked at after another.
+#[inline(always)]
+fn short_len(bytes: &[u8]) -> usize
     ensures { result ≡ prefix_len is_printable bytes.now }
 {
     bytes.iter().take_while(|byte| is_printable(**byte)).count()
+}
+
+// How many stand at the front of at most sixteen bytes: of eight or more the first eight are looked at, and then the last.
+#[inline(always)]
+fn few_len(bytes: &[u8]) -> usize
+    requires { length bytes.now ≤ LANES }
+    ensures { result ≡ prefix_len is_printable bytes.now }
+{
+    if bytes.len() < 8 {
+        return short_len(bytes);
+    }
+    let run = half_block_len(bytes);
+    if run < 8 {
+        return run;
+    }
+    let last = bytes.len() - 8;
+    last + half_block_len(behind(bytes, last))
 }
 
 /// How many printable ASCII characters (20h to 7Eh) stand at the front.
 pub fn printable_len(bytes: &[u8]) -> usize
     ensures { result ≡ prefix_len is_printable bytes.now }
 {
+    if bytes.len() < LANES {
+        return few_len(bytes);
+    }
     let mut rest = bytes;
     while LANES <= rest.len() {
         let run = block_len(rest);
@@ -69,6 +100,7 @@ pub fn printable_len(bytes: &[u8]) -> usize
         }
         rest = behind(rest, LANES);
     }
-    let few = few_len(rest);
-    bytes.len() - (rest.len() - few)
+    // (what is left, with as many before it as make a block)
+    let last = bytes.len() - LANES;
+    last + block_len(behind(bytes, last))
 }

@@ -1,8 +1,7 @@
-use Rattle.std.proofs.Common.{arith, ap, length, length-drop}
+use Rattle.std.proofs.Common.{◌≤◌, ◌-◌, arith, ap, length, length-drop}
 use Rattle.std.specs.List.{prefix_len}
-use Rattle.std.proofs.lemmas.List.Sums.{prefix_len-le-length}
 use Rattle.text_clusters.specs.Plain.{is_printable}
-use Rattle.text_clusters.proofs.LaneLemmas.{block_stops, block_goes}
+use Rattle.text_clusters.proofs.LaneLemmas.{block_stops, block_goes, last_block}
 use Rattle.text_clusters.proofs.printable.printable_len.Goals as goal
 
 pub returns-then-run-lt-LANES : goal.returns-then-run-lt-LANES
@@ -18,7 +17,8 @@ loop-rest-preserved c =
     }
 
 pub returns : goal.returns
-returns c = omega (arith, c.loop-rest.invariant.within, c.loop-rest.invariant.counted, c.few_len-few.ensures, prefix_len-le-length is_printable c.loop-rest.rest.now)
-
-pub overflow_sub-result-2 : goal.overflow_sub-result-2
-overflow_sub-result-2 c = omega (arith, c.few_len-few.ensures, prefix_len-le-length is_printable c.loop-rest.rest.now)
+returns c =
+    let xs = c.args.bytes.now in
+    let passed : length xs - 16 ≤ prefix_len is_printable xs = omega (arith, c.loop-rest.invariant.within, c.loop-rest.invariant.counted) in
+    let whole = last_block is_printable 16 (length xs - 16) xs c.behind.result.now (omega (arith, c.if-bytes-lt-LANES.false)) (omega arith) c.behind.ensures passed in
+    omega (arith, whole, c.block_len.ensures)
