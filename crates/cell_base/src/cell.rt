@@ -326,7 +326,7 @@ fn shed(text: &mut CellText, attributes: &mut CellAttributes)
     ensures text { text.new ≡ record text.old { long = Absent } }
     ensures attributes { attributes.new ≡ record attributes.old { hyperlink = None } }
 {
-    if text.is_long() | attributes.is_linked() {
+    if (text.long_mark() != 0) | (attributes.link_mark() != 0) {
         drop_both(text, attributes);
     }
 }
@@ -347,7 +347,7 @@ fn drop_both(text: &mut CellText, attributes: &mut CellAttributes)
 fn shed_text(text: &mut CellText)
     ensures { text.new ≡ record text.old { long = Absent } }
 {
-    if text.is_long() {
+    if text.long_mark() != 0 {
         text.drop_long();
     }
 }

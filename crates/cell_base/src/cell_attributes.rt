@@ -1,5 +1,5 @@
 //! The attributes of a cell.
-ghost use Rattle.std.specs.Prelude.{◌≡◌, ◌↔◌, false, None, IfOk, OnOk, OnErr, IsTrue};
+ghost use Rattle.std.specs.Prelude.{◌≡◌, ◌↔◌, false, None, IfOk, IsOk, OnOk, OnErr, IsTrue};
 ghost use Rattle.std.specs.Option.{option_map};
 ghost use Rattle.cell_base.specs.Attributes.{plain, sgr_only, style_of};
 ghost use Rattle.cell_base.specs.AttributeChange.{changed_by};
@@ -414,6 +414,7 @@ impl CellAttributes {
     #[inline(always)]
     fn share_link(&mut self, other: &CellAttributes) -> Result<(), AllocError>
         ensures done { OnOk result (self.new ≡ record self.old { hyperlink = other.now.hyperlink }) }
+        ensures succeeds { other.now.hyperlink ≡ None → IsOk result }
         ensures refused { OnErr result (self.new ≡ self.old) }
     {
         if self.hyperlink.is_none() && other.hyperlink.is_none() {
@@ -427,16 +428,31 @@ impl CellAttributes {
     #[inline(never)]
     fn take_link(&mut self, other: &CellAttributes) -> Result<(), AllocError>
         ensures done { OnOk result (self.new ≡ record self.old { hyperlink = other.now.hyperlink }) }
+        ensures succeeds { other.now.hyperlink ≡ None → IsOk result }
         ensures refused { OnErr result (self.new ≡ self.old) }
     {
-        self.hyperlink = other.hyperlink.clone()?;
+        self.hyperlink = other.shared_link()?;
         Ok(())
     }
 
-    /// Becomes a copy of other attributes that shares their link; a refused one stays as it was.
+    // The link, shared.
+    #[inline(always)]
+    fn shared_link(&self) -> Result<Option<Rc<Hyperlink>>, AllocError>
+        ensures shared { IfOk result (λ link. option_map (λ r. r.value) link ≡ self.now.hyperlink) }
+        ensures succeeds { self.now.hyperlink ≡ None → IsOk result }
+    {
+        match &self.hyperlink {
+            None => Ok(None),
+            Some(link) => Ok(Some(link.clone()?)),
+        }
+    }
+
+    /// Becomes a copy of other attributes that shares their link; a refused one stays as it was. It is refused only where
+    /// they have a link.
     #[inline(always)]
     pub fn copy_from(&mut self, other: &CellAttributes) -> Result<(), AllocError>
         ensures done { OnOk result (self.new ≡ other.now) }
+        ensures succeeds { other.now.hyperlink ≡ None → IsOk result }
         ensures refused { OnErr result (self.new ≡ self.old) }
     {
         self.share_link(other)?;
@@ -452,12 +468,15 @@ impl CellAttributes {
         self.look = other.look;
     }
 
-    // Whether there is a link.
+    // 0 where there is no link.
     #[inline(always)]
-    pub(crate) fn is_linked(&self) -> bool
-        ensures { result ≡ false → self.now.hyperlink ≡ None }
+    pub(crate) fn link_mark(&self) -> u8
+        ensures { result ≡ 0 → self.now.hyperlink ≡ None }
     {
-        self.hyperlink.is_some()
+        match self.hyperlink {
+            None => 0,
+            Some(_) => 1,
+        }
     }
 
     // No link is left.
@@ -467,11 +486,12 @@ impl CellAttributes {
         self.hyperlink = None;
     }
 
-    /// A copy that shares the link.
+    /// A copy that shares the link; it is refused only where there is one.
     pub fn try_clone(&self) -> Result<CellAttributes, AllocError>
-        ensures { IfOk result (λ copy. copy ≡ self.now) }
+        ensures copy { IfOk result (λ copy. copy ≡ self.now) }
+        ensures succeeds { self.now.hyperlink ≡ None → IsOk result }
     {
-        let hyperlink = self.hyperlink.clone()?;
+        let hyperlink = self.shared_link()?;
         Ok(CellAttributes {
             look: self.look,
             hyperlink,

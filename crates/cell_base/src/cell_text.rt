@@ -118,14 +118,15 @@ impl CellText {
         self.few = FewText::of(front);
     }
 
-    // Whether there is a longer text.
+    // 0 where there is no longer text.
     #[inline(always)]
-    pub(crate) fn is_long(&self) -> bool
-        ensures { result ≡ false → self.now.long ≡ Absent }
+    pub(crate) fn long_mark(&self) -> u8
+        ensures { result ≡ 0 → self.now.long ≡ Absent }
     {
         match self.long {
-            LongText::Absent => false,
-            _ => true,
+            LongText::Absent => 0,
+            LongText::Short(_) => 1,
+            LongText::Owned(_) => 2,
         }
     }
 

@@ -19,11 +19,13 @@ pub enum Change {
     AllAttributes(CellAttributes),
     /// A text at the cursor, with the pen's attributes; CR and LF move the cursor.
     Text(String),
-    /// The whole screen becomes blanks.
+    /// The whole screen becomes blanks, the cursor goes home, and the pen becomes plain with that
+    /// background.
     ClearScreen(ColorAttribute),
-    /// The columns from the cursor to the end of its row become blanks.
+    /// The columns from the cursor to the end of its row become blanks, none where a wrap is pending,
+    /// and the pen becomes plain with that background.
     ClearToEndOfLine(ColorAttribute),
-    /// The same, and all rows below.
+    /// The same, and all rows below become blanks.
     ClearToEndOfScreen(ColorAttribute),
     /// The cursor's place.
     CursorPosition {
@@ -38,16 +40,22 @@ pub enum Change {
     CursorVisibility(CursorVisibility),
     /// The size of the cursor's row.
     LineAttribute(LineAttribute),
-    /// Rows of a region move up, and blank rows come below.
+    /// Rows of a region move up, and plain rows come below.
     ScrollRegionUp {
+        /// The region's first row, counted from 0.
         first_row: usize,
+        /// How many rows the region has; those past the last one aren't there.
         region_size: usize,
+        /// By how many rows they move, at most by all of them.
         scroll_count: usize,
     },
-    /// Rows of a region move down, and blank rows come above.
+    /// Rows of a region move down, and plain rows come above.
     ScrollRegionDown {
+        /// The region's first row, counted from 0.
         first_row: usize,
+        /// How many rows the region has; those past the last one aren't there.
         region_size: usize,
+        /// By how many rows they move, at most by all of them.
         scroll_count: usize,
     },
     /// The title of the screen.

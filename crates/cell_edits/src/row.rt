@@ -120,6 +120,7 @@ fn cut_at(cells: &mut Vec<Cell>, at: usize) -> Result<(), AllocError>
 }
 
 // Wide cells whose columns stand on both sides of `start`, or of `end`, become blanks.
+#[inline(always)]
 pub(crate) fn open(cells: &mut Vec<Cell>, start: usize, end: usize) -> Result<(), AllocError>
     requires order { start ≤ end }
     requires within { end ≤ vec_len cells.old }

@@ -683,7 +683,9 @@ impl Line {
     /// last cell at or before `click_col` to one past the first column of the last of them from
     /// the first cell at or behind it. Each end is `click_col` where there is none, and where that
     /// is past the end of the line. `RangeWithWrap` says that the range reaches the end of the line
-    /// and the line goes on behind it. `is_word` is asked of the cells in any order, of some twice.
+    /// and the line goes on behind it. `is_word` is asked of the cells up to `click_col` and then of those
+    /// from it on, each time in order of columns, so it may be asked of one cell twice; nothing is promised
+    /// of that.
     pub fn compute_double_click_range<F: Fn(&str) -> bool>(
         &self,
         click_col: usize,

@@ -1,14 +1,16 @@
 -- Texts that are drawn part by part.
-use Rattle.std.proofs.Common.{◌≡◌, ℕ, List, [], ◌∷◌, ◌++◌, map, fold, sym, ap, ◌∙◌, append-nil}
-use Rattle.std.specs.List.{flat_map}
+use Rattle.std.proofs.Common.{◌≡◌, ℕ, true, List, [], ◌∷◌, ◌++◌, map, fold, sym, ap, ◌∙◌, append-nil}
+use Rattle.std.specs.List.{flat_map, list_all}
 use Rattle.std.proofs.lemmas.Grind.{flat_map-append}
 use Rattle.std.proofs.lemmas.List.Sums.{fold-append}
+use Rattle.text_clusters.specs.Plain.{is_printable}
 use Rattle.text_clusters.proofs.PlainLemmas.{graphemes-nil}
 use Rattle.cell_base.specs.Cluster.{clusters, read_cluster}
 use Rattle.screen_canvas.specs.Canvas.{Canvas, Shows, clusters_done, display_of}
 use Rattle.screen_canvas.specs.Parts.{IsAtControl, PartsLead, parts_done, plain_part}
+use Rattle.screen_canvas.proofs.TextLemmas.{plain_parts}
 use Rattle.screen_effects.specs.Display.{Display}
-use Rattle.screen_effects.specs.Strokes.{TextPart, Control, Cluster, part_strokes, stroke_done, text_parts}
+use Rattle.screen_effects.specs.Strokes.{TextPart, Control, Cluster, part_strokes, stroke_done, text_done, text_parts}
 
 pub done-append : (width_of : List ℕ → ℕ) (d : Display) (xs ys : List TextPart) → parts_done width_of d (xs ++ ys) ≡ parts_done width_of (parts_done width_of d xs) ys
 done-append width_of d xs ys = ap (fold (stroke_done width_of) d) (flat_map-append part_strokes xs ys) ∙ fold-append (stroke_done width_of) d (flat_map part_strokes xs) (flat_map part_strokes ys)
@@ -16,6 +18,10 @@ done-append width_of d xs ys = ap (fold (stroke_done width_of) d) (flat_map-appe
 plain_done : (width_of : List ℕ → ℕ) (d : Display) (text : List ℕ) → parts_done width_of d (plain_part text) ≡ clusters_done width_of d (clusters text)
 plain_done width_of d [] = sym (ap (λ gs. clusters_done width_of d (map read_cluster gs)) graphemes-nil)
 plain_done width_of d (b ∷ text) = ap (fold (stroke_done width_of) d) (append-nil (map Cluster (clusters (b ∷ text))))
+
+-- printable characters put their clusters
+pub plain_puts : (width_of : List ℕ → ℕ) (d : Display) (text : List ℕ) → list_all is_printable text ≡ true → text_done width_of d text ≡ clusters_done width_of d (clusters text)
+plain_puts width_of d text p = ap (parts_done width_of d) (plain_parts text p ∙ append-nil (plain_part text)) ∙ plain_done width_of d text
 
 module _ {W : Type 0} (width_of : List ℕ → ℕ) where
   -- the front of a text was drawn

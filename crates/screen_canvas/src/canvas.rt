@@ -248,6 +248,10 @@ impl<W: Widths + Drop> Canvas<W> {
         if text.is_empty() {
             return Ok(());
         }
+        if self.takes_plainly(text) {
+            self.put_plain(text)?;
+            return Ok(());
+        }
         let mut left = self.put_in_row(text)?;
         while let Some((cluster, behind)) = next_cluster(left) {
             self.put(cluster)?;

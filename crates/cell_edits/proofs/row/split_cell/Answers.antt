@@ -14,7 +14,7 @@ returns-clause-before c =
     let cells = c.args.cells.now.items in
     let same = get_or-default cells c.args.at c.index.result.now (blank_cell plain) (omega arith) in
     let left : c.blank_with_attrs-left.result ≡ blank_for cells c.args.at =
-    c.blank_with_attrs-left.ensures ∙ ap blank_cell (c.in_ok-try_clone.ensures ∙ c.attrs.ensures ∙ ap (λ (x : CellContent). x.attributes) (c.index.ensures ∙ same)) in
+    c.blank_with_attrs-left.ensures ∙ ap blank_cell (c.in_ok-try_clone.ensures.copy ∙ c.attrs.ensures ∙ ap (λ (x : CellContent). x.attributes) (c.index.ensures ∙ same)) in
     elim c.if-at-len.branch [
       | then-at-len+in_ok-try_clone-2 w ↦
           ap (take (c.args.at + 1)) c.put-2.ensures
@@ -35,6 +35,6 @@ returns-clause-behind c inside =
           ap (drop (c.args.at + 1)) c.put-2.ensures
           ∙ split_behind cells c.if-at-len.cells.items c.args.at c.blank_with_attrs-left.result w.blank_with_attrs-right.result (omega arith) (ap (λ (v : Vec Cell). v.items) w.cells-is ∙ w.put.ensures)
           ∙ ap (λ (x : CellContent). x ∷ drop (c.args.at + 2) cells)
-          (w.blank_with_attrs-right.ensures ∙ ap blank_cell (w.in_ok-try_clone-2.ensures ∙ w.attrs-then-at-len.ensures ∙ ap (λ (x : CellContent). x.attributes) (w.index-then-at-len.ensures ∙ same)))
+          (w.blank_with_attrs-right.ensures ∙ ap blank_cell (w.in_ok-try_clone-2.ensures.copy ∙ w.attrs-then-at-len.ensures ∙ ap (λ (x : CellContent). x.attributes) (w.index-then-at-len.ensures ∙ same)))
       | else-at-len w ↦ absurd (omega arith)
     ]

@@ -4,6 +4,7 @@ use Rattle.std.specs.Cmp.{unsigned_Decides}
 use Rattle.text_clusters.proofs.PlainLemmas.{graphemes-nil}
 use Rattle.cell_base.specs.Cluster.{clusters, read_cluster}
 use Rattle.screen_canvas.specs.Canvas.{clusters_done, display_of}
+use Rattle.screen_canvas.proofs.PartLemmas.{plain_puts}
 use Rattle.screen_canvas.proofs.canvas.Canvas.put_run.Goals as goal
 
 pub returns-then-is_empty : goal.returns-then-is_empty
@@ -12,6 +13,14 @@ returns-then-is_empty g c =
       same = sym (ap (clusters_done (g.W.Widths.width_of c.args.self.now.widths) (display_of c.args.self.now)) none);
       widths = refl;
       drawn = c.requires.drawn;
+    }
+
+pub returns-then-takes_plainly : goal.returns-then-takes_plainly
+returns-then-takes_plainly g c =
+    let shown = c.in_ok-put_plain.ensures in record {
+      same = shown.same ∙ plain_puts (g.W.Widths.width_of c.args.self.now.widths) (display_of c.args.self.now) c.args.text.now (c.if-takes_plainly.ensures.printable refl);
+      widths = shown.widths;
+      drawn = shown.drawn;
     }
 
 pub returns : goal.returns

@@ -27,6 +27,6 @@ returns g c =
     let count = count_columns text width old.pen c.requires.width.0 c.requires.width.1 in
     subst (λ (x : Canvas g.row.W.Denot). IsDrawn x → x.column + width ≤ x.width → record old { lines = c.set_cell.new.rows; column = old.column + width } ≡ canvas_with x (columns_of text (nat_le 2 width) x.pen) width) c.self.view_is
     (λ h f. let line = line_set old text width (nat_le 2 width) h c.requires.stands wide (omega arith) in
-    let lines = c.in_ok-set_cell.ensures.lines ∙ ap (λ (a : Attributes). set old.lines old.row (grapheme_set (line_at old.lines old.row) old.column text width a 0)) c.in_ok-pen.ensures ∙ ap (set old.lines old.row) line in
+    let lines = c.in_ok-set_cell.ensures.lines ∙ ap (λ (a : Attributes). set old.lines old.row (grapheme_set (line_at old.lines old.row) old.column text width a 0)) c.in_ok-pen.ensures.copy ∙ ap (set old.lines old.row) line in
     λ i. record old { lines = lines i; column = old.column + width })
     c.requires.drawn c.requires.fits
