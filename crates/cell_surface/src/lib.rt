@@ -15,7 +15,7 @@ pub use cell_base::{
     is_white_space_char, is_white_space_grapheme, unicode_column_width,
 };
 pub use cell_change::Change;
-pub use cell_line::{CellCluster, CellRef, Line, VisibleCellIter};
+pub use cell_line::{CellCluster, CellRef, Line, RegionIter, VisibleCellIter};
 pub use change_sequence::ChangeSequence;
 pub use error::SurfaceError;
 pub use surface::Surface;

@@ -1,5 +1,5 @@
 -- Where changes leave a cursor that doesn't scroll. Columns count from 0; rows count from where the first change stood, and may be negative.
-use Rattle.std.specs.Prelude.{ℕ, ◌+◌, ◌-◌, ◌%◌, min, ℤ, pos, negsuc, ◌+ℤ◌, ◌-ℤ◌, neg_ℤ, int_lt, Bool, true, false, ◌&&◌, nat_lt, nat_le, ◌^◌, List, [], ◌∷◌, ◌++◌, fold, if◌then◌else◌}
+use Rattle.std.specs.Prelude.{◌≡◌, ℕ, ◌+◌, ◌-◌, ◌%◌, ◌<◌, min, ℤ, pos, negsuc, ◌+ℤ◌, ◌-ℤ◌, neg_ℤ, int_lt, Bool, true, false, ◌&&◌, nat_lt, nat_le, ◌^◌, List, [], ◌∷◌, ◌++◌, fold, length, take, if◌then◌else◌}
 use Rattle.std.specs.List.{flat_map}
 use Rattle.std.specs.Int.{saturate_signed, w64}
 use Rattle.cell_base.specs.declared.attributes.Position.{Position}
@@ -110,6 +110,12 @@ with_change width_of s change =
 
 abbrev pub with_changes : {W : Type 0} → (List ℕ → ℕ) → Sequence W → List ChangeValue → Sequence W
 with_changes width_of s changes = fold (with_change width_of) s changes
+
+-- the first of some changes were added, but not all
+pub record HasSome {W : Type 0} (width_of : List ℕ → ℕ) (before after : Sequence W) (changes : List ChangeValue) : Type 0 where
+  pub count : ℕ
+  pub fewer : count < length changes
+  pub added : after ≡ with_changes width_of before (take count changes)
 
 -- from one place to another, as far as numbers of 64 bits go
 abbrev pub move_to : Place → ℕ → ℤ → ChangeValue

@@ -3,7 +3,7 @@ ghost use Rattle.std.specs.Prelude.{◌≡◌, ◌≤◌, ◌<◌, ◌-ℤ◌, [
 ghost use Rattle.std.specs.Int.{saturate_signed, w64};
 ghost use Rattle.cell_change.specs.ValueOf.{value_of};
 ghost use Rattle.change_sequence.specs.Places.{place_of};
-ghost use Rattle.change_sequence.specs.Sequence.{change_moved, higher, home, is_drawn, lower, move_to, with_change, with_changes};
+ghost use Rattle.change_sequence.specs.Sequence.{HasSome, change_moved, higher, home, is_drawn, lower, move_to, with_change, with_changes};
 
 use crate::moves::{Place, as_row, behind_text, column_of, row_of};
 use cell_base::{Position, Widths};
@@ -155,7 +155,17 @@ impl<W: Widths + Drop> ChangeSequence<W> {
 
     /// Adds changes in turn. Where memory is refused the ones before are added.
     pub fn add_changes(&mut self, changes: Vec<Change>) -> Result<(), AllocError>
-        ensures { OnOk result (self.new ≡ with_changes (W.width_of self.old.widths) self.old (map value_of changes.items)) }
+        ensures added { OnOk result (self.new ≡ with_changes (W.width_of self.old.widths) self.old (map value_of changes.items)) }
+        ensures refused { OnErr result (HasSome (W.width_of self.old.widths) self.old self.new (map value_of changes.items)) }
+    {
+        self.push_all(changes)
+    }
+
+    // Adds changes in turn.
+    #[tactic(auto, using(crate::proofs::AddLemmas::one_added))]
+    fn push_all(&mut self, changes: Vec<Change>) -> Result<(), AllocError>
+        ensures added { OnOk result (self.new ≡ with_changes (W.width_of self.old.widths) self.old (map value_of changes.items)) }
+        ensures refused { OnErr result (HasSome (W.width_of self.old.widths) self.old self.new (map value_of changes.items)) }
     {
         for change in changes {
             self.push(change)?;

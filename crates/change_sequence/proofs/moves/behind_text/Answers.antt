@@ -1,4 +1,4 @@
-use Rattle.std.proofs.Common.{[], ◌∷◌, ◌∙◌, ap, length, arith}
+use Rattle.std.proofs.Common.{◌∙◌, ap, length, arith}
 use Rattle.change_sequence.specs.Places.{place_of}
 use Rattle.change_sequence.specs.Sequence.{stroke_moved}
 use Rattle.change_sequence.proofs.MoveLemmas.{front_leads, control_leads}

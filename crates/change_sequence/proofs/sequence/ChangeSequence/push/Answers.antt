@@ -1,9 +1,8 @@
-use Rattle.std.proofs.Common.{rules, ◌≡◌, List, [], ◌∷◌, ◌++◌, map, SFits, w64, refl, sym, ap, subst, ◌∙◌}
+use Rattle.std.proofs.Common.{rules, [], ◌∷◌, map, SFits, w64, sym, ap, ◌∙◌}
 use mir.Val.{to_z, of_z}
 use Rattle.std.specs.Prelude.{ℤ}
 use Rattle.std.proofs.lemmas.Int.{to_z-of_z}
 use Rattle.std.proofs.lemmas.List.{map-append}
-use Rattle.cell_change.specs.ChangeValue.{ChangeValue}
 use Rattle.cell_change.specs.ValueOf.{value_of}
 use Rattle.change_sequence.specs.Sequence.{Sequence, change_moved, higher, lower, with_change}
 use Rattle.change_sequence.specs.SequenceView.{sequence_of}
