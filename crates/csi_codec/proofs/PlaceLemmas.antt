@@ -183,18 +183,22 @@ further_quick read ts us v n h at e =
       within = fits.1;
     })
 
-pub first_alone : (ts : List CsiParam) (v : Sgr) (z : ℤ) → length ts < 2 → begins_with z ts → plain_code z ≡ Some v → IsNext 0 ts 109 (sgr v) (length ts)
+pub first_alone : (ts : List CsiParam) (v : Sgr) (z : ℤ) → length ts < 2 → begins_with z ts → plain_code z ≡ Some v → IsNext 0 ts 109 (sgr v) 1
 first_alone [] v z h front e = absurd front
 first_alone (P b ∷ ts) v z h front e = absurd front
 first_alone (Integer y ∷ []) v z h front e = whole_quick (Integer y ∷ []) v 1 (omega arith) (plain_last y v (ap plain_code front ∙ e)) refl
 first_alone (Integer y ∷ t ∷ ts) v z h front e = absurd (omega arith)
 
+pub further_whole : (read : ℕ) (ts us : List CsiParam) (v : Sgr) → 0 < read → us ≡ drop read ts → sgr_piece us ≡ Some (v, length us) → IsNext read ts 109 (sgr v) (length ts)
+further_whole read ts us v some at e =
+    let fits = rendition_fits us v (length us) e in
+    subst (IsNext read ts 109 (sgr v)) (omega (arith, fits.0, ap length at, length-drop read ts)) (further_quick read ts us v (length us) some at e)
+
 pub further_alone : (read : ℕ) (ts us : List CsiParam) (v : Sgr) (z : ℤ) → 0 < read → us ≡ drop read ts → length us < 2 → begins_with z us → plain_code z ≡ Some v
     → IsNext read ts 109 (sgr v) (length ts)
 further_alone read ts [] v z some at h front e = absurd front
 further_alone read ts (P b ∷ us) v z some at h front e = absurd front
-further_alone read ts (Integer y ∷ []) v z some at h front e =
-    subst (IsNext read ts 109 (sgr v)) (omega (arith, ap length at, length-drop read ts)) (further_quick read ts (Integer y ∷ []) v 1 some at (plain_last y v (ap plain_code front ∙ e)))
+further_alone read ts (Integer y ∷ []) v z some at h front e = further_whole read ts (Integer y ∷ []) v some at (plain_last y v (ap plain_code front ∙ e))
 further_alone read ts (Integer y ∷ t ∷ us) v z some at h front e = absurd (omega arith)
 
 -- the number's own `;` is read with it
@@ -214,10 +218,6 @@ further_signed read ts us v z some at h sign front e = further_quick read ts us 
 
 pub told_some : (ts : List CsiParam) (v : Sgr) (n : ℕ) → sgr_piece ts ≡ Some (v, n) → 0 < length ts
 told_some ts v n e = let fits = rendition_fits ts v n e in omega (arith, fits.0, fits.1)
-
-pub begun_some : (z : ℤ) (ts : List CsiParam) → begins_with z ts → 0 < length ts
-begun_some z [] h = absurd h
-begun_some z (t ∷ ts) h = omega arith
 
 not_both : (found : Option Action) (a : Action) → found ≡ None → found ≡ Some a → ⊥
 not_both found a none e = cc

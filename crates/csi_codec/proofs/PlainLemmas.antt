@@ -9,6 +9,7 @@ use Rattle.csi_codec.specs.declared.parameters.CsiParam.{CsiParam}
 use Rattle.csi_codec.specs.declared.parameters.CsiParam.TheVariants.{Integer, P}
 use Rattle.csi_codec.specs.declared.rendition.Sgr.{Sgr}
 use Rattle.csi_codec.specs.Parameters.{is_number, with_semicolon}
+use Rattle.csi_codec.proofs.ColourLemmas.{number_is}
 use Rattle.csi_codec.specs.Rendition.{single_code, plain_code, taking, underline_shape, underline_or_single, numbered_shape, sgr_shape, sgr_piece}
 
 -- no number of a colour has a value of its own
@@ -35,6 +36,13 @@ unfolding numbered_shape single_code
 plain_shape z ts v u e =
     chosen (is_number 38 z) (is_number 48 z) (is_number 58 z) (is_number 4 z) _ _ _ _ _ (Some (v, 1))
     (no_target 38 z v refl e) (no_target 48 z v refl e) (no_target 58 z v refl e) (λ h. u ∙ single z v e h) (ap (taking 1) e)
+
+-- and any other number means the same whatever follows it
+pub plain_found : (z : ℤ) (ts : List CsiParam) (v : Sgr) → (z ≡ pos 4 → ⊥) → plain_code z ≡ Some v → numbered_shape z ts ≡ Some (v, 1)
+unfolding numbered_shape single_code
+plain_found z ts v other e =
+    chosen (is_number 38 z) (is_number 48 z) (is_number 58 z) (is_number 4 z) _ _ _ _ _ (Some (v, 1))
+    (no_target 38 z v refl e) (no_target 48 z v refl e) (no_target 58 z v refl e) (λ h. absurd (other (number_is 4 z h))) (ap (taking 1) e)
 
 pub plain_last : (z : ℤ) (v : Sgr) → plain_code z ≡ Some v → sgr_piece (Integer z ∷ []) ≡ Some (v, 1)
 unfolding sgr_piece sgr_shape

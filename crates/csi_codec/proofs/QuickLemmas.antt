@@ -6,12 +6,11 @@ use Rattle.cell_base.specs.declared.color.ColorSpec.{ColorSpec}
 use Rattle.csi_codec.specs.declared.parameters.CsiParam.{CsiParam}
 use Rattle.csi_codec.specs.declared.parameters.CsiParam.TheVariants.{Integer, P}
 use Rattle.csi_codec.specs.declared.sgr_reading.Target.{Target}
-use Rattle.csi_codec.specs.declared.sgr_reading.Target.TheVariants as target
 use Rattle.csi_codec.specs.Parameters.{is_number, place, number_pair, place_pair, with_semicolon, semicolon_at}
-use Rattle.csi_codec.specs.declared.rendition.Sgr.TheVariants.{Foreground}
+use Rattle.csi_codec.specs.declared.rendition.Sgr.{Sgr}
 use Rattle.std.specs.Option.{option_zip, option_map}
-use Rattle.csi_codec.specs.Rendition.{taking, colour_form, numbered_shape, sgr_shape, sgr_piece}
-use Rattle.csi_codec.specs.ColourCases.{begins_with, opaque_of, palette_of, tells_kind, told_color, target_numbered, set_to}
+use Rattle.csi_codec.specs.Rendition.{taking, colour_form, underline_shape, numbered_shape, sgr_shape, sgr_piece}
+use Rattle.csi_codec.specs.ColourCases.{begins_with, begins_with_target, opaque_of, palette_of, tells_kind, told_color, target_numbered, set_to}
 
 -- ---- A list by its tokens
 
@@ -103,6 +102,24 @@ opaque_ends ts x y z c h listed found =
     let last : semicolon_at (drop 9 ts) 0 ≡ 0 = no_more (drop 9 ts) (omega (arith, length-drop 9 ts)) in
     ap told_color listed ∙ opaque_told (token ts 0) x y z (drop 9 ts) c found ∙ ap (λ k. Some (c, k)) (omega (arith, last, h))
 
+-- a colour that is all that stands behind its kind
+pub opaque_whole : (ts : List CsiParam) (x y z : ℤ) (c : ColorSpec) → length ts ≡ 9 → tells_kind (pos 2) ts → token ts 3 ≡ P 59 → token ts 4 ≡ Integer x
+    → token ts 5 ≡ P 59 → token ts 6 ≡ Integer y → token ts 7 ≡ P 59 → token ts 8 ≡ Integer z → Some c ≡ opaque_of x y z → told_color ts ≡ Some (c, length ts)
+opaque_whole ts x y z c h k d e f g i j found =
+    opaque_ends ts x y z c h (opaque_listed ts x y z (omega (arith, h)) (kind_semicolon (pos 2) ts k) (kind_number (pos 2) ts k) d e f g i j) found
+
+pub palette_whole : (ts : List CsiParam) (n : ℤ) (c : ColorSpec) → length ts ≡ 5 → tells_kind (pos 5) ts → token ts 3 ≡ P 59 → token ts 4 ≡ Integer n → Some c ≡ palette_of n
+    → told_color ts ≡ Some (c, length ts)
+palette_whole ts n c h k d e found =
+    let last : semicolon_at (drop 5 ts) 0 ≡ 0 = no_more (drop 5 ts) (omega (arith, length-drop 5 ts)) in
+    ap told_color (palette_listed ts n (omega (arith, h)) (kind_semicolon (pos 5) ts k) (kind_number (pos 5) ts k) d e)
+    ∙ palette_told (token ts 0) n (drop 5 ts) c found ∙ ap (λ k. Some (c, k)) (omega (arith, last, h))
+
+-- any colour behind the first token
+pub color_told : (ts : List CsiParam) (c : ColorSpec) (n : ℕ) → colour_form (drop 1 ts) ≡ Some (c, n) → told_color ts ≡ Some (c, n + 1 + semicolon_at ts (n + 1))
+unfolding told_color
+color_told ts c n e = ap (λ found. with_semicolon ts (option_map (λ form. (form.0, form.1 + 1)) found)) e
+
 -- ---- A colour behind its target's number
 
 coloured : (z : ℤ) (us : List CsiParam) (c : ColorSpec) (n : ℕ) → colour_form us ≡ Some (c, n) → IfSome (target_numbered z) (λ t. sgr_shape (Integer z ∷ us) ≡ Some (set_to t c, n + 1))
@@ -130,33 +147,28 @@ targeted z us t c n (Some f) form target e =
     subst (λ found. IfSome found (λ t. sgr_shape (Integer z ∷ us) ≡ Some (set_to t f.0, f.1 + 1))) target (coloured z us f.0 f.1 form) in
     ap (with_semicolon (Integer z ∷ us)) shape ∙ ap (option_map (λ told. (set_to t told.0, told.1))) e
 
-pub target_told : (z : ℤ) (ts : List CsiParam) (t : Target) (c : ColorSpec) (n : ℕ) → begins_with z ts → target_numbered z ≡ Some t → told_color ts ≡ Some (c, n)
-    → sgr_piece ts ≡ Some (set_to t c, n)
+pub target_told : (ts : List CsiParam) (t : Target) (c : ColorSpec) (n : ℕ) → begins_with_target t ts → told_color ts ≡ Some (c, n) → sgr_piece ts ≡ Some (set_to t c, n)
 unfolding told_color
-target_told z [] t c n h target e = absurd h
-target_told z (P b ∷ us) t c n h target e = absurd h
-target_told z (Integer y ∷ us) t c n h target e = targeted y us t c n (colour_form us) refl (ap target_numbered h ∙ target) e
+target_told [] t c n h e = absurd h
+target_told (P b ∷ us) t c n h e = absurd h
+target_told (Integer y ∷ us) t c n h e = targeted y us t c n (colour_form us) refl h e
 
-pub foreground_told : (ts : List CsiParam) (x y z : ℤ) (c : ColorSpec) → length ts ≡ 9 → token ts 0 ≡ Integer (pos 38) → token ts 1 ≡ P 59 → token ts 2 ≡ Integer (pos 2)
-    → token ts 3 ≡ P 59 → token ts 4 ≡ Integer x → token ts 5 ≡ P 59 → token ts 6 ≡ Integer y → token ts 7 ≡ P 59 → token ts 8 ≡ Integer z → Some c ≡ opaque_of x y z
-    → sgr_piece ts ≡ Some (Foreground c, length ts)
-foreground_told ts x y z c h t a b d e f g i j found =
-    let listed = opaque_listed ts x y z (omega (arith, h)) a b d e f g i j in
-    target_told (pos 38) ts target.Foreground c (length ts) (begun ts t) refl (opaque_ends ts x y z c h listed found)
-  where
-    begun : (us : List CsiParam) → token us 0 ≡ Integer (pos 38) → begins_with (pos 38) us
-    begun [] e = different e
-      where
-        different : Integer (pos 0) ≡ Integer (pos 38) → ⊥
-        different h = cc
-    begun (P b ∷ us) e = other e
-      where
-        other : P b ≡ Integer (pos 38) → ⊥
-        other h = cc
-    begun (Integer y ∷ us) e = same e
-      where
-        same : Integer y ≡ Integer (pos 38) → y ≡ pos 38
-        same h = cc
+pub with_target : (z : ℤ) (ts : List CsiParam) (t : Target) → begins_with z ts → target_numbered z ≡ Some t → begins_with_target t ts
+with_target z [] t h e = absurd h
+with_target z (P b ∷ us) t h e = absurd h
+with_target z (Integer y ∷ us) t h e = ap target_numbered h ∙ e
+
+-- ---- A number in front of another token than a `;`
+
+pub numbered_found : (z : ℤ) (ts : List CsiParam) (v : Sgr) (n : ℕ) → begins_with z ts → numbered_shape z (drop 1 ts) ≡ Some (v, n) → sgr_piece ts ≡ Some (v, n + semicolon_at ts n)
+unfolding sgr_piece sgr_shape
+numbered_found z [] v n h e = absurd h
+numbered_found z (P b ∷ us) v n h e = absurd h
+numbered_found z (Integer y ∷ us) v n h e = ap (with_semicolon (Integer y ∷ us)) (ap (λ k. numbered_shape k us) h ∙ e)
+
+pub underline_found : (z : ℤ) (us : List CsiParam) (v : Sgr) (n : ℕ) → z ≡ pos 4 → underline_shape us ≡ Some (v, n) → numbered_shape z us ≡ Some (v, n)
+unfolding numbered_shape
+underline_found z us v n h e = ap (λ k. numbered_shape k us) h ∙ e
 
 -- ---- Two places
 

@@ -97,6 +97,12 @@ target_numbered z =
     else (if is_number 58 z then Some target.Underline
     else None))
 
+-- a list begins with the number of this target
+abbrev pub begins_with_target : Target → List CsiParam → Type 0
+begins_with_target t [] = ⊥
+begins_with_target t (P b ∷ ts) = ⊥
+begins_with_target t (Integer z ∷ ts) = target_numbered z ≡ Some t
+
 abbrev pub set_to : Target → ColorSpec → Sgr
 set_to target.Foreground c = sgr.Foreground c
 set_to target.Background c = sgr.Background c

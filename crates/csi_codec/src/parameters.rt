@@ -1,5 +1,5 @@
 //! Tokens of a CSI list, the slots that a list can have, and how tokens are written.
-ghost use Rattle.std.specs.Prelude.{◌≡◌, ◌≤◌, ◌++◌, true, Some, IfOk, OnErr, OnOk, is_some, length, take};
+ghost use Rattle.std.specs.Prelude.{◌≡◌, ◌≤◌, ◌++◌, true, Some, IfOk, OnErr, OnOk, is_some, drop, length, take};
 ghost use Rattle.std.specs.Fmt.{signed_decimal};
 ghost use Rattle.csi_codec.specs.Parameters.{is_number_token, number_within, word_max, token_text, sequence_text, spelled, spelled_text, one_slot, two_slots, slot_and_space, place, slot_number, count, place_pair, number_pair, begins_with_number, semicolon_at};
 ghost use Rattle.csi_codec.specs.Rests.{IsSameRest};
@@ -284,4 +284,13 @@ pub(crate) fn semicolon_at(params: &[CsiParam], place: usize) -> usize
         Some(CsiParam::P(b';')) => 1,
         _ => 0,
     }
+}
+
+/// What stands behind the first `len` tokens.
+#[inline(always)]
+pub(crate) fn behind(params: &[CsiParam], len: usize) -> &[CsiParam]
+    requires { len ≤ length params.now }
+    ensures { result.now ≡ drop len params.now }
+{
+    &params[len..]
 }

@@ -1,8 +1,8 @@
 //! Reading the actions of a list from place to place.
-ghost use Rattle.std.specs.Prelude.{◌≡◌, ◌≢◌, ◌<◌, ◌≤◌, ℕ, ℤ, Bool, List, true, false, IfNone, IfSome, Some, ◌∷◌, [], drop, length, option_map};
+ghost use Rattle.std.specs.Prelude.{◌≡◌, ◌≢◌, ◌<◌, ◌≤◌, ℕ, pos, Bool, List, true, false, IfNone, IfSome, Some, ◌∷◌, [], drop, length, option_map};
 ghost use Rattle.csi_codec.specs.Actions.{Kind as PieceKind, csi_reading, lone_or, lone_reading, modes_or, piece_of, pieces, private_mode_pieces, sgr, sgr_pieces, standard_mode_pieces, sgr_reading, unspecified};
 ghost use Rattle.csi_codec.specs.Known.{found_action};
-ghost use Rattle.csi_codec.specs.ColourCases.{begins_with};
+ghost use Rattle.csi_codec.specs.ColourCases.{begins_with, begins_with_target, tells_kind};
 ghost use Rattle.csi_codec.specs.Parsing.{HasNoPiece, HasNoRendition, IsEnd, IsFirstPiece, IsFirstRendition, IsNext, IsStart, actions_behind, actions_from, kind_of, list_kind};
 ghost use Rattle.csi_codec.specs.Rendition.{plain_code};
 ghost use Rattle.csi_codec.specs.Sequences.{action_of, HandsOut};
@@ -13,13 +13,16 @@ use crate::devices::device_reading;
 use crate::edits::{Edit, EraseInDisplay, EraseInLine, edit_reading};
 use crate::modes::lone_private_mode;
 use crate::one_based::OneBased;
-use crate::parameters::{CsiParam, begins_with_number};
+use crate::parameters::{CsiParam, begins_with_number, behind};
 use crate::pieces::{
     Kind, all_behind, all_behind_two, all_sgr_tokens, private_mode_piece, standard_mode_piece,
 };
 use crate::rendition::Sgr;
 use crate::sequences::{CSI, request, unspecified};
-use crate::sgr_reading::{are_bytes, is_foreground, opaque, plain_code, sgr_piece, told_setting};
+use crate::sgr_reading::{
+    Target, is_foreground, marked_setting, plain_code, sgr_piece, told_color, told_palette,
+    whole_color, whole_opaque,
+};
 use std::alloc::{AllocError, Global};
 
 /// A place in a list of parameters before a final byte: how far its actions were read. It lends nothing, so it can be kept
@@ -52,15 +55,15 @@ impl CSIPlace {
     {
         let read = self.index;
         if read == 0 {
-            if params.is_empty() {
-                if let Some(value) = bare_action(control) {
-                    self.index = 1;
-                    return Some(Ok(value));
-                }
-            } else if control == 'm' {
+            if control == 'm' {
                 if let Some((value, behind)) = first_setting(params) {
                     self.index = behind;
                     return Some(Ok(CSI::Sgr(value)));
+                }
+            } else if params.is_empty() {
+                if let Some(value) = bare_action(control) {
+                    self.index = 1;
+                    return Some(Ok(value));
                 }
             } else if let Some(value) = quick_other(params, control) {
                 self.index = params.len();
@@ -111,18 +114,15 @@ impl CSIPlace {
     }
 }
 
-/// The action of an empty list, where it is one of the most frequent.
+/// The action of an empty list, where it is one of the most frequent cursor sequences or edits.
 #[inline(always)]
 fn bare_action(control: char) -> Option<CSI>
     ensures { IfSome result (λ value. (ts : List CsiParam) → length ts ≡ 0 → IsNext 0 ts control (action_of value) 1) }
 {
-    if control == 'm' {
-        return Some(CSI::Sgr(Sgr::Reset));
-    }
     bare_lone(control)
 }
 
-/// What an empty list spells before a final byte, where it is one of the most frequent cursor sequences or edits.
+/// What an empty list spells before a final byte, where it is one of them.
 #[tactic(auto, unfolding(crate::specs::Cursors::cursor_reading, crate::specs::Edits::edit_reading))]
 #[inline(always)]
 fn bare_lone(control: char) -> Option<CSI>
@@ -143,32 +143,39 @@ fn bare_lone(control: char) -> Option<CSI>
     }
 }
 
-/// The first setting of an SGR list, where it is one number or a colour told with `;`, and how many tokens are read then.
+/// The first setting of an SGR list, and how many tokens are read then. What is most frequent is read where the caller stands:
+/// an empty list, a number alone or in front of a `;`, and a colour told with `;`. All else is read by a call, which goes on
+/// from what is known.
 #[inline(always)]
 fn first_setting(params: &[CsiParam]) -> Option<(Sgr, usize)>
     ensures { IfSome result (λ found. IsNext 0 params.now 109 (sgr found.0) found.1) }
 {
+    if params.len() > 2
+        && let [CsiParam::Integer(value), ..] = params
+    {
+        return first_numbered(*value, params);
+    }
+    first_of_few(params)
+}
+
+/// The same of a list of at most two tokens, or of one that begins with no number.
+#[inline(always)]
+fn first_of_few(params: &[CsiParam]) -> Option<(Sgr, usize)>
+    ensures { IfSome result (λ found. IsNext 0 params.now 109 (sgr found.0) found.1) }
+{
     match params {
-        [
-            CsiParam::Integer(38),
-            CsiParam::P(b';'),
-            CsiParam::Integer(2),
-            CsiParam::P(b';'),
-            CsiParam::Integer(red),
-            CsiParam::P(b';'),
-            CsiParam::Integer(green),
-            CsiParam::P(b';'),
-            CsiParam::Integer(blue),
-        ] if are_bytes(*red, *green, *blue) => {
-            let color = opaque(*red, *green, *blue);
-            Some((Sgr::Foreground(color), params.len()))
+        [CsiParam::Integer(value)] => {
+            let Some(setting) = plain_code(*value) else {
+                return None;
+            };
+            Some((setting, 1))
         }
-        [CsiParam::Integer(value), ..] => first_numbered(*value, params),
-        _ => None,
+        [] => Some((Sgr::Reset, 1)),
+        _ => first_by_shape(params),
     }
 }
 
-/// The same of a list that begins with this number.
+/// The same of a list that begins with this number: it has a meaning of its own, or a colour stands behind it.
 #[inline(always)]
 fn first_numbered(value: i64, params: &[CsiParam]) -> Option<(Sgr, usize)>
     requires { begins_with value params.now }
@@ -177,31 +184,115 @@ fn first_numbered(value: i64, params: &[CsiParam]) -> Option<(Sgr, usize)>
     if !is_foreground(value)
         && let Some(setting) = plain_code(value)
     {
-        return first_plain(setting, params);
+        return first_plain(value, setting, params);
     }
-    let Some((setting, len)) = told_setting(value, params) else {
+    let Some(target) = Target::of_number(value) else {
         return None;
     };
-    if len == params.len() || all_behind(params, len) {
+    first_colored(target, params)
+}
+
+/// The same where the number has this meaning of its own.
+#[inline(always)]
+fn first_plain(value: i64, setting: Sgr, params: &[CsiParam]) -> Option<(Sgr, usize)>
+    requires front { begins_with value params.now }
+    requires plain { plain_code value ≡ Some setting }
+    ensures { IfSome result (λ found. IsNext 0 params.now 109 (sgr found.0) found.1) }
+{
+    match params {
+        [_, CsiParam::P(b';'), ..] => {
+            if all_behind_two(params) {
+                Some((setting, 2))
+            } else {
+                None
+            }
+        }
+        _ => first_marked(value, params),
+    }
+}
+
+/// The same where no `;` stands behind the number, by a call.
+#[inline(always)]
+fn first_marked(value: i64, params: &[CsiParam]) -> Option<(Sgr, usize)>
+    requires { begins_with value params.now }
+    ensures { IfSome result (λ found. IsNext 0 params.now 109 (sgr found.0) found.1) }
+{
+    let Some((setting, len)) = marked_setting(value, params) else {
+        return None;
+    };
+    if all_behind(params, len) {
         Some((setting, len))
     } else {
         None
     }
 }
 
-/// The same where the number has this meaning of its own.
+/// The same where a colour for this target stands behind the number: the number behind a `;` is its kind, which decides.
 #[inline(always)]
-fn first_plain(setting: Sgr, params: &[CsiParam]) -> Option<(Sgr, usize)>
-    ensures { IfSome result (λ found. (z : ℤ) → begins_with z params.now → plain_code z ≡ Some setting → IsNext 0 params.now 109 (sgr found.0) found.1) }
+fn first_colored(target: Target, params: &[CsiParam]) -> Option<(Sgr, usize)>
+    requires { begins_with_target target params.now }
+    ensures { IfSome result (λ found. IsNext 0 params.now 109 (sgr found.0) found.1) }
 {
-    match params {
-        [_] => Some((setting, params.len())),
-        [_, CsiParam::P(b';'), ..] if all_behind_two(params) => Some((setting, 2)),
-        _ => None,
+    if let [_, CsiParam::P(b';'), CsiParam::Integer(kind), ..] = params {
+        match *kind {
+            5 => return first_palette(target, params),
+            2 => {
+                if let Some(color) = whole_opaque(params) {
+                    return Some((target.set_to(color), params.len()));
+                }
+            }
+            _ => return None,
+        }
+    }
+    first_by_color(target, params)
+}
+
+/// The same where the colour is one of the palette.
+#[inline(always)]
+fn first_palette(target: Target, params: &[CsiParam]) -> Option<(Sgr, usize)>
+    requires front { begins_with_target target params.now }
+    requires kind { tells_kind (pos 5) params.now }
+    ensures { IfSome result (λ found. IsNext 0 params.now 109 (sgr found.0) found.1) }
+{
+    let Some((color, len)) = told_palette(params) else {
+        return None;
+    };
+    if len == params.len() || all_behind(params, len) {
+        Some((target.set_to(color), len))
+    } else {
+        None
     }
 }
 
-/// A further setting of an SGR list, where it is one number or a colour told with `;`, and how many tokens are read then.
+/// The same by a call, which reads any colour: here one told with `:`, or an opaque one with more behind it.
+#[inline(always)]
+fn first_by_color(target: Target, params: &[CsiParam]) -> Option<(Sgr, usize)>
+    requires { begins_with_target target params.now }
+    ensures { IfSome result (λ found. IsNext 0 params.now 109 (sgr found.0) found.1) }
+{
+    let Some((color, len)) = told_color(params) else {
+        return None;
+    };
+    if all_behind(params, len) {
+        Some((target.set_to(color), len))
+    } else {
+        None
+    }
+}
+
+/// The same of any list that is not empty, by a call.
+#[inline(always)]
+fn first_by_shape(params: &[CsiParam]) -> Option<(Sgr, usize)>
+    requires { 0 < length params.now }
+    ensures { IfSome result (λ found. IsNext 0 params.now 109 (sgr found.0) found.1) }
+{
+    let Some((setting, len)) = first_sgr(params) else {
+        return None;
+    };
+    Some((setting, len))
+}
+
+/// A further setting of an SGR list, and how many tokens are read then.
 #[inline(always)]
 fn further_setting(read: usize, params: &[CsiParam]) -> Option<(Sgr, usize)>
     requires some { 0 < read }
@@ -209,10 +300,10 @@ fn further_setting(read: usize, params: &[CsiParam]) -> Option<(Sgr, usize)>
     ensures { IfSome result (λ found. IsNext read params.now 109 (sgr found.0) found.1) }
 {
     let others = behind(params, read);
-    let [CsiParam::Integer(value), ..] = others else {
-        return None;
-    };
-    further_numbered(*value, read, others, params)
+    match others {
+        [CsiParam::Integer(value), ..] => further_numbered(*value, read, others, params),
+        _ => further_by_shape(read, others, params),
+    }
 }
 
 /// The same where this number stands at the front of the others.
@@ -231,17 +322,21 @@ fn further_numbered(
     if !is_foreground(value)
         && let Some(setting) = plain_code(value)
     {
-        return further_plain(setting, read, others, params);
+        return further_plain(value, setting, read, others, params);
     }
-    let Some((setting, len)) = told_setting(value, others) else {
+    let Some(target) = Target::of_number(value) else {
         return None;
     };
-    Some((setting, read + len))
+    if let Some(color) = whole_color(others) {
+        return Some((target.set_to(color), params.len()));
+    }
+    further_by_color(target, read, others, params)
 }
 
 /// The same where the number has this meaning of its own.
 #[inline(always)]
 fn further_plain(
+    value: i64,
     setting: Sgr,
     read: usize,
     others: &[CsiParam],
@@ -249,13 +344,66 @@ fn further_plain(
 ) -> Option<(Sgr, usize)>
     requires some { 0 < read }
     requires behind { others.now ≡ drop read params.now }
-    ensures { IfSome result (λ found. (z : ℤ) → begins_with z others.now → plain_code z ≡ Some setting → IsNext read params.now 109 (sgr found.0) found.1) }
+    requires front { begins_with value others.now }
+    requires plain { plain_code value ≡ Some setting }
+    ensures { IfSome result (λ found. IsNext read params.now 109 (sgr found.0) found.1) }
 {
     match others {
         [_] => Some((setting, params.len())),
         [_, CsiParam::P(b';'), ..] => Some((setting, read + 2)),
-        _ => None,
+        _ => further_marked(value, read, others, params),
     }
+}
+
+/// The same where another token than a `;` stands behind the number, by a call.
+#[inline(always)]
+fn further_marked(
+    value: i64,
+    read: usize,
+    others: &[CsiParam],
+    params: &[CsiParam],
+) -> Option<(Sgr, usize)>
+    requires some { 0 < read }
+    requires behind { others.now ≡ drop read params.now }
+    requires front { begins_with value others.now }
+    ensures { IfSome result (λ found. IsNext read params.now 109 (sgr found.0) found.1) }
+{
+    let Some((setting, len)) = marked_setting(value, others) else {
+        return None;
+    };
+    Some((setting, read + len))
+}
+
+/// The same by a call, which reads any colour: here one told with `:`, or with more behind it.
+#[inline(always)]
+fn further_by_color(
+    target: Target,
+    read: usize,
+    others: &[CsiParam],
+    params: &[CsiParam],
+) -> Option<(Sgr, usize)>
+    requires some { 0 < read }
+    requires behind { others.now ≡ drop read params.now }
+    requires front { begins_with_target target others.now }
+    ensures { IfSome result (λ found. IsNext read params.now 109 (sgr found.0) found.1) }
+{
+    let Some((color, len)) = told_color(others) else {
+        return None;
+    };
+    Some((target.set_to(color), read + len))
+}
+
+/// The same of any others, by a call: here of those that begin with no number.
+#[inline(always)]
+fn further_by_shape(read: usize, others: &[CsiParam], params: &[CsiParam]) -> Option<(Sgr, usize)>
+    requires some { 0 < read }
+    requires behind { others.now ≡ drop read params.now }
+    ensures { IfSome result (λ found. IsNext read params.now 109 (sgr found.0) found.1) }
+{
+    let Some((setting, len)) = sgr_piece(others) else {
+        return None;
+    };
+    Some((setting, read + len))
 }
 
 /// The only action of a list before any other final byte, where it is a mode that is set or reset, a cursor sequence or an
@@ -305,7 +453,7 @@ fn lone_reading(params: &[CsiParam], control: char) -> Option<CSI>
     Some(CSI::Edit(edit_reading(params, control)?))
 }
 
-/// The action at a place, where it takes no memory, and how many tokens are read then.
+/// The action at a place, where it takes no memory and the final byte is no `m`, and how many tokens are read then.
 #[inline(always)]
 fn known(read: usize, params: &[CsiParam], control: char) -> Option<(CSI, usize)>
     ensures { IfSome result (λ found. IsNext read params.now control (action_of found.0) found.1) }
@@ -318,6 +466,9 @@ fn known(read: usize, params: &[CsiParam], control: char) -> Option<(CSI, usize)
 fn known_at(read: usize, params: &[CsiParam], control: char) -> Option<(CSI, usize)>
     ensures { IfSome result (λ found. IsNext read params.now control (action_of found.0) found.1) }
 {
+    if control == 'm' {
+        return None;
+    }
     if read == 0 {
         return first_known(params, control);
     }
@@ -327,25 +478,10 @@ fn known_at(read: usize, params: &[CsiParam], control: char) -> Option<(CSI, usi
     further_known(read, params, control)
 }
 
-/// The first action of a list, where it takes no memory, and how many tokens are read then.
-#[inline(always)]
-fn first_known(params: &[CsiParam], control: char) -> Option<(CSI, usize)>
-    ensures { IfSome result (λ found. IsNext 0 params.now control (action_of found.0) found.1) }
-{
-    if control == 'm' {
-        if params.is_empty() {
-            return Some((CSI::Sgr(Sgr::Reset), 1));
-        }
-        let (value, len) = first_sgr(params)?;
-        return Some((CSI::Sgr(value), len));
-    }
-    first_other(params, control)
-}
-
-/// The same before any other final byte.
+/// The first action of a list, where it takes no memory and the final byte is no `m`, and how many tokens are read then.
 #[tactic(auto, unfolding(crate::specs::Actions::csi_reading))]
 #[inline(always)]
-fn first_other(params: &[CsiParam], control: char) -> Option<(CSI, usize)>
+fn first_known(params: &[CsiParam], control: char) -> Option<(CSI, usize)>
     requires { ¬ (control ≡ 109) }
     ensures found { IfSome result (λ found. (truncated : Bool) → csi_reading params.now truncated control ≡ action_of found.0 ∷ pieces (list_kind control params.now) truncated control (drop found.1 params.now)) }
     ensures some { IfSome result (λ found. 0 < found.1) }
@@ -463,7 +599,7 @@ fn first_rendition(alloc: Global, params: &[CsiParam], truncated: bool, control:
 }
 
 /// The first piece of an SGR list, where only tokens of SGR stand behind that too, and how many tokens it takes.
-#[inline(always)]
+#[inline(never)]
 fn first_sgr(params: &[CsiParam]) -> Option<(Sgr, usize)>
     requires { 0 < length params.now }
     ensures found { IfSome result (λ found. IsFirstRendition params.now found.0 found.1) }
@@ -625,13 +761,4 @@ fn first_piece(kind: Kind, params: &[CsiParam], control: char) -> Option<(CSI, u
     ensures stands { option_map found_action result ≡ piece_of (kind_of kind) control params.now }
 {
     piece(kind, params, control)
-}
-
-/// What stands behind the first `len` tokens.
-#[inline(always)]
-fn behind(params: &[CsiParam], len: usize) -> &[CsiParam]
-    requires { len ≤ length params.now }
-    ensures { result.now ≡ drop len params.now }
-{
-    &params[len..]
 }

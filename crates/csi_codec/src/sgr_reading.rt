@@ -32,7 +32,7 @@ ghost use Rattle.csi_codec.specs.Rendition.{
   sgr_piece,
 };
 
-use crate::parameters::{CsiParam, number_within, semicolon_at};
+use crate::parameters::{CsiParam, behind, number_within, semicolon_at};
 use crate::rendition::{Font, Sgr};
 use cell_base::{Blink, ColorSpec, Intensity, SrgbaTuple, Underline, VerticalAlign};
 
@@ -192,7 +192,7 @@ fn opaque_of(red: i64, green: i64, blue: i64) -> Option<ColorSpec>
 
 /// Whether three numbers are bytes.
 #[inline(always)]
-pub(crate) fn are_bytes(red: i64, green: i64, blue: i64) -> bool
+fn are_bytes(red: i64, green: i64, blue: i64) -> bool
     ensures { result ≡ is_some (opaque_of red green blue) }
 {
     is_byte(red) & is_byte(green) & is_byte(blue)
@@ -200,7 +200,7 @@ pub(crate) fn are_bytes(red: i64, green: i64, blue: i64) -> bool
 
 /// The opaque colour of three bytes.
 #[inline(always)]
-pub(crate) fn opaque(red: i64, green: i64, blue: i64) -> ColorSpec
+fn opaque(red: i64, green: i64, blue: i64) -> ColorSpec
     requires { is_some (opaque_of red green blue) ≡ true }
     ensures { Some result ≡ opaque_of red green blue }
 {
@@ -444,30 +444,33 @@ pub(crate) fn sgr_piece(params: &[CsiParam]) -> Option<(Sgr, usize)>
     Some((value, len + semicolon_at(params, len)))
 }
 
-/// A colour whose numbers stand apart by `;`, at the front of a list that begins with its target's number, as a setting, and
-/// how many tokens it takes with the `;` right behind it.
-#[inline(always)]
-pub(crate) fn told_setting(value: i64, params: &[CsiParam]) -> Option<(Sgr, usize)>
+/// What the piece at the front of a list that begins with this number stands for, where the number has a meaning of its own,
+/// and how many tokens the piece takes with the `;` right behind it: `4:k` where there is such an underline, else the number.
+#[inline(never)]
+pub(crate) fn marked_setting(value: i64, params: &[CsiParam]) -> Option<(Sgr, usize)>
     requires { begins_with value params.now }
     ensures { IfSome result (λ found. sgr_piece params.now ≡ Some found) }
 {
-    let Some(target) = Target::of_number(value) else {
-        return None;
+    let (setting, len) = if value == 4 {
+        underline_shape(behind(params, 1))?
+    } else {
+        (plain_code(value)?, 1)
     };
-    let Some((color, len)) = told_color(params) else {
-        return None;
-    };
-    Some((target.set_to(color), len))
+    Some((setting, len + semicolon_at(params, len)))
 }
 
-/// A colour whose numbers stand apart by `;`, behind the first token, and how many tokens it takes with that and with the `;`
-/// right behind it.
-#[inline(always)]
-fn told_color(params: &[CsiParam]) -> Option<(ColorSpec, usize)>
+/// The colour behind the first token, and how many tokens it takes with that and with the `;` right behind it. The sign behind
+/// that token and the number behind the sign, the colour's kind, decide what is read.
+#[inline(never)]
+pub(crate) fn told_color(params: &[CsiParam]) -> Option<(ColorSpec, usize)>
     ensures { IfSome result (λ found. told_color params.now ≡ Some found) }
 {
     match params {
         [_, CsiParam::P(b';'), CsiParam::Integer(kind), ..] => told_of_kind(*kind, params),
+        [_, CsiParam::P(b':'), ..] => {
+            let (color, len) = color_form(behind(params, 1))?;
+            Some((color, len + 1 + semicolon_at(params, len + 1)))
+        }
         _ => None,
     }
 }
@@ -519,7 +522,7 @@ fn told_opaque(params: &[CsiParam]) -> Option<(ColorSpec, usize)>
 
 /// The colour of the palette whose number stands behind its kind, and how many tokens it takes.
 #[inline(always)]
-fn told_palette(params: &[CsiParam]) -> Option<(ColorSpec, usize)>
+pub(crate) fn told_palette(params: &[CsiParam]) -> Option<(ColorSpec, usize)>
     requires { tells_kind (pos 5) params.now }
     ensures { IfSome result (λ found. told_color params.now ≡ Some found) }
 {
@@ -541,6 +544,57 @@ fn told_palette(params: &[CsiParam]) -> Option<(ColorSpec, usize)>
                 None
             }
         }
+        _ => None,
+    }
+}
+
+/// The colour whose numbers are all that stands behind the first token, apart by `;`.
+#[inline(always)]
+pub(crate) fn whole_color(params: &[CsiParam]) -> Option<ColorSpec>
+    ensures { IfSome result (λ color. told_color params.now ≡ Some (color, length params.now)) }
+{
+    match params {
+        [_, CsiParam::P(b';'), CsiParam::Integer(kind), ..] => match *kind {
+            5 => whole_palette(params),
+            2 => whole_opaque(params),
+            _ => None,
+        },
+        _ => None,
+    }
+}
+
+/// The opaque colour whose numbers are all that stands behind its kind.
+#[inline(always)]
+pub(crate) fn whole_opaque(params: &[CsiParam]) -> Option<ColorSpec>
+    requires { tells_kind (pos 2) params.now }
+    ensures { IfSome result (λ color. told_color params.now ≡ Some (color, length params.now)) }
+{
+    match params {
+        [
+            _,
+            _,
+            _,
+            CsiParam::P(b';'),
+            CsiParam::Integer(red),
+            CsiParam::P(b';'),
+            CsiParam::Integer(green),
+            CsiParam::P(b';'),
+            CsiParam::Integer(blue),
+        ] if are_bytes(*red, *green, *blue) => Some(opaque(*red, *green, *blue)),
+        _ => None,
+    }
+}
+
+/// The colour of the palette whose number is all that stands behind its kind.
+#[inline(always)]
+fn whole_palette(params: &[CsiParam]) -> Option<ColorSpec>
+    requires { tells_kind (pos 5) params.now }
+    ensures { IfSome result (λ color. told_color params.now ≡ Some (color, length params.now)) }
+{
+    match params {
+        [_, _, _, CsiParam::P(b';'), CsiParam::Integer(index)] if is_byte(*index) => Some(palette(
+            *index,
+        )),
         _ => None,
     }
 }
@@ -568,7 +622,7 @@ pub(crate) fn is_foreground(value: i64) -> bool
 
 /// What a colour is for.
 #[derive(Clone, Copy, Debug)]
-enum Target {
+pub(crate) enum Target {
     Foreground,
     Background,
     Underline,
@@ -577,7 +631,7 @@ enum Target {
 impl Target {
     /// The target of this number, if there is one.
     #[inline(always)]
-    fn of_number(value: i64) -> Option<Self>
+    pub(crate) fn of_number(value: i64) -> Option<Self>
         ensures { result ≡ target_numbered value }
     {
         match value {
@@ -590,7 +644,7 @@ impl Target {
 
     /// The setting of this target to a colour.
     #[inline(always)]
-    fn set_to(self, color: ColorSpec) -> Sgr
+    pub(crate) fn set_to(self, color: ColorSpec) -> Sgr
         ensures { result ≡ set_to self color }
     {
         match self {
