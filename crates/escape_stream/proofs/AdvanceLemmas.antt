@@ -380,7 +380,7 @@ goes_behind old mid new (Some (Err refusal.Memory)) g o l s p = record { same = 
 goes_behind old mid new (Some (Err refusal.Failed)) g o l s p = absurd (let e : stage.Open ≡ stage.Failed = sym o ∙ sym s ∙ p.items.0 in cc)
 goes_behind old mid new None g o l s p = record {
   same = p.same ∙ l;
-  items = (p.items.0, λ x. given_behind old mid new None g (p.items.1 (s ∙ x)));
+  items = (p.items.0, λ x. given_behind old mid new None g (p.items.1 (s ∙ x)), λ x. p.items.2 (s ∙ x));
   parser = ((λ x. p.parser.0 (s ∙ x)), λ x. absurd (let e : stage.Open ≡ stage.Over = sym o ∙ x in cc));
 }
 

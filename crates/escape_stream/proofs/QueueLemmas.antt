@@ -1,6 +1,6 @@
 -- Steps of a queue of dispatches.
-use Rattle.std.proofs.Common.{◌≡◌, ◌<◌, ℕ, Bool, List, [], ◌∷◌, ◌++◌, length, map, Option, Some, None, refl, ap, sym, subst, ◌∙◌, arith, append_assoc, append-nil}
-use Rattle.std.specs.Prelude.{IsTrue, IfSome, is_some, false}
+use Rattle.std.proofs.Common.{◌≡◌, ◌<◌, ℕ, List, [], ◌∷◌, ◌++◌, length, map, Option, Some, None, refl, ap, sym, ◌∙◌, arith, append_assoc, append-nil}
+use Rattle.std.specs.Prelude.{IsTrue, is_some, false}
 use Rattle.csi_codec.specs.Actions as csi_action
 use Rattle.csi_codec.specs.Short.{IsOnly, short_list}
 use Rattle.csi_codec.specs.declared.short.ShortNumbers.{ShortNumbers}

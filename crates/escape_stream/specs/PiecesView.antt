@@ -166,12 +166,12 @@ abbrev pub IsReady : Pieces → Type 0
 IsReady it = ready_at it.stage it
 
 -- What a call of `next` answers: the next piece while there is one, then that there is none, and then so again; in place of
--- a piece that memory is refused, or that the parser had failed, and then nothing more.
+-- a piece that memory is refused, or first of all that the parser had failed, and then nothing more.
 abbrev pub HandsOutPiece : Pieces → Option (Result PieceCode ParseError) → Pieces → Type 0
 HandsOutPiece old (Some (Ok piece)) new = IsOpen old × IsOpen new × HasGiven old (Some piece) new
 HandsOutPiece old (Some (Err refusal.Memory)) new = IsOpen old × IsOver new
 HandsOutPiece old (Some (Err refusal.Failed)) new = HadFailed old × IsOver new
-HandsOutPiece old None new = IsOver new × (IsOpen old → HasGiven old None new)
+HandsOutPiece old None new = IsOver new × (IsOpen old → HasGiven old None new) × (HadFailed old → ⊥)
 
 -- The parser has failed until the end, and then it has not.
 abbrev pub LeavesParser : Pieces → Option (Result PieceCode ParseError) → Pieces → Type 0
