@@ -1,9 +1,10 @@
-pub mod GoLemmas
-pub mod PlayLemmas
 pub mod AppendLemmas
-pub mod ReadAllLemmas
+pub mod GoLemmas
 pub mod LawLemmas
+pub mod PlayLemmas
+pub mod PrintLemmas
+pub mod ReadAllLemmas
+pub mod SendLemmas
 pub mod SpellLemmas
 pub mod UpdateLemmas
-pub mod SendLemmas
 pub mod ViewLemmas

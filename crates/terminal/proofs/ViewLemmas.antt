@@ -10,7 +10,8 @@ use Rattle.change_log.specs.Log.{due, most_due}
 use Rattle.escape_framing.specs.Held.{hand_out, held_of, nothing_held}
 use Rattle.escape_stream.specs.StreamAction.{StreamAction}
 use Rattle.escape_stream.specs.StreamText.{stream_text}
-use Rattle.escape_stream.specs.StreamWritable.{IsWritable}
+use Rattle.escape_stream.specs.StreamActions.{stream_actions}
+use Rattle.escape_stream.specs.StreamWritable.{IsWritable, WritableListsReadBack}
 use Rattle.screen_difference.specs.FreshCells.{screen_fresh}
 use Rattle.screen_effects.specs.Display.{Display, IsDisplay}
 use Rattle.screen_effects.specs.Effect.{effect}
@@ -18,8 +19,9 @@ use Rattle.screen_prints.specs.Prints.{text_of}
 use Rattle.screen_replay.specs.WrittenCells.{IsSoundDisplay}
 use Rattle.std.proofs.lemmas.List.{length-map, length-replicate}
 use Rattle.terminal.specs.Terminal.{Terminal, StandsAt, GoesBy, IsIdle, IsSpelled, state_in}
-use Rattle.terminal.specs.Viewing.{CanReadFrom, PrintsText, ShowsAt, changes_for, patch_from, standing_of, update_for}
+use Rattle.terminal.specs.Viewing.{CanReadFrom, ShowsAt, changes_for, patch_from, standing_of, update_for, update_prints}
 use Rattle.terminal.proofs.LawLemmas.{idle_view}
+use Rattle.terminal.proofs.PrintLemmas.{prints_stay}
 use Rattle.terminal_patch.specs.Patch.{patch_of, place_prints}
 use Rattle.terminal_patch.specs.Reading.{CanReadPatch, PatchesAreShown, PatchesArePlain, PatchesLeaveIdle, PatchesPrintFreshCells, patch_for}
 use Rattle.terminal_prints.specs.Prints.{IsPlain}
@@ -307,11 +309,16 @@ module _ {W : Type 0} (width_of : W → List ℕ → ℕ) where
 
     pub prints : ((x : Screen) (log : Sized) (n : ℕ) → IsDisplay (display_on x) → IsSpelledScreen x → HaveSpellings x.width (height x) log.log.entries → HaveSpellings x.width (height x) (update_changes x log n))
         → ((w h : ℕ) (changes : List ChangeValue) → HaveSpellings w h changes → all_rendered changes w h ≡ None → ⊥)
+        → ((w h : ℕ) (changes : List ChangeValue) (actions : List StreamAction) → 0 < w → w < 2 ^ 32 → 0 < h → h < 2 ^ 32 → HaveSpellings w h changes → all_rendered changes w h ≡ Some actions → IsWritable actions)
+        → WritableListsReadBack
         → ((w h : ℕ) (changes : List ChangeValue) (actions : List StreamAction) → all_rendered changes w h ≡ Some actions → prints_in actions ≡ runs_in changes)
-        → PrintsText (update_for t number) (runs_in (changes_for t number))
-    prints law rendered once =
-        let found = some_of (all_rendered (changes_for t number) screen.width (height screen)) (rendered screen.width (height screen) (changes_for t number) (spelled_update law)) in
-        record { actions = found.0; text_is = ap bytes_of found.1; printed = once screen.width (height screen) (changes_for t number) found.0 found.1 }
+        → update_prints t number ≡ runs_in (changes_for t number)
+    prints law rendered writable back once =
+        let spelled = spelled_update law in
+        let found = some_of (all_rendered (changes_for t number) screen.width (height screen)) (rendered screen.width (height screen) (changes_for t number) spelled) in
+        let lawful = (state_is t s).lawful in
+        let w = writable screen.width (height screen) (changes_for t number) found.0 lawful.wide_enough s.spelled.surface.wide (omega (arith, lawful.row_in)) s.spelled.surface.tall spelled found.1 in
+        ap (λ o. prints_in (stream_actions (bytes_of o))) found.1 ∙ ap prints_in (back found.0 w) ∙ prints_stay found.0 w ∙ once screen.width (height screen) (changes_for t number) found.0 found.1
 
     pub counted : ((x : Screen) (log : Sized) (n : ℕ) → IsScreen x → length log.log.entries ≤ log.log.number → log.most ≡ most_due x.width (height x) → length (update_changes x log n) ≤ 2 * x.width * height x + 2 * height x + 11)
         → length t.surface.log.log.entries ≤ number_of t.surface → t.surface.log.most ≡ most_due screen.width (height screen)

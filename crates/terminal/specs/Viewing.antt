@@ -2,8 +2,7 @@
 use Rattle.std.specs.Prelude.{◌≡◌, ℕ, false, List, length}
 use Rattle.cell_base.specs.Screen.{Screen}
 use Rattle.cell_change.specs.ChangeValue.{ChangeValue}
-use Rattle.escape_stream.specs.StreamAction.{StreamAction}
-use Rattle.escape_stream.specs.StreamText.{stream_text}
+use Rattle.escape_stream.specs.StreamActions.{stream_actions}
 use Rattle.terminal.specs.Terminal.{Terminal, IsIdle, state_in}
 use Rattle.terminal_patch.specs.Patch.{patch_of}
 use Rattle.terminal_spelling.specs.Sizes.{prints_in}
@@ -39,11 +38,9 @@ pub record CanReadFrom {W : Type 0} (width_of : W → List ℕ → ℕ) (t viewe
 abbrev pub standing_of : {W : Type 0} → Terminal W → View → Standing
 standing_of t view = record { view = view; log = t.surface.log }
 
--- bytes are those of actions that print a text
-pub record PrintsText (bytes text : List ℕ) : Type 0 where
-  pub actions : List StreamAction
-  pub text_is : bytes ≡ stream_text actions
-  pub printed : prints_in actions ≡ text
+-- what is printed when that update is read
+abbrev pub update_prints : {W : Type 0} → Terminal W → ℕ → List ℕ
+update_prints t number = prints_in (stream_actions (update_for t number))
 
 -- a screen shows a terminal at a number
 abbrev pub ShowsAt : {W : Type 0} → (W → List ℕ → ℕ) → Screen → ℕ → Terminal W → Type 0

@@ -138,9 +138,9 @@ impl<W: Widths + Drop> Terminal<W> {
     /// Settles, and answers the number of changes so far and the bytes that a viewer is sent which has seen
     /// the changes before a number: the changes since then, spelled by ECMA-48 and xterm's control
     /// sequences, or the whole screen painted anew, with its title, where the log doesn't keep them all, at
-    /// number 0, and above the current number. At the current number these are no bytes. Fed to an idle terminal
-    /// of this size and these widths that showed this one's screen at that number, they leave it idle with this
-    /// one's screen. The place of a pending wrap is sent as the last cell of its row once more.
+    /// number 0, and above the current number. At the current number, unless that is 0, these are no bytes. Fed
+    /// to an idle terminal of this size and these widths that showed this one's screen at that number, they leave
+    /// it idle with this one's screen. The place of a pending wrap is sent as the last cell of its row once more.
     ///
     /// Refuses as `feed` does. Where the bytes are refused memory the terminal hasn't failed: it is as behind
     /// `settle`, and the same call, asked again, gives what it would have given.

@@ -11,7 +11,7 @@ ghost use Rattle.screen_effects.specs.Display.{IsDisplay};
 ghost use Rattle.screen_effects.specs.Effect.{effect};
 ghost use Rattle.screen_prints.specs.Prints.{text_of};
 ghost use Rattle.terminal.specs.Terminal.{Terminal, StandsAt, GoesBy, IsIdle, state_in};
-ghost use Rattle.terminal.specs.Viewing.{CanReadFrom, PrintsText, ShowsAt, changes_for, patch_from, standing_of, update_for};
+ghost use Rattle.terminal.specs.Viewing.{CanReadFrom, ShowsAt, changes_for, patch_from, standing_of, update_for, update_prints};
 ghost use Rattle.terminal_patch.specs.Patch.{place_prints};
 ghost use Rattle.terminal_prints.specs.Prints.{IsPlain, prints};
 ghost use Rattle.terminal_render.specs.Rendering.{rendering};
@@ -28,10 +28,11 @@ ghost use Rattle.terminal_update.specs.Viewers.{repeated};
 use crate::terminal::Terminal;
 use cell_base::Widths;
 use cell_surface::laws::{forgotten_changes_are_not_due, surfaces_stay_lawful};
+use escape_stream::encoding_laws::writable_lists_read_back;
 use terminal_patch::laws::viewers_read_patches;
 pub use terminal_prints::laws::plain_streams_print_what_is_fresh;
 use terminal_render::laws::rendered_texts_have_the_effect;
-use terminal_spelling::laws::spelled_changes_are_rendered;
+use terminal_spelling::laws::{spelled_changes_are_rendered, spelled_changes_are_writable};
 use terminal_spelling::sizes::{
     deltas_print_each_run_once, sent_changes_are_short, sent_lists_are_short,
 };
@@ -132,19 +133,21 @@ pub fn first_updates_tell_screens<W: Widths + Drop>(one: &Terminal<W>, other: &T
 
 /// An update has at most 2wh + 2h + 11 changes on a screen of w columns and h rows. For each of them at most
 /// 320 bytes are sent beside its text, its title, or its link's parameters and URI, and an update has no more
-/// bytes than what is sent for each at most. Where changes are due it prints their texts, each once and in
-/// turn.
+/// bytes than what is sent for each at most. Whoever reads it prints the texts of its changes, each once and in
+/// turn, and nothing else.
 pub fn updates_are_small<W: Widths + Drop>(terminal: &Terminal<W>)
     ensures count { (number : ℕ) → terminal.now.is_failed ≡ false → length (changes_for terminal.now number) ≤ 2 * (state_in terminal.now).screen.width * height (state_in terminal.now).screen + 2 * height (state_in terminal.now).screen + 11 }
     ensures each { (number : ℕ) → terminal.now.is_failed ≡ false → AreShort (state_in terminal.now).screen.width (height (state_in terminal.now).screen) (changes_for terminal.now number) }
     ensures bytes { (number : ℕ) → terminal.now.is_failed ≡ false → length (update_for terminal.now number) ≤ all_sent_size (changes_for terminal.now number) }
-    ensures printed { (number : ℕ) → terminal.now.is_failed ≡ false → PrintsText (update_for terminal.now number) (runs_in (changes_for terminal.now number)) }
+    ensures printed { (number : ℕ) → terminal.now.is_failed ≡ false → update_prints terminal.now number ≡ runs_in (changes_for terminal.now number) }
 {
     terminal.stands();
     surfaces_stay_lawful(terminal.surface());
     updates_are_counted();
     updates_have_spellings();
     spelled_changes_are_rendered();
+    spelled_changes_are_writable();
+    writable_lists_read_back();
     sent_changes_are_short();
     sent_lists_are_short();
     deltas_print_each_run_once();
