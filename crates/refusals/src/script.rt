@@ -1,0 +1,188 @@
+//! Whole scripts: each answer before a refusal is that of the run without one.
+use crate::outcome::{Outcome, Stop, refused};
+use crate::tally::Tally;
+use crate::terminals::{Answer, Plain, ask, ended, patched};
+use std::alloc::Global;
+use std::io::Write;
+use terminal::{ProgramWidth, SequenceNo, Terminal, TerminalError};
+
+// What the terminal of the short script is sent: its screen, and the patch from a blank one.
+const UPDATE: &[u8] =
+    b"\x1b[?25l\x1b[0m\x1b]8;;\x1b\\\x1b[2J\x1b[1;1H\x1b]2;\x1b\\a\0\x1b[0m\x1b]8;id=1;u\x1b\\b \0\x1b[1;3H\x1b[?25h";
+
+const PATCH: &[u8] =
+    b"\x1b]2;\x1b\\\x1b[1;1H\x1b[0m\x1b]8;;\x1b\\a\0\x1b[0m\x1b]8;id=1;u\x1b\\b\0\x1b[0m\x1b[1m\x1b]8;id=1;u\x1b\\c\0\x1b[1;3H\x1b[0m\x1b[1m\x1b]8;id=1;u\x1b\\c\0\x1b[0m\x1b[1m\x1b]8;id=1;u\x1b\\\x1b[?25h";
+
+// What came of an answer: that it is as it should be, or what stands behind its refusal.
+fn answered(
+    alloc: Global,
+    answer: Answer,
+    number: SequenceNo,
+    bytes: &[u8],
+    terminal: &mut Plain,
+) -> Outcome {
+    match answer {
+        Ok((now, sent)) => Ok(now == number && sent.as_slice() == bytes),
+        Err(error) if terminal.is_failed() => ended(alloc, error, terminal),
+        Err(error) => refused(Stop::from(error), terminal.settle().is_ok()),
+    }
+}
+
+// Two feeds, a look and another size.
+fn begin(terminal: &mut Plain) -> Result<(), TerminalError> {
+    terminal.feed(b"a\x1b]8;id=1;u\x1b\\b\x1b[6n")?;
+    terminal.feed(b"\xe3\x81\x8b")?;
+    terminal.settle()?;
+    terminal.resize(3, 2)
+}
+
+// The short script.
+fn short(alloc: Global) -> Outcome {
+    let mut terminal = Terminal::new(alloc, 4, 2, ProgramWidth)?;
+    if let Err(error) = begin(&mut terminal) {
+        return ended(alloc, error, &mut terminal);
+    }
+    let update = terminal.update(0);
+    if !answered(alloc, update, 5, UPDATE, &mut terminal)? {
+        return Ok(false);
+    }
+    if let Err(error) = terminal.feed(b"\x1b[1mc") {
+        return ended(alloc, error, &mut terminal);
+    }
+    let shown = Terminal::new(alloc, 3, 2, ProgramWidth)?;
+    let patch = patched(&mut terminal, &shown);
+    let is_right = answered(alloc, patch, 7, PATCH, &mut terminal)?;
+    let replies = terminal.take_replies();
+    Ok(is_right && replies.as_slice() == b"\x1b[1;3R".as_slice())
+}
+
+// How many pieces the long script has.
+const PIECES: usize = 8;
+
+// A piece of the long script.
+fn piece(index: usize) -> &'static [u8] {
+    match index {
+        0 => b"\x1b]2;first\x1b\\one\r\ntwo",
+        1 => b"\x1b[1;38;5;9mred\x1b[m\x1b]8;;http://example.com\x1b\\link",
+        2 => b"\xe3\x81\x8b\xe3\x81\x8be\xcc\x81\x1b[2;3H\x1b[K",
+        3 => b"\x1b[48:2::1:2:3m\x1b[J\x1b]8;;\x1b\\x",
+        4 => b"\r\n\n\n\nlast\x1b[?25l\x1b7",
+        5 => b"\x1b[H\x1bM\x1bMtop\x1b8\x1b[4:3mend of it",
+        6 => b"\x1b]0;second\x07\x1b[?25h\x1b[2J\x1b[3;8Hab",
+        _ => b"\x1bc\x1b[1;8Hy\xe3\x81\x8b",
+    }
+}
+
+// Whether both show the same rows, cursor, title and pen.
+fn shows_same(terminal: &Plain, viewer: &Plain) -> Outcome {
+    let (one, other) = (terminal.surface(), viewer.surface());
+    let rows = one.screen_chars_to_string()?;
+    Ok(
+        one.cursor_position() == other.cursor_position()
+            && one.cursor_visibility() == other.cursor_visibility()
+            && one.title() == other.title()
+            && one.pen() == other.pen()
+            && rows.as_str() == other.screen_chars_to_string()?.as_str()
+            && one.diff_screens(other)?.is_empty(),
+    )
+}
+
+// What a refused answer leaves: a terminal that has failed and says so, or one that answers when it is asked again.
+fn asked_again(
+    alloc: Global,
+    error: TerminalError,
+    pair: (&mut Plain, &mut Plain),
+    number: SequenceNo,
+    is_patch: bool,
+) -> Outcome {
+    let (terminal, viewer) = pair;
+    if terminal.is_failed() {
+        return ended(alloc, error, terminal);
+    }
+    let (_, bytes) = ask(terminal, viewer, number, is_patch)?;
+    viewer.feed(&bytes)?;
+    refused(Stop::from(error), shows_same(terminal, viewer)?)
+}
+
+// One more answer, which the viewer reads.
+fn answer(
+    alloc: Global,
+    terminal: &mut Plain,
+    viewer: &mut Plain,
+    number: SequenceNo,
+    is_patch: bool,
+) -> Result<SequenceNo, Stop> {
+    match ask(terminal, viewer, number, is_patch) {
+        Ok((now, bytes)) => {
+            read(alloc, viewer, &bytes)?;
+            told(shows_same(terminal, viewer))?;
+            Ok(now)
+        }
+        Err(error) => {
+            told(asked_again(alloc, error, (terminal, viewer), number, is_patch))?;
+            Err(Stop::Other)
+        }
+    }
+}
+
+// What is not right ends a script.
+fn told(outcome: Outcome) -> Result<(), Stop> {
+    if outcome? { Ok(()) } else { Err(Stop::Other) }
+}
+
+// A terminal reads bytes; one that is refused has failed and says so.
+fn read(alloc: Global, terminal: &mut Plain, bytes: &[u8]) -> Result<(), Stop> {
+    match terminal.feed(bytes) {
+        Ok(()) => Ok(()),
+        Err(error) => {
+            told(ended(alloc, error, terminal))?;
+            Err(Stop::Other)
+        }
+    }
+}
+
+// A terminal becomes narrower.
+fn resize(alloc: Global, terminal: &mut Plain) -> Result<(), Stop> {
+    match terminal.resize(9, 3) {
+        Ok(()) => Ok(()),
+        Err(error) => {
+            told(ended(alloc, error, terminal))?;
+            Err(Stop::Other)
+        }
+    }
+}
+
+// A piece of the long script, and an answer that the viewer reads; both become narrower behind the fifth.
+fn step(
+    alloc: Global,
+    terminal: &mut Plain,
+    viewer: &mut Plain,
+    number: SequenceNo,
+    index: usize,
+) -> Result<SequenceNo, Stop> {
+    read(alloc, terminal, piece(index))?;
+    let number = answer(alloc, terminal, viewer, number, matches!(index, 1 | 4 | 7))?;
+    if index == 4 {
+        resize(alloc, terminal)?;
+        resize(alloc, viewer)?;
+    }
+    terminal.forget_before(number);
+    Ok(number)
+}
+
+// The long script.
+fn long(alloc: Global) -> Outcome {
+    let mut terminal = Terminal::new(alloc, 10, 3, ProgramWidth)?;
+    let mut viewer = Terminal::new(alloc, 10, 3, ProgramWidth)?;
+    let mut number = 0;
+    for index in 0..PIECES {
+        number = step(alloc, &mut terminal, &mut viewer, number, index)?;
+    }
+    Ok(true)
+}
+
+/// Checks whole scripts.
+pub fn check<W: Write>(alloc: Global, tally: &mut Tally<W>) {
+    tally.take("the short script", short(alloc));
+    tally.take("the long script", long(alloc));
+}

@@ -1,0 +1,216 @@
+//! Surfaces: a changing call that is refused memory leaves one that has failed, any other an unchanged one.
+use crate::cells::LONG;
+use crate::changes::{CHANGES, all_changes, change_of, text_of};
+use crate::lines::line_of;
+use crate::outcome::{Outcome, Stop, refused};
+use crate::tally::Tally;
+use cell_line::Line;
+use cell_surface::{Change, ProgramWidth, SequenceNo, Surface, SurfaceError};
+use std::alloc::Global;
+use std::io::Write;
+
+type Plain = Surface<ProgramWidth>;
+
+const ROWS: &str = "abcd\nef  \n    \n";
+
+// A surface of 4x3 behind a text.
+fn surface_of(alloc: Global, text: &str) -> Result<Plain, Stop> {
+    let mut surface = Surface::new(alloc, 4, 3, ProgramWidth)?;
+    surface.add_change(text_of(alloc, text)?)?;
+    Ok(surface)
+}
+
+// Whether the rows have this text.
+fn shows(surface: &Plain, rows: &str) -> Outcome {
+    Ok(surface.screen_chars_to_string()?.as_str() == rows)
+}
+
+// Whether a surface is the one of the text `abcdef`.
+fn is_unchanged(surface: &Plain) -> Outcome {
+    Ok(
+        !surface.is_failed()
+            && surface.current_seqno() == 1
+            && surface.cursor_position() == (2, 1)
+            && shows(surface, ROWS)?,
+    )
+}
+
+// Whether an answer is that the surface has failed.
+fn is_failed<T: Drop>(answer: Result<T, SurfaceError>) -> bool {
+    matches!(answer, Err(SurfaceError::Failed))
+}
+
+// Whether each changing call of a surface, and `get_changes`, answers that it has failed, and dropping changes does nothing.
+fn has_failed(alloc: Global, surface: &mut Plain, other: &Plain) -> Outcome {
+    let title = Change::Title(String::new(alloc));
+    let added = surface.is_failed()
+        && is_failed(surface.add_change(title))
+        && is_failed(surface.add_changes(Vec::new(alloc)))
+        && is_failed(surface.resize(2, 2));
+    let drawn = is_failed(surface.draw_from_screen(other, 0, 0))
+        && is_failed(surface.copy_region(0, 0, 2, 2, 1, 1));
+    let number = surface.current_seqno();
+    surface.flush_changes_older_than(number);
+    Ok(added && drawn && is_failed(surface.get_changes(0)) && surface.current_seqno() == number)
+}
+
+// What stands behind a changing call that was refused.
+fn ended(alloc: Global, error: SurfaceError, mut surface: Plain) -> Outcome {
+    let other = Surface::new(alloc, 4, 3, ProgramWidth)?;
+    let stands = has_failed(alloc, &mut surface, &other)?;
+    refused(Stop::from(error), stands)
+}
+
+// A new surface, and what is asked of it without memory.
+fn new_surfaces(alloc: Global) -> Outcome {
+    let mut surface = Surface::new(alloc, 4, 3, ProgramWidth)?;
+    surface.flush_changes_older_than(0);
+    Ok(
+        surface.dimensions() == (4, 3)
+            && surface.title() == ""
+            && surface.cursor_shape().is_none()
+            && !surface.has_changes(0)
+            && surface.screen_lines().len() == 3
+            && shows(&surface, "    \n    \n    \n")?,
+    )
+}
+
+// A change of each kind.
+fn changes(alloc: Global) -> Outcome {
+    for kind in 0..CHANGES {
+        let mut surface = surface_of(alloc, "abcdef")?;
+        let change = change_of(alloc, kind)?;
+        match surface.add_change(change) {
+            Ok(1) if surface.current_seqno() == 2 => {}
+            Ok(_) => return Ok(false),
+            Err(error) => return ended(alloc, error, surface),
+        }
+    }
+    Ok(true)
+}
+
+// A list of changes of each kind.
+fn lists(alloc: Global) -> Outcome {
+    let mut surface = surface_of(alloc, "abcdef")?;
+    match surface.add_changes(all_changes(alloc)?) {
+        Ok(number) => Ok(number == CHANGES && surface.current_seqno() == 1 + CHANGES),
+        Err(error) => ended(alloc, error, surface),
+    }
+}
+
+// Long texts, which scroll, in the memory of those that are gone.
+fn long_texts(alloc: Global) -> Outcome {
+    let mut surface = Surface::new(alloc, 4, 3, ProgramWidth)?;
+    for _ in 0..20 {
+        let mut text = surface.spare_text();
+        text.push_str("a")?;
+        text.push_str(LONG)?;
+        text.push_str("b\r\n")?;
+        match surface.add_change(text) {
+            Ok(_) => {}
+            Err(error) => return ended(alloc, error, surface),
+        }
+    }
+    Ok(surface.cursor_position() == (0, 2) && surface.current_seqno() == 20)
+}
+
+// Another size.
+fn resized(alloc: Global) -> Outcome {
+    let mut surface = surface_of(alloc, "abcdef")?;
+    match surface.resize(6, 4) {
+        Ok(()) => shows(&surface, "abcd  \nef    \n      \n      \n"),
+        Err(error) => ended(alloc, error, surface),
+    }
+}
+
+// What another surface shows, and a region, that are drawn.
+fn drawn(alloc: Global) -> Outcome {
+    let other = surface_of(alloc, "\u{304b}x")?;
+    let mut surface = surface_of(alloc, "abcdef")?;
+    match surface.draw_from_screen(&other, 1, 1) {
+        Ok(_) => shows(&surface, "abcd\ne\u{304b}x\n    \n"),
+        Err(error) => ended(alloc, error, surface),
+    }
+}
+
+// A region that is copied.
+fn copied(alloc: Global) -> Outcome {
+    let mut surface = surface_of(alloc, "abcdef")?;
+    match surface.copy_region(0, 0, 2, 2, 2, 1) {
+        Ok(_) => shows(&surface, "abcd\nefab\n  ef\n"),
+        Err(error) => ended(alloc, error, surface),
+    }
+}
+
+// Changes from a number on, and those that paint the screen anew.
+fn due(surface: &Plain, number: SequenceNo, count: usize) -> Outcome {
+    match surface.get_changes(number) {
+        Ok((now, changes)) => Ok(now == 1 && changes.len() == count),
+        Err(error) => refused(Stop::from(error), is_unchanged(surface)?),
+    }
+}
+
+// Changes that are asked for.
+fn changes_due(alloc: Global) -> Outcome {
+    let surface = surface_of(alloc, "abcdef")?;
+    Ok(due(&surface, 1, 0)? && due(&surface, 0, 7)?)
+}
+
+// A difference, or what stands behind one that was refused.
+fn is_difference(
+    surface: &Plain,
+    answer: Result<Vec<Change>, SurfaceError>,
+    count: usize,
+) -> Outcome {
+    match answer {
+        Ok(changes) => Ok(changes.len() == count && is_unchanged(surface)?),
+        Err(error) => refused(Stop::from(error), is_unchanged(surface)?),
+    }
+}
+
+// Differences of surfaces and of regions.
+fn differences(alloc: Global) -> Outcome {
+    let surface = surface_of(alloc, "abcdef")?;
+    let other = surface_of(alloc, "abxdef\u{304b}")?;
+    let screens = surface.diff_screens(&other);
+    let region = surface.diff_region(1, 0, 3, 2, &other, 1, 0);
+    Ok(is_difference(&surface, screens, 5)? && is_difference(&surface, region, 5)?)
+}
+
+// Differences against lines.
+fn differences_of_lines(alloc: Global) -> Outcome {
+    let surface = surface_of(alloc, "abcdef")?;
+    let line: Line = line_of(alloc, "axcx", 0)?;
+    let mut lines = Vec::new(alloc);
+    lines.push(&line)?;
+    let numbered = surface.diff_against_numbered_line(0, &line);
+    let listed = surface.diff_lines(lines);
+    Ok(is_difference(&surface, numbered, 5)? && is_difference(&surface, listed, 5)?)
+}
+
+// Rows and cells that are copied out, and a copy of the surface.
+fn readings(alloc: Global) -> Outcome {
+    let surface = surface_of(alloc, "abcdef")?;
+    let Ok(cells) = surface.screen_cells() else {
+        return refused(Stop::Memory, is_unchanged(&surface)?);
+    };
+    let Ok(copy) = surface.try_clone() else {
+        return refused(Stop::Memory, is_unchanged(&surface)?);
+    };
+    Ok(cells.len() == 3 && is_unchanged(&surface)? && is_unchanged(&copy)?)
+}
+
+/// Checks surfaces.
+pub fn check<W: Write>(alloc: Global, tally: &mut Tally<W>) {
+    tally.take("new surfaces", new_surfaces(alloc));
+    tally.take("changes of a surface", changes(alloc));
+    tally.take("lists of changes of a surface", lists(alloc));
+    tally.take("long texts of a surface", long_texts(alloc));
+    tally.take("other sizes of a surface", resized(alloc));
+    tally.take("surfaces that are drawn", drawn(alloc));
+    tally.take("regions that are copied", copied(alloc));
+    tally.take("changes that are due", changes_due(alloc));
+    tally.take("differences of surfaces", differences(alloc));
+    tally.take("differences against lines", differences_of_lines(alloc));
+    tally.take("cells and copies of a surface", readings(alloc));
+}
