@@ -15,6 +15,8 @@ mod colors;
 #[cfg(test)]
 mod commands;
 #[cfg(test)]
+mod debugs;
+#[cfg(test)]
 mod fronts;
 #[cfg(test)]
 mod lines;

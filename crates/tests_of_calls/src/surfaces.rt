@@ -1,7 +1,7 @@
 //! Surfaces and sequences of changes: what is asked of them, copies, and lists that are added.
 use cell_surface::{
     Change, ChangeSequence, ColorAttribute, CursorShape, LineAttribute, Position, ProgramWidth,
-    Surface, SurfaceError,
+    Surface,
 };
 use std::process::Abort;
 
@@ -108,12 +108,4 @@ fn lists_of_changes_are_added_to_a_sequence(rt: HostRuntime) {
     assert_eq!(rt; sequence.current_cursor_position(), (3, 2));
     assert_eq!(rt; sequence.render_height(), 2);
     assert_eq!(rt; sequence.consume().len(), 2);
-}
-
-#[test]
-fn refusals_of_surfaces(rt: HostRuntime) {
-    let refusal = SurfaceError::Number;
-    assert_eq!(rt; refusal, SurfaceError::Number);
-    let text = format!(in rt.alloc(); "{refusal}").expect(&rt, "memory");
-    assert_eq!(rt; text.as_str(), "the numbers are used up");
 }

@@ -1,12 +1,13 @@
 //! Texts of errors, and links that are made and not read.
 use cell_base::{Hyperlink, LinkError};
+use cell_surface::SurfaceError;
 use csi_codec::CrackError;
 use escape_stream::ParseError;
 use std::alloc::AllocError;
 use std::collections::BTreeMap;
 use std::fmt::Display;
 use std::process::Abort;
-use terminal::{RenderError, RunError};
+use terminal::{RenderError, RunError, TerminalError};
 
 // A value prints as that text.
 fn assert_prints<R: Abort + AllocGlobal, T: Display>(rt: &R, value: &T, want: &str) {
@@ -30,10 +31,29 @@ fn texts_of_errors(rt: HostRuntime) {
     assert_prints(&rt, &LinkError::Memory, "out of memory");
     assert_prints(&rt, &CrackError::NotASpelling, "not a spelling");
     assert_prints(&rt, &CrackError::Memory, "out of memory");
+    assert_prints(&rt, &ParseError::Failed, "the parser has failed");
     assert_prints(&rt, &ParseError::Memory, "out of memory");
-    assert_prints(&rt, &RenderError::Memory, "out of memory");
+}
+
+#[test]
+fn texts_of_refused_changes(rt: HostRuntime) {
+    assert_prints(&rt, &SurfaceError::Failed, "the surface has failed");
+    assert_prints(&rt, &SurfaceError::Number, "the numbers are used up");
+    assert_prints(&rt, &SurfaceError::Memory, "out of memory");
     assert_prints(&rt, &RenderError::NoSpelling, "the change has no spelling");
+    assert_prints(&rt, &RenderError::Memory, "out of memory");
+}
+
+#[test]
+fn texts_of_refused_calls_of_terminals(rt: HostRuntime) {
+    assert_prints(&rt, &TerminalError::Failed, "the terminal has failed");
+    assert_prints(&rt, &TerminalError::Number, "the numbers are used up");
+    assert_prints(&rt, &TerminalError::Memory, "out of memory");
     assert_prints(&rt, &RunError::Read, "cannot read");
+    assert_prints(&rt, &RunError::Write, "cannot write");
+    let refused = RunError::Terminal(TerminalError::Failed);
+    assert_prints(&rt, &refused, "the terminal has failed");
+    assert_prints(&rt, &RunError::TooLong, "the input is too long");
 }
 
 #[test]
