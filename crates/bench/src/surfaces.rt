@@ -12,6 +12,15 @@ fn surface_of(alloc: Global, width: usize, height: usize) -> Option<Plain> {
     Surface::new(alloc, width, height, ProgramWidth).ok()
 }
 
+// The parts of a text, each with the separator that ends it.
+fn split_inclusive<'a>(alloc: Global, input: &'a [u8], separator: &str) -> Option<Vec<&'a str>> {
+    let mut parts = Vec::new(alloc);
+    for part in str::from_utf8(input).ok()?.split_inclusive(separator) {
+        parts.push(part).ok()?;
+    }
+    Some(parts)
+}
+
 // The parts of a text between separators.
 fn split<'a>(alloc: Global, input: &'a [u8], separator: &str) -> Option<Vec<&'a str>> {
     let mut parts = Vec::new(alloc);
@@ -21,25 +30,24 @@ fn split<'a>(alloc: Global, input: &'a [u8], separator: &str) -> Option<Vec<&'a 
     Some(parts)
 }
 
-// A text joins the surface, with another behind it.
-fn add_text(surface: &mut Plain, text: &str, behind: &str) -> Option<()> {
-    let mut whole = surface.spare_text();
-    whole.push_str(text).ok()?;
-    whole.push_str(behind).ok()?;
-    surface.add_change(whole).ok()?;
+// A text joins the surface.
+fn add_text(surface: &mut Plain, text: &str) -> Option<()> {
+    let mut own = surface.spare_text();
+    own.push_str(text).ok()?;
+    surface.add_change(own).ok()?;
     Some(())
 }
 
 fn add_lines(surface: &mut Plain, lines: &[&str]) -> Option<()> {
     for line in lines {
-        add_text(surface, line, "\r\n")?;
+        add_text(surface, line)?;
     }
     Some(())
 }
 
-/// Adds each line of the input, with CR LF behind it, to a surface of 80 columns and 24 rows, so often.
+/// Adds each line of the input, with the CR LF that ends it, to a surface of 80 columns and 24 rows, so often.
 pub fn lines(alloc: Global, input: &[u8], count: u32) -> Option<u64> {
-    let lines = split(alloc, input, "\r\n")?;
+    let lines = split_inclusive(alloc, input, "\n")?;
     let mut surface = surface_of(alloc, 80, 24)?;
     for _ in 0..count {
         add_lines(&mut surface, &lines)?;
@@ -50,7 +58,7 @@ pub fn lines(alloc: Global, input: &[u8], count: u32) -> Option<u64> {
 fn add_words(surface: &mut Plain, words: &[&str]) -> Option<()> {
     let mut color = 0u8;
     for word in words {
-        add_text(surface, word, " ")?;
+        add_text(surface, word)?;
         color = color.wrapping_add(1);
         let change = AttributeChange::Foreground(ColorAttribute::PaletteIndex(color));
         surface.add_change(change).ok()?;
@@ -58,9 +66,10 @@ fn add_words(surface: &mut Plain, words: &[&str]) -> Option<()> {
     Some(())
 }
 
-/// Adds each word of the input, and behind it an attribute, to a surface of 80 columns and 24 rows, so often.
+/// Adds each word of the input with the space that ends it, and behind it an attribute, to a surface of 80 columns and 24 rows,
+/// so often.
 pub fn words(alloc: Global, input: &[u8], count: u32) -> Option<u64> {
-    let words = split(alloc, input, " ")?;
+    let words = split_inclusive(alloc, input, " ")?;
     let mut surface = surface_of(alloc, 80, 24)?;
     for _ in 0..count {
         add_words(&mut surface, &words)?;
@@ -72,16 +81,17 @@ fn add_and_take(surface: &mut Plain, lines: &[&str]) -> Option<u64> {
     let mut sum = 0u64;
     for line in lines {
         let number = surface.current_seqno();
-        add_text(surface, line, "\r")?;
+        add_text(surface, line)?;
         let (_, changes) = surface.get_changes(number).ok()?;
         sum = sum.wrapping_add(changes.len() as u64);
     }
     Some(sum)
 }
 
-/// Adds each line of the input to a surface of this size, without scrolling, and takes the changes behind each, so often.
+/// Adds each line of the input, which ends in CR LF, to a surface of this size without the LF, so that nothing scrolls, and takes
+/// the changes behind each, so often.
 pub fn due(alloc: Global, input: &[u8], width: usize, height: usize, count: u32) -> Option<u64> {
-    let lines = split(alloc, input, "\r\n")?;
+    let lines = split(alloc, input, "\n")?;
     let mut surface = surface_of(alloc, width, height)?;
     let mut sum = 0u64;
     for _ in 0..count {
@@ -97,7 +107,7 @@ pub fn large(alloc: Global, input: &[u8]) -> Option<u64> {
     let other = surface_of(alloc, 2000, 500)?;
     let text = str::from_utf8(input).ok()?;
     for _ in 0..500 {
-        add_text(&mut surface, text, "")?;
+        add_text(&mut surface, text)?;
     }
     let difference = other.diff_screens(&surface).ok()?;
     let (_, repaint) = surface.get_changes(0).ok()?;

@@ -9,7 +9,7 @@ use Rattle.cell_base.specs.declared.cell_text.LongText.TheVariants.{Absent, Shor
 abbrev pub long_bytes : List ℕ → LongText → List ℕ
 long_bytes few Absent = few
 long_bytes few (Short text) = take text.len text.bytes
-long_bytes few (Owned text) = string_bytes text
+long_bytes few (Owned text) = string_bytes text.text
 
 -- those that lie in the value itself
 abbrev pub few_bytes : CellText → List ℕ

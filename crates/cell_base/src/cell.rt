@@ -156,6 +156,32 @@ impl Cell {
         shed(&mut self.text, &mut self.attributes);
     }
 
+    /// The same as `set_ascii_without_link`, where this cell has a text of at most four bytes and no link. So it holds nothing
+    /// that would have to be dropped, and isn't looked at.
+    #[inline(always)]
+    pub fn set_ascii_over_bare(&mut self, character: u8, attrs: &CellAttributes)
+        requires printable { is_printable character ≡ true }
+        requires unlinked { attrs.now.hyperlink ≡ None }
+        requires few { length self.old.text ≤ 4 }
+        requires bare { self.old.attributes.hyperlink ≡ None }
+        ensures { self.new ≡ cell_of (character ∷ []) 1 attrs.now }
+    {
+        self.attributes.copy_look(attrs);
+        self.text.become_ascii(character);
+    }
+
+    /// The same for a space.
+    #[inline(always)]
+    pub fn set_blank_over_bare(&mut self, attrs: &CellAttributes)
+        requires unlinked { attrs.now.hyperlink ≡ None }
+        requires few { length self.old.text ≤ 4 }
+        requires bare { self.old.attributes.hyperlink ≡ None }
+        ensures { self.new ≡ blank_cell attrs.now }
+    {
+        self.attributes.copy_look(attrs);
+        self.text.become_space();
+    }
+
     /// Becomes the cell of a cluster of `width` columns, of which none count as one; a refused one
     /// stays as it was.
     #[inline(always)]

@@ -6,6 +6,7 @@ ghost use Rattle.cell_base.specs.CellText.{columns_of, few_bytes, long_bytes, te
 ghost use Rattle.cell_base.specs.declared.cell_text.LongText.TheVariants.{Absent};
 
 use crate::few_text::FewText;
+use crate::owned_text::OwnedText;
 use crate::short_text::ShortText;
 use std::alloc::{AllocError, Global};
 
@@ -14,7 +15,7 @@ use std::alloc::{AllocError, Global};
 pub(crate) enum LongText {
     Absent,
     Short(ShortText),
-    Owned(String),
+    Owned(OwnedText),
 }
 
 // A text, and whether it takes two columns. One of a few bytes lies in the value itself, and is written there by moves alone;
@@ -85,6 +86,27 @@ impl CellText {
     {
         self.wide = false;
         self.few = self.few.with_space();
+    }
+
+    // The text becomes one ASCII character of one column, where it has at most four bytes and so isn't a longer one.
+    #[inline(always)]
+    pub(crate) fn become_ascii(&mut self, byte: u8)
+        requires ascii { byte < 128 }
+        requires few { length (text_bytes self.old) ≤ 4 }
+        ensures text { text_bytes self.new ≡ byte ∷ [] }
+        ensures columns { columns_of self.new ≡ 1 }
+    {
+        self.set_ascii(byte);
+    }
+
+    // The same for a space.
+    #[inline(always)]
+    pub(crate) fn become_space(&mut self)
+        requires { length (text_bytes self.old) ≤ 4 }
+        ensures text { text_bytes self.new ≡ 32 ∷ [] }
+        ensures columns { columns_of self.new ≡ 1 }
+    {
+        self.set_space();
     }
 
     // The same for the first bytes of a text, of which there are at most four.
@@ -172,11 +194,12 @@ impl LongText {
     // The text, of more than four bytes.
     #[inline(always)]
     fn new(alloc: Global, text: &str) -> Result<LongText, AllocError>
+        requires { 4 < length text.now }
         ensures { IfOk result (λ long. (few : List ℕ) → long_bytes few long ≡ text.now) }
     {
         match ShortText::new(text) {
             Some(short) => Ok(LongText::Short(short)),
-            None => Ok(LongText::Owned(String::from_str(alloc, text)?)),
+            None => Ok(LongText::Owned(OwnedText::new(alloc, text)?)),
         }
     }
 
@@ -186,7 +209,7 @@ impl LongText {
         match self {
             LongText::Absent => Ok(LongText::Absent),
             LongText::Short(text) => Ok(LongText::Short(*text)),
-            LongText::Owned(text) => Ok(LongText::Owned(text.clone()?)),
+            LongText::Owned(text) => Ok(LongText::Owned(text.try_clone()?)),
         }
     }
 }

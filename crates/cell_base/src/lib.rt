@@ -16,6 +16,7 @@ mod hyperlink;
 pub mod laws;
 mod link_error;
 mod link_reading;
+mod owned_text;
 mod ranges;
 mod short_text;
 mod widths;

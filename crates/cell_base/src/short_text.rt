@@ -1,5 +1,5 @@
 //! Short texts.
-ghost use Rattle.std.specs.Prelude.{◌≡◌, ◌≤◌, take, length, IfSome, MatchOption};
+ghost use Rattle.std.specs.Prelude.{◌≡◌, ◌<◌, ◌≤◌, take, length, IfSome, MatchOption};
 ghost use Rattle.std.specs.Str.{IsUtf8};
 
 use std::str;
@@ -15,19 +15,21 @@ fn padded(bytes: &[u8]) -> [u8; 22]
     all
 }
 
-// A text of at most 22 bytes, which lie in the value itself.
+// A text of 5 to 22 bytes, which lie in the value itself.
 #[derive(Debug, Clone, Copy)]
 pub(crate) struct ShortText {
     pub(crate) bytes: [u8; 22],
     pub(crate) len: u8,
+    ghost longer: { 4 < length (take len bytes) },
     ghost fits: { len ≤ 22 },
     ghost text: { ∥ IsUtf8 (take len bytes) ∥₁ },
 }
 
 impl ShortText {
-    // The text, if it is short.
+    // The text of more than four bytes, if it is short.
     #[inline(always)]
     pub(crate) fn new(text: &str) -> Option<ShortText>
+        requires { 4 < length text.now }
         ensures { IfSome result (λ short. take short.len short.bytes ≡ text.now) }
     {
         if text.len() > 22 {

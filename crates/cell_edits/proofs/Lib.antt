@@ -1,3 +1,4 @@
+pub mod BareLemmas
 pub mod CellLemmas
 pub mod CutLemmas
 pub mod EndLemmas
@@ -6,3 +7,4 @@ pub mod LoneLemmas
 pub mod RowLaws
 pub mod RunLemmas
 pub mod SettleLemmas
+pub mod VecLemmas

@@ -114,7 +114,7 @@ blanks_set cells opened now start end a o w p q e =
     ∙ between (take start opened) (drop end opened) (replicate (end - start) (blank_cell a)) _ _ (replicate (end - start) (blank a)) w p q (blanks_row (end - start) a)
     ∙ ap (λ n. cut start (row_of_cells cells) ++ replicate (end - start) (blank a) ++ cut_front n (row_of_cells cells)) last
 
-plain_narrow : (byte : ℕ) (a : Attributes) → nat_le 2 (cell_of (byte ∷ []) 1 a).width ≡ false
+pub plain_narrow : (byte : ℕ) (a : Attributes) → nat_le 2 (cell_of (byte ∷ []) 1 a).width ≡ false
 plain_narrow byte a = by_test (is_control byte) (λ e. rw e refl) (λ e. rw e refl)
 
 plain_columns : (bytes : List ℕ) (a : Attributes) (cells : List CellContent) → row_of_cells (plain_cells bytes a ++ cells) ≡ flat_map cell_columns (plain_cells bytes a) ++ row_of_cells cells

@@ -1,3 +1,4 @@
+pub mod Bare
 pub mod CellList
 pub mod Links
 pub mod LoneText

@@ -2,6 +2,7 @@
 //! set as far as they fit, texts as cells.
 #![tactic(auto)]
 
+pub mod bare;
 pub mod row;
 pub mod runs;
 pub mod text;

@@ -6,6 +6,7 @@ pub mod laws;
 mod lent_cells;
 mod line;
 mod line_bits;
+mod line_runs;
 mod taken_cells;
 mod wrap;
 

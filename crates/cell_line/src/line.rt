@@ -12,7 +12,7 @@ ghost use Rattle.cell_base.specs.SameCell.{same_cell};
 ghost use Rattle.std.specs.Borrow.{sem};
 ghost use Rattle.cell_change.specs.ValueOf.{value_of};
 ghost use Rattle.cell_line.specs.LineContent.{changed, IsRefused};
-ghost use Rattle.cell_line.specs.LineCalls.{with_width_and_cell, with_width, from_cells, new, from_text, from_text_with_wrapped_last_col, try_from_text, resize, resize_and_clear, wrap, changed_since, update_last_change_seqno, set_single_width, set_double_width, set_double_height_top, set_double_height_bottom, is_single_width, is_double_width, is_double_height_top, is_double_height_bottom, semantic_zone_ranges, invalidate_implicit_hyperlinks, split_off_kept, split_off, append_line, compute_double_click_range, columns_as_str, columns_as_line, set_cell, set_cell_clearing_image_placements, set_cell_grapheme, set_blanks, set_plain, set_text, set_clusters, set_text_end, overlay_text_with_attribute, insert_cell, remove_cell, erase_cell, erase_cell_with_margin, prune_trailing_blanks, fill_range, len, current_seqno, as_str, has_hyperlink, visible_cells, visible_cells_between, cluster, changes, get_cell, is_whitespace, compress_for_scrollback, last_cell_was_wrapped, set_last_cell_was_wrapped};
+ghost use Rattle.cell_line.specs.LineCalls.{with_width_and_cell, with_width, from_cells, new, from_text, from_text_with_wrapped_last_col, try_from_text, resize, resize_and_clear, wrap, changed_since, update_last_change_seqno, set_single_width, set_double_width, set_double_height_top, set_double_height_bottom, is_single_width, is_double_width, is_double_height_top, is_double_height_bottom, semantic_zone_ranges, invalidate_implicit_hyperlinks, split_off_kept, split_off, append_line, compute_double_click_range, columns_as_str, columns_as_line, set_cell, set_cell_clearing_image_placements, set_cell_grapheme, overlay_text_with_attribute, insert_cell, remove_cell, erase_cell, erase_cell_with_margin, prune_trailing_blanks, fill_range, len, current_seqno, as_str, has_hyperlink, visible_cells, visible_cells_between, cluster, changes, get_cell, is_whitespace, compress_for_scrollback, last_cell_was_wrapped, set_last_cell_was_wrapped};
 ghost use Rattle.cell_edits.specs.RowEdits.{filled};
 ghost use Rattle.cell_edits.specs.Links.{without_implicit, column_with};
 ghost use Rattle.cell_views.specs.Words.{Answers};
@@ -47,10 +47,10 @@ use std::ops::Range;
 /// said.
 #[derive(Debug, Drop)]
 pub struct Line {
-    alloc: Global,
+    pub(crate) alloc: Global,
     number: SequenceNo,
     bits: LineBits,
-    cells: Vec<Cell>,
+    pub(crate) cells: Vec<Cell>,
 }
 
 impl Model for Line {
@@ -289,71 +289,6 @@ impl Line {
     {
         let cluster = Cell::new_grapheme_with_width(self.alloc, text, width, attr)?;
         self.set_cell(idx, cluster, seqno)
-    }
-
-    /// Makes the columns of a range blanks with these attributes. A half of a wide cell that is left
-    /// alone on either side becomes a blank with that cell's attributes, also where the range is
-    /// empty. Number and bits stay.
-    pub fn set_blanks(
-        &mut self,
-        cols: Range<usize>,
-        attrs: &CellAttributes,
-    ) -> Result<(), AllocError>
-        requires order { cols.start ≤ cols.end }
-        requires within { cols.end ≤ length self.old.columns }
-        ensures done { OnOk result (self.new ≡ set_blanks self.old cols.start cols.end attrs.now) }
-        ensures refused { OnErr result (IsRefused self.old self.new) }
-    {
-        runs::set_blanks(&mut self.cells, cols.start, cols.end, attrs)?;
-        Ok(())
-    }
-
-    /// Sets a cell for each cluster of a text, as UAX 29 cuts it, side by side from the start of a
-    /// range on, up to the first that doesn't fit before its end. Answers the column behind them, and
-    /// the text that is left, whose clusters are those that weren't set. Number, bits and the count
-    /// of columns stay.
-    pub fn set_text<'a, W: Widths>(
-        &mut self,
-        cols: Range<usize>,
-        text: &'a str,
-        attrs: &CellAttributes,
-        w: &W,
-    ) -> Result<(usize, &'a str), AllocError>
-        requires order { cols.start ≤ cols.end }
-        requires within { cols.end ≤ length self.old.columns }
-        ensures done { OnOk result (self.new ≡ set_text self.old cols.start cols.end text.now attrs.now (W.width_of w.now)) }
-        ensures behind { IfOk result (λ r. r.0 ≡ set_text_end cols.start cols.end text.now attrs.now (W.width_of w.now)) }
-        ensures left { IfOk result (λ r. r.1.now ≡ text_behind (set_clusters cols.start cols.end text.now attrs.now (W.width_of w.now)) text.now) }
-        ensures rest { IfOk result (λ r. clusters r.1.now ≡ drop (set_clusters cols.start cols.end text.now attrs.now (W.width_of w.now)) (clusters text.now)) }
-        ensures refused { OnErr result (IsRefused self.old self.new) }
-    {
-        let (at, left) = runs::set_text(
-            self.alloc,
-            &mut self.cells,
-            cols.start,
-            cols.end,
-            text,
-            attrs,
-            w,
-        )?;
-        Ok((at, left))
-    }
-
-    /// Sets printable ASCII characters (20h to 7Eh) from a column on, each as a cell of one column.
-    #[inline(always)]
-    pub fn set_plain(
-        &mut self,
-        at: usize,
-        text: &str,
-        attrs: &CellAttributes,
-    ) -> Result<(), AllocError>
-        requires printable { list_all is_printable text.now ≡ true }
-        requires within { at + length text.now ≤ length self.old.columns }
-        ensures done { OnOk result (self.new ≡ set_plain self.old at text.now attrs.now) }
-        ensures refused { OnErr result (IsRefused self.old self.new) }
-    {
-        runs::set_plain(&mut self.cells, at, text, attrs)?;
-        Ok(())
     }
 
     /// Inserts a cell before column `x`, behind plain blanks where the line doesn't reach so far.

@@ -1,3 +1,4 @@
+pub mod BareLines
 pub mod FeedLemmas
 pub mod KnownLemmas
 pub mod LineLemmas
@@ -7,5 +8,4 @@ pub mod PutLemmas
 pub mod RunLemmas
 pub mod ShowLemmas
 pub mod TextLemmas
-pub mod VecLemmas
 pub mod WrittenLemmas

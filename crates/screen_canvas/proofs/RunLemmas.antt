@@ -21,6 +21,7 @@ use Rattle.cell_edits.proofs.RowLaws.{overlaid_next}
 use Rattle.cell_edits.proofs.RunLemmas.{cells_front, each_length, fitting_cell, fitting_front, fitting_stops, plain_count, plain_length}
 use Rattle.cell_line.specs.LineCalls.{set_plain as plain_set}
 use Rattle.screen_canvas.specs.Canvas.{Canvas, IsDrawn, Shows, LeadsOn, clusters_done, stand, canvas_with, display_of, line_at, line_with}
+use Rattle.screen_canvas.proofs.BareLines.{cells_of_plain}
 use Rattle.screen_canvas.proofs.LineLemmas.{line_width, row_in}
 use Rattle.screen_canvas.proofs.PartLemmas.{front_leads}
 use Rattle.screen_canvas.proofs.PutLemmas.{put_here}
@@ -164,9 +165,7 @@ module _ {W : Type 0} (width_of : List ℕ → ℕ) where
   plain_on c new text h p narrow fits whole is =
       let gs = clusters text in
       let cells = plain_cells text c.pen in
-      let none : text_cells width_of [] c.pen ≡ [] = ap (λ xs. map (made width_of c.pen) (map read_cluster xs)) graphemes-nil in
-      let each_one : graphemes true text ≡ each text ++ graphemes true [] = whole_run text (printable_all text p) ∙ sym (append-nil (each text)) ∙ ap (λ (xs : List (List ℕ)). each text ++ xs) (sym graphemes-nil) in
-      let made_of : map (made width_of c.pen) gs ≡ cells ++ [] = cells_front width_of c.pen text text [] each_one p narrow ∙ ap (λ (xs : List CellContent). cells ++ xs) none in
+      let made_of : map (made width_of c.pen) gs ≡ cells ++ [] = cells_of_plain width_of text c.pen p narrow ∙ sym (append-nil cells) in
       let room : length text ≤ c.width - c.column = omega arith in
       let fit : fitting_here c gs ≡ cells = ap (fitting (c.width - c.column)) made_of ∙ fitting_front (c.width - c.column) text c.pen [] room ∙ append-nil cells in
       let count = plain_count text c.pen in

@@ -21,7 +21,7 @@ use crate::rows::{
     Rows, blank_lines, blank_rows, blank_rows_below, resize, scroll, scroll_down, scroll_up,
     set_blanks, set_cell, set_plain, set_size, set_text,
 };
-use crate::text::{is_plain, next_cluster, split_at_control, split_control};
+use crate::text::{next_cluster, split_at_control, split_control};
 use cell_base::{
     AttributeChange, CellAttributes, ColorAttribute, CursorShape, CursorVisibility, LineAttribute,
     Position, Widths,
@@ -30,6 +30,7 @@ use cell_change::Change;
 use cell_line::Line;
 use std::alloc::{AllocError, Global};
 use std::marker::Model;
+use text_clusters::are_printable;
 
 /// Lines with a cursor, a pen and a title. Columns and rows count from 0; at the column of the width
 /// a wrap is pending.
@@ -286,7 +287,7 @@ impl<W: Widths + Drop> Canvas<W> {
         if !self.widths.has_narrow_ascii() {
             return false;
         }
-        text.len() <= self.width - self.column && is_plain(text)
+        text.len() <= self.width - self.column && are_printable(text.as_bytes())
     }
 
     // Puts the characters of such a text, each of which is a cluster by itself.

@@ -2,6 +2,7 @@
 #![tactic(auto)]
 
 mod canvas;
+mod known;
 mod positions;
 mod rows;
 mod text;

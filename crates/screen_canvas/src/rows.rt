@@ -1,29 +1,30 @@
 //! Rows of lines that are cleared, written and moved.
-ghost use Rattle.std.specs.Prelude.{◌≡◌, true, ◌↔◌, ◌+◌, ◌-◌, ◌^◌, ◌<◌, ◌≤◌, ◌++◌, ◌∷◌, [], IsTrue, length, drop, take, map, max, slice_set, slice_index_or, replicate, IfOk, OnOk};
+ghost use Rattle.std.specs.Prelude.{◌≡◌, ℕ, true, None, ◌↔◌, ◌+◌, ◌-◌, ◌^◌, ◌<◌, ◌≤◌, ◌++◌, ◌∷◌, [], IsTrue, length, drop, take, map, max, slice_set, slice_index_or, replicate, IfOk, OnOk};
 ghost use Rattle.std.specs.List.{list_all};
 ghost use Rattle.text_clusters.specs.Plain.{is_printable};
 ghost use Rattle.cell_base.specs.Attributes.{blank_of, plain};
 ghost use Rattle.cell_base.specs.Cluster.{clusters};
 ghost use Rattle.cell_base.specs.Row.{plain_row, blank};
+ghost use Rattle.cell_edits.specs.Bare.{IsBareRow};
 ghost use Rattle.cell_line.specs.LineCalls.{set_blanks as blanks_set, set_plain as plain_set, set_text as text_set, set_cell_grapheme as grapheme_set, set_text_end, set_clusters};
 ghost use Rattle.cell_line.specs.LineContent.{line_of, with_bits};
 ghost use Rattle.screen_canvas.specs.Canvas.{line_at};
 ghost use Rattle.screen_canvas.specs.Rows.{blanked, cleared, rows_down, rows_up, widened};
 ghost use Rattle.screen_canvas.specs.Written.{IsWrittenTo};
 
+use crate::known::Known;
 use cell_base::{CellAttributes, ColorAttribute, LineAttribute, SEQ_ZERO, Widths};
 use cell_line::Line;
 use std::alloc::{AllocError, Global};
 use std::marker::Model;
+use text_clusters::are_printable;
 
-/// Lines, and how far each of them was written, so that what clears a line passes over the plain
-/// blanks at its end.
+/// Lines, and what is known of each of them: what clears a line passes over the plain blanks at its
+/// end, and what is written where nothing has to be dropped isn't looked at.
 #[derive(Drop)]
 pub(crate) struct Rows {
     lines: Vec<Line>,
-    // A line is plain blanks from this column on. None where that isn't known: while a line is being
-    // changed, and so behind a change that was refused memory.
-    written: Vec<Option<usize>>,
+    known: Vec<Known>,
 }
 
 impl Model for Rows {
@@ -35,7 +36,7 @@ impl Model for Rows {
 
     ghost view = { λ r. r.lines.items };
 
-    ghost invariant = { λ r. AreKnown r.lines.items r.written.items };
+    ghost invariant = { λ r. AreKnown r.lines.items r.known.items };
 }
 
 impl Rows {
@@ -58,10 +59,31 @@ impl Rows {
         requires { row < length self.now }
         ensures { IsWrittenTo result (line_at self.now row).columns }
     {
-        match self.written[row] {
-            Some(column) => column,
-            None => self.lines[row].len(),
+        let known = self.known[row];
+        if known.is_known {
+            known.written
+        } else {
+            self.lines[row].len()
         }
+    }
+
+    // Whether each column of a row is known to have a text of its own, of at most four bytes, and no link.
+    #[inline(always)]
+    fn is_bare(&self, row: usize) -> bool
+        requires { row < length self.now }
+        ensures { IsTrue result → IsBareRow (line_at self.now row).columns }
+    {
+        self.known[row].is_bare
+    }
+
+    // The same, where the last column doesn't stand before this one. A cell that is stored there may be a wide one with no room.
+    #[inline(always)]
+    fn is_bare_before(&self, row: usize, behind: usize) -> bool
+        requires { row < length self.now }
+        ensures bare { IsTrue result → IsBareRow (line_at self.now row).columns }
+        ensures within { IsTrue result → behind < length (line_at self.now row).columns }
+    {
+        self.is_bare(row) && behind < self.lines[row].len()
     }
 
     /// A copy.
@@ -72,9 +94,9 @@ impl Rows {
         for line in self.lines.as_slice() {
             lines.push(line.try_clone()?)?;
         }
-        let mut written = Vec::new(alloc);
-        written.extend_from_slice(self.written.as_slice())?;
-        Ok(Rows { lines, written })
+        let mut known = Vec::new(alloc);
+        known.extend_from_slice(self.known.as_slice())?;
+        Ok(Rows { lines, known })
     }
 }
 
@@ -83,12 +105,12 @@ pub(crate) fn blank_lines(alloc: Global, width: usize, count: usize) -> Result<R
     ensures { IfOk result (λ rows. rows ≡ replicate count (line_of 0 (plain_row width))) }
 {
     let mut lines = Vec::with_capacity(alloc, count)?;
-    let mut written = Vec::with_capacity(alloc, count)?;
+    let mut known = Vec::with_capacity(alloc, count)?;
     for _ in 0..count {
         lines.push(Line::with_width(alloc, width, SEQ_ZERO)?)?;
-        written.push(Some(0))?;
+        known.push(Known::written_to(0, true))?;
     }
-    Ok(Rows { lines, written })
+    Ok(Rows { lines, known })
 }
 
 // Whether blanks on a background are plain.
@@ -109,6 +131,32 @@ fn blank_columns(line: &mut Line, from: usize, behind: usize) -> Result<(), Allo
     Ok(())
 }
 
+// The same where nothing has to be dropped.
+#[inline(always)]
+fn blank_over_bare(line: &mut Line, from: usize, behind: usize)
+    requires order { from ≤ behind }
+    requires within { behind < length line.old.columns }
+    requires bare { IsBareRow line.old.columns }
+    ensures { line.new ≡ blanks_set line.old from behind plain }
+{
+    line.set_blanks_over_bare(from..behind, &CellAttributes::blank());
+}
+
+// The columns of a row between two become plain blanks, where nothing has to be dropped; behind them it is known to be so.
+#[inline(always)]
+fn blank_bare_columns(rows: &mut Rows, row: usize, from: usize, behind: usize)
+    requires row_in { row < length rows.old }
+    requires order { from ≤ behind }
+    requires within { behind < length (line_at rows.old row).columns }
+    requires bare { IsBareRow (line_at rows.old row).columns }
+    requires written { IsWrittenTo behind (line_at rows.old row).columns }
+    ensures len { length rows.new ≡ length rows.old }
+    ensures lines { rows.new ≡ slice_set rows.old row (blanks_set (line_at rows.old row) from (length (line_at rows.old row).columns) plain) }
+{
+    blank_over_bare(&mut rows.lines[row], from, behind);
+    rows.known[row] = Known::written_to(from, true);
+}
+
 // The columns of a row from one on become plain blanks: those that aren't known to be so.
 fn set_plain_blanks(rows: &mut Rows, row: usize, at: usize) -> Result<(), AllocError>
     requires row_in { row < length rows.old }
@@ -120,10 +168,24 @@ fn set_plain_blanks(rows: &mut Rows, row: usize, at: usize) -> Result<(), AllocE
     if written < at {
         return Ok(());
     }
-    rows.written[row] = None;
+    if rows.is_bare_before(row, written) {
+        blank_bare_columns(rows, row, at, written);
+        return Ok(());
+    }
+    let is_bare = rows.is_bare(row) | (at == 0);
+    rows.known[row] = Known::nothing();
     blank_columns(&mut rows.lines[row], at, written)?;
-    rows.written[row] = Some(at);
+    rows.known[row] = Known::written_to(at, is_bare);
     Ok(())
+}
+
+// Whether a row is bare, and stays so where these attributes come in: they have no link.
+#[inline(always)]
+fn and_unlinked(is_bare: bool, attrs: &CellAttributes) -> bool
+    ensures bare { IsTrue result → is_bare ≡ true }
+    ensures unlinked { IsTrue result → attrs.now.hyperlink ≡ None }
+{
+    is_bare && attrs.hyperlink().is_none()
 }
 
 // The columns of a row from one on become blanks with attributes, whatever these are.
@@ -138,11 +200,12 @@ fn set_other_blanks(
     ensures len { length rows.new ≡ length rows.old }
     ensures lines { OnOk result (rows.new ≡ slice_set rows.old row (blanks_set (line_at rows.old row) at (length (line_at rows.old row).columns) attrs.now)) }
 {
-    rows.written[row] = None;
+    let is_bare = and_unlinked(rows.is_bare(row), attrs);
+    rows.known[row] = Known::nothing();
     let line = &mut rows.lines[row];
     let width = line.len();
     line.set_blanks(at..width, attrs)?;
-    rows.written[row] = Some(width);
+    rows.known[row] = Known::written_to(width, is_bare);
     Ok(())
 }
 
@@ -163,10 +226,20 @@ pub(crate) fn scroll(rows: &mut Rows) -> Result<(), AllocError>
     ensures { OnOk result (rows.new ≡ drop 1 rows.old ++ record (line_at rows.old 0) { bits = LineAttribute.SingleWidthLine; columns = plain_row (length (line_at rows.old 0).columns) } ∷ []) }
 {
     rows.lines.rotate_left(1);
-    rows.written.rotate_left(1);
+    rows.known.rotate_left(1);
     let last = rows.lines.len() - 1;
     clear_line(rows, last)?;
     Ok(())
+}
+
+// Whether each cluster of a text takes one column and few bytes, and there is no link: of printable ASCII characters that is
+// known.
+fn stays_bare<W: Widths>(text: &str, attrs: &CellAttributes, w: &W) -> bool
+    ensures unlinked { IsTrue result → attrs.now.hyperlink ≡ None }
+    ensures printable { IsTrue result → list_all is_printable text.now ≡ true }
+    ensures narrow { IsTrue result → (byte : ℕ) → is_printable byte ≡ true → W.width_of w.now (byte ∷ []) ≡ 1 }
+{
+    attrs.hyperlink().is_none() && w.has_narrow_ascii() && are_printable(text.as_bytes())
 }
 
 // Sets the clusters of a text from a column of a row on, as far as they fit; answers the column
@@ -187,11 +260,12 @@ pub(crate) fn set_text<'a, W: Widths>(
     ensures rest { IfOk result (λ r. clusters r.1.now ≡ drop (set_clusters at (length (line_at rows.old row).columns) text.now attrs.now (W.width_of w.now)) (clusters text.now)) }
 {
     let written = rows.written_to(row);
-    rows.written[row] = None;
+    let is_bare = rows.is_bare(row) & stays_bare(text, attrs, w);
+    rows.known[row] = Known::nothing();
     let line = &mut rows.lines[row];
     let width = line.len();
     let (column, left) = line.set_text(at..width, text, attrs, w)?;
-    rows.written[row] = Some(written.max(column));
+    rows.known[row] = Known::written_to(written.max(column), is_bare);
     Ok((column, left))
 }
 
@@ -211,12 +285,63 @@ pub(crate) fn set_plain(
     ensures len { length rows.new ≡ length rows.old }
     ensures lines { OnOk result (rows.new ≡ slice_set rows.old row (plain_set (line_at rows.old row) at text.now attrs.now)) }
 {
+    if and_unlinked(rows.is_bare_before(row, at + text.len()), attrs) {
+        set_plain_over_bare(rows, row, at, text, attrs);
+        return Ok(());
+    }
+    set_plain_over_any(rows, row, at, text, attrs)?;
+    Ok(())
+}
+
+// The same where nothing has to be dropped.
+#[inline(always)]
+fn set_plain_over_bare(rows: &mut Rows, row: usize, at: usize, text: &str, attrs: &CellAttributes)
+    requires row_in { row < length rows.old }
+    requires printable { list_all is_printable text.now ≡ true }
+    requires within { at + length text.now < length (line_at rows.old row).columns }
+    requires small { at + length text.now < 2 ^ 64 }
+    requires unlinked { attrs.now.hyperlink ≡ None }
+    requires bare { IsBareRow (line_at rows.old row).columns }
+    ensures len { length rows.new ≡ length rows.old }
+    ensures lines { rows.new ≡ slice_set rows.old row (plain_set (line_at rows.old row) at text.now attrs.now) }
+{
     let written = rows.written_to(row);
-    rows.written[row] = None;
+    rows.lines[row].set_plain_over_bare(at, text, attrs);
+    rows.known[row] = Known::written_to(written.max(at + text.len()), true);
+}
+
+// The same whatever stands there.
+#[inline(never)]
+fn set_plain_over_any(
+    rows: &mut Rows,
+    row: usize,
+    at: usize,
+    text: &str,
+    attrs: &CellAttributes,
+) -> Result<(), AllocError>
+    requires row_in { row < length rows.old }
+    requires printable { list_all is_printable text.now ≡ true }
+    requires within { at + length text.now ≤ length (line_at rows.old row).columns }
+    requires small { at + length text.now < 2 ^ 64 }
+    ensures len { length rows.new ≡ length rows.old }
+    ensures lines { OnOk result (rows.new ≡ slice_set rows.old row (plain_set (line_at rows.old row) at text.now attrs.now)) }
+{
+    let written = rows.written_to(row);
+    let is_bare = and_unlinked(rows.is_bare(row), attrs);
+    rows.known[row] = Known::nothing();
     let line = &mut rows.lines[row];
     line.set_plain(at, text, attrs)?;
-    rows.written[row] = Some(written.max(at + text.len()));
+    rows.known[row] = Known::written_to(written.max(at + text.len()), is_bare);
     Ok(())
+}
+
+// Whether a cell takes one column, and has few bytes and no link.
+fn is_bare_cell(text: &str, width: usize, attrs: &CellAttributes) -> bool
+    ensures one { IsTrue result → width ≤ 1 }
+    ensures few { IsTrue result → length text.now ≤ 4 }
+    ensures unlinked { IsTrue result → attrs.now.hyperlink ≡ None }
+{
+    width <= 1 && text.len() <= 4 && attrs.hyperlink().is_none()
 }
 
 // Sets a cell at a column of a row.
@@ -236,9 +361,10 @@ pub(crate) fn set_cell(
     ensures lines { OnOk result (rows.new ≡ slice_set rows.old row (grapheme_set (line_at rows.old row) at text.now width attrs 0)) }
 {
     let written = rows.written_to(row);
-    rows.written[row] = None;
+    let is_bare = rows.is_bare(row) & is_bare_cell(text, width, &attrs);
+    rows.known[row] = Known::nothing();
     rows.lines[row].set_cell_grapheme(at, text, width, attrs, SEQ_ZERO)?;
-    rows.written[row] = Some(written.max(at + width));
+    rows.known[row] = Known::written_to(written.max(at + width), is_bare);
     Ok(())
 }
 
@@ -340,7 +466,7 @@ pub(crate) fn scroll_up(
     ensures { OnOk result (rows.new ≡ take first rows.old ++ rows_up count (take (behind - first) (drop first rows.old)) ++ drop behind rows.old) }
 {
     rotate_up(&mut rows.lines, first, behind, count);
-    rotate_up(&mut rows.written, first, behind, count);
+    rotate_up(&mut rows.known, first, behind, count);
     clear_rows(rows, behind - count, behind)?;
     Ok(())
 }
@@ -358,7 +484,7 @@ pub(crate) fn scroll_down(
     ensures { OnOk result (rows.new ≡ take first rows.old ++ rows_down count (take (behind - first) (drop first rows.old)) ++ drop behind rows.old) }
 {
     rotate_down(&mut rows.lines, first, behind, count);
-    rotate_down(&mut rows.written, first, behind, count);
+    rotate_down(&mut rows.known, first, behind, count);
     clear_rows(rows, first, first + count)?;
     Ok(())
 }
@@ -389,7 +515,7 @@ fn resize_row(rows: &mut Rows, row: usize, width: usize) -> Result<(), AllocErro
     ensures len { length rows.new ≡ length rows.old }
     ensures lines { OnOk result (rows.new ≡ slice_set rows.old row (widened width (line_at rows.old row))) }
 {
-    rows.written[row] = None;
+    rows.known[row] = Known::nothing();
     rows.lines[row].resize(width, SEQ_ZERO)?;
     Ok(())
 }
@@ -410,9 +536,9 @@ fn add_row(alloc: Global, rows: &mut Rows, width: usize) -> Result<(), AllocErro
 {
     let line = Line::with_width(alloc, width, SEQ_ZERO)?;
     // Room for what is known of the line comes first, so that both come or neither does.
-    rows.written.reserve(1)?;
+    rows.known.reserve(1)?;
     rows.lines.push(line)?;
-    rows.written.push(Some(0))?;
+    rows.known.push(Known::written_to(0, true))?;
     Ok(())
 }
 
@@ -437,7 +563,7 @@ pub(crate) fn resize(
     ensures { OnOk result (rows.new ≡ map (widened width) (take height rows.old) ++ replicate (height - length (map (widened width) (take height rows.old))) (line_of 0 (plain_row width))) }
 {
     rows.lines.truncate(height);
-    rows.written.truncate(height);
+    rows.known.truncate(height);
     resize_rows(rows, width)?;
     add_rows(alloc, rows, width, height)?;
     Ok(())

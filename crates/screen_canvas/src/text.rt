@@ -1,8 +1,7 @@
 //! Texts cut at their controls.
 ghost use Rattle.std.specs.Prelude.{◌≡◌, ◌≤◌, ◌↔◌, ◌∷◌, ◌++◌, [], true, drop, take, length, not, IfNone, IsNone, IsTrue, IsUtf8, IfSome};
-ghost use Rattle.std.specs.List.{list_all, prefix_len};
+ghost use Rattle.std.specs.List.{prefix_len};
 ghost use Rattle.text_clusters.specs.Lanes.{first_set as place_of};
-ghost use Rattle.text_clusters.specs.Plain.{is_printable};
 ghost use Rattle.cell_base.specs.CellContent.{is_control};
 ghost use Rattle.cell_base.specs.Cluster.{clusters};
 ghost use Rattle.screen_canvas.specs.Canvas.{stand};
@@ -11,7 +10,7 @@ ghost use Rattle.screen_effects.specs.Strokes.{Control, text_parts};
 ghost use Rattle.unicode_segmentation.specs.Grapheme.{graphemes};
 
 use std::simd::prelude::*;
-use text_clusters::{printable_len, split_first_cluster};
+use text_clusters::split_first_cluster;
 
 // Whether the byte is a C0 control or DEL.
 fn is_control(byte: u8) -> bool
@@ -107,14 +106,6 @@ pub fn split_control(text: &str) -> Option<(u8, &str)>
     let control = *text.as_bytes().first()?;
     let (_, behind) = text.split_at(1);
     Some((control, behind))
-}
-
-// Whether a text is printable ASCII characters alone.
-#[inline(always)]
-pub(crate) fn is_plain(text: &str) -> bool
-    ensures { IsTrue result → list_all is_printable text.now ≡ true }
-{
-    printable_len(text.as_bytes()) == text.len()
 }
 
 // Cuts off the first cluster of a text; of the empty text without a walk.

@@ -1,6 +1,7 @@
 -- Bytes that are counted sixteen bytes at a time.
 use Rattle.std.proofs.Common.{◌≡◌, ℕ, zero, suc, ◌+◌, ◌-◌, ◌%◌, ◌^◌, ◌<◌, ◌≤◌, Bool, true, false, not, List, [], ◌∷◌, map, take, drop, length, length-drop, get_or, replicate, Fits, w8, refl, sym, ap, ap₂, ◌∙◌, arith, inl, inr}
-use Rattle.std.specs.List.{prefix_len}
+use Rattle.std.specs.List.{list_all, prefix_len}
+use Rattle.std.specs.Prelude.{◌==◌}
 use Rattle.std.proofs.lemmas.List.{take_all}
 use Rattle.std.proofs.lemmas.Bool.{agree_below, agree_below_at, cases_eq, eq-eqb, ne_eqb, cond-true, cond-false}
 use Rattle.std.proofs.lemmas.Simd.{map-map, mask_l-mod, leading_from_mask_l, trailing_mask_l}
@@ -136,3 +137,20 @@ pub last_block : (p : ℕ → Bool) (n last : ℕ) (xs block : List ℕ) → n �
 last_block p n last xs block h l b k =
     let long : length block ≡ n = ap length b ∙ length-drop last xs ∙ omega (arith, h, l) in
     front_passes p last xs k ∙ ap (λ ys. last + prefix_len p ys) (sym b ∙ sym (take_all n block (omega (arith, long))))
+
+-- numbers are equal where those before them are
+equal_before : (n m : ℕ) → (1 + n == suc m) ≡ (n == m)
+equal_before n m =
+    elim (cases_eq n m) [
+      | inl same ↦ eq-eqb _ _ (omega (arith, same)) ∙ sym (eq-eqb _ _ same)
+      | inr other ↦ ne_eqb _ _ (λ same. other (omega (arith, same))) ∙ sym (ne_eqb _ _ other)
+    ]
+
+-- all pass where as many do as there are
+pub all_by_len : (p : ℕ → Bool) (xs : List ℕ) → (prefix_len p xs == length xs) ≡ list_all p xs
+all_by_len p [] = refl
+all_by_len p (x ∷ xs) = by_test (p x) refl (all_by_len p xs)
+  where
+    by_test : (t : Bool) → p x ≡ t → (prefix_len p xs == length xs) ≡ list_all p xs → (prefix_len p (x ∷ xs) == length (x ∷ xs)) ≡ list_all p (x ∷ xs)
+    by_test true e k = rw e (equal_before (prefix_len p xs) (length xs) ∙ k)
+    by_test false e k = rw e (ne_eqb _ _ (λ same. omega (arith, same)))

@@ -11,4 +11,4 @@ pub use apart::{begins_apart, first_apart, first_character, split_lone, stands_a
 pub use front::{
     begins_plainly, begins_printable, split_first_cluster, split_plain, split_printable,
 };
-pub use printable::printable_len;
+pub use printable::{are_printable, printable_len};

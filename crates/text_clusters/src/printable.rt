@@ -1,6 +1,6 @@
-//! Printable characters at the front of some bytes, sixteen bytes at a time, or eight of fewer.
+//! Printable characters at the front of some bytes, sixteen bytes at a time, or eight or four of fewer.
 ghost use Rattle.std.specs.Prelude.{◌≡◌, ◌≤◌, length, take, drop};
-ghost use Rattle.std.specs.List.{prefix_len};
+ghost use Rattle.std.specs.List.{list_all, prefix_len};
 ghost use Rattle.text_clusters.specs.Lanes.{first_set as place_of};
 ghost use Rattle.text_clusters.specs.Plain.{is_printable};
 
@@ -60,12 +60,40 @@ fn half_block_len(bytes: &[u8]) -> usize
     first_set(stops.to_bitmask(), 8)
 }
 
+// How many of the first four bytes are printable, up to one that isn't.
+#[inline(always)]
+fn quarter_block_len(bytes: &[u8]) -> usize
+    requires { 4 ≤ length bytes.now }
+    ensures { result ≡ prefix_len is_printable (take 4 bytes.now) }
+{
+    let from_space = u8x4::from_slice(bytes) - u8x4::splat(0x20);
+    let stops = from_space.simd_ge(u8x4::splat(0x5f));
+    first_set(stops.to_bitmask(), 4)
+}
+
 // How many printable characters stand at the front of a few bytes, one looked at after another.
 #[inline(always)]
 fn short_len(bytes: &[u8]) -> usize
     ensures { result ≡ prefix_len is_printable bytes.now }
 {
     bytes.iter().take_while(|byte| is_printable(**byte)).count()
+}
+
+// How many stand at the front of at most eight bytes: of four or more the first four are looked at, and then the last.
+#[inline(always)]
+fn fewer_len(bytes: &[u8]) -> usize
+    requires { length bytes.now ≤ 8 }
+    ensures { result ≡ prefix_len is_printable bytes.now }
+{
+    if bytes.len() < 4 {
+        return short_len(bytes);
+    }
+    let run = quarter_block_len(bytes);
+    if run < 4 {
+        return run;
+    }
+    let last = bytes.len() - 4;
+    last + quarter_block_len(behind(bytes, last))
 }
 
 // How many stand at the front of at most sixteen bytes: of eight or more the first eight are looked at, and then the last.
@@ -75,7 +103,7 @@ fn few_len(bytes: &[u8]) -> usize
     ensures { result ≡ prefix_len is_printable bytes.now }
 {
     if bytes.len() < 8 {
-        return short_len(bytes);
+        return fewer_len(bytes);
     }
     let run = half_block_len(bytes);
     if run < 8 {
@@ -103,4 +131,16 @@ pub fn printable_len(bytes: &[u8]) -> usize
     // (what is left, with as many before it as make a block)
     let last = bytes.len() - LANES;
     last + block_len(behind(bytes, last))
+}
+
+/// Whether all bytes are printable ASCII characters (20h to 7Eh).
+#[inline(always)]
+pub fn are_printable(bytes: &[u8]) -> bool
+    ensures { result ≡ list_all is_printable bytes.now }
+{
+    if bytes.len() < LANES {
+        few_len(bytes) == bytes.len()
+    } else {
+        printable_len(bytes) == bytes.len()
+    }
 }

@@ -5,7 +5,7 @@ use Rattle.screen_canvas.proofs.rows.clear_line.Goals as goal
 
 pub invariant_of-rows : goal.invariant_of-rows
 invariant_of-rows c =
-    known-kept c.args.row c.rows.inside.lines.items c.rows.inside.written.items c.set_single_width.new.self c.index_mut.result.now c.rows.invariant
+    known-kept c.args.row c.rows.inside.lines.items c.rows.inside.known.items c.set_single_width.new.self c.index_mut.result.now c.rows.invariant
     (ap (λ (l : LineContent). l.columns) (c.set_single_width.ensures) ∙ ap (λ (l : LineContent). l.columns) c.index_mut.ensures.value)
 
 pub returns-clause-lines : goal.returns-clause-lines

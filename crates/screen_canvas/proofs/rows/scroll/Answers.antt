@@ -1,5 +1,5 @@
 use Rattle.std.proofs.Common.{◌≡◌, ◌<◌, ◌-◌, ◌++◌, [], List, drop, take, ap, refl, length, ◌∙◌, arith}
-use Rattle.std.specs.Prelude.{Option, ℕ}
+use Rattle.std.specs.Prelude.{ℕ}
 use Rattle.cell_line.specs.LineContent.{LineContent, line_of}
 use Rattle.screen_canvas.specs.Rows.{cleared}
 use Rattle.screen_canvas.specs.Canvas.{line_at}
@@ -8,7 +8,7 @@ use Rattle.screen_canvas.proofs.LineLemmas.{scrolled_lines}
 use Rattle.screen_canvas.proofs.rows.scroll.Goals as goal
 
 pub invariant_of-rows : goal.invariant_of-rows
-invariant_of-rows c = known-same _ c.rotate_left.new.self.items _ c.rotate_left-2.new.self.items c.rotate_left.ensures.items c.rotate_left-2.ensures.items (known-rotated 1 c.rows.inside.lines.items c.rows.inside.written.items c.rows.invariant)
+invariant_of-rows c = known-same _ c.rotate_left.new.self.items _ c.rotate_left-2.new.self.items c.rotate_left.ensures.items c.rotate_left-2.ensures.items (known-rotated 1 c.rows.inside.lines.items c.rows.inside.known.items c.rows.invariant)
 
 pub returns : goal.returns
 returns c =

@@ -1,15 +1,15 @@
 use Rattle.std.proofs.Common.{◌≡◌, ◌≤◌, ◌-◌, ◌+◌, ◌++◌, List, length, take, drop, map, ap, ◌∙◌, arith}
-use Rattle.std.specs.Prelude.{Option, ℕ}
+use Rattle.std.specs.Prelude.{ℕ}
 use Rattle.cell_line.specs.LineContent.{LineContent}
 use Rattle.screen_canvas.specs.Rows.{cleared}
 use Rattle.screen_canvas.proofs.KnownLemmas.{known-length, known-moved, known-same}
 use Rattle.screen_canvas.proofs.MoveLemmas.{moved_up}
-use Rattle.screen_canvas.proofs.VecLemmas.{written}
+use Rattle.cell_edits.proofs.VecLemmas.{written}
 use Rattle.screen_canvas.proofs.rows.scroll_up.Goals as goal
 
 pub rotate_up-requires-2-clause-within : goal.rotate_up-requires-2-clause-within
 rotate_up-requires-2-clause-within c =
-    let n = known-length c.rows.inside.lines.items c.rows.inside.written.items c.rows.invariant in
+    let n = known-length c.rows.inside.lines.items c.rows.inside.known.items c.rows.invariant in
     let v = ap length c.rows.view_is in
     let e = ap length c.deref_mut-2.ensures.value in
     let r = c.requires.within in
@@ -24,8 +24,8 @@ invariant_of-rows c =
     let b = c.rotate_up-2.auto.items ∙ ap length c.deref_mut-2.ensures.value in
     known-same _ _ _ _
     (written c.rows.inside.lines c.rotate_up.new.items a ∙ c.rotate_up.ensures ∙ ap (moved c.args.first c.args.behind c.args.count) c.deref_mut.ensures.value)
-    (written c.rows.inside.written c.rotate_up-2.new.items b ∙ c.rotate_up-2.ensures ∙ ap (moved c.args.first c.args.behind c.args.count) c.deref_mut-2.ensures.value)
-    (known-moved c.args.first c.args.behind c.args.count c.rows.inside.lines.items c.rows.inside.written.items c.rows.invariant)
+    (written c.rows.inside.known c.rotate_up-2.new.items b ∙ c.rotate_up-2.ensures ∙ ap (moved c.args.first c.args.behind c.args.count) c.deref_mut-2.ensures.value)
+    (known-moved c.args.first c.args.behind c.args.count c.rows.inside.lines.items c.rows.inside.known.items c.rows.invariant)
 
 pub returns : goal.returns
 returns c =

@@ -1,12 +1,14 @@
 use Rattle.std.proofs.Common.{◌≡◌, ◌≤◌, [], set, length, ap, subst, sym, ◌∙◌, arith}
-use Rattle.std.specs.Prelude.{None, Some}
+use Rattle.std.specs.Prelude.{◌||◌, ◌==◌, true}
+use Rattle.cell_edits.specs.Bare.{IsBareRow}
+use Rattle.screen_canvas.proofs.BareLines.{plain_blanks_bare}
 use Rattle.std.proofs.lemmas.List.{set-get_or}
 use Rattle.cell_base.specs.Attributes.{plain}
 use Rattle.cell_line.specs.LineCalls.{set_blanks as blanks_set}
 use Rattle.cell_line.specs.LineContent.{LineContent, line_of}
 use Rattle.screen_canvas.specs.Canvas.{line_at}
 use Rattle.screen_canvas.specs.Written.{IsWrittenTo}
-use Rattle.screen_canvas.proofs.KnownLemmas.{known-set, known-reset, known_place, line_is, line_changed}
+use Rattle.screen_canvas.proofs.KnownLemmas.{known_nothing, known_written, known-set, known-reset, known_place, line_is, line_changed}
 use Rattle.screen_canvas.proofs.WrittenLemmas.{plain_already, plain_changed, plain_written}
 use Rattle.screen_canvas.proofs.rows.set_plain_blanks.Goals as goal
 
@@ -19,27 +21,31 @@ returns-then-written-at-clause-lines c =
 
 pub index_mut-requires : goal.index_mut-requires
 index_mut-requires c =
-    let k = c.rows.inside.written.ok.0 in
-    let n = known_place c.rows.inside.lines.items c.args.rows.now c.rows.inside.written.items c.args.row c.rows.invariant c.rows.view_is c.requires.row_in in
+    let k = c.rows.inside.known.ok.0 in
+    let n = known_place c.rows.inside.lines.items c.args.rows.now c.rows.inside.known.items c.args.row c.rows.invariant c.rows.view_is c.requires.row_in in
     omega arith
 
 pub invariant_of-rows : goal.invariant_of-rows
-invariant_of-rows c = known-set c.args.row c.rows.inside.lines.items c.rows.inside.written.items c.blank_columns.new.line None c.rows.invariant tt
+invariant_of-rows c = known-set c.args.row c.rows.inside.lines.items c.rows.inside.known.items c.blank_columns.new.line c.nothing.result c.rows.invariant (known_nothing c.nothing.result c.blank_columns.new.line.columns c.nothing.ensures)
 
 pub index_mut-requires-3 : goal.index_mut-requires-3
 index_mut-requires-3 c =
-    let k = c.rows.inside.written.ok.0 in
-    let n = known_place c.rows.inside.lines.items c.args.rows.now c.rows.inside.written.items c.args.row c.rows.invariant c.rows.view_is c.requires.row_in in
+    let k = c.rows.inside.known.ok.0 in
+    let n = known_place c.rows.inside.lines.items c.args.rows.now c.rows.inside.known.items c.args.row c.rows.invariant c.rows.view_is c.requires.row_in in
     omega arith
 
 pub invariant_of-rows-2 : goal.invariant_of-rows-2
 invariant_of-rows-2 c =
     let x = c.index_mut-2.result.now in
+    let new = c.blank_columns.new.line in
     let t = c.if-written-at.false in
     let there = line_is c.rows.inside.lines.items c.args.rows.now c.args.row x c.rows.view_is c.requires.row_in c.index_mut-2.ensures.value in
     let h : IsWrittenTo c.written_to-written.result x.columns = subst (λ (l : LineContent). IsWrittenTo c.written_to-written.result l.columns) (sym there) c.written_to-written.ensures in
-    known-reset c.args.row c.rows.inside.lines.items c.rows.inside.written.items c.blank_columns.new.line None (Some c.args.at) c.rows.invariant
-    (plain_written x c.blank_columns.new.line c.written_to-written.result c.args.at h c.in_ok-blank_columns.ensures (omega arith))
+    known-reset c.args.row c.rows.inside.lines.items c.rows.inside.known.items new c.nothing.result c.written_to.result c.rows.invariant
+    (known_written c.written_to.result new.columns c.args.at (c.is_bare.result || c.args.at == 0) c.written_to.ensures
+    (plain_written x new c.written_to-written.result c.args.at h c.in_ok-blank_columns.ensures (omega arith))
+    (plain_blanks_bare x new c.written_to-written.result c.args.at c.is_bare.result h (omega arith) c.in_ok-blank_columns.ensures (λ bare. subst (λ (l : LineContent). IsBareRow l.columns) (sym there) (c.is_bare.ensures bare))))
+
 
 pub returns-clause-lines : goal.returns-clause-lines
 returns-clause-lines c =

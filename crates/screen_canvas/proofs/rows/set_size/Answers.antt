@@ -5,7 +5,7 @@ use Rattle.screen_canvas.proofs.rows.set_size.Goals as goal
 
 pub invariant_of-rows : goal.invariant_of-rows
 invariant_of-rows c =
-    known-kept c.args.row c.rows.inside.lines.items c.rows.inside.written.items c.size_line.new.line c.index_mut.result.now c.rows.invariant
+    known-kept c.args.row c.rows.inside.lines.items c.rows.inside.known.items c.size_line.new.line c.index_mut.result.now c.rows.invariant
     (ap (λ (l : LineContent). l.columns) c.size_line.ensures ∙ ap (λ (l : LineContent). l.columns) c.index_mut.ensures.value)
 
 pub returns : goal.returns

@@ -2,26 +2,29 @@ use Rattle.std.proofs.Common.{◌≡◌, ◌≤◌, length, ap, subst, sym, ◌�
 use Rattle.cell_base.specs.Cluster.{clusters}
 use Rattle.cell_line.specs.LineCalls.{set_text as text_set, set_text_end, set_clusters}
 use Rattle.screen_canvas.proofs.WrittenLemmas.{text_written}
-use Rattle.std.specs.Prelude.{None, Some}
+use Rattle.std.specs.Prelude.{◌&&◌}
+use Rattle.std.proofs.lemmas.Bool.{and_parts}
+use Rattle.cell_edits.specs.Bare.{IsBareRow}
+use Rattle.screen_canvas.proofs.BareLines.{text_bare}
 use Rattle.cell_line.specs.LineContent.{LineContent}
 use Rattle.screen_canvas.specs.Canvas.{line_at}
 use Rattle.screen_canvas.specs.Written.{IsWrittenTo}
-use Rattle.screen_canvas.proofs.KnownLemmas.{known-set, known-reset, known_place, line_is, line_changed}
+use Rattle.screen_canvas.proofs.KnownLemmas.{known_nothing, known_written, known-set, known-reset, known_place, line_is, line_changed}
 use Rattle.screen_canvas.proofs.rows.set_text.Goals as goal
 
 pub index_mut-requires : goal.index_mut-requires
 index_mut-requires g c =
-    let k = c.rows.inside.written.ok.0 in
-    let n = known_place c.rows.inside.lines.items c.args.rows.now c.rows.inside.written.items c.args.row c.rows.invariant c.rows.view_is c.requires.row_in in
+    let k = c.rows.inside.known.ok.0 in
+    let n = known_place c.rows.inside.lines.items c.args.rows.now c.rows.inside.known.items c.args.row c.rows.invariant c.rows.view_is c.requires.row_in in
     omega arith
 
 pub invariant_of-rows : goal.invariant_of-rows
-invariant_of-rows g c = known-set c.args.row c.rows.inside.lines.items c.rows.inside.written.items c.set_text.new.self None c.rows.invariant tt
+invariant_of-rows g c = known-set c.args.row c.rows.inside.lines.items c.rows.inside.known.items c.set_text.new.self c.nothing.result c.rows.invariant (known_nothing c.nothing.result c.set_text.new.self.columns c.nothing.ensures)
 
 pub index_mut-requires-2 : goal.index_mut-requires-2
 index_mut-requires-2 g c =
-    let k = c.rows.inside.written.ok.0 in
-    let n = known_place c.rows.inside.lines.items c.args.rows.now c.rows.inside.written.items c.args.row c.rows.invariant c.rows.view_is c.requires.row_in in
+    let k = c.rows.inside.known.ok.0 in
+    let n = known_place c.rows.inside.lines.items c.args.rows.now c.rows.inside.known.items c.args.row c.rows.invariant c.rows.view_is c.requires.row_in in
     omega arith
 
 pub invariant_of-rows-2 : goal.invariant_of-rows-2
@@ -32,8 +35,14 @@ invariant_of-rows-2 g c =
     let long = ap (λ (l : LineContent). length l.columns) there in
     let w = c.len-width.ensures in
     let r = c.requires.within in
-    known-reset c.args.row c.rows.inside.lines.items c.rows.inside.written.items c.set_text.new.self None (Some c.max.result) c.rows.invariant
-    (text_written x c.set_text.new.self c.written_to-written.result c.args.at c.len-width.result c.in_ok-column.column c.max.result c.args.text.now c.args.attrs.now (g.W.Widths.width_of c.args.w.now) h c.in_ok-column.ensures.done c.in_ok-column.ensures.behind c.max.ensures (omega arith) w)
+    let new = c.set_text.new.self in
+    let width_of = g.W.Widths.width_of c.args.w.now in
+    known-reset c.args.row c.rows.inside.lines.items c.rows.inside.known.items new c.nothing.result c.written_to.result c.rows.invariant
+    (known_written c.written_to.result new.columns c.max.result (c.is_bare.result && c.stays_bare.result) c.written_to.ensures
+    (text_written x new c.written_to-written.result c.args.at c.len-width.result c.in_ok-column.column c.max.result c.args.text.now c.args.attrs.now width_of h c.in_ok-column.ensures.done c.in_ok-column.ensures.behind c.max.ensures (omega arith) w)
+    (λ both. let parts = and_parts c.is_bare.result c.stays_bare.result both in
+    text_bare x new c.args.at c.len-width.result c.args.text.now c.args.attrs.now width_of (c.stays_bare.ensures.unlinked parts.1) (c.stays_bare.ensures.printable parts.1) (c.stays_bare.ensures.narrow parts.1)
+    (subst (λ (l : LineContent). IsBareRow l.columns) (sym there) (c.is_bare.ensures parts.0)) c.in_ok-column.ensures.done))
 
 pub returns-clause-lines : goal.returns-clause-lines
 returns-clause-lines g c =
