@@ -1,4 +1,4 @@
-use Rattle.std.proofs.Common.{◌≡◌, ◌≤◌, length, take, ap, sym, ◌∙◌, eqb-true, eq-eqb, arith}
+use Rattle.std.proofs.Common.{◌≤◌, length, take, ap, sym, ◌∙◌, eqb-true, eq-eqb, arith}
 use Rattle.std.proofs.lemmas.List.{length-take-le}
 use Rattle.change_log.specs.LogSteps.{Sized}
 use Rattle.change_log.proofs.StoredLemmas.{none_left, all_gone}
