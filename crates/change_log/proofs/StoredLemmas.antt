@@ -2,7 +2,9 @@
 use Rattle.std.proofs.Common.{◌≡◌, ℕ, ◌+◌, ◌-◌, ◌<◌, ◌≤◌, false, List, [], ◌∷◌, ◌++◌, length, drop, map, refl, take, sym, ap, ◌∙◌, arith, length-append, length-drop}
 use Rattle.std.specs.Prelude.{◌||◌, ◌==◌, nat_lt, max, Some, None, if◌then◌else◌}
 use Rattle.std.proofs.lemmas.Bool.Decides.{nat_tests}
-use Rattle.std.proofs.lemmas.List.{drop-drop, drop-append-le, drop-map, drop-take, map-append, length-map}
+use Rattle.std.proofs.lemmas.List.{append-nil, append_assoc, drop-drop, drop-append-le, drop-map, drop-take, drop_all, drop_at, length-take-le, map-append, length-map, take-append-drop, take_at}
+use Rattle.std.proofs.lemmas.Slice.{between_to_end}
+use borrow.Rule.Slice.PartMut.{mid_of, post_of, put_mid}
 use Rattle.cell_change.specs.ChangeValue.{ChangeValue}
 use Rattle.cell_change.specs.ValueOf.{value_of}
 use Rattle.cell_change.specs.declared.change.Change.{Change}
@@ -13,6 +15,40 @@ pub between : (changes : List Change) (start «end» : ℕ) → start ≤ «end�
 between changes start «end» h =
     let on : start + («end» - start) ≡ «end» = omega arith in
     sym (drop-take start («end» - start) changes) ∙ ap (λ n. drop start (take n changes)) on
+
+-- what is in front of a place, and what is behind it, where the front has two parts
+take_front : (a b c d : List Change) (n : ℕ) → length (a ++ b) ≡ n → take n (a ++ ((b ++ c) ++ d)) ≡ a ++ b
+take_front a b c d n e = ap (λ (rest : List Change). take n (a ++ rest)) (append_assoc b c d) ∙ ap (take n) (sym (append_assoc a b (c ++ d))) ∙ take_at (a ++ b) (c ++ d) n e
+
+drop_front : (a b c d : List Change) (n : ℕ) → length (a ++ b) ≡ n → drop n (a ++ ((b ++ c) ++ d)) ≡ c ++ d
+drop_front a b c d n e = ap (λ (rest : List Change). drop n (a ++ rest)) (append_assoc b c d) ∙ ap (drop n) (sym (append_assoc a b (c ++ d))) ∙ drop_at (a ++ b) (c ++ d) n e
+
+-- a block of changes behind the first ones changes place with as many others: what is done in front, and then what is left behind, are the whole
+pub swapped_block : (n at : ℕ) (front behind done left : List Change) → at + n ≤ length front → length front ≡ length behind
+    → done ≡ take n (mid_of at (length behind - at) behind) ++ drop n (mid_of at (length front - at) front)
+    → left ≡ take n (mid_of at (length front - at) front) ++ drop n (mid_of at (length behind - at) behind)
+    → take (at + n) (put_mid at (length front - at) front done) ++ drop (at + n) (put_mid at (length behind - at) behind left) ≡ take at front ++ drop at behind
+swapped_block n at front behind done left h e d l =
+    let fronts = mid_of at (length front - at) front in
+    let others = mid_of at (length behind - at) behind in
+    let all_fronts : fronts ≡ drop at front = between_to_end front at (length front) (omega arith) in
+    let all_others : others ≡ drop at behind = between_to_end behind at (length behind) (omega arith) in
+    let first = length-take-le at front (omega arith) in
+    let second = length-take-le at behind (omega arith) in
+    let fronts_len = ap length all_fronts ∙ length-drop at front in
+    let others_len = ap length all_others ∙ length-drop at behind in
+    let block = length-take-le n others (omega arith) in
+    let other_block = length-take-le n fronts (omega arith) in
+    let joined = length-append (take at front) (take n others) in
+    let other_joined = length-append (take at behind) (take n fronts) in
+    let none : post_of at (length behind - at) behind ≡ [] = drop_all (length behind - at) (drop at behind) (let k = length-drop at behind in omega arith) in
+    (λ i. take (at + n) (put_mid at (length front - at) front (d i)) ++ drop (at + n) (put_mid at (length behind - at) behind (l i)))
+    ∙ (λ i. take_front (take at front) (take n others) (drop n fronts) (post_of at (length front - at) front) (at + n) (omega arith) i
+    ++ drop_front (take at behind) (take n fronts) (drop n others) (post_of at (length behind - at) behind) (at + n) (omega arith) i)
+    ∙ ap (λ (rest : List Change). (take at front ++ take n others) ++ (drop n others ++ rest)) none
+    ∙ ap (λ (rest : List Change). (take at front ++ take n others) ++ rest) (append-nil (drop n others))
+    ∙ append_assoc (take at front) (take n others) (drop n others)
+    ∙ ap (λ (rest : List Change). take at front ++ rest) (take-append-drop n others ∙ all_others)
 
 module _ (items : List Change) (start most : ℕ) (s : start ≤ length items) where
   abbrev pub values : List ChangeValue

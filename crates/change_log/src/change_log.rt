@@ -39,6 +39,37 @@ impl Model for ChangeLog {
     ghost invariant = { IsBounded };
 }
 
+// How many changes change places at once.
+const BLOCK: usize = 64;
+
+// The first changes of both, a block of each, change places.
+fn swap_blocks(front: &mut [Change], behind: &mut [Change])
+    requires front { BLOCK ≤ length front.old }
+    requires behind { BLOCK ≤ length behind.old }
+    ensures front { front.new ≡ take BLOCK behind.old ++ drop BLOCK front.old }
+    ensures behind { behind.new ≡ take BLOCK front.old ++ drop BLOCK behind.old }
+{
+    if let Some(one) = front.first_chunk_mut::<BLOCK>() {
+        if let Some(other) = behind.first_chunk_mut::<BLOCK>() {
+            mem::swap(one, other);
+        }
+    }
+}
+
+// The changes of two lists of one length change places.
+fn swap_changes(front: &mut [Change], behind: &mut [Change])
+    requires { length front.old ≡ length behind.old }
+    ensures len { length front.new ≡ length front.old }
+    ensures front { front.new ≡ behind.old }
+{
+    let mut at = 0;
+    while BLOCK <= front.len() - at {
+        swap_blocks(&mut front[at..], &mut behind[at..]);
+        at += BLOCK;
+    }
+    front[at..].swap_with_slice(&mut behind[at..]);
+}
+
 // The changes from `start` to `end` change places with the first ones.
 #[cold]
 #[inline(never)]
@@ -51,7 +82,7 @@ fn bring_to_front(changes: &mut [Change], start: usize, end: usize)
 {
     let (front, behind) = changes.split_at_mut(start);
     let count = end - start;
-    front[..count].swap_with_slice(&mut behind[..count]);
+    swap_changes(&mut front[..count], &mut behind[..count]);
 }
 
 // Puts a change in the place of another, which is handed out.
