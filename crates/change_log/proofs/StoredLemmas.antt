@@ -58,15 +58,14 @@ module _ (items : List Change) (start most : ℕ) (s : start ≤ length items) w
   count = length-map (drop start items) value_of ∙ length-drop start items
 
   -- a change more, of which the last ones are kept
-  pub pushed : (change : Change) (shown : List Change) → shown ≡ drop (max start (length (items ++ change ∷ []) - most)) (items ++ change ∷ []) → map value_of shown ≡ drop (length (values ++ value_of change ∷ []) - most) (values ++ value_of change ∷ [])
-  pushed change shown e =
+  pub pushed : (change : Change) (first : ℕ) (shown : List Change) → first ≡ max start (length items + 1 - most) → shown ≡ drop first (items ++ change ∷ []) → map value_of shown ≡ drop (length (values ++ value_of change ∷ []) - most) (values ++ value_of change ∷ [])
+  pushed change first shown f e =
       let all = items ++ change ∷ [] in
-      let long = length-append items (change ∷ []) in
       let both = length-append values (value_of change ∷ []) in
       let n = count in
       let k = length (values ++ value_of change ∷ []) - most in
       let same : values ++ value_of change ∷ [] ≡ map value_of (drop start all) = sym (map-append value_of (drop start items) (change ∷ [])) ∙ ap (map value_of) (sym (drop-append-le start items (change ∷ []) s)) in
-      let place : start + k ≡ max start (length all - most) = omega arith in
+      let place : start + k ≡ first = omega arith in
       ap (map value_of) e ∙ ap (λ m. map value_of (drop m all)) (sym place) ∙ ap (map value_of) (sym (drop-drop k start all)) ∙ sym (drop-map value_of k (drop start all)) ∙ ap (drop k) (sym same)
 
   -- the changes from a number on

@@ -126,44 +126,26 @@ fn store(
     Ok(())
 }
 
-// Brings the changes that are kept to the front where more are gone than may be due; answers where they begin.
+// Brings the changes that are kept, from `start` to `end`, to the front where more are gone than may be due.
 #[inline(always)]
-fn without_gone(changes: &mut Vec<Change>, start: usize, end: usize, most: usize) -> usize
-    requires order { start ≤ end }
-    requires within { end ≤ vec_len changes.old }
-    requires kept { end ≤ start + most }
-    requires few { vec_len changes.old ≤ max (most + most) end }
-    ensures rest { drop result (take (result + (end - start)) changes.new.items) ≡ drop start (take end changes.old.items) }
-    ensures gone { result ≤ most }
-    ensures stored { result + (end - start) ≤ vec_len changes.new }
+fn make_room(changes: &mut Vec<Change>, start: &mut usize, end: &mut usize, most: usize)
+    requires order { start.old ≤ end.old }
+    requires within { end.old ≤ vec_len changes.old }
+    requires kept { end.old ≤ start.old + most }
+    requires few { vec_len changes.old ≤ max (most + most) end.old }
+    ensures same { drop start.new (take end.new changes.new.items) ≡ drop start.old (take end.old changes.old.items) }
+    ensures len { end.new + start.old ≡ start.new + end.old }
+    ensures gone { start.new ≤ most }
+    ensures stored { end.new ≤ vec_len changes.new }
     ensures twice { vec_len changes.new ≤ most + most }
 {
-    if start <= most {
-        return start;
+    if *start <= most {
+        return;
     }
-    bring_to_front(changes, start, end);
+    bring_to_front(changes, *start, *end);
     changes.truncate(most.saturating_add(most));
-    0
-}
-
-// Keeps the last of the changes from `start` to `end`, at most so many; answers where they begin and end.
-#[inline(always)]
-fn keep_last(changes: &mut Vec<Change>, start: usize, end: usize, most: usize) -> (usize, usize)
-    requires order { start ≤ end }
-    requires within { end ≤ vec_len changes.old }
-    requires gone { start ≤ most }
-    requires few { vec_len changes.old ≤ max (most + most) end }
-    ensures rest { drop result.0 (take result.1 changes.new.items) ≡ drop (max start (end - most)) (take end changes.old.items) }
-    ensures gone { result.0 ≤ most }
-    ensures len { result.1 ≡ result.0 + (end - max start (end - most)) }
-    ensures stored { result.1 ≤ vec_len changes.new }
-    ensures twice { vec_len changes.new ≤ most + most }
-{
-    if end - start <= most {
-        return (start, end);
-    }
-    let first = without_gone(changes, end - most, end, most);
-    (first, first + most)
+    *end -= *start;
+    *start = 0;
 }
 
 impl ChangeLog {
@@ -206,9 +188,11 @@ impl ChangeLog {
     {
         store(&mut self.changes, &mut self.spare, self.end, change)?;
         self.number += 1;
-        let (start, end) = keep_last(&mut self.changes, self.start, self.end + 1, self.most);
-        self.start = start;
-        self.end = end;
+        self.end += 1;
+        if self.most < self.end - self.start {
+            self.start += 1;
+            make_room(&mut self.changes, &mut self.start, &mut self.end, self.most);
+        }
         Ok(())
     }
 
@@ -226,10 +210,8 @@ impl ChangeLog {
     {
         if number <= self.number {
             let before = self.number - (self.end - self.start);
-            let start = self.start + number.saturating_sub(before);
-            let first = without_gone(&mut self.changes, start, self.end, self.most);
-            self.end = first + (self.end - start);
-            self.start = first;
+            self.start += number.saturating_sub(before);
+            make_room(&mut self.changes, &mut self.start, &mut self.end, self.most);
         }
     }
 

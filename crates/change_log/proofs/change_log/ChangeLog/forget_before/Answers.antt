@@ -16,7 +16,7 @@ returns-then-number-self c =
     let within : a.start ≤ length items = let o = c.self.invariant.ordered in omega arith in
     let numbered : length items ≤ a.start + a.number = let n = c.self.invariant.numbered in omega arith in
     let at : a.start + c.saturating_sub.result ≡ a.start + (number - (a.number - (length items - a.start))) = ap (λ m. a.start + m) (c.saturating_sub.ensures ∙ ap (λ m. number - (a.number - (m - a.start))) (sym len)) in
-    let shown = drop c.without_gone-first.result (take (c.without_gone-first.result + (a.end - (a.start + c.saturating_sub.result))) c.without_gone-first.new.changes.items) in
-    let entries = ap (map value_of) (c.without_gone-first.ensures.rest ∙ ap (λ m. drop m items) at) ∙ from_number items a.start a.most within a.number number numbered in
+    let shown = drop c.make_room.new.start (take c.make_room.new.end c.make_room.new.changes.items) in
+    let entries = ap (map value_of) (c.make_room.ensures.same ∙ ap (λ m. drop m items) at) ∙ from_number items a.start a.most within a.number number numbered in
     subst (λ (s : Sized). record { most = a.most; log = record { number = a.number; entries = map value_of shown } } ≡ record { most = s.most; log = forgotten number s.log }) c.self.view_is
     (λ i. record { most = a.most; log = (ap (λ es. record { number = a.number; entries = es }) entries ∙ sym (forgotten_here (log_of a).log number c.if-number-self.true)) i })
