@@ -1,5 +1,5 @@
 //! The log.
-ghost use Rattle.std.specs.Prelude.{IfOk, ◌≡◌, ◌⊎◌, ◌+◌, ◌-◌, ◌<◌, ◌≤◌, ◌^◌, ◌↔◌, ◌++◌, ◌∷◌, IsTrue, [], drop, length, map, max, slice_set, take, vec_len, OnOk, OnErr};
+ghost use Rattle.std.specs.Prelude.{IfOk, ◌≡◌, ◌⊎◌, ◌+◌, ◌-◌, ◌<◌, ◌≤◌, ◌^◌, ◌↔◌, ◌++◌, ◌∷◌, IsTrue, [], drop, length, map, max, take, vec_len, OnOk, OnErr};
 ghost use Rattle.std.specs.Option.{option_map};
 ghost use Rattle.std.specs.String.{string_bytes};
 ghost use Rattle.cell_change.specs.ValueOf.{value_of};
@@ -85,21 +85,28 @@ fn bring_to_front(changes: &mut [Change], start: usize, end: usize)
     swap_changes(&mut front[..count], &mut behind[..count]);
 }
 
-// Puts a change in the place of another, which is handed out.
-#[inline(always)]
-fn replace(changes: &mut [Change], at: usize, change: Change) -> Change
-    requires { at < length changes.old }
-    ensures { changes.new ≡ slice_set changes.old at change }
-{
-    mem::replace(&mut changes[at], change)
-}
-
 // The memory of a text.
 #[inline(always)]
 fn save_memory(spare: &mut SpareTexts, change: Change) {
     if let Change::Text(text) = change {
         spare.put(text);
     }
+}
+
+// A change in the place of one that is gone, the memory of whose text is saved.
+#[inline(always)]
+fn replace(place: &mut Change, spare: &mut SpareTexts, change: Change)
+    ensures { place.new ≡ change }
+{
+    if let Change::Text(text) = change {
+        if let Change::Text(gone) = place {
+            spare.put(mem::replace(gone, text));
+        } else {
+            *place = Change::Text(text);
+        }
+        return;
+    }
+    save_memory(spare, mem::replace(place, change));
 }
 
 // A change comes behind the first ones that are stored, so many: in the place of one that is gone, or as one more.
@@ -117,8 +124,7 @@ fn store(
     ensures refused { OnErr result (changes.new.items ≡ changes.old.items) }
 {
     if at < changes.len() {
-        let gone = replace(changes, at, change);
-        save_memory(spare, gone);
+        replace(&mut changes[at], spare, change);
         return Ok(());
     }
     changes.reserve(1)?;

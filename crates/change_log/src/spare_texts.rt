@@ -47,7 +47,8 @@ impl SpareTexts {
         ensures { string_bytes result ≡ [] }
     {
         let none = String::new(alloc);
-        let last = self.count.saturating_sub(1);
+        // where none is kept no place has that number
+        let last = self.count.wrapping_sub(1);
         let Some(place) = self.texts.get_mut(last) else {
             return none;
         };
