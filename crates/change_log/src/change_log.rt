@@ -98,12 +98,12 @@ fn save_memory(spare: &mut SpareTexts, change: Change) {
 fn replace(place: &mut Change, spare: &mut SpareTexts, change: Change)
     ensures { place.new ≡ change }
 {
+    let Change::Text(gone) = place else {
+        *place = change;
+        return;
+    };
     if let Change::Text(text) = change {
-        if let Change::Text(gone) = place {
-            spare.put(mem::replace(gone, text));
-        } else {
-            *place = Change::Text(text);
-        }
+        spare.put(mem::replace(gone, text));
         return;
     }
     save_memory(spare, mem::replace(place, change));
