@@ -1,7 +1,7 @@
 -- Bytes that are counted sixteen bytes at a time.
 use Rattle.std.proofs.Common.{◌≡◌, ℕ, zero, suc, ◌+◌, ◌-◌, ◌%◌, ◌^◌, ◌<◌, ◌≤◌, Bool, true, false, not, List, [], ◌∷◌, map, take, drop, length, length-drop, get_or, replicate, Fits, w8, refl, sym, ap, ap₂, ◌∙◌, arith, inl, inr}
 use Rattle.std.specs.List.{list_all, prefix_len}
-use Rattle.std.specs.Prelude.{◌==◌}
+use Rattle.std.specs.Prelude.{◌==◌, ◌&&◌}
 use Rattle.std.proofs.lemmas.List.{take_all}
 use Rattle.std.proofs.lemmas.Bool.{agree_below, agree_below_at, cases_eq, eq-eqb, ne_eqb, cond-true, cond-false}
 use Rattle.std.proofs.lemmas.Simd.{map-map, mask_l-mod, leading_from_mask_l, trailing_mask_l}
@@ -154,3 +154,36 @@ all_by_len p (x ∷ xs) = by_test (p x) refl (all_by_len p xs)
     by_test : (t : Bool) → p x ≡ t → (prefix_len p xs == length xs) ≡ list_all p xs → (prefix_len p (x ∷ xs) == length (x ∷ xs)) ≡ list_all p (x ∷ xs)
     by_test true e k = rw e (equal_before (prefix_len p xs) (length xs) ∙ k)
     by_test false e k = rw e (ne_eqb _ _ (λ same. omega (arith, same)))
+
+-- the first bytes, so many, and the last, which together are all
+pub both_blocks : (p : ℕ → Bool) (n : ℕ) (xs block : List ℕ) → n ≤ length xs → length xs ≤ n + n → block ≡ drop (length xs - n) xs
+    → (prefix_len p (take n xs) == n && prefix_len p (take n block) == n) ≡ list_all p xs
+both_blocks p n xs block h l b =
+    elim (cases_eq (prefix_len p (take n xs)) n) [
+      | inl same ↦
+          let first = block_goes p n xs (omega (arith, same)) in
+          let whole = last_block p n (length xs - n) xs block h refl b (omega (arith, first, l)) in
+          rw (eq-eqb _ _ same) (moved (prefix_len p (take n block)) n (prefix_len p xs) (length xs) (length xs - n) (omega (arith, h)) whole ∙ all_by_len p xs)
+      | inr other ↦
+          let few = prefix_few p n xs in
+          let less : prefix_len p (take n xs) < n = omega (arith, few, other) in
+          let stops = block_stops p n xs less h in
+          rw (ne_eqb _ _ other) (sym (ne_eqb _ _ (λ same. omega (arith, same, stops, less, h))) ∙ all_by_len p xs)
+    ]
+  where
+    -- of numbers with as many before each
+    moved : (a n b m k : ℕ) → m ≡ k + n → b ≡ k + a → (a == n) ≡ (b == m)
+    moved a n b m k e f =
+        elim (cases_eq a n) [
+          | inl same ↦ eq-eqb _ _ same ∙ sym (eq-eqb _ _ (omega (arith, e, f, same)))
+          | inr other ↦ ne_eqb _ _ other ∙ sym (ne_eqb _ _ (λ same. other (omega (arith, e, f, same))))
+        ]
+
+    prefix_few : (p : ℕ → Bool) (n : ℕ) (xs : List ℕ) → prefix_len p (take n xs) ≤ n
+    prefix_few p zero xs = omega arith
+    prefix_few p (suc n) [] = omega arith
+    prefix_few p (suc n) (x ∷ xs) = by_test (p x) refl (prefix_few p n xs)
+      where
+        by_test : (t : Bool) → p x ≡ t → prefix_len p (take n xs) ≤ n → prefix_len p (take (suc n) (x ∷ xs)) ≤ suc n
+        by_test true e h = let b = prefix_cons p x (take n xs) e in omega arith
+        by_test false e h = let b = prefix_stop p x (take n xs) e in omega arith

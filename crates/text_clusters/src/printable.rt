@@ -133,13 +133,39 @@ pub fn printable_len(bytes: &[u8]) -> usize
     last + block_len(behind(bytes, last))
 }
 
+// Whether at most eight bytes are printable: of four or more the first four are looked at, and then the last.
+#[inline(always)]
+fn fewer_are_printable(bytes: &[u8]) -> bool
+    requires { length bytes.now ≤ 8 }
+    ensures { result ≡ list_all is_printable bytes.now }
+{
+    if bytes.len() < 4 {
+        return short_len(bytes) == bytes.len();
+    }
+    let last = behind(bytes, bytes.len() - 4);
+    (quarter_block_len(bytes) == 4) & (quarter_block_len(last) == 4)
+}
+
+// Whether at most sixteen bytes are printable: of eight or more the first eight are looked at, and then the last.
+#[inline(always)]
+fn few_are_printable(bytes: &[u8]) -> bool
+    requires { length bytes.now ≤ LANES }
+    ensures { result ≡ list_all is_printable bytes.now }
+{
+    if bytes.len() < 8 {
+        return fewer_are_printable(bytes);
+    }
+    let last = behind(bytes, bytes.len() - 8);
+    (half_block_len(bytes) == 8) & (half_block_len(last) == 8)
+}
+
 /// Whether all bytes are printable ASCII characters (20h to 7Eh).
 #[inline(always)]
 pub fn are_printable(bytes: &[u8]) -> bool
     ensures { result ≡ list_all is_printable bytes.now }
 {
     if bytes.len() < LANES {
-        few_len(bytes) == bytes.len()
+        few_are_printable(bytes)
     } else {
         printable_len(bytes) == bytes.len()
     }
