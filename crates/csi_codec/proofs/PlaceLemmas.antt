@@ -1,5 +1,5 @@
 -- Steps from place to place of a list.
-use Rattle.std.proofs.Common.{◌≡◌, ◌≢◌, ℕ, ◌+◌, ℤ, pos, slice_index_or, inl, inr, ◌<◌, ◌≤◌, eqb, Bool, true, false, cond, List, [], ◌∷◌, length, length-drop, drop, drop-drop, Option, Some, None, Result, IfSome, IfNone, option_map, option_and_then, arith, refl, sym, ap, ◌∙◌, subst}
+use Rattle.std.proofs.Common.{◌≡◌, ◌≢◌, ℕ, ◌+◌, ℤ, inl, inr, ◌<◌, ◌≤◌, eqb, Bool, true, false, cond, List, [], ◌∷◌, length, length-drop, drop, drop-drop, Option, Some, None, Result, IfSome, IfNone, option_map, option_and_then, arith, refl, sym, ap, ◌∙◌, subst}
 use Rattle.std.specs.Prelude.{is_some}
 use Rattle.std.specs.Option.{option_map_or}
 use Rattle.std.proofs.lemmas.Bool.{cases_Bool, eqb-true}
@@ -12,20 +12,18 @@ use Rattle.csi_codec.specs.declared.rendition.Sgr.{Sgr}
 use Rattle.csi_codec.specs.declared.rendition.Sgr.TheVariants.{Reset}
 use Rattle.csi_codec.specs.declared.sequences.CSI.{CSI}
 use Rattle.csi_codec.specs.Known.{found_action}
-use Rattle.csi_codec.specs.Parsing.{HasNoPiece, HasNoRendition, IsEnd, IsFirstPiece, IsFirstRendition, IsNext, actions_behind, list_kind}
+use Rattle.csi_codec.specs.Parsing.{HasNoPiece, HasNoSetting, IsEnd, IsFirstPiece, IsNext, actions_behind, before_tokens, counted_from, first_setting, further_setting, list_kind, setting_at}
 use Rattle.csi_codec.specs.Cursors.{cursor_reading}
 use Rattle.csi_codec.specs.Devices.{device_reading}
 use Rattle.csi_codec.specs.Edits.{edit_reading}
 use Rattle.csi_codec.specs.Modes.{dec_mode_of, lone_private_mode, private_mode_reading, private_step, switched_mode, switched_step}
 use Rattle.csi_codec.specs.Parameters.{begins_with_number, number_within, with_semicolon}
-use Rattle.csi_codec.specs.Rendition.{plain_code, sgr_piece, taking}
+use Rattle.csi_codec.specs.Rendition.{sgr_piece, taking}
 use Rattle.csi_codec.specs.Sequences.{HandsOut, action_of}
 use Rattle.csi_codec.specs.Actions.{Kind, Action, sgr, sgr_pieces, mode, unspecified, private_mode_pieces, mode_piece, rendition_piece, piece_of, pieces, all_sgr_tokens, sgr_reading, modes_or, lone_reading, lone_or, standard_reading, csi_reading}
 use Rattle.csi_codec.proofs.PieceLemmas.{piece_of_takes, pieces_found, pieces_rest, pieces_none, pieces_ended}
 use Rattle.csi_codec.proofs.ReadingLemmas.{csi_reading-counted}
 use Rattle.csi_codec.proofs.SgrTokens.{sgr_tokens_behind}
-use Rattle.csi_codec.proofs.PlainLemmas.{plain_last, plain_next}
-use Rattle.csi_codec.specs.ColourCases.{begins_with}
 
 -- ---- The first piece
 
@@ -57,29 +55,26 @@ reading_by : (truncated : Bool) (final : ℕ) (ts : List CsiParam) (b : Bool) �
 reading_by truncated final [] b h e = absurd (omega arith)
 reading_by truncated final (t ∷ ts) b h e = ap (λ v. cond v (pieces sgr_pieces truncated final (t ∷ ts)) (unspecified (t ∷ ts) truncated final ∷ [])) e
 
-pub rendition_found : (ts : List CsiParam) (v : Sgr) (n : ℕ) → 0 < length ts → sgr_piece ts ≡ Some (v, n) → all_sgr_tokens (drop n ts) ≡ true → IsFirstRendition ts v n
-rendition_found ts v n h e tokens = record {
-  actions = λ truncated final.
-      reading_by truncated final ts true h (sgr_tokens_behind ts (sgr v) n (as_piece ts v n e) ∙ tokens)
-      ∙ pieces_found sgr_pieces truncated final ts (sgr v) n (as_piece ts v n e);
-  some = (rendition_fits ts v n e).0;
-}
+pub rendition_found : (ts : List CsiParam) (v : Sgr) (n : ℕ) (truncated : Bool) (final : ℕ) → 0 < length ts → sgr_piece ts ≡ Some (v, n) → all_sgr_tokens (drop n ts) ≡ true
+    → sgr_reading truncated final ts ≡ sgr v ∷ pieces sgr_pieces truncated final (drop n ts)
+rendition_found ts v n truncated final h e tokens =
+    reading_by truncated final ts true h (sgr_tokens_behind ts (sgr v) n (as_piece ts v n e) ∙ tokens)
+    ∙ pieces_found sgr_pieces truncated final ts (sgr v) n (as_piece ts v n e)
 
-pub rendition_lost : (ts : List CsiParam) (v : Sgr) (n : ℕ) → 0 < length ts → sgr_piece ts ≡ Some (v, n) → all_sgr_tokens (drop n ts) ≡ false → HasNoRendition ts
-rendition_lost ts v n h e tokens = record {
-  rest = λ truncated final. reading_by truncated final ts false h (sgr_tokens_behind ts (sgr v) n (as_piece ts v n e) ∙ tokens);
-}
+rendition_lost : (ts : List CsiParam) (v : Sgr) (n : ℕ) (truncated : Bool) (final : ℕ) → 0 < length ts → sgr_piece ts ≡ Some (v, n) → all_sgr_tokens (drop n ts) ≡ false
+    → sgr_reading truncated final ts ≡ unspecified ts truncated final ∷ []
+rendition_lost ts v n truncated final h e tokens = reading_by truncated final ts false h (sgr_tokens_behind ts (sgr v) n (as_piece ts v n e) ∙ tokens)
 
 either : (b : Bool) (x y : List Action) → x ≡ y → cond b x y ≡ y
 either true x y e = e
 either false x y e = refl
 
-pub rendition_none : (ts : List CsiParam) → 0 < length ts → sgr_piece ts ≡ None → HasNoRendition ts
-rendition_none ts h e = record {
-  rest = λ truncated final.
-      reading_by truncated final ts (all_sgr_tokens ts) h refl
-      ∙ either (all_sgr_tokens ts) _ _ (pieces_rest sgr_pieces truncated final ts (ap (λ found. option_map (λ f. (sgr f.0, f.1)) found) e) h);
-}
+no_piece : (ts : List CsiParam) → sgr_piece ts ≡ None → rendition_piece ts ≡ None
+no_piece ts e = ap (λ found. option_map (λ f. (sgr f.0, f.1)) found) e
+
+rendition_none : (ts : List CsiParam) (truncated : Bool) (final : ℕ) → 0 < length ts → sgr_piece ts ≡ None → sgr_reading truncated final ts ≡ unspecified ts truncated final ∷ []
+rendition_none ts truncated final h e =
+    reading_by truncated final ts (all_sgr_tokens ts) h refl ∙ either (all_sgr_tokens ts) _ _ (pieces_rest sgr_pieces truncated final ts (no_piece ts e) h)
 
 -- ---- The end, and what is behind some tokens
 
@@ -103,18 +98,6 @@ step_behind n m ts truncated final before action e some h =
     subst P (sym e) (subst Q (sym (behind_some m ts truncated final some)) h)
 
 -- ---- The next action
-
--- the first of an SGR list
-pub next_rendition : (ts : List CsiParam) (v : Sgr) (n : ℕ) → IsFirstRendition ts v n → IsNext 0 ts 109 (sgr v) n
-unfolding actions_behind csi_reading
-next_rendition ts v n first = record {
-  actions = λ truncated. first.actions truncated 109 ∙ ap (λ rest. sgr v ∷ rest) (sym (behind_some n ts truncated 109 first.some));
-}
-
-pub next_reset : (ts : List CsiParam) → length ts ≡ 0 → IsNext 0 ts 109 (sgr Reset) 1
-unfolding actions_behind csi_reading pieces
-next_reset [] h = record { actions = λ truncated. refl }
-next_reset (t ∷ ts) h = absurd (omega arith)
 
 -- a mode that a list begins with
 modes_found : (k : Kind) (start n : ℕ) (ts : List CsiParam) (truncated : Bool) (final : ℕ) (a : Action) → piece_of k final (drop start ts) ≡ Some (a, n)
@@ -160,64 +143,106 @@ pub next_piece : (k : Kind) (read n : ℕ) (ts us : List CsiParam) (final : ℕ)
 next_piece k read n ts us final a h kind at first =
     next_further read n ts final a h (subst (λ x. IsFirstPiece (list_kind final ts) final x a n) at (subst (λ k. IsFirstPiece k final us a n) kind first))
 
--- a setting that is read quickly, the first of its list or a further one
-tokens_within : (ts : List CsiParam) (n : ℕ) → n ≡ length ts → all_sgr_tokens (drop n ts) ≡ true
-tokens_within ts n e = no_tokens (drop n ts) (omega (arith, e, length-drop n ts))
-  where
-    no_tokens : (us : List CsiParam) → length us ≡ 0 → all_sgr_tokens us ≡ true
-    no_tokens [] h = refl
-    no_tokens (t ∷ us) h = absurd (omega arith)
+-- ---- Settings of an SGR list, and what is to come
 
-pub first_quick : (ts : List CsiParam) (v : Sgr) (n : ℕ) → 0 < length ts → sgr_piece ts ≡ Some (v, n) → all_sgr_tokens (drop n ts) ≡ true → IsNext 0 ts 109 (sgr v) n
-first_quick ts v n h e tokens = next_rendition ts v n (rendition_found ts v n h e tokens)
+no_setting : {A : Type 0} {a : A} → None ≡ Some a → ⊥
+no_setting e = cc
 
-pub whole_quick : (ts : List CsiParam) (v : Sgr) (n : ℕ) → 0 < length ts → sgr_piece ts ≡ Some (v, n) → n ≡ length ts → IsNext 0 ts 109 (sgr v) n
-whole_quick ts v n h e same = first_quick ts v n h e (tokens_within ts n same)
+-- the first of a list that is not empty is its piece, and only tokens of SGR stand behind it
+first_is_piece : (ts : List CsiParam) (v : Sgr) (n : ℕ) (found : Option (Sgr × ℕ)) → sgr_piece ts ≡ found → before_tokens ts found ≡ Some (v, n)
+    → (sgr_piece ts ≡ Some (v, n)) × (all_sgr_tokens (drop n ts) ≡ true)
+first_is_piece ts v n None e first = absurd (no_setting first)
+first_is_piece ts v n (Some f) e first = elim (cases_Bool (all_sgr_tokens (drop f.1 ts))) [
+  | inl tokens ↦
+      let same : Some f ≡ Some (v, n) = ap (λ b. cond b (Some f) None) (sym tokens) ∙ first in
+      let P : Option (Sgr × ℕ) → Type 0 = λ found. IfSome found (λ g. all_sgr_tokens (drop g.1 ts) ≡ true) in
+      (e ∙ same, subst P same tokens)
+  | inr tokens ↦ absurd (no_setting (ap (λ b. cond b (Some f) None) (sym tokens) ∙ first))
+]
 
-pub further_quick : (read : ℕ) (ts us : List CsiParam) (v : Sgr) (n : ℕ) → 0 < read → us ≡ drop read ts → sgr_piece us ≡ Some (v, n) → IsNext read ts 109 (sgr v) (read + n)
-further_quick read ts us v n h at e =
-    let fits = rendition_fits us v n e in
-    next_piece sgr_pieces read n ts us 109 (sgr v) h refl at (record {
-      actions = λ truncated. pieces_found sgr_pieces truncated 109 us (sgr v) n (as_piece us v n e);
+reset_next : IsNext 0 [] 109 (sgr Reset) 1
+unfolding actions_behind csi_reading pieces
+reset_next = record { actions = λ truncated. refl }
+
+first_next : (ts : List CsiParam) (v : Sgr) (n : ℕ) → first_setting ts ≡ Some (v, n) → IsNext 0 ts 109 (sgr v) n
+unfolding first_setting csi_reading
+first_next [] v n e = let P : Option (Sgr × ℕ) → Type 0 = λ found. IfSome found (λ f. IsNext 0 [] 109 (sgr f.0) f.1) in subst P e reset_next
+first_next (t ∷ ts) v n e =
+    let p = first_is_piece (t ∷ ts) v n (sgr_piece (t ∷ ts)) refl e in
+    next_first n (t ∷ ts) 109 (sgr v) (rendition_fits (t ∷ ts) v n p.0).0 (λ truncated. rendition_found (t ∷ ts) v n truncated 109 (omega arith) p.0 p.1)
+
+-- where none stands the list has no reading
+first_unread : (ts : List CsiParam) (truncated : Bool) (found : Option (Sgr × ℕ)) → 0 < length ts → sgr_piece ts ≡ found → before_tokens ts found ≡ None
+    → sgr_reading truncated 109 ts ≡ unspecified ts truncated 109 ∷ []
+first_unread ts truncated None h e first = rendition_none ts truncated 109 h e
+first_unread ts truncated (Some f) h e first = elim (cases_Bool (all_sgr_tokens (drop f.1 ts))) [
+  | inl tokens ↦ absurd (no_setting (sym first ∙ ap (λ b. cond b (Some f) None) tokens))
+  | inr tokens ↦ rendition_lost ts f.0 f.1 truncated 109 h e tokens
+]
+
+first_none : (ts : List CsiParam) → first_setting ts ≡ None → HasNoSetting 0 ts
+unfolding first_setting actions_behind csi_reading
+first_none [] e = absurd (no_setting (sym e))
+first_none (t ∷ ts) e = record { rest = λ truncated. first_unread (t ∷ ts) truncated (sgr_piece (t ∷ ts)) (omega arith) refl e; within = omega arith }
+
+-- a further one is the piece at its place
+further_is_piece : (read n : ℕ) (ts : List CsiParam) (v : Sgr) (found : Option (Sgr × ℕ)) → 0 < read → sgr_piece (drop read ts) ≡ found
+    → counted_from read found ≡ Some (v, n) → IsNext read ts 109 (sgr v) n
+further_is_piece read n ts v None h e further = absurd (no_setting further)
+further_is_piece read n ts v (Some f) h e further =
+    let fits = rendition_fits (drop read ts) f.0 f.1 e in
+    let P : Option (Sgr × ℕ) → Type 0 = λ found. IfSome found (λ g. IsNext read ts 109 (sgr g.0) g.1) in
+    subst P further (next_further read f.1 ts 109 (sgr f.0) h (record {
+      actions = λ truncated. pieces_found sgr_pieces truncated 109 (drop read ts) (sgr f.0) f.1 (as_piece (drop read ts) f.0 f.1 e);
       some = fits.0;
       within = fits.1;
-    })
+    }))
 
-pub first_alone : (ts : List CsiParam) (v : Sgr) (z : ℤ) → length ts < 2 → begins_with z ts → plain_code z ≡ Some v → IsNext 0 ts 109 (sgr v) 1
-first_alone [] v z h front e = absurd front
-first_alone (P b ∷ ts) v z h front e = absurd front
-first_alone (Integer y ∷ []) v z h front e = whole_quick (Integer y ∷ []) v 1 (omega arith) (plain_last y v (ap plain_code front ∙ e)) refl
-first_alone (Integer y ∷ t ∷ ts) v z h front e = absurd (omega arith)
+further_next : (read n : ℕ) (ts : List CsiParam) (v : Sgr) → 0 < read → further_setting read ts ≡ Some (v, n) → IsNext read ts 109 (sgr v) n
+unfolding further_setting
+further_next read n ts v h e = further_is_piece read n ts v (sgr_piece (drop read ts)) h refl e
 
-pub further_whole : (read : ℕ) (ts us : List CsiParam) (v : Sgr) → 0 < read → us ≡ drop read ts → sgr_piece us ≡ Some (v, length us) → IsNext read ts 109 (sgr v) (length ts)
-further_whole read ts us v some at e =
-    let fits = rendition_fits us v (length us) e in
-    subst (IsNext read ts 109 (sgr v)) (omega (arith, fits.0, ap length at, length-drop read ts)) (further_quick read ts us v (length us) some at e)
+no_further : (read : ℕ) (found : Option (Sgr × ℕ)) → counted_from read found ≡ None → found ≡ None
+no_further read None e = refl
+no_further read (Some f) e = absurd (no_setting (sym e))
 
-pub further_alone : (read : ℕ) (ts us : List CsiParam) (v : Sgr) (z : ℤ) → 0 < read → us ≡ drop read ts → length us < 2 → begins_with z us → plain_code z ≡ Some v
-    → IsNext read ts 109 (sgr v) (length ts)
-further_alone read ts [] v z some at h front e = absurd front
-further_alone read ts (P b ∷ us) v z some at h front e = absurd front
-further_alone read ts (Integer y ∷ []) v z some at h front e = further_whole read ts (Integer y ∷ []) v some at (plain_last y v (ap plain_code front ∙ e))
-further_alone read ts (Integer y ∷ t ∷ us) v z some at h front e = absurd (omega arith)
+further_none : (read : ℕ) (ts : List CsiParam) → 0 < read → read < length ts → further_setting read ts ≡ None → HasNoSetting read ts
+unfolding further_setting
+further_none read ts some h e = record {
+  rest = λ truncated.
+      behind_some read ts truncated 109 some
+      ∙ pieces_rest sgr_pieces truncated 109 (drop read ts) (no_piece (drop read ts) (no_further read (sgr_piece (drop read ts)) e)) (omega (arith, length-drop read ts));
+  within = h;
+}
 
--- the number's own `;` is read with it
-signed_piece : (ts : List CsiParam) (v : Sgr) (z : ℤ) → 2 ≤ length ts → slice_index_or ts 1 (Integer (pos 0)) ≡ P 59 → begins_with z ts → plain_code z ≡ Some v → sgr_piece ts ≡ Some (v, 2)
-signed_piece [] v z h sign front e = absurd front
-signed_piece (P b ∷ ts) v z h sign front e = absurd front
-signed_piece (Integer y ∷ []) v z h sign front e = absurd (omega arith)
-signed_piece (Integer y ∷ t ∷ ts) v z h sign front e = ap (λ x. sgr_piece (Integer y ∷ x ∷ ts)) sign ∙ plain_next y ts v (ap plain_code front ∙ e)
+-- wherever it stands
+some_read : (read : ℕ) → eqb read 0 ≡ false → 0 < read
+some_read read h = grind (arith, nat_tests)
 
-pub first_signed : (ts : List CsiParam) (v : Sgr) (z : ℤ) → 2 ≤ length ts → slice_index_or ts 1 (Integer (pos 0)) ≡ P 59 → all_sgr_tokens (drop 2 ts) ≡ true → begins_with z ts → plain_code z ≡ Some v
-    → IsNext 0 ts 109 (sgr v) 2
-first_signed ts v z h sign tokens front e = first_quick ts v 2 (omega arith) (signed_piece ts v z h sign front e) tokens
+abbrev first_or : ℕ → List CsiParam → Bool → Option (Sgr × ℕ)
+first_or read ts b = cond b (first_setting ts) (further_setting read ts)
 
-pub further_signed : (read : ℕ) (ts us : List CsiParam) (v : Sgr) (z : ℤ) → 0 < read → us ≡ drop read ts → 2 ≤ length us → slice_index_or us 1 (Integer (pos 0)) ≡ P 59 → begins_with z us
-    → plain_code z ≡ Some v → IsNext read ts 109 (sgr v) (read + 2)
-further_signed read ts us v z some at h sign front e = further_quick read ts us v 2 some at (signed_piece us v z h sign front e)
+pub setting_next : (read n : ℕ) (ts : List CsiParam) (v : Sgr) → setting_at read ts ≡ Some (v, n) → IsNext read ts 109 (sgr v) n
+setting_next read n ts v e = elim (cases_Bool (eqb read 0)) [
+  | inl h ↦ subst (λ k. IsNext k ts 109 (sgr v) n) (sym (eqb-true read 0 h)) (first_next ts v n (ap (first_or read ts) (sym h) ∙ e))
+  | inr h ↦ further_next read n ts v (some_read read h) (ap (first_or read ts) (sym h) ∙ e)
+]
 
-pub told_some : (ts : List CsiParam) (v : Sgr) (n : ℕ) → sgr_piece ts ≡ Some (v, n) → 0 < length ts
-told_some ts v n e = let fits = rendition_fits ts v n e in omega (arith, fits.0, fits.1)
+pub setting_none : (read : ℕ) (ts : List CsiParam) → (0 < read → read < length ts) → setting_at read ts ≡ None → HasNoSetting read ts
+setting_none read ts within e = elim (cases_Bool (eqb read 0)) [
+  | inl h ↦ subst (λ k. HasNoSetting k ts) (sym (eqb-true read 0 h)) (first_none ts (ap (first_or read ts) (sym h) ∙ e))
+  | inr h ↦ let some : 0 < read = some_read read h in further_none read ts some (within some) (ap (first_or read ts) (sym h) ∙ e)
+]
+
+-- what is left is the last action
+pub left_is_last : (read : ℕ) (ts : List CsiParam) (truncated : Bool) (action : Option (Result CSI AllocError)) → HasNoSetting read ts
+    → HandsOut (unspecified (drop read ts) truncated 109 ∷ []) action [] → HandsOut (actions_behind read ts truncated 109) action (actions_behind (length ts) ts truncated 109)
+left_is_last read ts truncated action none h =
+    let P : List Action → Type 0 = λ before. HandsOut before action (actions_behind (length ts) ts truncated 109) in
+    let Q : List Action → Type 0 = λ after. HandsOut (unspecified (drop read ts) truncated 109 ∷ []) action after in
+    let last : actions_behind (length ts) ts truncated 109 ≡ [] =
+    behind_some (length ts) ts truncated 109 (omega (arith, none.within)) ∙ pieces_ended (list_kind 109 ts) truncated 109 ts (length ts) (omega arith) in
+    subst P (sym (none.rest truncated)) (subst Q (sym last) h)
 
 not_both : (found : Option Action) (a : Action) → found ≡ None → found ≡ Some a → ⊥
 not_both found a none e = cc

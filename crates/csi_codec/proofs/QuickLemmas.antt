@@ -1,174 +1,396 @@
--- A setting of SGR that is a colour whose numbers stand apart by `;`: it is the piece at the front of its list.
-use Rattle.std.proofs.Common.{◌≡◌, ◌<◌, ◌≤◌, ◌+◌, ◌-◌, ℕ, ℤ, pos, eqb, cond, List, [], ◌∷◌, length, length-drop, drop, take, slice_index_or, Option, Some, None, IfSome, inl, inr, arith, refl, sym, ap, ◌∙◌, subst}
-use Rattle.std.proofs.lemmas.List.{drop_more, take_all}
+-- A setting of SGR with a `;` behind its number: what it is told by, and how many tokens are read then.
+use Rattle.std.proofs.Common.{◌≡◌, ◌<◌, ◌≤◌, ◌+◌, ℕ, zero, suc, ℤ, pos, eqb, nat_lt, Bool, true, false, cond, ◌||◌, List, [], ◌∷◌, length, length-drop, drop, slice_index_or, Option, Some, None, option_map, inl, inr, arith, refl, sym, ap, ◌∙◌, subst}
 use Rattle.std.proofs.lemmas.Bool.{cases_Bool, eqb-true}
+use Rattle.std.proofs.lemmas.Bool.Decides.{nat_tests}
 use Rattle.cell_base.specs.declared.color.ColorSpec.{ColorSpec}
 use Rattle.csi_codec.specs.declared.parameters.CsiParam.{CsiParam}
 use Rattle.csi_codec.specs.declared.parameters.CsiParam.TheVariants.{Integer, P}
 use Rattle.csi_codec.specs.declared.sgr_reading.Target.{Target}
+use Rattle.csi_codec.specs.declared.sgr_reading.Target.TheVariants as target
 use Rattle.csi_codec.specs.Parameters.{is_number, place, number_pair, place_pair, with_semicolon, semicolon_at}
+use Rattle.csi_codec.specs.Actions.{all_sgr_tokens}
 use Rattle.csi_codec.specs.declared.rendition.Sgr.{Sgr}
-use Rattle.std.specs.Option.{option_zip, option_map}
-use Rattle.csi_codec.specs.Rendition.{taking, colour_form, underline_shape, numbered_shape, sgr_shape, sgr_piece}
-use Rattle.csi_codec.specs.ColourCases.{begins_with, begins_with_target, opaque_of, palette_of, tells_kind, told_color, target_numbered, set_to}
+use Rattle.csi_codec.specs.declared.rendition.Sgr.TheVariants as sgr
+use Rattle.std.specs.Option.{option_zip}
+use Rattle.csi_codec.specs.Rendition.{taking, colour_form, colour_shape, plain_code, single_code, numbered_shape, sgr_shape, sgr_piece}
+use Rattle.csi_codec.specs.ColourCases.{IsTold, begins_signed, form_case, opaque_behind, opaque_case, palette_behind, palette_case, semicolon_form, target_numbered, set_to}
+use Rattle.csi_codec.specs.Parsing.{before_tokens, behind_all, counted_from, end_at, ended, first_setting, further_setting}
+use Rattle.csi_codec.proofs.ColourLemmas.{colour_form_is_case, number_is}
+use Rattle.csi_codec.proofs.PlainLemmas.{plain_last, plain_next}
 
--- ---- A list by its tokens
+-- ---- The numbers behind a kind
 
--- the token at a place
-abbrev token : List CsiParam → ℕ → CsiParam
-token ts n = slice_index_or ts n (Integer (pos 0))
+palette_told : (t u w : CsiParam) (us : List CsiParam) → semicolon_form (pos 5) us ≡ taking 4 (palette_behind (t ∷ u ∷ w ∷ us))
+unfolding semicolon_form palette_case palette_behind
+palette_told t u w [] = refl
+palette_told t u w (Integer x ∷ us) = refl
+palette_told t u w (P a ∷ []) = refl
+palette_told t u w (P a ∷ P b ∷ us) = refl
+palette_told t u w (P a ∷ Integer x ∷ us) = elim (cases_Bool (eqb a 59)) [ inl e ↦ rw e refl | inr e ↦ rw e refl ]
 
-next_token : (ts : List CsiParam) (i : ℕ) (t : CsiParam) → i < length ts → token ts i ≡ t → drop i ts ≡ t ∷ drop (i + 1) ts
-next_token ts i t h e = drop_more ts i (Integer (pos 0)) h ∙ ap (λ x. x ∷ drop (i + 1) ts) e
-
--- the tokens of a list that tells a kind
-kind_semicolon : (z : ℤ) (ts : List CsiParam) → tells_kind z ts → token ts 1 ≡ P 59
-kind_semicolon z (t ∷ P b ∷ Integer y ∷ ts) h = ap P h.0
-kind_semicolon z [] h = absurd h
-kind_semicolon z (t ∷ []) h = absurd h
-kind_semicolon z (t ∷ Integer a ∷ ts) h = absurd h
-kind_semicolon z (t ∷ P b ∷ []) h = absurd h
-kind_semicolon z (t ∷ P b ∷ P c ∷ ts) h = absurd h
-
-kind_number : (z : ℤ) (ts : List CsiParam) → tells_kind z ts → token ts 2 ≡ Integer z
-kind_number z (t ∷ P b ∷ Integer y ∷ ts) h = ap Integer h.1
-kind_number z [] h = absurd h
-kind_number z (t ∷ []) h = absurd h
-kind_number z (t ∷ Integer a ∷ ts) h = absurd h
-kind_number z (t ∷ P b ∷ []) h = absurd h
-kind_number z (t ∷ P b ∷ P c ∷ ts) h = absurd h
-
--- the numbers of a colour of the palette behind any token
-abbrev palette_list : CsiParam → ℤ → List CsiParam → List CsiParam
-palette_list t n us = t ∷ P 59 ∷ Integer (pos 5) ∷ P 59 ∷ Integer n ∷ us
-
-palette_listed : (ts : List CsiParam) (n : ℤ) → 5 ≤ length ts → token ts 1 ≡ P 59 → token ts 2 ≡ Integer (pos 5) → token ts 3 ≡ P 59 → token ts 4 ≡ Integer n
-    → ts ≡ palette_list (token ts 0) n (drop 5 ts)
-palette_listed ts n h a b c d =
-    next_token ts 0 (token ts 0) (omega arith) refl
-    ∙ ap (λ us. token ts 0 ∷ us) (next_token ts 1 _ (omega arith) a
-    ∙ ap (λ us. P 59 ∷ us) (next_token ts 2 _ (omega arith) b
-    ∙ ap (λ us. Integer (pos 5) ∷ us) (next_token ts 3 _ (omega arith) c
-    ∙ ap (λ us. P 59 ∷ us) (next_token ts 4 _ (omega arith) d))))
-
-palette_told : (t : CsiParam) (n : ℤ) (us : List CsiParam) (c : ColorSpec) → Some c ≡ palette_of n
-    → told_color (palette_list t n us) ≡ Some (c, 5 + semicolon_at us 0)
-unfolding told_color colour_form
-palette_told t n us c e = ap (λ found. with_semicolon (palette_list t n us) (option_map (λ form. (form.0, form.1 + 1)) (taking 4 found))) (sym e)
-
--- what stands behind so many tokens
-whole_rest : (n : ℕ) (ts : List CsiParam) → n ≤ length ts → take (length ts - n) (drop n ts) ≡ drop n ts
-whole_rest n ts h = take_all (length ts - n) (drop n ts) (omega (arith, length-drop n ts))
-
-pub palette_front : (ts : List CsiParam) (n : ℤ) (c : ColorSpec) → 5 ≤ length ts → tells_kind (pos 5) ts → token ts 3 ≡ P 59 → token ts 4 ≡ Integer n
-    → Some c ≡ palette_of n → told_color ts ≡ Some (c, 5 + semicolon_at (take (length ts - 5) (drop 5 ts)) 0)
-palette_front ts n c h k d e found =
-    ap told_color (palette_listed ts n h (kind_semicolon (pos 5) ts k) (kind_number (pos 5) ts k) d e) ∙ palette_told (token ts 0) n (drop 5 ts) c found ∙ ap (λ us. Some (c, 5 + semicolon_at us 0)) (sym (whole_rest 5 ts h))
-
--- the numbers of an opaque colour behind any token
-abbrev opaque_list : CsiParam → ℤ → ℤ → ℤ → List CsiParam → List CsiParam
-opaque_list t x y z us = t ∷ P 59 ∷ Integer (pos 2) ∷ P 59 ∷ Integer x ∷ P 59 ∷ Integer y ∷ P 59 ∷ Integer z ∷ us
-
-opaque_listed : (ts : List CsiParam) (x y z : ℤ) → 9 ≤ length ts → token ts 1 ≡ P 59 → token ts 2 ≡ Integer (pos 2) → token ts 3 ≡ P 59 → token ts 4 ≡ Integer x
-    → token ts 5 ≡ P 59 → token ts 6 ≡ Integer y → token ts 7 ≡ P 59 → token ts 8 ≡ Integer z → ts ≡ opaque_list (token ts 0) x y z (drop 9 ts)
-opaque_listed ts x y z h a b c d e f g i =
-    next_token ts 0 (token ts 0) (omega arith) refl
-    ∙ ap (λ us. token ts 0 ∷ us) (next_token ts 1 _ (omega arith) a
-    ∙ ap (λ us. P 59 ∷ us) (next_token ts 2 _ (omega arith) b
-    ∙ ap (λ us. Integer (pos 2) ∷ us) (next_token ts 3 _ (omega arith) c
-    ∙ ap (λ us. P 59 ∷ us) (next_token ts 4 _ (omega arith) d
-    ∙ ap (λ us. Integer x ∷ us) (next_token ts 5 _ (omega arith) e
-    ∙ ap (λ us. P 59 ∷ us) (next_token ts 6 _ (omega arith) f
-    ∙ ap (λ us. Integer y ∷ us) (next_token ts 7 _ (omega arith) g
-    ∙ ap (λ us. P 59 ∷ us) (next_token ts 8 _ (omega arith) i))))))))
-
-opaque_told : (t : CsiParam) (x y z : ℤ) (us : List CsiParam) (c : ColorSpec) → Some c ≡ opaque_of x y z
-    → told_color (opaque_list t x y z us) ≡ Some (c, 9 + semicolon_at us 0)
-unfolding told_color colour_form
-opaque_told t x y z us c e = ap (λ found. with_semicolon (opaque_list t x y z us) (option_map (λ form. (form.0, form.1 + 1)) (taking 8 found))) (sym e)
-
-pub opaque_front : (ts : List CsiParam) (x y z : ℤ) (c : ColorSpec) → 9 ≤ length ts → tells_kind (pos 2) ts → token ts 3 ≡ P 59 → token ts 4 ≡ Integer x
-    → token ts 5 ≡ P 59 → token ts 6 ≡ Integer y → token ts 7 ≡ P 59 → token ts 8 ≡ Integer z → Some c ≡ opaque_of x y z
-    → told_color ts ≡ Some (c, 9 + semicolon_at (take (length ts - 9) (drop 9 ts)) 0)
-opaque_front ts x y z c h k d e f g i j found =
-    ap told_color (opaque_listed ts x y z h (kind_semicolon (pos 2) ts k) (kind_number (pos 2) ts k) d e f g i j) ∙ opaque_told (token ts 0) x y z (drop 9 ts) c found ∙ ap (λ us. Some (c, 9 + semicolon_at us 0)) (sym (whole_rest 9 ts h))
-
-no_more : (us : List CsiParam) → length us ≡ 0 → semicolon_at us 0 ≡ 0
-no_more [] h = refl
-no_more (t ∷ ts) h = absurd (omega arith)
-
-opaque_ends : (ts : List CsiParam) (x y z : ℤ) (c : ColorSpec) → length ts ≡ 9 → ts ≡ opaque_list (token ts 0) x y z (drop 9 ts) → Some c ≡ opaque_of x y z → told_color ts ≡ Some (c, length ts)
-opaque_ends ts x y z c h listed found =
-    let last : semicolon_at (drop 9 ts) 0 ≡ 0 = no_more (drop 9 ts) (omega (arith, length-drop 9 ts)) in
-    ap told_color listed ∙ opaque_told (token ts 0) x y z (drop 9 ts) c found ∙ ap (λ k. Some (c, k)) (omega (arith, last, h))
-
--- a colour that is all that stands behind its kind
-pub opaque_whole : (ts : List CsiParam) (x y z : ℤ) (c : ColorSpec) → length ts ≡ 9 → tells_kind (pos 2) ts → token ts 3 ≡ P 59 → token ts 4 ≡ Integer x
-    → token ts 5 ≡ P 59 → token ts 6 ≡ Integer y → token ts 7 ≡ P 59 → token ts 8 ≡ Integer z → Some c ≡ opaque_of x y z → told_color ts ≡ Some (c, length ts)
-opaque_whole ts x y z c h k d e f g i j found =
-    opaque_ends ts x y z c h (opaque_listed ts x y z (omega (arith, h)) (kind_semicolon (pos 2) ts k) (kind_number (pos 2) ts k) d e f g i j) found
-
-pub palette_whole : (ts : List CsiParam) (n : ℤ) (c : ColorSpec) → length ts ≡ 5 → tells_kind (pos 5) ts → token ts 3 ≡ P 59 → token ts 4 ≡ Integer n → Some c ≡ palette_of n
-    → told_color ts ≡ Some (c, length ts)
-palette_whole ts n c h k d e found =
-    let last : semicolon_at (drop 5 ts) 0 ≡ 0 = no_more (drop 5 ts) (omega (arith, length-drop 5 ts)) in
-    ap told_color (palette_listed ts n (omega (arith, h)) (kind_semicolon (pos 5) ts k) (kind_number (pos 5) ts k) d e)
-    ∙ palette_told (token ts 0) n (drop 5 ts) c found ∙ ap (λ k. Some (c, k)) (omega (arith, last, h))
-
--- any colour behind the first token
-pub color_told : (ts : List CsiParam) (c : ColorSpec) (n : ℕ) → colour_form (drop 1 ts) ≡ Some (c, n) → told_color ts ≡ Some (c, n + 1 + semicolon_at ts (n + 1))
-unfolding told_color
-color_told ts c n e = ap (λ found. with_semicolon ts (option_map (λ form. (form.0, form.1 + 1)) found)) e
-
--- ---- A colour behind its target's number
-
-coloured : (z : ℤ) (us : List CsiParam) (c : ColorSpec) (n : ℕ) → colour_form us ≡ Some (c, n) → IfSome (target_numbered z) (λ t. sgr_shape (Integer z ∷ us) ≡ Some (set_to t c, n + 1))
-unfolding sgr_shape numbered_shape
-coloured z us c n e = elim (cases_Bool (is_number 38 z)) [
-  | inl h ↦ rw (h, e) refl
-  | inr h ↦ elim (cases_Bool (is_number 48 z)) [
-    | inl i ↦ rw (h, i, e) refl
-    | inr i ↦ elim (cases_Bool (is_number 58 z)) [
-      | inl j ↦ rw (h, i, j, e) refl
-      | inr j ↦ rw (h, i, j) tt
-    ]
+opaque_told : (t u w : CsiParam) (us : List CsiParam) → semicolon_form (pos 2) us ≡ taking 8 (opaque_behind (t ∷ u ∷ w ∷ us))
+unfolding semicolon_form opaque_case opaque_behind
+opaque_told t u w [] = refl
+opaque_told t u w (Integer x ∷ us) = refl
+opaque_told t u w (P a ∷ []) = refl
+opaque_told t u w (P a ∷ P b ∷ us) = refl
+opaque_told t u w (P a ∷ Integer x ∷ []) = elim (cases_Bool (eqb a 59)) [ inl e ↦ rw e refl | inr e ↦ rw e refl ]
+opaque_told t u w (P a ∷ Integer x ∷ Integer y ∷ us) = elim (cases_Bool (eqb a 59)) [ inl e ↦ rw e refl | inr e ↦ rw e refl ]
+opaque_told t u w (P a ∷ Integer x ∷ P b ∷ []) = elim (cases_Bool (eqb a 59)) [ inl e ↦ rw e refl | inr e ↦ rw e refl ]
+opaque_told t u w (P a ∷ Integer x ∷ P b ∷ P c ∷ us) = elim (cases_Bool (eqb a 59)) [ inl e ↦ rw e refl | inr e ↦ rw e refl ]
+opaque_told t u w (P a ∷ Integer x ∷ P b ∷ Integer y ∷ []) = elim (cases_Bool (eqb a 59)) [
+  | inr e ↦ rw e refl
+  | inl e ↦ elim (cases_Bool (eqb b 59)) [ inl f ↦ rw (e, f) refl | inr f ↦ rw (e, f) refl ]
+]
+opaque_told t u w (P a ∷ Integer x ∷ P b ∷ Integer y ∷ Integer z ∷ us) = elim (cases_Bool (eqb a 59)) [
+  | inr e ↦ rw e refl
+  | inl e ↦ elim (cases_Bool (eqb b 59)) [ inl f ↦ rw (e, f) refl | inr f ↦ rw (e, f) refl ]
+]
+opaque_told t u w (P a ∷ Integer x ∷ P b ∷ Integer y ∷ P c ∷ []) = elim (cases_Bool (eqb a 59)) [
+  | inr e ↦ rw e refl
+  | inl e ↦ elim (cases_Bool (eqb b 59)) [ inl f ↦ rw (e, f) refl | inr f ↦ rw (e, f) refl ]
+]
+opaque_told t u w (P a ∷ Integer x ∷ P b ∷ Integer y ∷ P c ∷ P d ∷ us) = elim (cases_Bool (eqb a 59)) [
+  | inr e ↦ rw e refl
+  | inl e ↦ elim (cases_Bool (eqb b 59)) [ inl f ↦ rw (e, f) refl | inr f ↦ rw (e, f) refl ]
+]
+opaque_told t u w (P a ∷ Integer x ∷ P b ∷ Integer y ∷ P c ∷ Integer z ∷ us) = elim (cases_Bool (eqb a 59)) [
+  | inr e ↦ rw e refl
+  | inl e ↦ elim (cases_Bool (eqb b 59)) [
+    | inr f ↦ rw (e, f) refl
+    | inl f ↦ elim (cases_Bool (eqb c 59)) [ inl g ↦ rw (e, f, g) refl | inr g ↦ rw (e, f, g) refl ]
   ]
 ]
 
-targeted : (z : ℤ) (us : List CsiParam) (t : Target) (c : ColorSpec) (n : ℕ) (found : Option (ColorSpec × ℕ)) → colour_form us ≡ found → target_numbered z ≡ Some t
-    → with_semicolon (Integer z ∷ us) (option_map (λ form. (form.0, form.1 + 1)) found) ≡ Some (c, n) → sgr_piece (Integer z ∷ us) ≡ Some (set_to t c, n)
-unfolding sgr_piece
-targeted z us t c n None form target e = absurd (nothing_told e)
+-- the form of a colour told with `;`
+told_form : (k : ℤ) (us : List CsiParam) → colour_form (P 59 ∷ Integer k ∷ us) ≡ semicolon_form k us
+unfolding form_case
+told_form k us = sym (colour_form_is_case (P 59 ∷ Integer k ∷ us))
+
+-- ---- A colour behind its target's number
+
+targets : (p q r : Bool) (a b c : Target) (t : Target) (x y z w v : Option (Sgr × ℕ)) (s : Bool) (Q : Target → Option (Sgr × ℕ))
+    → Q a ≡ x → Q b ≡ y → Q c ≡ z → cond p (Some a) (cond q (Some b) (cond r (Some c) None)) ≡ Some t → cond p x (cond q y (cond r z (cond s w v))) ≡ Q t
+targets true q r a b c t x y z w v s Q e f g h = let same : a ≡ t = cc in sym e ∙ ap Q same
+targets false true r a b c t x y z w v s Q e f g h = let same : b ≡ t = cc in sym f ∙ ap Q same
+targets false false true a b c t x y z w v s Q e f g h = let same : c ≡ t = cc in sym g ∙ ap Q same
+targets false false false a b c t x y z w v s Q e f g h = absurd (nothing h)
   where
-    nothing_told : {A : Type 0} {a : A} → None ≡ Some a → ⊥
-    nothing_told e = cc
-targeted z us t c n (Some f) form target e =
-    let shape : sgr_shape (Integer z ∷ us) ≡ Some (set_to t f.0, f.1 + 1) =
-    subst (λ found. IfSome found (λ t. sgr_shape (Integer z ∷ us) ≡ Some (set_to t f.0, f.1 + 1))) target (coloured z us f.0 f.1 form) in
-    ap (with_semicolon (Integer z ∷ us)) shape ∙ ap (option_map (λ told. (set_to t told.0, told.1))) e
+    nothing : {A : Type 0} {a : A} → None ≡ Some a → ⊥
+    nothing e = cc
 
-pub target_told : (ts : List CsiParam) (t : Target) (c : ColorSpec) (n : ℕ) → begins_with_target t ts → told_color ts ≡ Some (c, n) → sgr_piece ts ≡ Some (set_to t c, n)
-unfolding told_color
-target_told [] t c n h e = absurd h
-target_told (P b ∷ us) t c n h e = absurd h
-target_told (Integer y ∷ us) t c n h e = targeted y us t c n (colour_form us) refl h e
-
-pub with_target : (z : ℤ) (ts : List CsiParam) (t : Target) → begins_with z ts → target_numbered z ≡ Some t → begins_with_target t ts
-with_target z [] t h e = absurd h
-with_target z (P b ∷ us) t h e = absurd h
-with_target z (Integer y ∷ us) t h e = ap target_numbered h ∙ e
-
--- ---- A number in front of another token than a `;`
-
-pub numbered_found : (z : ℤ) (ts : List CsiParam) (v : Sgr) (n : ℕ) → begins_with z ts → numbered_shape z (drop 1 ts) ≡ Some (v, n) → sgr_piece ts ≡ Some (v, n + semicolon_at ts n)
-unfolding sgr_piece sgr_shape
-numbered_found z [] v n h e = absurd h
-numbered_found z (P b ∷ us) v n h e = absurd h
-numbered_found z (Integer y ∷ us) v n h e = ap (with_semicolon (Integer y ∷ us)) (ap (λ k. numbered_shape k us) h ∙ e)
-
-pub underline_found : (z : ℤ) (us : List CsiParam) (v : Sgr) (n : ℕ) → z ≡ pos 4 → underline_shape us ≡ Some (v, n) → numbered_shape z us ≡ Some (v, n)
+pub targeted_shape : (z : ℤ) (us : List CsiParam) (t : Target) → target_numbered z ≡ Some t → numbered_shape z us ≡ colour_shape (set_to t) us
 unfolding numbered_shape
-underline_found z us v n h e = ap (λ k. numbered_shape k us) h ∙ e
+targeted_shape z us t e =
+    targets (is_number 38 z) (is_number 48 z) (is_number 58 z) target.Foreground target.Background target.Underline t _ _ _ _ _ (is_number 4 z) (λ t. colour_shape (set_to t) us) refl refl refl e
+
+-- the piece of a colour told with `;`
+told_piece : (y k : ℤ) (us : List CsiParam) (t : Target) → target_numbered y ≡ Some t
+    → sgr_piece (Integer y ∷ P 59 ∷ Integer k ∷ us) ≡ with_semicolon (Integer y ∷ P 59 ∷ Integer k ∷ us) (option_map (λ form. (set_to t form.0, form.1 + 1)) (semicolon_form k us))
+unfolding sgr_piece sgr_shape
+told_piece y k us t e =
+    ap (with_semicolon (Integer y ∷ P 59 ∷ Integer k ∷ us))
+    (targeted_shape y (P 59 ∷ Integer k ∷ us) t e ∙ ap (option_map (λ form. (set_to t form.0, form.1 + 1))) (told_form k us))
+
+one_more : {A B : Type 0} (n : ℕ) (f : A → B) (value : Option A) → option_map (λ form. (f form.0, form.1 + 1)) (taking n value) ≡ taking (n + 1) (option_map f value)
+one_more n f None = refl
+one_more n f (Some v) = refl
+
+pub palette_piece : (t : Target) (ts : List CsiParam) → IsTold t (pos 5) ts → sgr_piece ts ≡ with_semicolon ts (taking 5 (option_map (set_to t) (palette_behind ts)))
+palette_piece t (Integer y ∷ P b ∷ Integer k ∷ us) h =
+    let Q : List CsiParam → Type 0 = λ ts. sgr_piece ts ≡ with_semicolon ts (taking 5 (option_map (set_to t) (palette_behind ts))) in
+    subst (λ k. Q (Integer y ∷ P b ∷ Integer k ∷ us)) (sym h.1.1) (subst (λ b. Q (Integer y ∷ P b ∷ Integer (pos 5) ∷ us)) (sym h.1.0)
+    (told_piece y (pos 5) us t h.0
+    ∙ ap (with_semicolon (Integer y ∷ P 59 ∷ Integer (pos 5) ∷ us))
+    (ap (option_map (λ form. (set_to t form.0, form.1 + 1))) (palette_told (Integer y) (P 59) (Integer (pos 5)) us) ∙ one_more 4 (set_to t) (palette_behind (Integer y ∷ P 59 ∷ Integer (pos 5) ∷ us)))))
+palette_piece t [] h = absurd h
+palette_piece t (P b ∷ ts) h = absurd h
+palette_piece t (Integer y ∷ []) h = absurd h
+palette_piece t (Integer y ∷ Integer z ∷ ts) h = absurd h
+palette_piece t (Integer y ∷ P b ∷ []) h = absurd h
+palette_piece t (Integer y ∷ P b ∷ P c ∷ ts) h = absurd h
+
+pub opaque_piece : (t : Target) (ts : List CsiParam) → IsTold t (pos 2) ts → sgr_piece ts ≡ with_semicolon ts (taking 9 (option_map (set_to t) (opaque_behind ts)))
+opaque_piece t (Integer y ∷ P b ∷ Integer k ∷ us) h =
+    let Q : List CsiParam → Type 0 = λ ts. sgr_piece ts ≡ with_semicolon ts (taking 9 (option_map (set_to t) (opaque_behind ts))) in
+    subst (λ k. Q (Integer y ∷ P b ∷ Integer k ∷ us)) (sym h.1.1) (subst (λ b. Q (Integer y ∷ P b ∷ Integer (pos 2) ∷ us)) (sym h.1.0)
+    (told_piece y (pos 2) us t h.0
+    ∙ ap (with_semicolon (Integer y ∷ P 59 ∷ Integer (pos 2) ∷ us))
+    (ap (option_map (λ form. (set_to t form.0, form.1 + 1))) (opaque_told (Integer y) (P 59) (Integer (pos 2)) us) ∙ one_more 8 (set_to t) (opaque_behind (Integer y ∷ P 59 ∷ Integer (pos 2) ∷ us)))))
+opaque_piece t [] h = absurd h
+opaque_piece t (P b ∷ ts) h = absurd h
+opaque_piece t (Integer y ∷ []) h = absurd h
+opaque_piece t (Integer y ∷ Integer z ∷ ts) h = absurd h
+opaque_piece t (Integer y ∷ P b ∷ []) h = absurd h
+opaque_piece t (Integer y ∷ P b ∷ P c ∷ ts) h = absurd h
+
+-- no other kind is told with `;`
+pub no_kind : (y k : ℤ) (us : List CsiParam) (t : Target) → target_numbered y ≡ Some t → (k ≡ pos 5 → ⊥) → (k ≡ pos 2 → ⊥) → sgr_piece (Integer y ∷ P 59 ∷ Integer k ∷ us) ≡ None
+unfolding semicolon_form
+no_kind y k us t e five two =
+    told_piece y k us t e ∙ ap (λ found. with_semicolon (Integer y ∷ P 59 ∷ Integer k ∷ us) (option_map (λ form. (set_to t form.0, form.1 + 1)) found)) (neither (is_number 5 k) (is_number 2 k) refl refl)
+  where
+    neither : (p q : Bool) → is_number 5 k ≡ p → is_number 2 k ≡ q → cond p (palette_case 59 us) (cond q (opaque_case 59 8 us) None) ≡ None
+    neither true q h i = absurd (five (number_is 5 k h))
+    neither false true h i = absurd (two (number_is 2 k i))
+    neither false false h i = refl
+
+-- nor is a colour without a kind
+pub no_number : (y : ℤ) (us : List CsiParam) (t : Target) → target_numbered y ≡ Some t → colour_form (P 59 ∷ us) ≡ None → sgr_piece (Integer y ∷ P 59 ∷ us) ≡ None
+unfolding sgr_piece sgr_shape
+no_number y us t e none = ap (with_semicolon (Integer y ∷ P 59 ∷ us)) (targeted_shape y (P 59 ∷ us) t e ∙ ap (option_map (λ form. (set_to t form.0, form.1 + 1))) none)
+
+-- ---- How many tokens are read then
+
+abbrev pub with_end : Sgr → Option ℕ → Option (Sgr × ℕ)
+with_end v n = option_map (λ n. (v, n)) n
+
+abbrev if_so : Bool → Sgr × ℕ → Option (Sgr × ℕ)
+if_so b found = cond b (Some found) None
+
+fst_only : (b : Bool) (v : Sgr) (n : ℕ) → if_so b (v, n) ≡ with_end v (cond b (Some n) None)
+fst_only true v n = refl
+fst_only false v n = refl
+
+not_empty : (ts : List CsiParam) → 0 < length ts → first_setting ts ≡ before_tokens ts (sgr_piece ts)
+unfolding first_setting
+not_empty [] h = absurd (omega arith)
+not_empty (t ∷ ts) h = refl
+
+pub first_ended : (ts : List CsiParam) (n : ℕ) (value : Option Sgr) → 0 < length ts → sgr_piece ts ≡ with_semicolon ts (taking n value) → first_setting ts ≡ ended 0 n ts value
+unfolding end_at
+first_ended ts n None h e = not_empty ts h ∙ ap (before_tokens ts) e
+first_ended ts n (Some v) h e =
+    let z : n ≡ 0 + n = omega arith in
+    not_empty ts h ∙ ap (before_tokens ts) e ∙ fst_only (all_sgr_tokens (drop (n + semicolon_at ts n) ts)) v (n + semicolon_at ts n)
+    ∙ ap (λ m. with_end v (behind_all 0 ts (m + semicolon_at ts m))) z
+
+-- a `;` at a place of what stands behind some tokens
+sign_behind : (read n : ℕ) (ts : List CsiParam) → semicolon_at (drop read ts) n ≡ semicolon_at ts (read + n)
+sign_behind zero n ts = let e : n ≡ 0 + n = omega arith in ap (semicolon_at ts) e
+sign_behind (suc read) n [] = refl
+sign_behind (suc read) n (t ∷ ts) = let e : suc (read + n) ≡ suc read + n = omega arith in sign_behind read n ts ∙ ap (semicolon_at (t ∷ ts)) e
+
+some_read : (read : ℕ) → 0 < read → nat_lt 0 read ≡ true
+some_read read h = grind (arith, nat_tests)
+
+pub further_ended : (read : ℕ) (ts : List CsiParam) (n : ℕ) (value : Option Sgr) → 0 < read → sgr_piece (drop read ts) ≡ with_semicolon (drop read ts) (taking n value)
+    → further_setting read ts ≡ ended read n ts value
+unfolding end_at further_setting
+further_ended read ts n None h e = ap (counted_from read) e
+further_ended read ts n (Some v) h e =
+    let k : read + (n + semicolon_at (drop read ts) n) ≡ read + n + semicolon_at ts (read + n) = omega (arith, sign_behind read n ts) in
+    ap (counted_from read) e ∙ ap (λ k. with_end v (Some k)) k
+    ∙ ap (λ b. with_end v (cond (b || all_sgr_tokens (drop (read + n + semicolon_at ts (read + n)) ts)) (Some (read + n + semicolon_at ts (read + n))) None)) (sym (some_read read h))
+
+-- nothing stands behind a shape that ends the list
+no_sign : (ts : List CsiParam) (n : ℕ) → length ts ≤ n → semicolon_at ts n ≡ 0
+no_sign [] n h = refl
+no_sign (t ∷ ts) zero h = absurd (omega arith)
+no_sign (t ∷ ts) (suc n) h = no_sign ts n (omega arith)
+
+no_tokens : (ts : List CsiParam) (n : ℕ) → length ts ≤ n → all_sgr_tokens (drop n ts) ≡ true
+no_tokens ts n h = nothing (drop n ts) (omega (arith, length-drop n ts))
+  where
+    nothing : (us : List CsiParam) → length us ≡ 0 → all_sgr_tokens us ≡ true
+    nothing [] e = refl
+    nothing (t ∷ us) e = absurd (omega arith)
+
+or_true : (a b : Bool) → b ≡ true → (a || b) ≡ true
+or_true true b h = refl
+or_true false b h = h
+
+pub ends_list : (read n : ℕ) (ts : List CsiParam) → read + n ≡ length ts → end_at read n ts ≡ Some (length ts)
+unfolding end_at
+ends_list read n ts h =
+    let k : read + n + semicolon_at ts (read + n) ≡ length ts = omega (arith, no_sign ts (read + n) (omega (arith, h)), h) in
+    ap (behind_all read ts) k ∙ ap (λ b. cond b (Some (length ts)) None) (or_true (nat_lt 0 read) (all_sgr_tokens (drop (length ts) ts)) (no_tokens ts (length ts) (omega arith)))
+
+-- ---- A colour told with `;`, and how many tokens are read then
+
+nothing_told : {A : Type 0} {a : A} → None ≡ Some a → ⊥
+nothing_told e = cc
+
+pub told_some : (t : Target) (k : ℤ) (ts : List CsiParam) → IsTold t k ts → 0 < length ts
+told_some t k [] h = absurd h
+told_some t k (x ∷ ts) h = omega arith
+
+pub palette_length : (ts : List CsiParam) (c : ColorSpec) → palette_behind ts ≡ Some c → 5 ≤ length ts
+unfolding palette_behind
+palette_length (t ∷ u ∷ w ∷ P b ∷ Integer n ∷ ts) c e = omega arith
+palette_length _ c e = absurd (nothing_told e)
+
+pub opaque_length : (ts : List CsiParam) (c : ColorSpec) → opaque_behind ts ≡ Some c → 9 ≤ length ts
+unfolding opaque_behind
+opaque_length (t ∷ u ∷ w ∷ P a ∷ Integer x ∷ P b ∷ Integer y ∷ P d ∷ Integer z ∷ ts) c e = omega arith
+opaque_length _ c e = absurd (nothing_told e)
+
+pub first_palette : (t : Target) (ts : List CsiParam) (found : Option ColorSpec) → IsTold t (pos 5) ts → palette_behind ts ≡ found → first_setting ts ≡ ended 0 5 ts (option_map (set_to t) found)
+first_palette t ts found h e = first_ended ts 5 (option_map (set_to t) found) (told_some t (pos 5) ts h) (palette_piece t ts h ∙ ap (λ found. with_semicolon ts (taking 5 (option_map (set_to t) found))) e)
+
+pub first_opaque : (t : Target) (ts : List CsiParam) (found : Option ColorSpec) → IsTold t (pos 2) ts → opaque_behind ts ≡ found → first_setting ts ≡ ended 0 9 ts (option_map (set_to t) found)
+first_opaque t ts found h e = first_ended ts 9 (option_map (set_to t) found) (told_some t (pos 2) ts h) (opaque_piece t ts h ∙ ap (λ found. with_semicolon ts (taking 9 (option_map (set_to t) found))) e)
+
+pub further_palette : (read : ℕ) (ts us : List CsiParam) (t : Target) (found : Option ColorSpec) → 0 < read → us ≡ drop read ts → IsTold t (pos 5) us → palette_behind us ≡ found
+    → further_setting read ts ≡ ended read 5 ts (option_map (set_to t) found)
+further_palette read ts us t found some at h e =
+    let Q : List CsiParam → Type 0 = λ us. sgr_piece us ≡ with_semicolon us (taking 5 (option_map (set_to t) found)) in
+    further_ended read ts 5 (option_map (set_to t) found) some (subst Q at (palette_piece t us h ∙ ap (λ found. with_semicolon us (taking 5 (option_map (set_to t) found))) e))
+
+pub further_opaque : (read : ℕ) (ts us : List CsiParam) (t : Target) (found : Option ColorSpec) → 0 < read → us ≡ drop read ts → IsTold t (pos 2) us → opaque_behind us ≡ found
+    → further_setting read ts ≡ ended read 9 ts (option_map (set_to t) found)
+further_opaque read ts us t found some at h e =
+    let Q : List CsiParam → Type 0 = λ us. sgr_piece us ≡ with_semicolon us (taking 9 (option_map (set_to t) found)) in
+    further_ended read ts 9 (option_map (set_to t) found) some (subst Q at (opaque_piece t us h ∙ ap (λ found. with_semicolon us (taking 9 (option_map (set_to t) found))) e))
+
+-- with the number of tokens that was found
+pub told_to : (t : Target) (c : ColorSpec) (v : Sgr) (read n : ℕ) (ts : List CsiParam) (found : Option ℕ) → v ≡ set_to t c → end_at read n ts ≡ found
+    → ended read n ts (option_map (set_to t) (Some c)) ≡ with_end v found
+told_to t c v read n ts found e last = ap (λ v. with_end v (end_at read n ts)) (sym e) ∙ ap (with_end v) last
+
+-- ---- A piece, wherever it was read
+
+pub first_told : (ts : List CsiParam) (v : Sgr) (n : ℕ) (b : Bool) → 0 < length ts → sgr_piece ts ≡ Some (v, n) → all_sgr_tokens (drop n ts) ≡ b → first_setting ts ≡ if_so b (v, n)
+first_told ts v n b h e tokens = not_empty ts h ∙ ap (before_tokens ts) e ∙ ap (λ b. if_so b (v, n)) tokens
+
+pub further_told : (read : ℕ) (ts us : List CsiParam) (v : Sgr) (n : ℕ) → us ≡ drop read ts → sgr_piece us ≡ Some (v, n) → further_setting read ts ≡ Some (v, read + n)
+unfolding further_setting
+further_told read ts us v n at e = ap (λ us. counted_from read (sgr_piece us)) (sym at) ∙ ap (counted_from read) e
+
+-- ---- A number with a meaning of its own, in front of a `;`
+
+pub signed_piece : (ts : List CsiParam) (v : Sgr) (z : ℤ) → begins_signed z ts → plain_code z ≡ Some v → sgr_piece ts ≡ Some (v, 2)
+signed_piece (Integer y ∷ P b ∷ ts) v z h e =
+    subst (λ b. sgr_piece (Integer y ∷ P b ∷ ts) ≡ Some (v, 2)) (sym h.1) (plain_next y ts v (ap plain_code h.0 ∙ e))
+signed_piece [] v z h e = absurd h
+signed_piece (P b ∷ ts) v z h e = absurd h
+signed_piece (Integer y ∷ []) v z h e = absurd h
+signed_piece (Integer y ∷ Integer z' ∷ ts) v z h e = absurd h
+
+pub first_signed : (ts : List CsiParam) (v : Sgr) (z : ℤ) (b : Bool) → 0 < length ts → begins_signed z ts → plain_code z ≡ Some v → all_sgr_tokens (drop 2 ts) ≡ b
+    → first_setting ts ≡ if_so b (v, 2)
+first_signed ts v z b h front e tokens = first_told ts v 2 b h (signed_piece ts v z front e) tokens
+
+pub further_signed : (read : ℕ) (ts us : List CsiParam) (v : Sgr) (z : ℤ) → us ≡ drop read ts → begins_signed z us → plain_code z ≡ Some v → further_setting read ts ≡ Some (v, read + 2)
+further_signed read ts us v z at front e = further_told read ts us v 2 at (signed_piece us v z front e)
+
+-- ---- A list with no piece
+
+pub first_lost : (ts : List CsiParam) → 0 < length ts → sgr_piece ts ≡ None → first_setting ts ≡ None
+first_lost ts h e = not_empty ts h ∙ ap (before_tokens ts) e
+
+pub further_lost : (read : ℕ) (ts us : List CsiParam) → us ≡ drop read ts → sgr_piece us ≡ None → further_setting read ts ≡ None
+unfolding further_setting
+further_lost read ts us at e = ap (λ us. counted_from read (sgr_piece us)) (sym at) ∙ ap (counted_from read) e
+
+-- a number that means nothing
+meaningless : (p q r s : Bool) (a b c d e : Option (Sgr × ℕ)) → (p ≡ true → a ≡ None) → (q ≡ true → b ≡ None) → (r ≡ true → c ≡ None) → (s ≡ true → ⊥) → e ≡ None
+    → cond p a (cond q b (cond r c (cond s d e))) ≡ None
+meaningless true q r s a b c d e f g h i j = f refl
+meaningless false true r s a b c d e f g h i j = g refl
+meaningless false false true s a b c d e f g h i j = h refl
+meaningless false false false true a b c d e f g h i j = absurd (i refl)
+meaningless false false false false a b c d e f g h i j = j
+
+is_single : (z : ℤ) → plain_code z ≡ None → is_number 4 z ≡ true → ⊥
+unfolding single_code
+is_single z e h = let f : plain_code (pos 4) ≡ None = sym (ap plain_code (number_is 4 z h)) ∙ e in cc
+
+is_target : (n : ℕ) (z : ℤ) (t : Target) → target_numbered (pos n) ≡ Some t → target_numbered z ≡ None → is_number n z ≡ true → ⊥
+is_target n z t e none h = let f : None ≡ Some t = sym none ∙ (ap target_numbered (number_is n z h) ∙ e) in nothing_told f
+
+unnumbered : (z : ℤ) (us : List CsiParam) → target_numbered z ≡ None → plain_code z ≡ None → numbered_shape z us ≡ None
+unfolding numbered_shape
+unnumbered z us none plain =
+    meaningless (is_number 38 z) (is_number 48 z) (is_number 58 z) (is_number 4 z) _ _ _ _ _
+    (λ h. absurd (is_target 38 z target.Foreground refl none h)) (λ h. absurd (is_target 48 z target.Background refl none h)) (λ h. absurd (is_target 58 z target.Underline refl none h))
+    (is_single z plain) (ap (taking 1) plain)
+
+-- the foreground's number is a target's
+pub is_foreground : (z : ℤ) → target_numbered z ≡ None → is_number 38 z ≡ true → ⊥
+is_foreground z none h = is_target 38 z target.Foreground refl none h
+
+pub no_meaning : (z : ℤ) (ts : List CsiParam) → begins_signed z ts → target_numbered z ≡ None → plain_code z ≡ None → sgr_piece ts ≡ None
+unfolding sgr_piece sgr_shape
+no_meaning z (Integer y ∷ P b ∷ us) h none plain =
+    ap (with_semicolon (Integer y ∷ P b ∷ us)) (unnumbered y (P b ∷ us) (ap target_numbered h.0 ∙ none) (ap plain_code h.0 ∙ plain))
+no_meaning z [] h none plain = absurd h
+no_meaning z (P b ∷ us) h none plain = absurd h
+no_meaning z (Integer y ∷ []) h none plain = absurd h
+no_meaning z (Integer y ∷ Integer x ∷ us) h none plain = absurd h
+
+-- a target's number and a `;` without a number behind it, or with one that is no kind
+no_form : (us : List CsiParam) → form_case (P 59 ∷ us) ≡ None → colour_form (P 59 ∷ us) ≡ None
+no_form us e = sym (colour_form_is_case (P 59 ∷ us)) ∙ e
+
+abbrev third : List CsiParam → CsiParam
+third ts = slice_index_or ts 2 (Integer (pos 0))
+
+pub no_more : (z : ℤ) (ts : List CsiParam) (t : Target) → begins_signed z ts → target_numbered z ≡ Some t → length ts < 3 → sgr_piece ts ≡ None
+unfolding form_case
+no_more z (Integer y ∷ P b ∷ []) t h e l = subst (λ b. sgr_piece (Integer y ∷ P b ∷ []) ≡ None) (sym h.1) (no_number y [] t (ap target_numbered h.0 ∙ e) (no_form [] refl))
+no_more z (Integer y ∷ P b ∷ x ∷ us) t h e l = absurd (omega arith)
+no_more z [] t h e l = absurd h
+no_more z (P b ∷ us) t h e l = absurd h
+no_more z (Integer y ∷ []) t h e l = absurd h
+no_more z (Integer y ∷ Integer x ∷ us) t h e l = absurd h
+
+pub other_sign : (z : ℤ) (ts : List CsiParam) (t : Target) (d : ℕ) → begins_signed z ts → target_numbered z ≡ Some t → 3 ≤ length ts → third ts ≡ P d → sgr_piece ts ≡ None
+unfolding form_case
+other_sign z (Integer y ∷ P b ∷ x ∷ us) t d h e l k =
+    subst (λ b. sgr_piece (Integer y ∷ P b ∷ x ∷ us) ≡ None) (sym h.1) (subst (λ x. sgr_piece (Integer y ∷ P 59 ∷ x ∷ us) ≡ None) (sym k)
+    (no_number y (P d ∷ us) t (ap target_numbered h.0 ∙ e) (no_form (P d ∷ us) refl)))
+other_sign z (Integer y ∷ P b ∷ []) t d h e l k = absurd (omega arith)
+other_sign z [] t d h e l k = absurd h
+other_sign z (P b ∷ us) t d h e l k = absurd h
+other_sign z (Integer y ∷ []) t d h e l k = absurd h
+other_sign z (Integer y ∷ Integer x ∷ us) t d h e l k = absurd h
+
+pub other_kind : (z : ℤ) (ts : List CsiParam) (t : Target) (n : ℤ) → begins_signed z ts → target_numbered z ≡ Some t → 3 ≤ length ts → third ts ≡ Integer n → (n ≡ pos 5 → ⊥) → (n ≡ pos 2 → ⊥)
+    → sgr_piece ts ≡ None
+other_kind z (Integer y ∷ P b ∷ x ∷ us) t n h e l k five two =
+    subst (λ b. sgr_piece (Integer y ∷ P b ∷ x ∷ us) ≡ None) (sym h.1) (subst (λ x. sgr_piece (Integer y ∷ P 59 ∷ x ∷ us) ≡ None) (sym k)
+    (no_kind y n us t (ap target_numbered h.0 ∙ e) five two))
+other_kind z (Integer y ∷ P b ∷ []) t n h e l k five two = absurd (omega arith)
+other_kind z [] t n h e l k five two = absurd h
+other_kind z (P b ∷ us) t n h e l k five two = absurd h
+other_kind z (Integer y ∷ []) t n h e l k five two = absurd h
+other_kind z (Integer y ∷ Integer x ∷ us) t n h e l k five two = absurd h
+
+-- ---- A number alone, and the empty list
+
+abbrev first_token : List CsiParam → CsiParam
+first_token ts = slice_index_or ts 0 (Integer (pos 0))
+
+unnumbered_alone : (z : ℤ) → plain_code z ≡ None → numbered_shape z [] ≡ None
+unfolding numbered_shape colour_form
+unnumbered_alone z plain =
+    meaningless (is_number 38 z) (is_number 48 z) (is_number 58 z) (is_number 4 z) _ _ _ _ _ (λ h. refl) (λ h. refl) (λ h. refl) (is_single z plain) (ap (taking 1) plain)
+
+pub alone_lost : (ts : List CsiParam) (z : ℤ) → 1 ≤ length ts → length ts < 2 → first_token ts ≡ Integer z → plain_code z ≡ None → sgr_piece ts ≡ None
+unfolding sgr_piece sgr_shape
+alone_lost [] z h l e plain = absurd (omega arith)
+alone_lost (t ∷ []) z h l e plain = subst (λ t. sgr_piece (t ∷ []) ≡ None) (sym e) (ap (with_semicolon (Integer z ∷ [])) (unnumbered_alone z plain))
+alone_lost (t ∷ u ∷ ts) z h l e plain = absurd (omega arith)
+
+pub alone_piece : (ts : List CsiParam) (v : Sgr) (z : ℤ) → 1 ≤ length ts → length ts < 2 → first_token ts ≡ Integer z → plain_code z ≡ Some v → sgr_piece ts ≡ Some (v, 1)
+alone_piece [] v z h l e plain = absurd (omega arith)
+alone_piece (t ∷ []) v z h l e plain = subst (λ t. sgr_piece (t ∷ []) ≡ Some (v, 1)) (sym e) (plain_last z v plain)
+alone_piece (t ∷ u ∷ ts) v z h l e plain = absurd (omega arith)
+
+pub first_alone : (ts : List CsiParam) (v : Sgr) (z : ℤ) → 1 ≤ length ts → length ts < 2 → first_token ts ≡ Integer z → plain_code z ≡ Some v → first_setting ts ≡ Some (v, 1)
+first_alone ts v z h l e plain = first_told ts v 1 true (omega arith) (alone_piece ts v z h l e plain) (no_tokens ts 1 (omega arith))
+
+pub further_alone : (read : ℕ) (ts us : List CsiParam) (v : Sgr) (z : ℤ) → us ≡ drop read ts → 1 ≤ length us → length us < 2 → first_token us ≡ Integer z → plain_code z ≡ Some v
+    → further_setting read ts ≡ Some (v, length ts)
+further_alone read ts us v z at h l e plain =
+    let k : read + 1 ≡ length ts = omega (arith, ap length at, length-drop read ts) in
+    further_told read ts us v 1 at (alone_piece us v z h l e plain) ∙ ap (λ n. Some (v, n)) k
+
+pub empty_reset : (ts : List CsiParam) → length ts < 1 → first_setting ts ≡ Some (sgr.Reset, 1)
+unfolding first_setting
+empty_reset [] h = refl
+empty_reset (t ∷ ts) h = absurd (omega arith)
 
 -- ---- Two places
 

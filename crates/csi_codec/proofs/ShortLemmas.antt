@@ -29,7 +29,7 @@ reset_only = λ truncated. refl
 
 pub rendition_only : (n : ℕ) (v : Sgr) → plain_code (pos n) ≡ Some v → IsOnly (Integer (pos n) ∷ []) 109 (sgr v)
 unfolding csi_reading pieces
-rendition_only n v e = λ truncated. (rendition_found (Integer (pos n) ∷ []) v 1 (omega arith) (plain_last (pos n) v e) refl).actions truncated 109
+rendition_only n v e = λ truncated. rendition_found (Integer (pos n) ∷ []) v 1 truncated 109 (omega arith) (plain_last (pos n) v e) refl
 
 is_other : (n m : ℕ) → (n ≡ m → ⊥) → eqb n m ≡ false
 is_other n m h = grind (arith, nat_tests)
@@ -89,4 +89,4 @@ pub palette_only : (t n : ℕ) (v : Sgr) → n ≤ 255 → targeted (pos t) (Pal
 unfolding csi_reading pieces
 palette_only t n v h e =
     let ts : List CsiParam = Integer (pos t) ∷ P 59 ∷ Integer (pos 5) ∷ P 59 ∷ Integer (pos n) ∷ [] in
-    λ truncated. (rendition_found ts v 5 (omega arith) (semicolon_found ts v 5 (palette_shape t n v h e)) refl).actions truncated 109
+    λ truncated. rendition_found ts v 5 truncated 109 (omega arith) (semicolon_found ts v 5 (palette_shape t n v h e)) refl

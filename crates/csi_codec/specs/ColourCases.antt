@@ -1,16 +1,16 @@
 -- The forms of a colour by cases, as the code reads them: it looks at the sign and the kind, and then at the numbers
 -- behind them. It is only there for the contracts of private steps; what a colour is stands in `Rendition`.
-use Rattle.std.specs.Prelude.{◌≡◌, ℕ, ℤ, List, [], ◌∷◌, drop, Option, Some, None, ◌==◌, ◌+◌, if◌then◌else◌, option_map, option_and_then}
+use Rattle.std.specs.Prelude.{◌≡◌, ℕ, ℤ, List, ◌∷◌, ◌&&◌, Bool, false, Option, Some, None, ◌==◌, if◌then◌else◌, option_map, option_and_then}
 use Rattle.cell_base.specs.declared.color.ColorSpec.{ColorSpec}
 use Rattle.cell_base.specs.declared.color.ColorSpec.TheVariants as color
 use Rattle.csi_codec.specs.declared.parameters.CsiParam.{CsiParam}
 use Rattle.csi_codec.specs.declared.parameters.CsiParam.TheVariants.{Integer, P}
-use Rattle.csi_codec.specs.Parameters.{is_number, number_within, with_semicolon}
+use Rattle.csi_codec.specs.Parameters.{is_number, number_within}
 use Rattle.csi_codec.specs.declared.rendition.Sgr.{Sgr}
 use Rattle.csi_codec.specs.declared.rendition.Sgr.TheVariants as sgr
 use Rattle.csi_codec.specs.declared.sgr_reading.Target.{Target}
 use Rattle.csi_codec.specs.declared.sgr_reading.Target.TheVariants as target
-use Rattle.csi_codec.specs.Rendition.{colour, colour_form, taking}
+use Rattle.csi_codec.specs.Rendition.{colour, taking}
 
 -- the number behind a sign, and what follows it
 abbrev pub number_behind : ℕ → List CsiParam → Option (ℤ × List CsiParam)
@@ -68,26 +68,21 @@ unfoldable pub form_case : List CsiParam → Option (ColorSpec × ℕ)
 form_case (P b ∷ Integer kind ∷ ts) = if b == 58 then colon_form kind ts else (if b == 59 then semicolon_form kind ts else None)
 form_case _ = None
 
--- ---- Settings of SGR that are one number, or a colour whose numbers stand apart by `;`
-
--- a list begins with this number
-abbrev pub begins_with : ℤ → List CsiParam → Type 0
-begins_with z [] = ⊥
-begins_with z (P b ∷ ts) = ⊥
-begins_with z (Integer y ∷ ts) = y ≡ z
-
--- behind a list's first token stand a `;` and this number, the kind of a colour
-abbrev pub tells_kind : ℤ → List CsiParam → Type 0
-tells_kind z (t ∷ P b ∷ Integer y ∷ ts) = (b ≡ 59) × (y ≡ z)
-tells_kind z _ = ⊥
+-- ---- A colour told with `;`
 
 -- the colour of the palette that a number names
 abbrev pub palette_of : ℤ → Option ColorSpec
 palette_of n = option_map color.PaletteIndex (number_within 255 n)
 
--- the colour behind the first token, and how many tokens it takes with that and with the `;` right behind it
-unfoldable pub told_color : List CsiParam → Option (ColorSpec × ℕ)
-told_color ts = with_semicolon ts (option_map (λ form. (form.0, form.1 + 1)) (colour_form (drop 1 ts)))
+-- the colour of the palette whose number stands behind the first three tokens, the last of which is its kind
+unfoldable pub palette_behind : List CsiParam → Option ColorSpec
+palette_behind (t ∷ u ∷ w ∷ P b ∷ Integer n ∷ ts) = if b == 59 then palette_of n else None
+palette_behind _ = None
+
+-- the opaque colour whose numbers stand there
+unfoldable pub opaque_behind : List CsiParam → Option ColorSpec
+opaque_behind (t ∷ u ∷ w ∷ P a ∷ Integer x ∷ P b ∷ Integer y ∷ P c ∷ Integer z ∷ ts) = if a == 59 && (b == 59 && c == 59) then opaque_of x y z else None
+opaque_behind _ = None
 
 -- what a number in front of a colour sets
 abbrev pub target_numbered : ℤ → Option Target
@@ -97,13 +92,27 @@ target_numbered z =
     else (if is_number 58 z then Some target.Underline
     else None))
 
--- a list begins with the number of this target
-abbrev pub begins_with_target : Target → List CsiParam → Type 0
-begins_with_target t [] = ⊥
-begins_with_target t (P b ∷ ts) = ⊥
-begins_with_target t (Integer z ∷ ts) = target_numbered z ≡ Some t
-
 abbrev pub set_to : Target → ColorSpec → Sgr
 set_to target.Foreground c = sgr.Foreground c
 set_to target.Background c = sgr.Background c
 set_to target.Underline c = sgr.UnderlineColor c
+
+-- a list begins with a `;` that something stands behind
+abbrev pub begins_as_more : List CsiParam → Bool
+begins_as_more (P b ∷ t ∷ ts) = b == 59
+begins_as_more _ = false
+
+-- a list begins with a number and such a `;`
+abbrev pub has_more : List CsiParam → Bool
+has_more (Integer z ∷ ts) = begins_as_more ts
+has_more _ = false
+
+-- a list begins with this number and a `;`
+abbrev pub begins_signed : ℤ → List CsiParam → Type 0
+begins_signed z (Integer y ∷ P b ∷ ts) = (y ≡ z) × (b ≡ 59)
+begins_signed z _ = ⊥
+
+-- a list begins with the number of this target, a `;` and this number, the kind of a colour
+abbrev pub IsTold : Target → ℤ → List CsiParam → Type 0
+IsTold t z (Integer y ∷ P b ∷ Integer k ∷ ts) = (target_numbered y ≡ Some t) × ((b ≡ 59) × (k ≡ z))
+IsTold t z _ = ⊥

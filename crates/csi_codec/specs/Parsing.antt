@@ -1,17 +1,19 @@
 -- What is to come of a list from a place on.
-use Rattle.std.specs.Prelude.{◌≡◌, ℕ, ◌<◌, ◌≤◌, Bool, List, [], ◌∷◌, length, drop, ◌==◌, if◌then◌else◌}
+use Rattle.std.specs.Prelude.{◌≡◌, ℕ, ◌+◌, ◌<◌, ◌≤◌, nat_lt, ◌||◌, Bool, List, [], ◌∷◌, length, drop, Option, Some, None, option_map, option_and_then, ◌==◌, if◌then◌else◌}
 use Rattle.csi_codec.specs.declared.parameters.CsiParam.{CsiParam}
 use Rattle.csi_codec.specs.declared.pieces.Kind.{Kind}
 use Rattle.csi_codec.specs.declared.pieces.Kind.TheVariants as code
 use Rattle.csi_codec.specs.declared.places.CSIPlace.{CSIPlace}
 use Rattle.csi_codec.specs.Actions as actions
 use Rattle.csi_codec.specs.declared.rendition.Sgr.{Sgr}
-use Rattle.csi_codec.specs.Actions.{Action, sgr, unspecified, sgr_pieces, private_mode_pieces, standard_mode_pieces, pieces, sgr_reading, csi_reading}
+use Rattle.csi_codec.specs.declared.rendition.Sgr.TheVariants.{Reset}
+use Rattle.csi_codec.specs.Actions.{Action, unspecified, sgr_pieces, private_mode_pieces, standard_mode_pieces, pieces, all_sgr_tokens, csi_reading}
+use Rattle.csi_codec.specs.Parameters.{semicolon_at}
+use Rattle.csi_codec.specs.Rendition.{sgr_piece}
 use Rattle.csi_codec.specs.Laws.{begins_with_question}
 
 -- what the pieces of the code's kind are
 abbrev pub kind_of : Kind → actions.Kind
-kind_of code.Rendition = sgr_pieces
 kind_of code.PrivateModes = private_mode_pieces
 kind_of code.StandardModes = standard_mode_pieces
 
@@ -48,14 +50,46 @@ pub record IsEnd (read : ℕ) (ts : List CsiParam) : Type 0 where
   pub some : 0 < read
   pub none : (k : actions.Kind) (truncated : Bool) (final : ℕ) → pieces k truncated final (drop read ts) ≡ []
 
--- the first piece of an SGR list and how many tokens it takes; or the list has no reading
-pub record IsFirstRendition (ts : List CsiParam) (first : Sgr) (len : ℕ) : Type 0 where
-  pub actions : (truncated : Bool) (final : ℕ) → sgr_reading truncated final ts ≡ sgr first ∷ pieces sgr_pieces truncated final (drop len ts)
-  pub some : 0 < len
-
-pub record HasNoRendition (ts : List CsiParam) : Type 0 where
-  pub rest : (truncated : Bool) (final : ℕ) → sgr_reading truncated final ts ≡ unspecified ts truncated final ∷ []
-
 -- the next action of a list where so many tokens were read, and how many are read then
 pub record IsNext (read : ℕ) (ts : List CsiParam) (final : ℕ) (next : Action) (behind : ℕ) : Type 0 where
   pub actions : (truncated : Bool) → actions_behind read ts truncated final ≡ next ∷ actions_behind behind ts truncated final
+
+-- ---- Settings of an SGR list
+
+-- what was found at the front of a list, where only tokens of SGR stand behind that too
+abbrev pub before_tokens : {A : Type 0} → List CsiParam → Option (A × ℕ) → Option (A × ℕ)
+before_tokens ts found = option_and_then (λ f. if all_sgr_tokens (drop f.1 ts) then Some f else None) found
+
+-- the first setting of a list, and how many tokens are read then
+unfoldable pub first_setting : List CsiParam → Option (Sgr × ℕ)
+first_setting [] = Some (Reset, 1)
+first_setting (t ∷ ts) = before_tokens (t ∷ ts) (sgr_piece (t ∷ ts))
+
+-- what was found behind so many tokens, and how many are read then
+abbrev pub counted_from : ℕ → Option (Sgr × ℕ) → Option (Sgr × ℕ)
+counted_from read found = option_map (λ f. (f.0, read + f.1)) found
+
+-- a further setting, where so many tokens were read, and how many are read then
+unfoldable pub further_setting : ℕ → List CsiParam → Option (Sgr × ℕ)
+further_setting read ts = counted_from read (sgr_piece (drop read ts))
+
+-- either of both
+abbrev pub setting_at : ℕ → List CsiParam → Option (Sgr × ℕ)
+setting_at read ts = if read == 0 then first_setting ts else further_setting read ts
+
+-- so many tokens, unless none were read and others than those of SGR stand behind them
+abbrev pub behind_all : ℕ → List CsiParam → ℕ → Option ℕ
+behind_all read ts n = if nat_lt 0 read || all_sgr_tokens (drop n ts) then Some n else None
+
+-- how many tokens are read behind a shape of so many at a place, with the `;` right behind it
+unfoldable pub end_at : ℕ → ℕ → List CsiParam → Option ℕ
+end_at read len ts = behind_all read ts (read + len + semicolon_at ts (read + len))
+
+-- what such a shape stands for, and how many tokens are read then
+abbrev pub ended : {A : Type 0} → ℕ → ℕ → List CsiParam → Option A → Option (A × ℕ)
+ended read len ts value = option_and_then (λ v. option_map (λ n. (v, n)) (end_at read len ts)) value
+
+-- no setting is to come where so many tokens were read: what is left is the last action
+pub record HasNoSetting (read : ℕ) (ts : List CsiParam) : Type 0 where
+  pub rest : (truncated : Bool) → actions_behind read ts truncated 109 ≡ unspecified (drop read ts) truncated 109 ∷ []
+  pub within : read < length ts

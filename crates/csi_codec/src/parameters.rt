@@ -280,7 +280,7 @@ pub(crate) fn semicolon_at(params: &[CsiParam], place: usize) -> usize
     ensures same { result ≡ semicolon_at params.now place }
     ensures small { result ≤ 1 }
 {
-    match params.get(place).copied() {
+    match params.get(place) {
         Some(CsiParam::P(b';')) => 1,
         _ => 0,
     }

@@ -1,16 +1,15 @@
 //! Pieces of lists: what they can be, and those of modes.
-ghost use Rattle.std.specs.Prelude.{◌≡◌, true, drop, option_map};
+ghost use Rattle.std.specs.Prelude.{◌≡◌, ◌≤◌, true, drop, length, option_map};
 ghost use Rattle.csi_codec.specs.Actions.{all_sgr_tokens, mode_piece};
 ghost use Rattle.csi_codec.specs.Known.{found_mode};
 ghost use Rattle.csi_codec.specs.Modes.{mode_reading, private_mode_reading};
 
 use crate::modes::{Mode, mode_reading, private_mode_reading};
-use crate::parameters::{CsiParam, semicolon_at};
+use crate::parameters::{CsiParam, behind, semicolon_at};
 
 /// What a list of pieces is made of.
 #[derive(Clone, Copy, Debug)]
 pub(crate) enum Kind {
-    Rendition,
     PrivateModes,
     StandardModes,
 }
@@ -29,7 +28,8 @@ pub(crate) fn all_sgr_tokens(params: &[CsiParam]) -> bool
 /// Whether a list has only the tokens of SGR behind its first two, which are not looked at.
 #[inline(always)]
 pub(crate) fn all_behind_two(params: &[CsiParam]) -> bool
-    ensures { result ≡ true → all_sgr_tokens (drop 2 params.now) ≡ true }
+    requires { 2 ≤ length params.now }
+    ensures { result ≡ all_sgr_tokens (drop 2 params.now) }
 {
     is_one_more(params) || are_two_more(params) || are_three_more(params) || are_more(params)
 }
@@ -81,7 +81,8 @@ fn are_three_more(params: &[CsiParam]) -> bool
 /// Whether four numbers stand there, with a `;` between two, or else any tokens of SGR.
 #[inline(never)]
 fn are_more(params: &[CsiParam]) -> bool
-    ensures { result ≡ true → all_sgr_tokens (drop 2 params.now) ≡ true }
+    requires { 2 ≤ length params.now }
+    ensures { result ≡ all_sgr_tokens (drop 2 params.now) }
 {
     are_four_more(params) || all_behind(params, 2)
 }
@@ -110,12 +111,10 @@ fn are_four_more(params: &[CsiParam]) -> bool
 /// Whether a list has only the tokens of SGR behind so many.
 #[inline(never)]
 pub(crate) fn all_behind(params: &[CsiParam], len: usize) -> bool
-    ensures { result ≡ true → all_sgr_tokens (drop len params.now) ≡ true }
+    requires { len ≤ length params.now }
+    ensures { result ≡ all_sgr_tokens (drop len params.now) }
 {
-    match params.get(len..) {
-        Some(rest) => all_sgr_tokens(rest),
-        None => false,
-    }
+    all_sgr_tokens(behind(params, len))
 }
 
 /// The same, where most are numbers with a `;` behind each, which are taken two by two.

@@ -1,10 +1,9 @@
 //! Reading the actions of a list from place to place.
-ghost use Rattle.std.specs.Prelude.{◌≡◌, ◌≢◌, ◌<◌, ◌≤◌, ℕ, pos, Bool, List, true, false, IfNone, IfSome, Some, ◌∷◌, [], drop, length, option_map};
-ghost use Rattle.csi_codec.specs.Actions.{Kind as PieceKind, csi_reading, lone_or, lone_reading, modes_or, piece_of, pieces, private_mode_pieces, sgr, sgr_pieces, standard_mode_pieces, sgr_reading, unspecified};
+ghost use Rattle.std.specs.Prelude.{◌≡◌, ◌≢◌, ◌+◌, ◌<◌, ◌≤◌, ℕ, pos, Bool, List, true, false, IfNone, IfSome, Some, ◌∷◌, [], drop, length, option_map};
+ghost use Rattle.csi_codec.specs.Actions.{Kind as PieceKind, csi_reading, lone_or, lone_reading, modes_or, piece_of, pieces, private_mode_pieces, standard_mode_pieces, unspecified};
 ghost use Rattle.csi_codec.specs.Known.{found_action};
-ghost use Rattle.csi_codec.specs.ColourCases.{begins_with, begins_with_target, tells_kind};
-ghost use Rattle.csi_codec.specs.Parsing.{HasNoPiece, HasNoRendition, IsEnd, IsFirstPiece, IsFirstRendition, IsNext, IsStart, actions_behind, actions_from, kind_of, list_kind};
-ghost use Rattle.csi_codec.specs.Rendition.{plain_code};
+ghost use Rattle.csi_codec.specs.ColourCases.{IsTold, begins_signed, has_more, opaque_behind, set_to};
+ghost use Rattle.csi_codec.specs.Parsing.{HasNoPiece, HasNoSetting, IsEnd, IsFirstPiece, IsNext, IsStart, actions_behind, actions_from, end_at, ended, first_setting, further_setting, kind_of, list_kind, setting_at};
 ghost use Rattle.csi_codec.specs.Sequences.{action_of, HandsOut};
 ghost use Rattle.csi_codec.specs.declared.parameters.CsiParam.{CsiParam};
 
@@ -13,16 +12,16 @@ use crate::devices::device_reading;
 use crate::edits::{Edit, EraseInDisplay, EraseInLine, edit_reading};
 use crate::modes::lone_private_mode;
 use crate::one_based::OneBased;
-use crate::parameters::{CsiParam, begins_with_number, behind};
+use crate::parameters::{CsiParam, begins_with_number, behind, semicolon_at};
 use crate::pieces::{
     Kind, all_behind, all_behind_two, all_sgr_tokens, private_mode_piece, standard_mode_piece,
 };
 use crate::rendition::Sgr;
 use crate::sequences::{CSI, request, unspecified};
 use crate::sgr_reading::{
-    Target, is_foreground, marked_setting, plain_code, sgr_piece, told_color, told_palette,
-    whole_color, whole_opaque,
+    Target, is_foreground, opaque_color, palette_color, plain_code, sgr_piece,
 };
+use cell_base::ColorSpec;
 use std::alloc::{AllocError, Global};
 
 /// A place in a list of parameters before a final byte: how far its actions were read. It lends nothing, so it can be kept
@@ -55,27 +54,22 @@ impl CSIPlace {
     {
         let read = self.index;
         if read == 0 {
-            if control == 'm' {
-                if let Some((value, behind)) = first_setting(params) {
-                    self.index = behind;
-                    return Some(Ok(CSI::Sgr(value)));
-                }
-            } else if params.is_empty() {
-                if let Some(value) = bare_action(control) {
-                    self.index = 1;
+            if control != 'm' {
+                if params.is_empty() {
+                    if let Some(value) = bare_action(control) {
+                        self.index = 1;
+                        return Some(Ok(value));
+                    }
+                } else if let Some(value) = quick_other(params, control) {
+                    self.index = params.len();
                     return Some(Ok(value));
                 }
-            } else if let Some(value) = quick_other(params, control) {
-                self.index = params.len();
-                return Some(Ok(value));
             }
         } else if read >= params.len() {
             return None;
-        } else if control == 'm'
-            && let Some((value, behind)) = further_setting(read, params)
-        {
-            self.index = behind;
-            return Some(Ok(CSI::Sgr(value)));
+        }
+        if control == 'm' {
+            return self.next_setting(alloc, params, parameters_truncated);
         }
         if let Some((value, behind)) = known(read, params, control) {
             self.index = behind;
@@ -97,7 +91,41 @@ impl CSIPlace {
         read >= params.len()
     }
 
-    /// The action at this place, whatever stands there.
+    /// The action at this place of an SGR list, which isn't its end: a setting, or else what is left.
+    #[inline(always)]
+    fn next_setting(
+        &mut self,
+        alloc: Global,
+        params: &[CsiParam],
+        truncated: bool,
+    ) -> Option<Result<CSI, AllocError>>
+        requires { 0 < self.old.index → self.old.index < length params.now }
+        ensures { HandsOut (actions_from self.old params.now truncated 109) result (actions_from self.new params.now truncated 109) }
+    {
+        let Some((value, behind)) = setting_at(self.index, params) else {
+            return self.leave(alloc, params, truncated);
+        };
+        self.index = behind;
+        Some(Ok(CSI::Sgr(value)))
+    }
+
+    /// What is left of an SGR list at this place, where no setting stands: the last action.
+    #[inline(always)]
+    fn leave(
+        &mut self,
+        alloc: Global,
+        params: &[CsiParam],
+        truncated: bool,
+    ) -> Option<Result<CSI, AllocError>>
+        requires { HasNoSetting self.old.index params.now }
+        ensures { HandsOut (actions_from self.old params.now truncated 109) result (actions_from self.new params.now truncated 109) }
+    {
+        let read = self.index;
+        self.index = params.len();
+        left_at(read, alloc, params, truncated)
+    }
+
+    /// The action at this place of a list before another final byte than `m`, whatever stands there.
     #[inline(always)]
     fn by_step(
         &mut self,
@@ -106,6 +134,7 @@ impl CSIPlace {
         truncated: bool,
         control: char,
     ) -> Option<Result<CSI, AllocError>>
+        requires { ¬ (control ≡ 109) }
         ensures { HandsOut (actions_from self.old params.now truncated control) result (actions_from self.new params.now truncated control) }
     {
         let step = step_at(self.index, alloc, params, truncated, control);
@@ -143,26 +172,43 @@ fn bare_lone(control: char) -> Option<CSI>
     }
 }
 
-/// The first setting of an SGR list, and how many tokens are read then. What is most frequent is read where the caller stands:
-/// an empty list, a number alone or in front of a `;`, and a colour told with `;`. All else is read by a call, which goes on
-/// from what is known.
-#[inline(always)]
-fn first_setting(params: &[CsiParam]) -> Option<(Sgr, usize)>
-    ensures { IfSome result (λ found. IsNext 0 params.now 109 (sgr found.0) found.1) }
+/// What is left of an SGR list behind so many tokens, as its last action.
+#[cold]
+#[inline(never)]
+fn left_at(
+    read: usize,
+    alloc: Global,
+    params: &[CsiParam],
+    truncated: bool,
+) -> Option<Result<CSI, AllocError>>
+    requires { read ≤ length params.now }
+    ensures { HandsOut (unspecified (drop read params.now) truncated 109 ∷ []) result [] }
 {
-    if params.len() > 2
-        && let [CsiParam::Integer(value), ..] = params
-    {
-        return first_numbered(*value, params);
-    }
-    first_of_few(params)
+    rest(alloc, behind(params, read), truncated, 'm')
 }
 
-/// The same of a list of at most two tokens, or of one that begins with no number.
+/// The setting of an SGR list where so many tokens were read, and how many are read then; none where none stands there.
 #[inline(always)]
-fn first_of_few(params: &[CsiParam]) -> Option<(Sgr, usize)>
-    ensures { IfSome result (λ found. IsNext 0 params.now 109 (sgr found.0) found.1) }
+fn setting_at(read: usize, params: &[CsiParam]) -> Option<(Sgr, usize)>
+    requires { 0 < read → read < length params.now }
+    ensures { result ≡ setting_at read params.now }
 {
+    if read == 0 {
+        first_setting(params)
+    } else {
+        further_setting(read, params)
+    }
+}
+
+/// The first setting of an SGR list, and how many tokens are read then; none where the list has no reading. What is most
+/// frequent is read where the caller stands: an empty list, a number alone or in front of a `;`, and a colour told with `;`.
+#[inline(always)]
+fn first_setting(params: &[CsiParam]) -> Option<(Sgr, usize)>
+    ensures { result ≡ first_setting params.now }
+{
+    if let [CsiParam::Integer(value), CsiParam::P(b';'), _, ..] = params {
+        return first_numbered(*value, params);
+    }
     match params {
         [CsiParam::Integer(value)] => {
             let Some(setting) = plain_code(*value) else {
@@ -175,49 +221,14 @@ fn first_of_few(params: &[CsiParam]) -> Option<(Sgr, usize)>
     }
 }
 
-/// The same of a list that begins with this number: it has a meaning of its own, or a colour stands behind it.
+/// The same of a list that begins with no number, or with one that has no `;` and more behind it, by a call.
 #[inline(always)]
-fn first_numbered(value: i64, params: &[CsiParam]) -> Option<(Sgr, usize)>
-    requires { begins_with value params.now }
-    ensures { IfSome result (λ found. IsNext 0 params.now 109 (sgr found.0) found.1) }
+fn first_by_shape(params: &[CsiParam]) -> Option<(Sgr, usize)>
+    requires some { 0 < length params.now }
+    requires other { has_more params.now ≡ false }
+    ensures { result ≡ first_setting params.now }
 {
-    if !is_foreground(value)
-        && let Some(setting) = plain_code(value)
-    {
-        return first_plain(value, setting, params);
-    }
-    let Some(target) = Target::of_number(value) else {
-        return None;
-    };
-    first_colored(target, params)
-}
-
-/// The same where the number has this meaning of its own.
-#[inline(always)]
-fn first_plain(value: i64, setting: Sgr, params: &[CsiParam]) -> Option<(Sgr, usize)>
-    requires front { begins_with value params.now }
-    requires plain { plain_code value ≡ Some setting }
-    ensures { IfSome result (λ found. IsNext 0 params.now 109 (sgr found.0) found.1) }
-{
-    match params {
-        [_, CsiParam::P(b';'), ..] => {
-            if all_behind_two(params) {
-                Some((setting, 2))
-            } else {
-                None
-            }
-        }
-        _ => first_marked(value, params),
-    }
-}
-
-/// The same where no `;` stands behind the number, by a call.
-#[inline(always)]
-fn first_marked(value: i64, params: &[CsiParam]) -> Option<(Sgr, usize)>
-    requires { begins_with value params.now }
-    ensures { IfSome result (λ found. IsNext 0 params.now 109 (sgr found.0) found.1) }
-{
-    let Some((setting, len)) = marked_setting(value, params) else {
+    let Some((setting, len)) = sgr_piece(params) else {
         return None;
     };
     if all_behind(params, len) {
@@ -227,86 +238,145 @@ fn first_marked(value: i64, params: &[CsiParam]) -> Option<(Sgr, usize)>
     }
 }
 
-/// The same where a colour for this target stands behind the number: the number behind a `;` is its kind, which decides.
+/// The same where a `;` and more stand behind this number: it has a meaning of its own, or else the number behind the `;` is
+/// the kind of a colour, which decides.
 #[inline(always)]
-fn first_colored(target: Target, params: &[CsiParam]) -> Option<(Sgr, usize)>
-    requires { begins_with_target target params.now }
-    ensures { IfSome result (λ found. IsNext 0 params.now 109 (sgr found.0) found.1) }
+fn first_numbered(value: i64, params: &[CsiParam]) -> Option<(Sgr, usize)>
+    requires front { begins_signed value params.now }
+    requires more { 2 < length params.now }
+    ensures { result ≡ first_setting params.now }
 {
-    if let [_, CsiParam::P(b';'), CsiParam::Integer(kind), ..] = params {
-        match *kind {
-            5 => return first_palette(target, params),
-            2 => {
-                if let Some(color) = whole_opaque(params) {
-                    return Some((target.set_to(color), params.len()));
-                }
-            }
-            _ => return None,
+    if !is_foreground(value)
+        && let Some(setting) = plain_code(value)
+    {
+        if all_behind_two(params) {
+            return Some((setting, 2));
         }
+        return None;
     }
-    first_by_color(target, params)
+    let Some(target) = Target::of_number(value) else {
+        return None;
+    };
+    let [_, _, CsiParam::Integer(kind), ..] = params else {
+        return None;
+    };
+    match *kind {
+        5 => first_palette(target, params),
+        2 => first_opaque(target, params),
+        _ => None,
+    }
 }
 
-/// The same where the colour is one of the palette.
+/// The same of a colour of the palette for this target.
 #[inline(always)]
 fn first_palette(target: Target, params: &[CsiParam]) -> Option<(Sgr, usize)>
-    requires front { begins_with_target target params.now }
-    requires kind { tells_kind (pos 5) params.now }
-    ensures { IfSome result (λ found. IsNext 0 params.now 109 (sgr found.0) found.1) }
+    requires { IsTold target (pos 5) params.now }
+    ensures { result ≡ first_setting params.now }
 {
-    let Some((color, len)) = told_palette(params) else {
+    let Some(color) = palette_color(params) else {
         return None;
     };
-    if len == params.len() || all_behind(params, len) {
-        Some((target.set_to(color), len))
+    let setting = target.set_to(color);
+    if params.len() == 5 {
+        return Some((setting, params.len()));
+    }
+    let Some(end) = end_at(0, 5, params) else {
+        return None;
+    };
+    Some((setting, end))
+}
+
+/// The same of an opaque colour for this target, which is read by a call where more stands behind it.
+#[inline(always)]
+fn first_opaque(target: Target, params: &[CsiParam]) -> Option<(Sgr, usize)>
+    requires { IsTold target (pos 2) params.now }
+    ensures { result ≡ first_setting params.now }
+{
+    if params.len() != 9 {
+        return opaque_before_more(target, 0, params);
+    }
+    let Some(color) = opaque_color(params) else {
+        return None;
+    };
+    Some((target.set_to(color), params.len()))
+}
+
+/// The setting of this target to the opaque colour at a place, by a call, and how many tokens are read then.
+#[inline(always)]
+fn opaque_before_more(target: Target, read: usize, params: &[CsiParam]) -> Option<(Sgr, usize)>
+    requires { read ≤ length params.now }
+    ensures { result ≡ ended read 9 params.now (option_map (set_to target) (opaque_behind (drop read params.now))) }
+{
+    let Some((color, end)) = opaque_to_end(read, params) else {
+        return None;
+    };
+    Some((target.set_to(color), end))
+}
+
+/// The opaque colour at a place, and how many tokens are read then.
+#[inline(never)]
+fn opaque_to_end(read: usize, params: &[CsiParam]) -> Option<(ColorSpec, usize)>
+    requires { read ≤ length params.now }
+    ensures { result ≡ ended read 9 params.now (opaque_behind (drop read params.now)) }
+{
+    let color = opaque_color(behind(params, read))?;
+    let end = end_at(read, 9, params)?;
+    Some((color, end))
+}
+
+/// How many tokens are read with a shape of so many at a place, and with the `;` right behind it; none where the shape is the
+/// first of its list and other tokens than those of SGR follow.
+#[tactic(auto, unfolding(crate::specs::Parsing::end_at))]
+#[inline(never)]
+fn end_at(read: usize, len: usize, params: &[CsiParam]) -> Option<usize>
+    requires { read + len ≤ length params.now }
+    ensures { result ≡ end_at read len params.now }
+{
+    let end = read + len + semicolon_at(params, read + len);
+    if read > 0 || all_sgr_tokens(behind(params, end)) {
+        Some(end)
     } else {
         None
     }
 }
 
-/// The same by a call, which reads any colour: here one told with `:`, or an opaque one with more behind it.
-#[inline(always)]
-fn first_by_color(target: Target, params: &[CsiParam]) -> Option<(Sgr, usize)>
-    requires { begins_with_target target params.now }
-    ensures { IfSome result (λ found. IsNext 0 params.now 109 (sgr found.0) found.1) }
-{
-    let Some((color, len)) = told_color(params) else {
-        return None;
-    };
-    if all_behind(params, len) {
-        Some((target.set_to(color), len))
-    } else {
-        None
-    }
-}
-
-/// The same of any list that is not empty, by a call.
-#[inline(always)]
-fn first_by_shape(params: &[CsiParam]) -> Option<(Sgr, usize)>
-    requires { 0 < length params.now }
-    ensures { IfSome result (λ found. IsNext 0 params.now 109 (sgr found.0) found.1) }
-{
-    let Some((setting, len)) = first_sgr(params) else {
-        return None;
-    };
-    Some((setting, len))
-}
-
-/// A further setting of an SGR list, and how many tokens are read then.
+/// A further setting of an SGR list, and how many tokens are read then; none where no piece stands at the place.
 #[inline(always)]
 fn further_setting(read: usize, params: &[CsiParam]) -> Option<(Sgr, usize)>
     requires some { 0 < read }
     requires within { read < length params.now }
-    ensures { IfSome result (λ found. IsNext read params.now 109 (sgr found.0) found.1) }
+    ensures { result ≡ further_setting read params.now }
 {
     let others = behind(params, read);
     match others {
-        [CsiParam::Integer(value), ..] => further_numbered(*value, read, others, params),
+        [CsiParam::Integer(value)] => {
+            let Some(setting) = plain_code(*value) else {
+                return None;
+            };
+            Some((setting, params.len()))
+        }
+        [CsiParam::Integer(value), CsiParam::P(b';'), ..] => {
+            further_numbered(*value, read, others, params)
+        }
         _ => further_by_shape(read, others, params),
     }
 }
 
-/// The same where this number stands at the front of the others.
+/// The same of others that begin with no number, or with one that has no `;` behind it, by a call.
+#[inline(always)]
+fn further_by_shape(read: usize, others: &[CsiParam], params: &[CsiParam]) -> Option<(Sgr, usize)>
+    requires behind { others.now ≡ drop read params.now }
+    requires other { has_more others.now ≡ false }
+    ensures { result ≡ further_setting read params.now }
+{
+    let Some((setting, len)) = sgr_piece(others) else {
+        return None;
+    };
+    Some((setting, read + len))
+}
+
+/// The same where a `;` stands behind this number at the front of the others: it has a meaning of its own, or else the number
+/// behind the `;` is the kind of a colour, which decides.
 #[inline(always)]
 fn further_numbered(
     value: i64,
@@ -316,67 +386,30 @@ fn further_numbered(
 ) -> Option<(Sgr, usize)>
     requires some { 0 < read }
     requires behind { others.now ≡ drop read params.now }
-    requires front { begins_with value others.now }
-    ensures { IfSome result (λ found. IsNext read params.now 109 (sgr found.0) found.1) }
+    requires front { begins_signed value others.now }
+    ensures { result ≡ further_setting read params.now }
 {
     if !is_foreground(value)
         && let Some(setting) = plain_code(value)
     {
-        return further_plain(value, setting, read, others, params);
+        return Some((setting, read + 2));
     }
     let Some(target) = Target::of_number(value) else {
         return None;
     };
-    if let Some(color) = whole_color(others) {
-        return Some((target.set_to(color), params.len()));
-    }
-    further_by_color(target, read, others, params)
-}
-
-/// The same where the number has this meaning of its own.
-#[inline(always)]
-fn further_plain(
-    value: i64,
-    setting: Sgr,
-    read: usize,
-    others: &[CsiParam],
-    params: &[CsiParam],
-) -> Option<(Sgr, usize)>
-    requires some { 0 < read }
-    requires behind { others.now ≡ drop read params.now }
-    requires front { begins_with value others.now }
-    requires plain { plain_code value ≡ Some setting }
-    ensures { IfSome result (λ found. IsNext read params.now 109 (sgr found.0) found.1) }
-{
-    match others {
-        [_] => Some((setting, params.len())),
-        [_, CsiParam::P(b';'), ..] => Some((setting, read + 2)),
-        _ => further_marked(value, read, others, params),
-    }
-}
-
-/// The same where another token than a `;` stands behind the number, by a call.
-#[inline(always)]
-fn further_marked(
-    value: i64,
-    read: usize,
-    others: &[CsiParam],
-    params: &[CsiParam],
-) -> Option<(Sgr, usize)>
-    requires some { 0 < read }
-    requires behind { others.now ≡ drop read params.now }
-    requires front { begins_with value others.now }
-    ensures { IfSome result (λ found. IsNext read params.now 109 (sgr found.0) found.1) }
-{
-    let Some((setting, len)) = marked_setting(value, others) else {
+    let [_, _, CsiParam::Integer(kind), ..] = others else {
         return None;
     };
-    Some((setting, read + len))
+    match *kind {
+        5 => further_palette(target, read, others, params),
+        2 => further_opaque(target, read, others, params),
+        _ => None,
+    }
 }
 
-/// The same by a call, which reads any colour: here one told with `:`, or with more behind it.
+/// The same of a colour of the palette for this target.
 #[inline(always)]
-fn further_by_color(
+fn further_palette(
     target: Target,
     read: usize,
     others: &[CsiParam],
@@ -384,26 +417,42 @@ fn further_by_color(
 ) -> Option<(Sgr, usize)>
     requires some { 0 < read }
     requires behind { others.now ≡ drop read params.now }
-    requires front { begins_with_target target others.now }
-    ensures { IfSome result (λ found. IsNext read params.now 109 (sgr found.0) found.1) }
+    requires told { IsTold target (pos 5) others.now }
+    ensures { result ≡ further_setting read params.now }
 {
-    let Some((color, len)) = told_color(others) else {
+    let Some(color) = palette_color(others) else {
         return None;
     };
-    Some((target.set_to(color), read + len))
+    let setting = target.set_to(color);
+    if others.len() == 5 {
+        return Some((setting, params.len()));
+    }
+    let Some(end) = end_at(read, 5, params) else {
+        return None;
+    };
+    Some((setting, end))
 }
 
-/// The same of any others, by a call: here of those that begin with no number.
+/// The same of an opaque colour for this target, which is read by a call where more stands behind it.
 #[inline(always)]
-fn further_by_shape(read: usize, others: &[CsiParam], params: &[CsiParam]) -> Option<(Sgr, usize)>
+fn further_opaque(
+    target: Target,
+    read: usize,
+    others: &[CsiParam],
+    params: &[CsiParam],
+) -> Option<(Sgr, usize)>
     requires some { 0 < read }
     requires behind { others.now ≡ drop read params.now }
-    ensures { IfSome result (λ found. IsNext read params.now 109 (sgr found.0) found.1) }
+    requires told { IsTold target (pos 2) others.now }
+    ensures { result ≡ further_setting read params.now }
 {
-    let Some((setting, len)) = sgr_piece(others) else {
+    if others.len() != 9 {
+        return opaque_before_more(target, read, params);
+    }
+    let Some(color) = opaque_color(others) else {
         return None;
     };
-    Some((setting, read + len))
+    Some((target.set_to(color), params.len()))
 }
 
 /// The only action of a list before any other final byte, where it is a mode that is set or reset, a cursor sequence or an
@@ -453,9 +502,11 @@ fn lone_reading(params: &[CsiParam], control: char) -> Option<CSI>
     Some(CSI::Edit(edit_reading(params, control)?))
 }
 
-/// The action at a place, where it takes no memory and the final byte is no `m`, and how many tokens are read then.
+/// The action at a place of a list before another final byte than `m`, where it takes no memory, and how many tokens are
+/// read then.
 #[inline(always)]
 fn known(read: usize, params: &[CsiParam], control: char) -> Option<(CSI, usize)>
+    requires { ¬ (control ≡ 109) }
     ensures { IfSome result (λ found. IsNext read params.now control (action_of found.0) found.1) }
 {
     known_at(read, params, control)
@@ -464,11 +515,9 @@ fn known(read: usize, params: &[CsiParam], control: char) -> Option<(CSI, usize)
 /// The same by a call, whose result is a place in memory of its own.
 #[inline(never)]
 fn known_at(read: usize, params: &[CsiParam], control: char) -> Option<(CSI, usize)>
+    requires { ¬ (control ≡ 109) }
     ensures { IfSome result (λ found. IsNext read params.now control (action_of found.0) found.1) }
 {
-    if control == 'm' {
-        return None;
-    }
     if read == 0 {
         return first_known(params, control);
     }
@@ -478,7 +527,7 @@ fn known_at(read: usize, params: &[CsiParam], control: char) -> Option<(CSI, usi
     further_known(read, params, control)
 }
 
-/// The first action of a list, where it takes no memory and the final byte is no `m`, and how many tokens are read then.
+/// The first action of such a list, where it takes no memory, and how many tokens are read then.
 #[tactic(auto, unfolding(crate::specs::Actions::csi_reading))]
 #[inline(always)]
 fn first_known(params: &[CsiParam], control: char) -> Option<(CSI, usize)>
@@ -525,9 +574,10 @@ pub(crate) fn lone_action(params: &[CsiParam], control: char) -> Option<CSI>
     Some(CSI::Edit(edit_reading(params, control)?))
 }
 
-/// A further action of a list, where it takes no memory, and how many tokens are read then.
+/// A further action of such a list, where it takes no memory, and how many tokens are read then.
 #[inline(always)]
 fn further_known(read: usize, params: &[CsiParam], control: char) -> Option<(CSI, usize)>
+    requires other { ¬ (control ≡ 109) }
     requires some { 0 < read }
     requires within { read < length params.now }
     ensures { IfSome result (λ found. IsNext read params.now control (action_of found.0) found.1) }
@@ -544,10 +594,11 @@ struct Step {
     read: usize,
 }
 
-/// The step where so many tokens are read.
+/// The step where so many tokens are read of a list before another final byte than `m`.
 #[cold]
 #[inline(never)]
 fn step_at(read: usize, alloc: Global, params: &[CsiParam], truncated: bool, control: char) -> Step
+    requires { ¬ (control ≡ 109) }
     ensures { HandsOut (actions_behind read params.now truncated control) result.action (actions_behind result.read params.now truncated control) }
 {
     if read == 0 {
@@ -559,16 +610,14 @@ fn step_at(read: usize, alloc: Global, params: &[CsiParam], truncated: bool, con
     further(read, alloc, params, truncated, control)
 }
 
-/// The first step in a list.
+/// The first step in such a list.
 #[tactic(auto, unfolding(crate::specs::Actions::csi_reading))]
 #[inline(always)]
 fn first(alloc: Global, params: &[CsiParam], truncated: bool, control: char) -> Step
+    requires { ¬ (control ≡ 109) }
     ensures step { HandsOut (csi_reading params.now truncated control) result.action (pieces (list_kind control params.now) truncated control (drop result.read params.now)) }
     ensures some { 0 < result.read }
 {
-    if control == 'm' {
-        return first_rendition(alloc, params, truncated, control);
-    }
     match params {
         [CsiParam::P(b'?'), ..] => {
             first_mode(Kind::PrivateModes, 1, alloc, params, truncated, control)
@@ -577,39 +626,6 @@ fn first(alloc: Global, params: &[CsiParam], truncated: bool, control: char) -> 
             first_mode(Kind::StandardModes, 0, alloc, params, truncated, control)
         }
         _ => last(params, lone(alloc, params, truncated, control)),
-    }
-}
-
-/// The first step in a list before `m`: its first piece, where only tokens of SGR stand behind that too.
-#[inline(always)]
-fn first_rendition(alloc: Global, params: &[CsiParam], truncated: bool, control: char) -> Step
-    ensures step { HandsOut (sgr_reading truncated control params.now) result.action (pieces sgr_pieces truncated control (drop result.read params.now)) }
-    ensures some { 0 < result.read }
-{
-    if params.is_empty() {
-        return last(params, Some(Ok(CSI::Sgr(Sgr::Reset))));
-    }
-    match first_sgr(params) {
-        Some((value, len)) => Step {
-            action: Some(Ok(CSI::Sgr(value))),
-            read: len,
-        },
-        None => last(params, rest(alloc, params, truncated, control)),
-    }
-}
-
-/// The first piece of an SGR list, where only tokens of SGR stand behind that too, and how many tokens it takes.
-#[inline(never)]
-fn first_sgr(params: &[CsiParam]) -> Option<(Sgr, usize)>
-    requires { 0 < length params.now }
-    ensures found { IfSome result (λ found. IsFirstRendition params.now found.0 found.1) }
-    ensures none { IfNone result (HasNoRendition params.now) }
-{
-    let (value, len) = sgr_piece(params)?;
-    if all_sgr_tokens(behind(params, len)) {
-        Some((value, len))
-    } else {
-        None
     }
 }
 
@@ -636,10 +652,11 @@ fn first_mode(
     }
 }
 
-/// A step within a list: the next piece, or the list from there on where none stands.
+/// A step within such a list: the next piece, or the list from there on where none stands.
 #[inline(always)]
 fn further(read: usize, alloc: Global, params: &[CsiParam], truncated: bool, control: char) -> Step
-    requires { read < length params.now }
+    requires other { ¬ (control ≡ 109) }
+    requires within { read < length params.now }
     ensures step { HandsOut (pieces (list_kind control params.now) truncated control (drop read params.now)) result.action (pieces (list_kind control params.now) truncated control (drop result.read params.now)) }
     ensures some { 0 < result.read }
 {
@@ -665,14 +682,12 @@ fn last(params: &[CsiParam], action: Option<Result<CSI, AllocError>>) -> Step
     }
 }
 
-/// What the pieces of a list are.
+/// What the pieces of a list before another final byte than `m` are.
 #[inline(always)]
 fn list_kind(params: &[CsiParam], control: char) -> Kind
+    requires { ¬ (control ≡ 109) }
     ensures { kind_of result ≡ list_kind control params.now }
 {
-    if control == 'm' {
-        return Kind::Rendition;
-    }
     match params {
         [CsiParam::P(b'?'), ..] => Kind::PrivateModes,
         _ => Kind::StandardModes,
@@ -720,10 +735,6 @@ fn piece(kind: Kind, params: &[CsiParam], control: char) -> Option<(CSI, usize)>
     ensures { option_map found_action result ≡ piece_of (kind_of kind) control params.now }
 {
     match kind {
-        Kind::Rendition => {
-            let (value, len) = sgr_piece(params)?;
-            Some((CSI::Sgr(value), len))
-        }
         Kind::PrivateModes => {
             let (value, len) = private_piece(params, control)?;
             Some((value, len))

@@ -1,6 +1,6 @@
 //! SGR: reading a piece, by the number that it begins with.
-ghost use Rattle.std.specs.Prelude.{◌≡◌, ◌+◌, pos, ◌<◌, ◌≤◌, true, IfSome, Some, is_some, length, option_map};
-ghost use Rattle.csi_codec.specs.Parameters.{is_number, number_within, semicolon_at};
+ghost use Rattle.std.specs.Prelude.{◌≡◌, ◌<◌, ◌≤◌, true, false, IfSome, None, Some, is_some, option_map};
+ghost use Rattle.csi_codec.specs.Parameters.{is_number, number_within};
 ghost use Rattle.csi_codec.specs.ColourCases.{
   number_behind,
   three_behind,
@@ -13,16 +13,17 @@ ghost use Rattle.csi_codec.specs.ColourCases.{
   colon_case,
   alpha_case,
   colon_form,
-  semicolon_form,
   form_case,
-  begins_with,
-  tells_kind,
-  told_color,
+  begins_as_more,
+  has_more,
+  palette_behind,
+  opaque_behind,
   target_numbered,
   set_to,
 };
 ghost use Rattle.csi_codec.specs.Rendition.{
   colour_form,
+  colour_shape,
   single_code,
   plain_code,
   underline_numbered,
@@ -32,7 +33,7 @@ ghost use Rattle.csi_codec.specs.Rendition.{
   sgr_piece,
 };
 
-use crate::parameters::{CsiParam, behind, number_within, semicolon_at};
+use crate::parameters::{CsiParam, number_within, semicolon_at};
 use crate::rendition::{Font, Sgr};
 use cell_base::{Blink, ColorSpec, Intensity, SrgbaTuple, Underline, VerticalAlign};
 
@@ -148,31 +149,29 @@ static CODES: [Option<Sgr>; 108] = [
     Some(Sgr::Background(ColorSpec::PaletteIndex(15))),
 ];
 
-/// The number behind a sign at the front of a list, and what follows it.
+/// The number behind a `:` at the front of a list, and what follows it.
 #[inline(always)]
-fn number_behind(sign: u8, params: &[CsiParam]) -> Option<(i64, &[CsiParam])>
-    ensures { option_map (λ found. (found.0, found.1.now)) result ≡ number_behind sign params.now }
+fn number_behind(params: &[CsiParam]) -> Option<(i64, &[CsiParam])>
+    ensures { option_map (λ found. (found.0, found.1.now)) result ≡ number_behind 58 params.now }
 {
     match params {
-        [CsiParam::P(byte), CsiParam::Integer(value), rest @ ..] if *byte == sign => Some((
-            *value, rest,
-        )),
+        [CsiParam::P(b':'), CsiParam::Integer(value), rest @ ..] => Some((*value, rest)),
         _ => None,
     }
 }
 
-/// Three numbers, each behind the sign, and what follows them.
+/// Three numbers, each behind a `:`, and what follows them.
 #[inline(always)]
-fn three_behind(sign: u8, params: &[CsiParam]) -> Option<(i64, i64, i64, &[CsiParam])>
-    ensures { option_map (λ found. (found.0, found.1, found.2, found.3.now)) result ≡ three_behind sign params.now }
+fn three_behind(params: &[CsiParam]) -> Option<(i64, i64, i64, &[CsiParam])>
+    ensures { option_map (λ found. (found.0, found.1, found.2, found.3.now)) result ≡ three_behind 58 params.now }
 {
-    let Some((red, rest)) = number_behind(sign, params) else {
+    let Some((red, rest)) = number_behind(params) else {
         return None;
     };
-    let Some((green, rest)) = number_behind(sign, rest) else {
+    let Some((green, rest)) = number_behind(rest) else {
         return None;
     };
-    let Some((blue, rest)) = number_behind(sign, rest) else {
+    let Some((blue, rest)) = number_behind(rest) else {
         return None;
     };
     Some((red, green, blue, rest))
@@ -245,107 +244,105 @@ fn channel(value: i64) -> Option<u8>
     Some(number_within(255, value)? as u8)
 }
 
+/// The colour of the palette told with `:`, of what stands behind its kind.
 #[tactic(auto, unfolding(crate::specs::ColourCases::palette_case))]
 #[inline(always)]
-fn palette_case(sign: u8, params: &[CsiParam]) -> Option<(ColorSpec, usize)>
-    ensures { result ≡ palette_case sign params.now }
+fn palette_case(params: &[CsiParam]) -> Option<(ColorSpec, usize)>
+    ensures { result ≡ palette_case 58 params.now }
 {
-    let (index, _) = number_behind(sign, params)?;
+    let (index, _) = number_behind(params)?;
     Some((ColorSpec::PaletteIndex(channel(index)?), 4))
 }
 
+/// The opaque colour without a colour space, of what stands behind its kind and one `:` more.
 #[tactic(auto, unfolding(crate::specs::ColourCases::opaque_case))]
 #[inline(always)]
-fn opaque_case(sign: u8, len: usize, params: &[CsiParam]) -> Option<(ColorSpec, usize)>
-    ensures { result ≡ opaque_case sign len params.now }
+fn opaque_case(params: &[CsiParam]) -> Option<(ColorSpec, usize)>
+    ensures { result ≡ opaque_case 58 9 params.now }
 {
-    let (red, green, blue, _) = three_behind(sign, params)?;
-    Some((opaque_of(red, green, blue)?, len))
+    let (red, green, blue, _) = three_behind(params)?;
+    Some((opaque_of(red, green, blue)?, 9))
 }
 
+/// The opaque colour of three numbers, or of the last three of four.
 #[tactic(auto, unfolding(crate::specs::ColourCases::bare_case))]
 fn bare_case(params: &[CsiParam]) -> Option<(ColorSpec, usize)>
     ensures { result ≡ bare_case params.now }
 {
-    let (first, second, third, rest) = three_behind(b':', params)?;
-    match number_behind(b':', rest) {
+    let (first, second, third, rest) = three_behind(params)?;
+    match number_behind(rest) {
         None => Some((opaque_of(first, second, third)?, 8)),
         Some((fourth, _)) => Some((opaque_of(second, third, fourth)?, 10)),
     }
 }
 
+/// The opaque colour of what stands behind its kind.
 #[tactic(auto, unfolding(crate::specs::ColourCases::colon_case))]
 fn colon_case(params: &[CsiParam]) -> Option<(ColorSpec, usize)>
     ensures { result ≡ colon_case params.now }
 {
     match params {
-        [CsiParam::P(b':'), CsiParam::P(_), ..] => opaque_case(b':', 9, &params[1..]),
+        [CsiParam::P(b':'), CsiParam::P(_), ..] => opaque_case(&params[1..]),
         [CsiParam::P(_), CsiParam::P(_), ..] => None,
         _ => bare_case(params),
     }
 }
 
+/// The colour with an alpha of what stands behind its kind.
 #[tactic(auto, unfolding(crate::specs::ColourCases::alpha_case))]
 fn alpha_case(params: &[CsiParam]) -> Option<(ColorSpec, usize)>
     ensures { result ≡ alpha_case params.now }
 {
     match params {
         [CsiParam::P(b':'), rest @ ..] => {
-            let (red, green, blue, rest) = three_behind(b':', rest)?;
-            let (alpha, _) = number_behind(b':', rest)?;
+            let (red, green, blue, rest) = three_behind(rest)?;
+            let (alpha, _) = number_behind(rest)?;
             Some((alpha_of(red, green, blue, alpha)?, 11))
         }
         _ => None,
     }
 }
 
+/// The colour of this kind told with `:`, and how many tokens it takes with the sign and the kind.
 #[tactic(auto, unfolding(crate::specs::ColourCases::colon_form))]
 #[inline(never)]
 fn colon_form(kind: i64, params: &[CsiParam]) -> Option<(ColorSpec, usize)>
     ensures { result ≡ colon_form kind params.now }
 {
     match kind {
-        5 => palette_case(b':', params),
+        5 => palette_case(params),
         2 => colon_case(params),
         6 => alpha_case(params),
         _ => None,
     }
 }
 
-#[tactic(auto, unfolding(crate::specs::ColourCases::semicolon_form))]
-#[inline(always)]
-fn semicolon_form(kind: i64, params: &[CsiParam]) -> Option<(ColorSpec, usize)>
-    ensures { result ≡ semicolon_form kind params.now }
-{
-    match kind {
-        5 => palette_case(b';', params),
-        2 => opaque_case(b';', 8, params),
-        _ => None,
-    }
-}
-
+/// The colour at the front of a list, which tells it with `:`, and how many tokens it takes.
 #[tactic(auto, unfolding(crate::specs::ColourCases::form_case))]
 #[inline(always)]
 fn form_case(params: &[CsiParam]) -> Option<(ColorSpec, usize)>
+    requires { begins_as_more params.now ≡ false }
     ensures { result ≡ form_case params.now }
 {
     match params {
         [CsiParam::P(b':'), CsiParam::Integer(kind), rest @ ..] => colon_form(*kind, rest),
-        [CsiParam::P(b';'), CsiParam::Integer(kind), rest @ ..] => semicolon_form(*kind, rest),
         _ => None,
     }
 }
 
-/// The colour that the longest form at the front of a list names, and how many tokens the form takes.
+/// The colour that the longest form at the front of a list names, and how many tokens the form takes. Such a list begins with
+/// no `;` that more stands behind.
 #[tactic(auto, using(crate::proofs::ColourLemmas::colour_form_is_case))]
 #[inline(always)]
 fn color_form(params: &[CsiParam]) -> Option<(ColorSpec, usize)>
+    requires { begins_as_more params.now ≡ false }
     ensures form { result ≡ colour_form params.now }
     ensures short { IfSome result (λ found. found.1 ≤ 11) }
 {
     form_case(params)
 }
 
+/// The underline of this kind.
 fn underline_numbered(kind: i64) -> Option<Underline>
     ensures { result ≡ underline_numbered kind }
 {
@@ -398,31 +395,35 @@ fn listed_code(code: usize) -> Option<Sgr>
 #[tactic(auto, unfolding(crate::specs::Rendition::numbered_shape))]
 #[inline(always)]
 fn numbered_shape(value: i64, params: &[CsiParam]) -> Option<(Sgr, usize)>
+    requires { begins_as_more params.now ≡ false }
     ensures shape { result ≡ numbered_shape value params.now }
     ensures short { IfSome result (λ found. found.1 ≤ 12) }
 {
+    if let Some(target) = Target::of_number(value) {
+        return colored_shape(target, params);
+    }
     match value {
-        38 => {
-            let (color, len) = color_form(params)?;
-            Some((Sgr::Foreground(color), len + 1))
-        }
-        48 => {
-            let (color, len) = color_form(params)?;
-            Some((Sgr::Background(color), len + 1))
-        }
-        58 => {
-            let (color, len) = color_form(params)?;
-            Some((Sgr::UnderlineColor(color), len + 1))
-        }
         4 => underline_shape(params),
         _ => Some((plain_code(value)?, 1)),
     }
+}
+
+/// The same of a colour for this target.
+#[inline(always)]
+fn colored_shape(target: Target, params: &[CsiParam]) -> Option<(Sgr, usize)>
+    requires { begins_as_more params.now ≡ false }
+    ensures shape { result ≡ colour_shape (set_to target) params.now }
+    ensures short { IfSome result (λ found. found.1 ≤ 12) }
+{
+    let (color, len) = color_form(params)?;
+    Some((target.set_to(color), len + 1))
 }
 
 /// What the longest shape at the front of a list stands for, and how many tokens it takes.
 #[tactic(auto, unfolding(crate::specs::Rendition::sgr_shape))]
 #[inline(always)]
 fn sgr_shape(params: &[CsiParam]) -> Option<(Sgr, usize)>
+    requires { has_more params.now ≡ false }
     ensures shape { result ≡ sgr_shape params.now }
     ensures short { IfSome result (λ found. found.1 ≤ 12) }
 {
@@ -434,140 +435,41 @@ fn sgr_shape(params: &[CsiParam]) -> Option<(Sgr, usize)>
     }
 }
 
-/// What the piece at the front of a list stands for, and how many tokens it takes with the `;` right behind it.
+/// What the piece at the front of a list stands for, and how many tokens it takes with the `;` right behind it. What begins
+/// with a number, a `;` and more is read where the caller stands.
 #[tactic(auto, unfolding(crate::specs::Rendition::sgr_piece))]
 #[inline(never)]
 pub(crate) fn sgr_piece(params: &[CsiParam]) -> Option<(Sgr, usize)>
+    requires { has_more params.now ≡ false }
     ensures { result ≡ sgr_piece params.now }
 {
     let (value, len) = sgr_shape(params)?;
     Some((value, len + semicolon_at(params, len)))
 }
 
-/// What the piece at the front of a list that begins with this number stands for, where the number has a meaning of its own,
-/// and how many tokens the piece takes with the `;` right behind it: `4:k` where there is such an underline, else the number.
-#[inline(never)]
-pub(crate) fn marked_setting(value: i64, params: &[CsiParam]) -> Option<(Sgr, usize)>
-    requires { begins_with value params.now }
-    ensures { IfSome result (λ found. sgr_piece params.now ≡ Some found) }
-{
-    let (setting, len) = if value == 4 {
-        underline_shape(behind(params, 1))?
-    } else {
-        (plain_code(value)?, 1)
-    };
-    Some((setting, len + semicolon_at(params, len)))
-}
-
-/// The colour behind the first token, and how many tokens it takes with that and with the `;` right behind it. The sign behind
-/// that token and the number behind the sign, the colour's kind, decide what is read.
-#[inline(never)]
-pub(crate) fn told_color(params: &[CsiParam]) -> Option<(ColorSpec, usize)>
-    ensures { IfSome result (λ found. told_color params.now ≡ Some found) }
+/// The colour of the palette whose number stands behind its kind.
+#[tactic(auto, unfolding(crate::specs::ColourCases::palette_behind))]
+#[inline(always)]
+pub(crate) fn palette_color(params: &[CsiParam]) -> Option<ColorSpec>
+    ensures { result ≡ palette_behind params.now }
 {
     match params {
-        [_, CsiParam::P(b';'), CsiParam::Integer(kind), ..] => told_of_kind(*kind, params),
-        [_, CsiParam::P(b':'), ..] => {
-            let (color, len) = color_form(behind(params, 1))?;
-            Some((color, len + 1 + semicolon_at(params, len + 1)))
-        }
-        _ => None,
-    }
-}
-
-/// The same where this number stands behind the first `;`: it decides which numbers follow.
-#[inline(always)]
-fn told_of_kind(kind: i64, params: &[CsiParam]) -> Option<(ColorSpec, usize)>
-    requires { tells_kind kind params.now }
-    ensures { IfSome result (λ found. told_color params.now ≡ Some found) }
-{
-    match kind {
-        2 => told_opaque(params),
-        5 => told_palette(params),
-        _ => None,
-    }
-}
-
-/// The opaque colour whose numbers stand behind its kind, and how many tokens it takes.
-#[inline(always)]
-fn told_opaque(params: &[CsiParam]) -> Option<(ColorSpec, usize)>
-    requires { tells_kind (pos 2) params.now }
-    ensures { IfSome result (λ found. told_color params.now ≡ Some found) }
-{
-    match params {
-        [
-            _,
-            _,
-            _,
-            CsiParam::P(b';'),
-            CsiParam::Integer(red),
-            CsiParam::P(b';'),
-            CsiParam::Integer(green),
-            CsiParam::P(b';'),
-            CsiParam::Integer(blue),
-            rest @ ..,
-        ] => {
-            let Some(len) = told_len(9, rest) else {
-                return None;
-            };
-            if are_bytes(*red, *green, *blue) {
-                Some((opaque(*red, *green, *blue), len))
-            } else {
-                None
-            }
-        }
-        _ => None,
-    }
-}
-
-/// The colour of the palette whose number stands behind its kind, and how many tokens it takes.
-#[inline(always)]
-pub(crate) fn told_palette(params: &[CsiParam]) -> Option<(ColorSpec, usize)>
-    requires { tells_kind (pos 5) params.now }
-    ensures { IfSome result (λ found. told_color params.now ≡ Some found) }
-{
-    match params {
-        [
-            _,
-            _,
-            _,
-            CsiParam::P(b';'),
-            CsiParam::Integer(index),
-            rest @ ..,
-        ] => {
-            let Some(len) = told_len(5, rest) else {
-                return None;
-            };
+        [_, _, _, CsiParam::P(b';'), CsiParam::Integer(index), ..] => {
             if is_byte(*index) {
-                Some((palette(*index), len))
+                Some(palette(*index))
             } else {
-                None
+                no_color()
             }
         }
         _ => None,
     }
 }
 
-/// The colour whose numbers are all that stands behind the first token, apart by `;`.
+/// The opaque colour whose numbers stand behind its kind.
+#[tactic(auto, unfolding(crate::specs::ColourCases::opaque_behind))]
 #[inline(always)]
-pub(crate) fn whole_color(params: &[CsiParam]) -> Option<ColorSpec>
-    ensures { IfSome result (λ color. told_color params.now ≡ Some (color, length params.now)) }
-{
-    match params {
-        [_, CsiParam::P(b';'), CsiParam::Integer(kind), ..] => match *kind {
-            5 => whole_palette(params),
-            2 => whole_opaque(params),
-            _ => None,
-        },
-        _ => None,
-    }
-}
-
-/// The opaque colour whose numbers are all that stands behind its kind.
-#[inline(always)]
-pub(crate) fn whole_opaque(params: &[CsiParam]) -> Option<ColorSpec>
-    requires { tells_kind (pos 2) params.now }
-    ensures { IfSome result (λ color. told_color params.now ≡ Some (color, length params.now)) }
+pub(crate) fn opaque_color(params: &[CsiParam]) -> Option<ColorSpec>
+    ensures { result ≡ opaque_behind params.now }
 {
     match params {
         [
@@ -580,36 +482,25 @@ pub(crate) fn whole_opaque(params: &[CsiParam]) -> Option<ColorSpec>
             CsiParam::Integer(green),
             CsiParam::P(b';'),
             CsiParam::Integer(blue),
-        ] if are_bytes(*red, *green, *blue) => Some(opaque(*red, *green, *blue)),
+            ..
+        ] => {
+            if are_bytes(*red, *green, *blue) {
+                Some(opaque(*red, *green, *blue))
+            } else {
+                no_color()
+            }
+        }
         _ => None,
     }
 }
 
-/// The colour of the palette whose number is all that stands behind its kind.
-#[inline(always)]
-fn whole_palette(params: &[CsiParam]) -> Option<ColorSpec>
-    requires { tells_kind (pos 5) params.now }
-    ensures { IfSome result (λ color. told_color params.now ≡ Some (color, length params.now)) }
+/// No colour, as a number is no byte: by a call, so that the way there stays a jump.
+#[cold]
+#[inline(never)]
+fn no_color() -> Option<ColorSpec>
+    ensures { result ≡ None }
 {
-    match params {
-        [_, _, _, CsiParam::P(b';'), CsiParam::Integer(index)] if is_byte(*index) => Some(palette(
-            *index,
-        )),
-        _ => None,
-    }
-}
-
-/// So many tokens and the `;` right behind them, where it stands there; none where another token does.
-#[inline(always)]
-fn told_len(len: usize, behind: &[CsiParam]) -> Option<usize>
-    requires { len < 100 }
-    ensures { IfSome result (λ told. told ≡ len + semicolon_at behind.now 0) }
-{
-    match behind {
-        [] => Some(len),
-        [CsiParam::P(b';'), ..] => Some(len + 1),
-        _ => None,
-    }
+    None
 }
 
 /// Whether a number stands in front of a colour of the foreground, which is the most frequent.

@@ -1,12 +1,41 @@
-use Rattle.std.proofs.Common.{rules, ◌≡◌, length, Some, sym, ap, ◌∙◌}
+use Rattle.std.proofs.Common.{rules, ◌≡◌, true, pos, slice_index_or, Some, None, sym}
 use Rattle.csi_codec.specs.ColourCases.{target_numbered}
-use Rattle.csi_codec.proofs.PlaceLemmas.{further_whole}
-use Rattle.csi_codec.proofs.QuickLemmas.{target_told, with_target}
+use Rattle.csi_codec.specs.Parameters.{is_number}
+use Rattle.csi_codec.specs.Rendition.{plain_code}
+use Rattle.csi_codec.specs.declared.parameters.CsiParam.TheVariants.{Integer, P}
+use Rattle.csi_codec.proofs.QuickLemmas.{further_lost, further_signed, is_foreground, no_more, no_meaning, other_kind, other_sign}
 use Rattle.csi_codec.proofs.places.further_numbered.Goals as goal
+use Rattle.csi_codec.proofs.places.further_numbered.Goals.{else-not-is_foreground-via-else-not-is_foreground, else-not-is_foreground-via-then-not-is_foreground+in-None-1}
 
-pub returns-in-Some-whole_color : goal.returns-in-Some-whole_color
-returns-in-Some-whole_color c =
+pub returns : goal.returns
+returns c =
+    let plain : plain_code c.args.value ≡ Some c.in-Some.setting = search rules in
+    sym (further_signed c.args.read c.args.params.now c.args.others.now c.in-Some.setting c.args.value c.requires.behind c.requires.front plain)
+
+pub returns-in_default : goal.returns-in_default
+returns-in_default c =
+    let none : target_numbered c.args.value ≡ None = search rules in
+    let plain : plain_code c.args.value ≡ None = elim c.else-not-is_foreground.branch [
+      | else-not-is_foreground-via-else-not-is_foreground w ↦ let h : is_number 38 c.args.value ≡ true = search rules in absurd (is_foreground c.args.value none h)
+      | else-not-is_foreground-via-then-not-is_foreground+in-None-1 w ↦ search rules
+    ] in
+    sym (further_lost c.args.read c.args.params.now c.args.others.now c.requires.behind (no_meaning c.args.value c.args.others.now c.requires.front none plain))
+
+pub returns-in_default-others : goal.returns-in_default-others
+returns-in_default-others c =
     let target : target_numbered c.args.value ≡ Some c.in-Some-of_number.target = search rules in
-    let front = with_target c.args.value c.args.others.now c.in-Some-of_number.target c.requires.front target in
-    let piece = target_told c.args.others.now c.in-Some-of_number.target c.in-Some-whole_color.color (length c.args.others.now) front c.in-Some-whole_color.ensures in
-    further_whole c.args.read c.args.params.now c.args.others.now _ c.requires.some c.requires.behind (piece ∙ ap (λ v. Some (v, length c.args.others.now)) (sym c.set_to.ensures))
+    sym (further_lost c.args.read c.args.params.now c.args.others.now c.requires.behind (no_more c.args.value c.args.others.now c.in-Some-of_number.target c.requires.front target c.in_default-others.len_below))
+
+pub returns-in_default-others-2 : goal.returns-in_default-others-2
+returns-in_default-others-2 c =
+    let target : target_numbered c.args.value ≡ Some c.in-Some-of_number.target = search rules in
+    let sign : slice_index_or c.args.others.now 2 (Integer (pos 0)) ≡ P c.in_default-others.field-0 = search rules in
+    sym (further_lost c.args.read c.args.params.now c.args.others.now c.requires.behind (other_sign c.args.value c.args.others.now c.in-Some-of_number.target c.in_default-others.field-0 c.requires.front target c.in_default-others.len_at_least sign))
+
+pub returns-in_default-kind : goal.returns-in_default-kind
+returns-in_default-kind c =
+    let target : target_numbered c.args.value ≡ Some c.in-Some-of_number.target = search rules in
+    let kind : slice_index_or c.args.others.now 2 (Integer (pos 0)) ≡ Integer c.in-Integer.kind = search rules in
+    let five : c.in-Integer.kind ≡ pos 5 → ⊥ = search rules in
+    let two : c.in-Integer.kind ≡ pos 2 → ⊥ = search rules in
+    sym (further_lost c.args.read c.args.params.now c.args.others.now c.requires.behind (other_kind c.args.value c.args.others.now c.in-Some-of_number.target c.in-Integer.kind c.requires.front target c.in-Integer.len_at_least kind five two))
