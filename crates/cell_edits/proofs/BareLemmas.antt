@@ -130,6 +130,7 @@ bare_fitting row at room (b ∷ bytes) a u h =
 
 -- the cell of a text of at most four bytes, in at most one column
 pub bare_short : (text : List ℕ) (width : ℕ) (a : Attributes) → length text ≤ 4 → width ≤ 1 → a.hyperlink ≡ None → IsBareCell (cell_of text width a) × (nat_le 2 (cell_of text width a).width ≡ false)
-bare_short text width a few one u =
-    (record { few = by_test (shows_as_space text) (λ e. rw e (omega arith)) (λ e. rw e few); unlinked = u },
-    by_test (shows_as_space text) (λ e. rw e refl) (λ e. rw e (narrow_is (max 1 width) (omega arith))))
+bare_short text width a few one u = (
+  record { few = by_test (shows_as_space text) (λ e. rw e (omega arith)) (λ e. rw e few); unlinked = u },
+  by_test (shows_as_space text) (λ e. rw e refl) (λ e. rw e (narrow_is (max 1 width) (omega arith))),
+)

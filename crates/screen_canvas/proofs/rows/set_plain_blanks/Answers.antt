@@ -46,7 +46,6 @@ invariant_of-rows-2 c =
     (plain_written x new c.written_to-written.result c.args.at h c.in_ok-blank_columns.ensures (omega arith))
     (plain_blanks_bare x new c.written_to-written.result c.args.at c.is_bare.result h (omega arith) c.in_ok-blank_columns.ensures (λ bare. subst (λ (l : LineContent). IsBareRow l.columns) (sym there) (c.is_bare.ensures bare))))
 
-
 pub returns-clause-lines : goal.returns-clause-lines
 returns-clause-lines c =
     let x = c.index_mut-2.result.now in
