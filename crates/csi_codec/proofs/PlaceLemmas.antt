@@ -12,7 +12,7 @@ use Rattle.csi_codec.specs.declared.rendition.Sgr.{Sgr}
 use Rattle.csi_codec.specs.declared.rendition.Sgr.TheVariants.{Reset}
 use Rattle.csi_codec.specs.declared.sequences.CSI.{CSI}
 use Rattle.csi_codec.specs.Known.{found_action}
-use Rattle.csi_codec.specs.Parsing.{HasNoPiece, HasNoSetting, IsEnd, IsFirstPiece, IsNext, actions_behind, before_tokens, counted_from, first_setting, further_setting, list_kind, setting_at}
+use Rattle.csi_codec.specs.Parsing.{HasNoPiece, HasNoSetting, IsEnd, IsFirstPiece, IsNext, actions_behind, before_tokens, counted_from, first_setting, further_setting, list_kind}
 use Rattle.csi_codec.specs.Cursors.{cursor_reading}
 use Rattle.csi_codec.specs.Devices.{device_reading}
 use Rattle.csi_codec.specs.Edits.{edit_reading}
@@ -206,7 +206,7 @@ no_further : (read : ℕ) (found : Option (Sgr × ℕ)) → counted_from read fo
 no_further read None e = refl
 no_further read (Some f) e = absurd (no_setting (sym e))
 
-further_none : (read : ℕ) (ts : List CsiParam) → 0 < read → read < length ts → further_setting read ts ≡ None → HasNoSetting read ts
+pub further_none : (read : ℕ) (ts : List CsiParam) → 0 < read → read < length ts → further_setting read ts ≡ None → HasNoSetting read ts
 unfolding further_setting
 further_none read ts some h e = record {
   rest = λ truncated.
@@ -215,24 +215,15 @@ further_none read ts some h e = record {
   within = h;
 }
 
--- wherever it stands
-some_read : (read : ℕ) → eqb read 0 ≡ false → 0 < read
-some_read read h = grind (arith, nat_tests)
+-- the same by the final byte of the list, and where no token was read
+pub first_at : (read n final : ℕ) (ts : List CsiParam) (v : Sgr) → read ≡ 0 → final ≡ 109 → first_setting ts ≡ Some (v, n) → IsNext read ts final (sgr v) n
+first_at read n final ts v h m e = subst (λ k. IsNext k ts final (sgr v) n) (sym h) (subst (λ k. IsNext 0 ts k (sgr v) n) (sym m) (first_next ts v n e))
 
-abbrev first_or : ℕ → List CsiParam → Bool → Option (Sgr × ℕ)
-first_or read ts b = cond b (first_setting ts) (further_setting read ts)
+pub further_at : (read n final : ℕ) (ts : List CsiParam) (v : Sgr) → 0 < read → final ≡ 109 → further_setting read ts ≡ Some (v, n) → IsNext read ts final (sgr v) n
+further_at read n final ts v h m e = subst (λ k. IsNext read ts k (sgr v) n) (sym m) (further_next read n ts v h e)
 
-pub setting_next : (read n : ℕ) (ts : List CsiParam) (v : Sgr) → setting_at read ts ≡ Some (v, n) → IsNext read ts 109 (sgr v) n
-setting_next read n ts v e = elim (cases_Bool (eqb read 0)) [
-  | inl h ↦ subst (λ k. IsNext k ts 109 (sgr v) n) (sym (eqb-true read 0 h)) (first_next ts v n (ap (first_or read ts) (sym h) ∙ e))
-  | inr h ↦ further_next read n ts v (some_read read h) (ap (first_or read ts) (sym h) ∙ e)
-]
-
-pub setting_none : (read : ℕ) (ts : List CsiParam) → (0 < read → read < length ts) → setting_at read ts ≡ None → HasNoSetting read ts
-setting_none read ts within e = elim (cases_Bool (eqb read 0)) [
-  | inl h ↦ subst (λ k. HasNoSetting k ts) (sym (eqb-true read 0 h)) (first_none ts (ap (first_or read ts) (sym h) ∙ e))
-  | inr h ↦ let some : 0 < read = some_read read h in further_none read ts some (within some) (ap (first_or read ts) (sym h) ∙ e)
-]
+pub none_at : (read : ℕ) (ts : List CsiParam) → read ≡ 0 → first_setting ts ≡ None → HasNoSetting read ts
+none_at read ts h e = subst (λ k. HasNoSetting k ts) (sym h) (first_none ts e)
 
 -- what is left is the last action
 pub left_is_last : (read : ℕ) (ts : List CsiParam) (truncated : Bool) (action : Option (Result CSI AllocError)) → HasNoSetting read ts

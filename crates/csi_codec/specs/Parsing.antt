@@ -73,10 +73,6 @@ counted_from read found = option_map (λ f. (f.0, read + f.1)) found
 unfoldable pub further_setting : ℕ → List CsiParam → Option (Sgr × ℕ)
 further_setting read ts = counted_from read (sgr_piece (drop read ts))
 
--- either of both
-abbrev pub setting_at : ℕ → List CsiParam → Option (Sgr × ℕ)
-setting_at read ts = if read == 0 then first_setting ts else further_setting read ts
-
 -- so many tokens, unless none were read and others than those of SGR stand behind them
 abbrev pub behind_all : ℕ → List CsiParam → ℕ → Option ℕ
 behind_all read ts n = if nat_lt 0 read || all_sgr_tokens (drop n ts) then Some n else None

@@ -3,7 +3,7 @@ ghost use Rattle.std.specs.Prelude.{◌≡◌, ◌≢◌, ◌+◌, ◌<◌, ◌�
 ghost use Rattle.csi_codec.specs.Actions.{Kind as PieceKind, csi_reading, lone_or, lone_reading, modes_or, piece_of, pieces, private_mode_pieces, standard_mode_pieces, unspecified};
 ghost use Rattle.csi_codec.specs.Known.{found_action};
 ghost use Rattle.csi_codec.specs.ColourCases.{IsTold, begins_signed, has_more, opaque_behind, set_to};
-ghost use Rattle.csi_codec.specs.Parsing.{HasNoPiece, HasNoSetting, IsEnd, IsFirstPiece, IsNext, IsStart, actions_behind, actions_from, end_at, ended, first_setting, further_setting, kind_of, list_kind, setting_at};
+ghost use Rattle.csi_codec.specs.Parsing.{HasNoPiece, HasNoSetting, IsEnd, IsFirstPiece, IsNext, IsStart, actions_behind, actions_from, end_at, ended, first_setting, further_setting, kind_of, list_kind};
 ghost use Rattle.csi_codec.specs.Sequences.{action_of, HandsOut};
 ghost use Rattle.csi_codec.specs.declared.parameters.CsiParam.{CsiParam};
 
@@ -54,22 +54,30 @@ impl CSIPlace {
     {
         let read = self.index;
         if read == 0 {
-            if control != 'm' {
-                if params.is_empty() {
-                    if let Some(value) = bare_action(control) {
-                        self.index = 1;
-                        return Some(Ok(value));
-                    }
-                } else if let Some(value) = quick_other(params, control) {
-                    self.index = params.len();
+            if control == 'm' {
+                if let Some((value, behind)) = first_setting(params) {
+                    self.index = behind;
+                    return Some(Ok(CSI::Sgr(value)));
+                }
+            } else if params.is_empty() {
+                if let Some(value) = bare_action(control) {
+                    self.index = 1;
                     return Some(Ok(value));
                 }
+            } else if let Some(value) = quick_other(params, control) {
+                self.index = params.len();
+                return Some(Ok(value));
             }
         } else if read >= params.len() {
             return None;
+        } else if control == 'm'
+            && let Some((value, behind)) = further_setting(read, params)
+        {
+            self.index = behind;
+            return Some(Ok(CSI::Sgr(value)));
         }
         if control == 'm' {
-            return self.next_setting(alloc, params, parameters_truncated);
+            return self.leave(alloc, params, parameters_truncated);
         }
         if let Some((value, behind)) = known(read, params, control) {
             self.index = behind;
@@ -89,24 +97,6 @@ impl CSIPlace {
             return false;
         }
         read >= params.len()
-    }
-
-    /// The action at this place of an SGR list, which isn't its end: a setting, or else what is left.
-    #[inline(always)]
-    fn next_setting(
-        &mut self,
-        alloc: Global,
-        params: &[CsiParam],
-        truncated: bool,
-    ) -> Option<Result<CSI, AllocError>>
-        requires { 0 < self.old.index → self.old.index < length params.now }
-        ensures { HandsOut (actions_from self.old params.now truncated 109) result (actions_from self.new params.now truncated 109) }
-    {
-        let Some((value, behind)) = setting_at(self.index, params) else {
-            return self.leave(alloc, params, truncated);
-        };
-        self.index = behind;
-        Some(Ok(CSI::Sgr(value)))
     }
 
     /// What is left of an SGR list at this place, where no setting stands: the last action.
@@ -185,19 +175,6 @@ fn left_at(
     ensures { HandsOut (unspecified (drop read params.now) truncated 109 ∷ []) result [] }
 {
     rest(alloc, behind(params, read), truncated, 'm')
-}
-
-/// The setting of an SGR list where so many tokens were read, and how many are read then; none where none stands there.
-#[inline(always)]
-fn setting_at(read: usize, params: &[CsiParam]) -> Option<(Sgr, usize)>
-    requires { 0 < read → read < length params.now }
-    ensures { result ≡ setting_at read params.now }
-{
-    if read == 0 {
-        first_setting(params)
-    } else {
-        further_setting(read, params)
-    }
 }
 
 /// The first setting of an SGR list, and how many tokens are read then; none where the list has no reading. What is most
