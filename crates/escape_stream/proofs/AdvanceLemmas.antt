@@ -31,7 +31,7 @@ use Rattle.escape_stream.specs.declared.queue.Queue.{Queue}
 use Rattle.escape_framing.specs.declared.lone.Lone.{Lone as Read}
 use Rattle.escape_framing.specs.declared.lone.Lone.TheVariants as lone
 use Rattle.escape_stream.specs.Pieces.{Piece, Text, Lone, pieces_of, pieces}
-use Rattle.escape_stream.specs.PiecesView.{lender_of, parser_of, open_pieces, held_at_end, items_at, items_left, ready_at, IsReady, PiecesGo, IsOpen, IsOver, IsUnderWay, HasRead, HasReadLone, HasReadSequence, IsPairAt, IsShortAt, IsCommandAt, lone_values, GivesPiece, HasGiven, GoesOn}
+use Rattle.escape_stream.specs.PiecesView.{lender_of, parser_of, open_pieces, held_at_end, items_at, items_left, ready_at, IsReady, PiecesGo, IsOpen, IsOver, IsUnderWay, IsGoing, HandsOutAtOnce, HasRead, HasReadLone, HasReadSequence, IsPairAt, IsShortAt, IsCommandAt, lone_values, GivesPiece, HasGiven, GoesOn}
 use Rattle.escape_stream.proofs.PieceLemmas.{read_none, read_text, read_command, read_behind, command_behind, if_none, comes_closer}
 
 -- only what waits has changed
@@ -383,6 +383,10 @@ goes_behind old mid new None g o l s p = record {
   items = (p.items.0, λ x. given_behind old mid new None g (p.items.1 (s ∙ x)), λ x. p.items.2 (s ∙ x));
   parser = ((λ x. p.parser.0 (s ∙ x)), λ x. absurd (let e : stage.Open ≡ stage.Over = sym o ∙ x in cc));
 }
+
+-- what is handed out at once is the next piece of a call
+pub goes_at_once : (old new : Pieces) (piece : PieceCode) → IsGoing old → HandsOutAtOnce old (Ok piece) new → PiecesGo old (Some (Ok piece)) new
+goes_at_once old new piece g h = record { same = h.same; items = (g.open, h.stage ∙ g.open, h.gives g.ready); parser = ap (λ (f : Framing). f.failed) h.parser ∙ g.failed }
 
 -- ---- a short control sequence
 

@@ -1,7 +1,8 @@
 -- What an iterator of pieces has yet to hand out, and of the parser that it borrows.
-use Rattle.std.specs.Prelude.{◌≡◌, ◌≢◌, ◌≤◌, ℕ, ◌+◌, true, false, List, [], ◌∷◌, ◌++◌, length, drop, map, Option, Some, None, Result, Ok, Err}
+use Rattle.std.specs.Prelude.{◌≡◌, ◌≢◌, ◌≤◌, ℕ, ◌+◌, true, false, List, [], ◌∷◌, ◌++◌, length, drop, map, Option, Some, None, Result, Ok, Err, IfOk}
 use base.Fml.{GName}
 use Rattle.std.specs.Str.{chars}
+use Rattle.std.specs.declared.alloc.AllocError.{AllocError}
 use Rattle.escape_stream.specs.StreamAction.{StreamAction, print, esc}
 use Rattle.escape_framing.specs.Held.{Held, hand_out}
 use Rattle.escape_framing.specs.Framing.{Framing}
@@ -14,7 +15,9 @@ use Rattle.escape_stream.specs.declared.control.ControlCode.{ControlCode}
 use Rattle.escape_framing.specs.declared.step.Step.{Step}
 use Rattle.escape_stream.specs.StreamActions.{actions_of, named_control}
 use Rattle.escape_stream.specs.Pieces.{Piece, Text, Lone, pieces_of}
-use Rattle.escape_stream.specs.Queue.{queue_actions}
+use Rattle.escape_stream.specs.Queue.{queue_actions, IsEmpty}
+use Rattle.escape_stream.specs.Pending.{Gives}
+use Rattle.escape_stream.specs.declared.action.Action.{Action}
 use Rattle.escape_stream.specs.declared.queue.Queue.{Queue}
 use Rattle.escape_framing.specs.Parameters.{Parameters}
 use Rattle.escape_framing.specs.declared.lone.Lone.{Lone as Read}
@@ -139,6 +142,23 @@ pub record HasGiven (old : Pieces) (piece : Option PieceCode) (new : Pieces) : T
   pub ends : held_at_end new ≡ held_at_end old
   pub done : piece ≡ None → new.parser.now.held ≡ held_at_end old
 
+-- The next piece is handed out at once, unless memory is refused; the parser stays as it was.
+pub record HandsOutAtOnce (old : Pieces) (answer : Result PieceCode AllocError) (new : Pieces) : Type 0 where
+  pub same : lender_of new ≡ lender_of old
+  pub stage : new.stage ≡ old.stage
+  pub parser : new.parser.now ≡ old.parser.now
+  pub gives : IfOk answer (λ piece. IsUnderWay old → HasGiven old (Some piece) new)
+
+-- The next of the actions that wait is handed out, unless memory is refused; nothing but these has changed.
+pub record HandsOutWaiting (old : Pieces) (answer : Result (Option Action) AllocError) (new : Pieces) : Type 0 where
+  pub same : lender_of new ≡ lender_of old
+  pub parser : new.parser.now ≡ old.parser.now
+  pub bytes : new.bytes ≡ old.bytes
+  pub count : new.count ≡ old.count
+  pub stage : new.stage ≡ old.stage
+  pub gives : IfOk answer (λ next. Gives (queue_actions old.parser.now.parameters old.queue) next (queue_actions old.parser.now.parameters new.queue))
+  pub empty : IfOk answer (λ next. next ≡ None → IsEmpty new.queue)
+
 -- the same is left to hand out
 pub record GoesOn (old new : Pieces) : Type 0 where
   pub same : (start : ℕ) → open_pieces start new ≡ open_pieces start old
@@ -160,6 +180,17 @@ abbrev pub ready_at : Stage → Pieces → Type 0
 ready_at stage.Failed it = Unit {0}
 ready_at stage.Open it = IsUnderWay it × ((parser_of it).failed ≡ true)
 ready_at stage.Over it = Unit {0}
+
+-- it is open: what was read are bytes of a stream, and its parser has failed
+pub record IsGoing (it : Pieces) : Type 0 where
+  pub «open» : IsOpen it
+  pub ready : IsUnderWay it
+  pub failed : (parser_of it).failed ≡ true
+
+-- the same, and nothing waits
+pub record IsIdle (it : Pieces) : Type 0 where
+  pub going : IsGoing it
+  pub empty : IsEmpty it.queue
 
 -- `next` may be called
 abbrev pub IsReady : Pieces → Type 0

@@ -1,9 +1,9 @@
 //! The pieces of a stream: texts, which are lent from the bytes that are fed, and actions.
-ghost use Rattle.std.specs.Prelude.{◌≡◌, ◌≢◌, ◌↔◌, ◌+◌, ◌<◌, ◌≤◌, ℕ, [], ◌∷◌, Some, true, None, IsTrue, IfOk, IfSome, length, drop, take};
+ghost use Rattle.std.specs.Prelude.{◌≡◌, ◌≢◌, ◌↔◌, ◌+◌, ◌<◌, ◌≤◌, ℕ, [], ◌∷◌, Some, true, None, Ok, IsTrue, IfOk, IfSome, length, drop, take};
 ghost use Rattle.escape_framing.specs.Framed.{IsText};
 ghost use Rattle.escape_framing.specs.Stepped.{Reads};
 ghost use Rattle.escape_framing.specs.Quick.{text_step, short_parameters};
-ghost use Rattle.escape_stream.specs.PiecesView.{IsUnderWay, IsOpen, lender_of, parser_of, lone_values, IsUnread, HasGiven, HasRead, HasReadLone, HasReadSequence, IsControlAt, IsShortAt, IsPairAt, IsCommandAt, GoesOn, PiecesGo};
+ghost use Rattle.escape_stream.specs.PiecesView.{IsUnderWay, IsGoing, IsIdle, lender_of, parser_of, lone_values, IsUnread, HasGiven, HasRead, HasReadLone, HasReadSequence, HandsOutAtOnce, HandsOutWaiting, IsControlAt, IsShortAt, IsPairAt, IsCommandAt, GoesOn, PiecesGo};
 ghost use Rattle.escape_stream.specs.Pending.{Gives, pending_values};
 ghost use Rattle.escape_stream.specs.StreamActionView.{value_of};
 ghost use Rattle.escape_stream.specs.Queue.{queue_actions, sequence_values, IsEmpty};
@@ -148,13 +148,7 @@ impl<'a> Pieces<'a> {
     // The next action of those that wait.
     #[inline(always)]
     fn queued_action(&mut self) -> Result<Option<Action>, AllocError>
-        ensures same { lender_of self.new ≡ lender_of self.old }
-        ensures parser { self.new.parser.now ≡ self.old.parser.now }
-        ensures bytes { self.new.bytes ≡ self.old.bytes }
-        ensures count { self.new.count ≡ self.old.count }
-        ensures stage { self.new.stage ≡ self.old.stage }
-        ensures gives { IfOk result (λ next. Gives (queue_actions self.old.parser.now.parameters self.old.queue) next (queue_actions self.old.parser.now.parameters self.new.queue)) }
-        ensures empty { IfOk result (λ next. next ≡ None → IsEmpty self.new.queue) }
+        ensures { HandsOutWaiting self.old result self.new }
     {
         let parser = &*self.parser;
         let next = parser.next_action(&mut self.queue)?;
@@ -164,13 +158,7 @@ impl<'a> Pieces<'a> {
     // The same, faster where none wait.
     #[inline(always)]
     fn next_action(&mut self) -> Result<Option<Action>, AllocError>
-        ensures same { lender_of self.new ≡ lender_of self.old }
-        ensures parser { self.new.parser.now ≡ self.old.parser.now }
-        ensures bytes { self.new.bytes ≡ self.old.bytes }
-        ensures count { self.new.count ≡ self.old.count }
-        ensures stage { self.new.stage ≡ self.old.stage }
-        ensures gives { IfOk result (λ next. Gives (queue_actions self.old.parser.now.parameters self.old.queue) next (queue_actions self.old.parser.now.parameters self.new.queue)) }
-        ensures empty { IfOk result (λ next. next ≡ None → IsEmpty self.new.queue) }
+        ensures { HandsOutWaiting self.old result self.new }
     {
         if !self.queue.is_waiting() {
             return Ok(None);
@@ -195,10 +183,7 @@ impl<'a> Pieces<'a> {
         requires within { self.old.count ≤ length self.old.bytes.now }
         requires empty { IsEmpty self.old.queue }
         requires stands { IsControlAt self.old control }
-        ensures same { lender_of self.new ≡ lender_of self.old }
-        ensures stage { self.new.stage ≡ self.old.stage }
-        ensures parser { self.new.parser.now ≡ self.old.parser.now }
-        ensures gives { IsUnderWay self.old → HasGiven self.old (Some result) self.new }
+        ensures { HandsOutAtOnce self.old (Ok result) self.new }
     {
         self.count += 1;
         Piece::Action(Action::Control(control))
@@ -221,10 +206,7 @@ impl<'a> Pieces<'a> {
         requires some { 0 < len }
         requires empty { IsEmpty self.old.queue }
         requires reads { Reads self.old.parser.now.parameters self.old.parser.now.held (drop self.old.count self.old.bytes.now) (text_step len) self.old.parser.now.held }
-        ensures same { lender_of self.new ≡ lender_of self.old }
-        ensures stage { self.new.stage ≡ self.old.stage }
-        ensures parser { self.new.parser.now ≡ self.old.parser.now }
-        ensures gives { IsUnderWay self.old → HasGiven self.old (Some result) self.new }
+        ensures { HandsOutAtOnce self.old (Ok result) self.new }
     {
         let bytes = self.bytes;
         let before = self.count;
@@ -347,9 +329,7 @@ impl<'a> Pieces<'a> {
     // The next item of pieces that are open, byte by byte where nothing is read at once.
     #[inline(never)]
     fn next_of_loop(&mut self) -> Option<Result<Piece<'a>, ParseError>>
-        requires open { IsOpen self.old }
-        requires ready { IsUnderWay self.old }
-        requires failed { self.old.parser.now.failed ≡ true }
+        requires { IsGoing self.old }
         ensures { PiecesGo self.old result self.new }
     {
         match self.advance() {
@@ -369,9 +349,7 @@ impl<'a> Pieces<'a> {
     // The same, called where it is wanted: the room for its answer is only cleared there.
     #[inline(always)]
     fn next_by_loop(&mut self) -> Option<Result<Piece<'a>, ParseError>>
-        requires open { IsOpen self.old }
-        requires ready { IsUnderWay self.old }
-        requires failed { self.old.parser.now.failed ≡ true }
+        requires { IsGoing self.old }
         ensures { PiecesGo self.old result self.new }
     {
         self.next_of_loop()
@@ -429,10 +407,7 @@ impl<'a> Pieces<'a> {
         requires empty { IsEmpty self.old.queue }
         requires stands { IsShortAt self.old short }
         requires only { sequence_values (short_parameters short.numbers) short.control ≡ value_of action ∷ [] }
-        ensures same { lender_of self.new ≡ lender_of self.old }
-        ensures stage { self.new.stage ≡ self.old.stage }
-        ensures parser { self.new.parser.now ≡ self.old.parser.now }
-        ensures gives { IsUnderWay self.old → HasGiven self.old (Some result) self.new }
+        ensures { HandsOutAtOnce self.old (Ok result) self.new }
     {
         self.count += short.count;
         Piece::Action(action)
@@ -441,10 +416,7 @@ impl<'a> Pieces<'a> {
     // The next item of pieces that are open, where nothing waits: of a short control sequence at once.
     #[inline(always)]
     fn next_by_step(&mut self) -> Option<Result<Piece<'a>, ParseError>>
-        requires open { IsOpen self.old }
-        requires ready { IsUnderWay self.old }
-        requires failed { self.old.parser.now.failed ≡ true }
-        requires empty { IsEmpty self.old.queue }
+        requires { IsIdle self.old }
         ensures { PiecesGo self.old result self.new }
     {
         match self.short() {
@@ -457,10 +429,7 @@ impl<'a> Pieces<'a> {
     // own, anything else as any control sequence.
     #[inline(always)]
     fn next_by_more(&mut self) -> Option<Result<Piece<'a>, ParseError>>
-        requires open { IsOpen self.old }
-        requires ready { IsUnderWay self.old }
-        requires failed { self.old.parser.now.failed ≡ true }
-        requires empty { IsEmpty self.old.queue }
+        requires { IsIdle self.old }
         ensures { PiecesGo self.old result self.new }
     {
         if self.may_be_numbers() {
@@ -473,10 +442,7 @@ impl<'a> Pieces<'a> {
     // The same, where two or three numbers may stand there, called where it is wanted, as `next_by_loop` is.
     #[inline(always)]
     fn next_by_numbers(&mut self) -> Option<Result<Piece<'a>, ParseError>>
-        requires open { IsOpen self.old }
-        requires ready { IsUnderWay self.old }
-        requires failed { self.old.parser.now.failed ≡ true }
-        requires empty { IsEmpty self.old.queue }
+        requires { IsIdle self.old }
         ensures { PiecesGo self.old result self.new }
     {
         self.next_of_numbers()
@@ -485,10 +451,7 @@ impl<'a> Pieces<'a> {
     // The same, where two or three numbers may stand there.
     #[inline(never)]
     fn next_of_numbers(&mut self) -> Option<Result<Piece<'a>, ParseError>>
-        requires open { IsOpen self.old }
-        requires ready { IsUnderWay self.old }
-        requires failed { self.old.parser.now.failed ≡ true }
-        requires empty { IsEmpty self.old.queue }
+        requires { IsIdle self.old }
         ensures { PiecesGo self.old result self.new }
     {
         match self.numbers() {
@@ -500,10 +463,7 @@ impl<'a> Pieces<'a> {
     // The same of any control sequence whose bytes stand there, called where it is wanted, as `next_by_loop` is.
     #[inline(always)]
     fn next_by_list(&mut self) -> Option<Result<Piece<'a>, ParseError>>
-        requires open { IsOpen self.old }
-        requires ready { IsUnderWay self.old }
-        requires failed { self.old.parser.now.failed ≡ true }
-        requires empty { IsEmpty self.old.queue }
+        requires { IsIdle self.old }
         ensures { PiecesGo self.old result self.new }
     {
         self.next_by_sequence()
@@ -512,10 +472,7 @@ impl<'a> Pieces<'a> {
     // The same of any control sequence whose bytes stand there.
     #[inline(never)]
     fn next_by_sequence(&mut self) -> Option<Result<Piece<'a>, ParseError>>
-        requires open { IsOpen self.old }
-        requires ready { IsUnderWay self.old }
-        requires failed { self.old.parser.now.failed ≡ true }
-        requires empty { IsEmpty self.old.queue }
+        requires { IsIdle self.old }
         ensures { PiecesGo self.old result self.new }
     {
         let Some(control) = self.read_sequence() else {
@@ -548,10 +505,7 @@ impl<'a> Pieces<'a> {
         requires within { self.old.count ≤ length self.old.bytes.now }
         requires empty { IsEmpty self.old.queue }
         requires stands { IsCommandAt self.old body.now count }
-        ensures same { lender_of self.new ≡ lender_of self.old }
-        ensures stage { self.new.stage ≡ self.old.stage }
-        ensures parser { self.new.parser.now ≡ self.old.parser.now }
-        ensures gives { IfOk result (λ piece. IsUnderWay self.old → HasGiven self.old (Some piece) self.new) }
+        ensures { HandsOutAtOnce self.old result self.new }
     {
         let action = command_action(self.parser.alloc(), body)?;
         self.count += count;
@@ -574,10 +528,7 @@ impl<'a> Pieces<'a> {
         requires within { self.old.count ≤ length self.old.bytes.now }
         requires empty { IsEmpty self.old.queue }
         requires stands { IsPairAt self.old control }
-        ensures same { lender_of self.new ≡ lender_of self.old }
-        ensures stage { self.new.stage ≡ self.old.stage }
-        ensures parser { self.new.parser.now ≡ self.old.parser.now }
-        ensures gives { IsUnderWay self.old → HasGiven self.old (Some result) self.new }
+        ensures { HandsOutAtOnce self.old (Ok result) self.new }
     {
         self.count += 2;
         Piece::Action(Action::Esc(Esc::parse(None, control)))
@@ -586,10 +537,7 @@ impl<'a> Pieces<'a> {
     // The same of an escape sequence of two bytes or a command at once, called where it is wanted, as `next_by_loop` is.
     #[inline(always)]
     fn next_by_command(&mut self) -> Option<Result<Piece<'a>, ParseError>>
-        requires open { IsOpen self.old }
-        requires ready { IsUnderWay self.old }
-        requires failed { self.old.parser.now.failed ≡ true }
-        requires empty { IsEmpty self.old.queue }
+        requires { IsIdle self.old }
         ensures { PiecesGo self.old result self.new }
     {
         self.next_of_command()
@@ -598,10 +546,7 @@ impl<'a> Pieces<'a> {
     // The next item of pieces that are open, where nothing waits: of an escape sequence of two bytes or a command at once.
     #[inline(never)]
     fn next_of_command(&mut self) -> Option<Result<Piece<'a>, ParseError>>
-        requires open { IsOpen self.old }
-        requires ready { IsUnderWay self.old }
-        requires failed { self.old.parser.now.failed ≡ true }
-        requires empty { IsEmpty self.old.queue }
+        requires { IsIdle self.old }
         ensures { PiecesGo self.old result self.new }
     {
         if let Some(control) = self.pair() {
@@ -640,10 +585,7 @@ impl<'a> Pieces<'a> {
     // The next item where ESC stands at the front, and nothing waits.
     #[inline(always)]
     fn next_of_escape(&mut self) -> Option<Result<Piece<'a>, ParseError>>
-        requires open { IsOpen self.old }
-        requires ready { IsUnderWay self.old }
-        requires failed { self.old.parser.now.failed ≡ true }
-        requires empty { IsEmpty self.old.queue }
+        requires { IsIdle self.old }
         ensures { PiecesGo self.old result self.new }
     {
         if self.is_at_sequence() {
@@ -665,10 +607,7 @@ impl<'a> Pieces<'a> {
     // The next item where such a control stands there, and nothing waits: a sequence or the control at once.
     #[inline(always)]
     fn next_of_control(&mut self) -> Option<Result<Piece<'a>, ParseError>>
-        requires open { IsOpen self.old }
-        requires ready { IsUnderWay self.old }
-        requires failed { self.old.parser.now.failed ≡ true }
-        requires empty { IsEmpty self.old.queue }
+        requires { IsIdle self.old }
         ensures { PiecesGo self.old result self.new }
     {
         if self.is_at_escape() {
@@ -683,9 +622,7 @@ impl<'a> Pieces<'a> {
     // The next item of pieces that are open: a text, a sequence or a control at once.
     #[inline(always)]
     fn next_open(&mut self) -> Option<Result<Piece<'a>, ParseError>>
-        requires open { IsOpen self.old }
-        requires ready { IsUnderWay self.old }
-        requires failed { self.old.parser.now.failed ≡ true }
+        requires { IsGoing self.old }
         ensures { PiecesGo self.old result self.new }
     {
         if self.queue.is_waiting() {

@@ -2,5 +2,5 @@ use Rattle.std.proofs.Common.{refl}
 use Rattle.escape_stream.proofs.AdvanceLemmas.{gives_command}
 use Rattle.escape_stream.proofs.pieces.Pieces.take_command.Goals as goal
 
-pub returns-clause-gives : goal.returns-clause-gives
-returns-clause-gives c = λ u. gives_command c.args.self.now _ c.in_ok-action.action c.args.body.now c.args.count u c.requires.empty c.requires.stands c.in_ok-action.ensures refl refl refl refl
+pub returns : goal.returns
+returns c = record { same = refl; stage = refl; parser = refl; gives = λ u. gives_command c.args.self.now _ c.in_ok-action.action c.args.body.now c.args.count u c.requires.empty c.requires.stands c.in_ok-action.ensures refl refl refl refl }

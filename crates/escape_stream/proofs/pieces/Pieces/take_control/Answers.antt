@@ -3,7 +3,7 @@ use Rattle.escape_stream.specs.StreamActions.{named_control}
 use Rattle.escape_stream.proofs.AdvanceLemmas.{gives_control}
 use Rattle.escape_stream.proofs.pieces.Pieces.take_control.Goals as goal
 
-pub returns-clause-gives : goal.returns-clause-gives
-returns-clause-gives c = λ u.
+pub returns : goal.returns
+returns c =
     let s = c.requires.stands in
-    gives_control c.args.self.now _ _ s.byte u c.requires.empty s.reads (ap named_control (sym s.named)) refl refl refl refl
+    record { same = refl; stage = refl; parser = refl; gives = λ u. gives_control c.args.self.now _ _ s.byte u c.requires.empty s.reads (ap named_control (sym s.named)) refl refl refl refl }
