@@ -32,9 +32,6 @@ read_each (c ∷ front) gs h =
     let parts = and_parts (is_printable c) (list_all is_printable front) h in
     λ i. read_alone (c ∷ []) (one_alone c parts.0) i ∷ read_each front gs parts.1 i
 
-pub plain_followed : (count : ℕ) (text : List ℕ) → count < prefix_len is_printable text → clusters text ≡ each (take count text) ++ clusters (drop count text)
-plain_followed count text h = ap (map read_cluster) (run count text h) ∙ read_each (take count text) _ (printable_front count text (omega arith))
-
 pub plain_alone : (text : List ℕ) → prefix_len is_printable text ≡ length text → clusters text ≡ each text
 plain_alone text h =
     let all : take (length text) text ≡ text = take_all (length text) text (omega arith) in

@@ -1,5 +1,5 @@
 -- A change of one attribute as a value: its link by what it holds.
-use Rattle.std.specs.Prelude.{Bool, Option}
+use Rattle.std.specs.Prelude.{Bool, true, false, Option, Some}
 use Rattle.cell_base.specs.declared.attributes.Intensity.{Intensity as Boldness}
 use Rattle.cell_base.specs.declared.attributes.Underline.{Underline as Underlining}
 use Rattle.cell_base.specs.declared.attributes.Blink.{Blink as Blinking}
@@ -18,3 +18,8 @@ pub data AttributeValue : Type 0 where
   Foreground : ColorAttribute → AttributeValue
   Background : ColorAttribute → AttributeValue
   Hyperlink : Option Link → AttributeValue
+
+-- a link is set, not taken away
+abbrev pub holds_link : AttributeValue → Bool
+holds_link (Hyperlink (Some link)) = true
+holds_link value = false

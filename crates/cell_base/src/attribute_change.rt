@@ -1,5 +1,5 @@
 //! A change of one attribute.
-ghost use Rattle.std.specs.Prelude.{◌≡◌, IfOk};
+ghost use Rattle.std.specs.Prelude.{◌≡◌, true, IfOk, IsErr};
 ghost use Rattle.cell_base.specs.Attributes.{Attributes};
 
 use crate::attributes::{Blink, Intensity, Underline};
@@ -25,13 +25,15 @@ pub enum AttributeChange {
 
 impl AttributeChange {
     ghost use Rattle.cell_base.specs.AttributeChange.{changed_by};
+    ghost use Rattle.cell_base.specs.AttributeValue.{holds_link};
     ghost use Rattle.cell_base.specs.AttributeValueOf.{attribute_value};
 
-    /// A copy that shares the link.
+    /// A copy that shares the link; it is refused only where there is one.
     pub fn try_clone(&self) -> Result<AttributeChange, AllocError>
         ensures effect { IfOk result
             (λ copy. (a : Attributes) → changed_by a copy ≡ changed_by a self.now) }
         ensures value { IfOk result (λ copy. attribute_value copy ≡ attribute_value self.now) }
+        ensures refused { IsErr result → holds_link (attribute_value self.now) ≡ true }
     {
         Ok(match self {
             AttributeChange::Intensity(value) => AttributeChange::Intensity(*value),
@@ -43,7 +45,10 @@ impl AttributeChange {
             AttributeChange::Invisible(value) => AttributeChange::Invisible(*value),
             AttributeChange::Foreground(value) => AttributeChange::Foreground(*value),
             AttributeChange::Background(value) => AttributeChange::Background(*value),
-            AttributeChange::Hyperlink(link) => AttributeChange::Hyperlink(link.clone()?),
+            AttributeChange::Hyperlink(None) => AttributeChange::Hyperlink(None),
+            AttributeChange::Hyperlink(Some(link)) => AttributeChange::Hyperlink(Some(
+                link.clone()?,
+            )),
         })
     }
 }

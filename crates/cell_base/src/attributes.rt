@@ -116,8 +116,8 @@ impl CursorShape {
     }
 }
 
-/// The number of a change, counted from 0.
+/// How many changes there have been; so the first change has the number 1.
 pub type SequenceNo = usize;
 
-/// The number before the first change.
+/// The number while there has been no change.
 pub const SEQ_ZERO: SequenceNo = 0;

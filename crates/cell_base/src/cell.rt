@@ -1,5 +1,5 @@
 //! Cells: a text of one cluster with its width and attributes.
-ghost use Rattle.std.specs.Prelude.{◌≡◌, ◌≤◌, ◌↔◌, ◌==◌, ◌&&◌, true, false, not, None, [], ◌∷◌, length, take, encode_utf8, IfOk, IfSome, OnOk, OnErr, IsTrue};
+ghost use Rattle.std.specs.Prelude.{◌≡◌, ◌≤◌, ◌↔◌, ◌==◌, ◌&&◌, true, false, not, None, [], ◌∷◌, length, take, encode_utf8, IfOk, IfSome, IsOk, OnOk, OnErr, IsTrue};
 ghost use Rattle.std.specs.Borrow.{sem};
 ghost use Rattle.std.specs.Str.{IsUtf8};
 ghost use Rattle.cell_base.specs.Attributes.{Attributes, plain};
@@ -107,12 +107,13 @@ impl Cell {
         }
     }
 
-    /// Becomes the cell of a printable ASCII character (20h to 7Eh), of one column. It asks for no
-    /// memory of its own; a refused one stays as it was.
+    /// Becomes the cell of a printable ASCII character (20h to 7Eh), of one column. It is refused only where the attributes
+    /// have a link, and stays as it was then.
     #[inline(always)]
     pub fn set_ascii(&mut self, character: u8, attrs: &CellAttributes) -> Result<(), AllocError>
         requires { is_printable character ≡ true }
         ensures done { OnOk result (self.new ≡ cell_of (character ∷ []) 1 attrs.now) }
+        ensures succeeds { attrs.now.hyperlink ≡ None → IsOk result }
         ensures refused { OnErr result (self.new ≡ self.old) }
     {
         self.attributes.copy_from(attrs)?;
@@ -121,10 +122,11 @@ impl Cell {
         Ok(())
     }
 
-    /// Becomes a space with attributes. It asks for no memory of its own; a refused one stays as it was.
+    /// Becomes a space with attributes. It is refused only where these have a link, and stays as it was then.
     #[inline(always)]
     pub fn set_blank(&mut self, attrs: &CellAttributes) -> Result<(), AllocError>
         ensures done { OnOk result (self.new ≡ blank_cell attrs.now) }
+        ensures succeeds { attrs.now.hyperlink ≡ None → IsOk result }
         ensures refused { OnErr result (self.new ≡ self.old) }
     {
         self.attributes.copy_from(attrs)?;
@@ -170,7 +172,7 @@ impl Cell {
         self.text.become_ascii(character);
     }
 
-    /// The same for a space.
+    /// The same as `set_blank_without_link`, where this cell has a text of at most four bytes and no link.
     #[inline(always)]
     pub fn set_blank_over_bare(&mut self, attrs: &CellAttributes)
         requires unlinked { attrs.now.hyperlink ≡ None }
@@ -251,7 +253,7 @@ impl Cell {
         shed(&mut self.text, &mut self.attributes);
     }
 
-    // The same for any text.
+    // What `set_grapheme_with_width` does, for any text, by a call.
     #[inline(never)]
     fn set_text(
         &mut self,
@@ -357,7 +359,7 @@ fn shed(text: &mut CellText, attributes: &mut CellAttributes)
     }
 }
 
-// The same where there is one of both.
+// The same where there is either.
 #[cold]
 #[inline(never)]
 fn drop_both(text: &mut CellText, attributes: &mut CellAttributes)

@@ -424,7 +424,7 @@ impl CellAttributes {
         Ok(())
     }
 
-    // The same where one of both has a link.
+    // The same where either has a link.
     #[inline(never)]
     fn take_link(&mut self, other: &CellAttributes) -> Result<(), AllocError>
         ensures done { OnOk result (self.new ≡ record self.old { hyperlink = other.now.hyperlink }) }

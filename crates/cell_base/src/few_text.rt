@@ -83,7 +83,7 @@ impl FewText {
         }
     }
 
-    // A space, with the last bytes that are there: what is written is one move of four bytes, with what stands before it.
+    // A space. The last two bytes stay, so that the length, the space and what stands before them are written by one move.
     #[inline(always)]
     pub(crate) fn with_space(&self) -> FewText
         ensures { take result.len result.bytes ≡ 32 ∷ [] }

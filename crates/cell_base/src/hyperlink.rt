@@ -176,7 +176,7 @@ impl Hyperlink {
         self.params.is_empty() && self.uri.is_empty()
     }
 
-    // Whether the texts are the same.
+    // Whether the texts are the same, and whether both are implicit or neither.
     fn is_same(&self, other: &Hyperlink) -> bool
         ensures { IsTrue result ↔ (self.now ≡ other.now) }
     {

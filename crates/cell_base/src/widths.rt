@@ -1,3 +1,4 @@
+//! How many columns texts take.
 ghost use Rattle.std.specs.Prelude.{◌≡◌, ℕ, ◌<◌, ◌≤◌, false, true, List, [], ◌∷◌, min, encode_utf8, IfSome, IsTrue};
 ghost use Rattle.std.specs.Str.{chars};
 ghost use Rattle.unicode_width.specs.Width.{str_width};

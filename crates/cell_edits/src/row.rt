@@ -273,7 +273,7 @@ pub fn append(cells: &mut Vec<Cell>, mut other: Vec<Cell>) -> Result<(), AllocEr
     Ok(())
 }
 
-/// The column at the margin goes, and the cell is inserted at `x`, which is padded to.
+/// The last column before the margin goes, if the row reaches that far, and the cell is inserted at `x`, which is padded to.
 pub fn insert_cell(
     cells: &mut Vec<Cell>,
     x: usize,
@@ -337,7 +337,7 @@ pub fn push_cell(cells: &mut Vec<Cell>, cell: Cell) -> Result<(), AllocError>
     Ok(())
 }
 
-/// The cell is set at each of so many columns from `start` on.
+/// The cell is set at each column from `start` on and before `end`, in turn.
 pub fn fill(cells: &mut Vec<Cell>, start: usize, end: usize, cell: &Cell) -> Result<(), AllocError>
     ensures { OnOk result (row_of_cells cells.new.items ≡ filled (row_of_cells cells.old.items) start (end - start) cell.now) }
 {

@@ -46,7 +46,7 @@ fn put_blank(cells: &mut Vec<Cell>, at: usize, attrs: &CellAttributes) -> Result
     cells[at].set_blank(attrs)
 }
 
-// The same for a run of attributes without a link.
+// The same with attributes without a link: it can't be refused.
 #[inline(always)]
 fn put_blank_without_link(cells: &mut [Cell], at: usize, attrs: &CellAttributes)
     requires within { at < length cells.old }

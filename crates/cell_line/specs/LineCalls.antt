@@ -172,17 +172,17 @@ set_blanks line start end attributes = record line { columns = set_columns line.
 abbrev pub set_text : LineContent → ℕ → ℕ → List ℕ → Attributes → (List ℕ → ℕ) → LineContent
 set_text line start end text attributes width_of = record line { columns = text_on width_of end attributes line.columns start text }
 
--- a cell of one column with these attributes for each byte, side by side from a place on; the number stays
-abbrev pub set_plain : LineContent → ℕ → List ℕ → Attributes → LineContent
-set_plain line at text attributes = record line { columns = overlaid line.columns at (plain_cells text attributes) }
-
--- the column behind them
+-- the column behind the cells that `set_text` sets
 abbrev pub set_text_end : ℕ → ℕ → List ℕ → Attributes → (List ℕ → ℕ) → ℕ
 set_text_end start end text attributes width_of = place_behind width_of end attributes start text
 
--- how many clusters of the text that sets
+-- how many of the text's clusters `set_text` sets
 abbrev pub set_clusters : ℕ → ℕ → List ℕ → Attributes → (List ℕ → ℕ) → ℕ
 set_clusters start end text attributes width_of = length (fitting_cells width_of (end - start) text attributes)
+
+-- a cell of one column with these attributes for each byte, side by side from a place on; the number stays
+abbrev pub set_plain : LineContent → ℕ → List ℕ → Attributes → LineContent
+set_plain line at text attributes = record line { columns = overlaid line.columns at (plain_cells text attributes) }
 
 -- ---- inserting and removing
 

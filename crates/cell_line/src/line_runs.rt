@@ -93,7 +93,8 @@ impl Line {
         bare::set_plain(&mut self.cells, at, text, attrs);
     }
 
-    /// The same as `set_blanks`, in such a line, with such attributes and before the last column.
+    /// The same as `set_blanks`, with attributes without a link and before the last column, in a line of which each column has a
+    /// text of its own, of at most four bytes, and no link. So nothing has to be looked at or dropped.
     #[inline(always)]
     pub fn set_blanks_over_bare(&mut self, cols: Range<usize>, attrs: &CellAttributes)
         requires order { cols.start ≤ cols.end }

@@ -55,11 +55,7 @@ fn most_due(width: usize, height: usize) -> usize
     ensures { result ≡ most_due width height }
 {
     let most = 3 + 6 * width as u128 * height as u128 / 5;
-    if most > usize::MAX as u128 {
-        usize::MAX
-    } else {
-        most as usize
-    }
+    most.min(usize::MAX as u128) as usize
 }
 
 impl<W: Widths + Drop> Surface<W> {

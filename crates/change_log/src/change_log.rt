@@ -85,7 +85,7 @@ fn bring_to_front(changes: &mut [Change], start: usize, end: usize)
     swap_changes(&mut front[..count], &mut behind[..count]);
 }
 
-// The memory of a text.
+// Keeps the memory of a change's text, where it is a text.
 #[inline(always)]
 fn save_memory(spare: &mut SpareTexts, change: Change) {
     if let Change::Text(text) = change {

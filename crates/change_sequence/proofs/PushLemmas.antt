@@ -1,9 +1,10 @@
 -- One change more.
 use Rattle.std.proofs.Common.{◌≡◌, ℕ, Bool, true, false, List, [], ◌∷◌, ◌++◌, sym, ap, ◌∙◌}
 use Rattle.std.specs.Prelude.{ℤ, if◌then◌else◌}
+use Rattle.std.specs.Int.{int_max, int_min}
 use Rattle.cell_change.specs.ChangeValue.{ChangeValue}
 use Rattle.change_sequence.specs.Places.{place_of}
-use Rattle.change_sequence.specs.Sequence.{Place, Sequence, change_moved, higher, is_drawn, lower, with_change}
+use Rattle.change_sequence.specs.Sequence.{Place, Sequence, change_moved, is_drawn, with_change}
 
 module _ {W : Type 0} (width_of : List ℕ → ℕ) (s : Sequence W) (change : ChangeValue) (p : ℕ × ℤ) (r : ℤ) (cs : List ChangeValue)
     (moved : place_of p ≡ change_moved width_of s.columns s.rows s.place change) (row : r ≡ p.1) (changes : cs ≡ s.changes ++ change ∷ []) where
@@ -13,15 +14,15 @@ module _ {W : Type 0} (width_of : List ℕ → ℕ) (s : Sequence W) (change : C
   by_test : Bool → Sequence W
   by_test b =
       let place = change_moved width_of s.columns s.rows s.place change in
-      stepped place (if b then lower s.lowest place.row else s.lowest) (if b then higher s.highest place.row else s.highest) (s.changes ++ change ∷ [])
+      stepped place (if b then int_min s.lowest place.row else s.lowest) (if b then int_max s.highest place.row else s.highest) (s.changes ++ change ∷ [])
 
   place_is : record { column = p.0; row = r } ≡ change_moved width_of s.columns s.rows s.place change
   place_is = ap (λ (z : ℤ). record { column = p.0; row = z }) row ∙ moved
 
-  pub drawn_pushed : (l h : ℤ) → is_drawn change ≡ true → l ≡ lower s.lowest r → h ≡ higher s.highest r → stepped (record { column = p.0; row = r }) l h cs ≡ with_change width_of s change
+  pub drawn_pushed : (l h : ℤ) → is_drawn change ≡ true → l ≡ int_min s.lowest r → h ≡ int_max s.highest r → stepped (record { column = p.0; row = r }) l h cs ≡ with_change width_of s change
   unfolding by_test
   drawn_pushed l h d e f =
-      (λ i. stepped (place_is i) ((e ∙ ap (λ (q : Place). lower s.lowest q.row) place_is) i) ((f ∙ ap (λ (q : Place). higher s.highest q.row) place_is) i) (changes i))
+      (λ i. stepped (place_is i) ((e ∙ ap (λ (q : Place). int_min s.lowest q.row) place_is) i) ((f ∙ ap (λ (q : Place). int_max s.highest q.row) place_is) i) (changes i))
       ∙ ap by_test (sym d)
 
   pub other_pushed : is_drawn change ≡ false → stepped (record { column = p.0; row = r }) s.lowest s.highest cs ≡ with_change width_of s change

@@ -1,7 +1,7 @@
 -- Where changes leave a cursor that doesn't scroll. Columns count from 0; rows count from where the first change stood, and may be negative.
-use Rattle.std.specs.Prelude.{◌≡◌, ℕ, ◌+◌, ◌-◌, ◌%◌, ◌<◌, min, ℤ, pos, negsuc, ◌+ℤ◌, ◌-ℤ◌, neg_ℤ, int_lt, Bool, true, false, ◌&&◌, nat_lt, nat_le, ◌^◌, List, [], ◌∷◌, ◌++◌, fold, length, take, if◌then◌else◌}
+use Rattle.std.specs.Prelude.{◌≡◌, ℕ, ◌+◌, ◌-◌, ◌%◌, ◌<◌, min, ℤ, pos, negsuc, ◌+ℤ◌, ◌-ℤ◌, neg_ℤ, Bool, true, false, ◌&&◌, nat_lt, nat_le, ◌^◌, List, [], ◌∷◌, ◌++◌, fold, length, take, if◌then◌else◌}
 use Rattle.std.specs.List.{flat_map}
-use Rattle.std.specs.Int.{saturate_signed, w64}
+use Rattle.std.specs.Int.{int_max, int_min, saturate_signed, w64}
 use Rattle.cell_base.specs.declared.attributes.Position.{Position}
 use Rattle.cell_base.specs.declared.attributes.Position.TheVariants.{Relative, Absolute, EndRelative}
 use Rattle.cell_change.specs.ChangeValue.{ChangeValue, Text, ClearScreen, CursorPosition, ScrollRegionUp, ScrollRegionDown}
@@ -75,12 +75,6 @@ change_moved width_of columns rows place _ = place
 
 -- ---- a list of changes
 
-abbrev pub lower : ℤ → ℤ → ℤ
-lower a b = if int_lt b a then b else a
-
-abbrev pub higher : ℤ → ℤ → ℤ
-higher a b = if int_lt a b then b else a
-
 -- whether the row behind a change counts for the height
 abbrev pub is_drawn : ChangeValue → Bool
 is_drawn (Text text) = true
@@ -103,8 +97,8 @@ with_change width_of s change =
     let place = change_moved width_of s.columns s.rows s.place change in
     record s {
       place = place;
-      lowest = if is_drawn change then lower s.lowest place.row else s.lowest;
-      highest = if is_drawn change then higher s.highest place.row else s.highest;
+      lowest = if is_drawn change then int_min s.lowest place.row else s.lowest;
+      highest = if is_drawn change then int_max s.highest place.row else s.highest;
       changes = s.changes ++ change ∷ [];
     }
 

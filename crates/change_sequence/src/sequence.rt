@@ -3,7 +3,7 @@ ghost use Rattle.std.specs.Prelude.{◌≡◌, ◌≤◌, ◌<◌, ◌-ℤ◌, [
 ghost use Rattle.std.specs.Int.{saturate_signed, w64};
 ghost use Rattle.cell_change.specs.ValueOf.{value_of};
 ghost use Rattle.change_sequence.specs.Places.{place_of};
-ghost use Rattle.change_sequence.specs.Sequence.{HasSome, change_moved, higher, home, is_drawn, lower, move_to, with_change, with_changes};
+ghost use Rattle.change_sequence.specs.Sequence.{HasSome, change_moved, home, is_drawn, move_to, with_change, with_changes};
 
 use crate::moves::{Place, as_row, behind_text, column_of, row_of};
 use cell_base::{Position, Widths};
@@ -37,18 +37,6 @@ impl<W> Model for ChangeSequence<W> {
     ghost view = { sequence_of };
 
     ghost invariant = { IsWithin };
-}
-
-fn lower(a: isize, b: isize) -> isize
-    ensures { result ≡ lower a b }
-{
-    if b < a { b } else { a }
-}
-
-fn higher(a: isize, b: isize) -> isize
-    ensures { result ≡ higher a b }
-{
-    if a < b { b } else { a }
 }
 
 // Whether the row behind the change counts for the height.
@@ -147,8 +135,8 @@ impl<W: Widths + Drop> ChangeSequence<W> {
         self.column = column;
         self.row = row;
         if is_drawn {
-            self.lowest = lower(self.lowest, row);
-            self.highest = higher(self.highest, row);
+            self.lowest = self.lowest.min(row);
+            self.highest = self.highest.max(row);
         }
         Ok(())
     }

@@ -22,10 +22,11 @@ number_rule name default most =
 abbrev pub flag_rule : Text → Rule
 flag_rule name = record (new_rule name) { long = Some name; action = Some SetTrue }
 
--- the program has a name, a version and four options
+-- the program has a name and a version
 abbrev pub named : App
 named = on_top (λ shape. record shape { has_version = true }) (new_app (codes "relay"))
 
+-- and four options
 unfoldable pub command_line : App
 command_line =
     with_rule (with_rule (with_rule (with_rule named

@@ -1,3 +1,4 @@
+//! The program on its words and streams.
 ghost use Rattle.std.specs.Prelude.{false, ◌≡◌, ◌≢◌, ◌⊎◌, ◌≤◌, [], map, IfSome, OnOk, OnErr};
 ghost use Rattle.std.specs.Io.KnownBytes.{Appends, Keeps};
 ghost use Rattle.terminal.specs.Shown.{AppendsPrefix};
@@ -60,6 +61,7 @@ fn explain<T: Write, F: Write>(alloc: Global, error: &Error, writer: &mut T, fau
     ensures status { result ≤ 2 }
     ensures memory { kind_of error.now ≡ ErrorKind.OutOfMemory → result ≡ FAULT }
     ensures asked { result ≡ 0 → (kind_of error.now ≡ ErrorKind.DisplayHelp) ⊎ (kind_of error.now ≡ ErrorKind.DisplayVersion) }
+    ensures shown { (kind_of error.now ≡ ErrorKind.DisplayHelp) ⊎ (kind_of error.now ≡ ErrorKind.DisplayVersion) → result ≢ BAD_WORDS }
     ensures quiet { result ≡ 0 → Keeps (F.contents faults.old) (F.contents faults.new) }
     ensures nothing { kind_of error.now ≡ ErrorKind.OutOfMemory → Keeps (T.contents writer.old) (T.contents writer.new) }
     ensures refused { result ≡ BAD_WORDS → Keeps (T.contents writer.old) (T.contents writer.new) }

@@ -314,6 +314,10 @@ impl<W: Widths + Drop> Canvas<W> {
             self.put_plain(text)?;
             return Ok(());
         }
+        if text == "\n" {
+            self.line_feed()?;
+            return Ok(());
+        }
         self.draw_parts(text)?;
         Ok(())
     }

@@ -69,10 +69,11 @@ SendsFirst width_of every before None left old new = Unit {0}
 SendsFirst width_of every before (Some input) left old new =
     (start : Standing) → IsAt before start → IsCounted start → SendsPart (width_of before.surface.canvas.widths) every start input left old new
 
--- a known input, looked at behind each piece, leads past the numbers of 64 bits
+-- the number behind an input that is looked at behind each piece
 abbrev pub number_behind : (List ℕ → ℕ) → ℕ → Standing → List ℕ → ℕ
 number_behind width_of every start input = (standing_behind width_of start (looks (in_pieces every [] input))).log.log.number
 
+-- a known input, looked at behind each piece, leads past the numbers of 64 bits
 abbrev pub LooksNeedNumber : {W : Type 0} → (W → List ℕ → ℕ) → ℕ → Terminal W → Option (List ℕ) → Type 0
 LooksNeedNumber width_of every before None = Unit {0}
 LooksNeedNumber width_of every before (Some input) =

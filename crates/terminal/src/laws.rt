@@ -47,7 +47,7 @@ pub fn lone_actions<W: Widths>()
 }
 
 /// Where no run is held a look changes nothing: so `update` and `patch`, asked again where their bytes were refused memory,
-/// gives what it would have given.
+/// give what they would have given.
 pub fn settled_terminals_stay<W: Widths>()
     ensures { (before : Terminal W) (now : Terminal W) (view : View) → StandsAt before view → before.run ≡ [] → GoesBy (λ w. W.width_of w) before now (Look ∷ []) → IsAlike now before }
 {}

@@ -1,3 +1,4 @@
+//! The terminal.
 ghost use Rattle.std.specs.Prelude.{◌≡◌, ◌↔◌, ◌<◌, ◌^◌, true, false, [], ◌∷◌, length, IsTrue, IsOk, IfOk, OnOk, OnErr, IsErrOf};
 ghost use Rattle.change_log.specs.Log.{most_due, new_log};
 ghost use Rattle.cell_surface.specs.Surface.{number_of};
@@ -195,6 +196,7 @@ impl<W: Widths + Drop> Terminal<W> {
         ensures stays { IsTrue self.old.is_failed → IsTrue self.new.is_failed }
         ensures nothing { self.old.run ≡ [] → self.old.is_failed ≡ false → self.new.is_failed ≡ false }
     {
+        // For the clauses: what is known of a terminal that hasn't failed.
         self.stands();
         self.settle()?;
         let bytes = self.patch_from(shown)?;
@@ -239,6 +241,7 @@ impl<W: Widths + Drop> Terminal<W> {
         ensures stands { self.now.is_failed ≡ false → (view : View) × StandsAt self.now view × IsView view }
         ensures spelled { self.now.is_failed ≡ false → IsSpelled self.now }
     {
+        // For the clauses: with a field that is read the invariant is known.
         let _ = &self.parser;
     }
 

@@ -34,11 +34,12 @@ abbrev pub RenderingsHaveTheEffect : Type 0
 RenderingsHaveTheEffect = (width_of : List ℕ → ℕ) (view : View) (display : Display) (change : ChangeValue) (actions : List StreamAction) → IsReady view → display.screen ≡ view.state.screen
     → rendering change view.state.screen.width (height view.state.screen) ≡ Some actions → actions_done width_of view actions ≡ with_change width_of view display change
 
--- and so have their bytes, where they read back: fed to such a terminal at which nothing is unfinished they have the effect, and
--- nothing is unfinished behind them
+-- a view whose stream goes on with a text
 abbrev pub with_text : View → List ℕ → View
 with_text view text = record view { stream = view.stream ++ text }
 
+-- and so have the bytes of what is sent, where they read back: fed to such a terminal at which nothing is unfinished they have the
+-- effect, and nothing is unfinished behind them
 abbrev pub RenderedTextsHaveTheEffect : Type 0
 RenderedTextsHaveTheEffect = (width_of : List ℕ → ℕ) (view : View) (display : Display) (change : ChangeValue) (actions : List StreamAction) → IsReady view → IsIdle view → IsWritable actions → display.screen ≡ view.state.screen
     → rendering change view.state.screen.width (height view.state.screen) ≡ Some actions → after width_of view (Piece (stream_text actions) ∷ []) ≡ with_text (with_change width_of view display change) (stream_text actions)

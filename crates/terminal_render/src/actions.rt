@@ -122,7 +122,7 @@ impl<'a> Actions<'a> {
         Ok(())
     }
 
-    /// The actions by themselves.
+    /// The actions, with copies of the texts that they lend.
     pub(crate) fn to_vec(&self, alloc: Global) -> Result<Vec<Action>, AllocError>
         ensures { IfOk result (λ actions. map value_of actions.items ≡ self.now) }
     {

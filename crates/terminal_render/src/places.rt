@@ -20,7 +20,7 @@ pub(crate) enum Way {
     On(usize),
 }
 
-// Of so many places the one that is counted from 0, or the last.
+// The place `at`, counted from 0, or the last of `size`; answered counted from 1.
 fn place_of(size: usize, at: usize) -> u32
     requires some { 0 < size }
     requires within { size < 2 ^ 32 }
@@ -54,7 +54,7 @@ fn is_past(width: usize, x: Position) -> bool
     }
 }
 
-// As far as a parameter goes.
+// The count, or the largest parameter.
 fn count_of(count: usize) -> u32
     ensures { result ≡ min count word_max }
 {

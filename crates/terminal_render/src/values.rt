@@ -1,4 +1,5 @@
-//! What holds of each change of the code: colours are of bytes, and texts are UTF-8.
+//! What holds of each change of the code: colours are of bytes, and texts are UTF-8. These functions do nothing: each matches
+//! its argument down to its numbers, so that its clause can say what their types hold.
 ghost use Rattle.std.specs.Prelude.{◌≤◌};
 ghost use Rattle.cell_base.specs.AttributeValueOf.{attribute_value};
 ghost use Rattle.cell_change.specs.ValueOf.{value_of as change_value};

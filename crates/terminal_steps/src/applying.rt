@@ -116,7 +116,7 @@ fn perform<W: Widths + Drop>(
 /// or a saved one forgotten, and a reply comes behind those that there are. An action for which the
 /// terminal has no control function, as a print, does nothing.
 ///
-/// A refusal leaves what was done so far.
+/// Refusals are those of the surface, and want of memory for a reply; one leaves what was done so far.
 pub fn apply<W: Widths + Drop>(
     surface: &mut Surface<W>,
     saved: &mut Option<SavedCursor>,
@@ -138,7 +138,8 @@ pub fn apply<W: Widths + Drop>(
     }
 }
 
-/// A run of printed characters: one change, which puts each of their clusters at the cursor.
+/// A run of printed characters: one change, which puts each of their clusters at the cursor. Refusals are those of the
+/// surface.
 pub fn print<W: Widths + Drop>(surface: &mut Surface<W>, text: String) -> Result<(), SurfaceError>
     ensures added { IfOk result (λ _. AddsAll (λ w. W.width_of w) surface.old surface.new (run_change (string_bytes text) ∷ [])) }
     ensures failed { IsErrOf result SurfaceError.Failed ↔ (surface.old.is_failed ≡ true) }

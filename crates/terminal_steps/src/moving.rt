@@ -1,4 +1,4 @@
-//! Moves of the cursor, and rows that move.
+//! Moves of the cursor.
 ghost use Rattle.std.specs.Prelude.{◌≡◌, ◌+◌, ◌^◌, ◌≤◌, Option, true, min, IfOk, IsErrOf, []};
 ghost use Rattle.cell_surface.specs.Surface.{number_of, shown_by};
 ghost use Rattle.terminal_table.specs.Changes.{changes, move_change, position};

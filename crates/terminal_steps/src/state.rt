@@ -78,7 +78,7 @@ impl<W: Widths + Drop> TerminalState<W> {
         self.surface.flush_changes_older_than(number);
     }
 
-    /// The held run ends.
+    /// The held run ends. Where a run is held the surface may refuse its change.
     pub fn settle(&mut self) -> Result<(), SurfaceError>
         ensures done { OnOk result (Does (λ w. W.width_of w) self.old self.new (Looked ∷ [])) }
         ensures failed { IsErrOf result SurfaceError.Failed → IsReady self.old → ⊥ }
@@ -96,7 +96,7 @@ impl<W: Widths + Drop> TerminalState<W> {
     }
 
     /// Becomes so many columns wide and rows high, each from 1 to 2^32 - 1. The run ends before; a saved cursor
-    /// stays as it is.
+    /// stays as it is. Refusals are those of the surface.
     pub fn resize(&mut self, width: usize, height: usize) -> Result<(), SurfaceError>
         requires width { (0 < width) × (width < 2 ^ 32) }
         requires height { (0 < height) × (height < 2 ^ 32) }
@@ -109,7 +109,7 @@ impl<W: Widths + Drop> TerminalState<W> {
         Ok(())
     }
 
-    /// A text joins the run.
+    /// A text joins the run, unless memory is refused.
     pub fn hold(&mut self, text: &str) -> Result<(), AllocError>
         ensures { OnOk result (Does (λ w. W.width_of w) self.old self.new (Act (print_string text.now) ∷ [])) }
     {
@@ -133,7 +133,7 @@ impl<W: Widths + Drop> TerminalState<W> {
         Ok(())
     }
 
-    /// A print joins the run, and every other action ends it.
+    /// A print joins the run, and every other action ends it. Refusals are those of the surface, and want of memory.
     pub fn act(&mut self, action: Action) -> Result<(), SurfaceError>
         ensures done { OnOk result (Does (λ w. W.width_of w) self.old self.new (Act (value_of action) ∷ [])) }
         ensures failed { IsErrOf result SurfaceError.Failed → IsReady self.old → ⊥ }
