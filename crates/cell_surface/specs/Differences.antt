@@ -11,7 +11,7 @@ use Rattle.screen_effects.specs.Display.{Display}
 abbrev pub regions_difference : Display → ℕ → ℕ → ℕ → ℕ → Display → ℕ → ℕ → List ChangeValue
 regions_difference display x y width height other other_x other_y = difference (region_fresh display.screen.rows x y width height other.screen.rows other_x other_y)
 
--- rows from one on, against other rows
+-- the rows from row y on, against other rows
 abbrev pub lines_difference : Display → ℕ → List Row → List ChangeValue
 lines_difference display y rows = difference (lines_fresh display.screen.rows y rows)
 

@@ -1,5 +1,5 @@
 -- The tokens of parameter bytes, taken byte by byte, and the sequence at the front of some bytes.
-use Rattle.std.proofs.Common.{◌≡◌, ℕ, suc, ◌+◌, ◌-◌, ◌*◌, ◌^◌, ◌<◌, ◌≤◌, pos, min, ltb, Bool, true, false, cond, List, [], ◌∷◌, ◌++◌, length, take, drop, Some, None, arith, refl, ap, sym, ◌∙◌}
+use Rattle.std.proofs.Common.{◌≡◌, ℕ, suc, ◌+◌, ◌-◌, ◌*◌, ◌^◌, ◌<◌, ◌≤◌, pos, min, ltb, Bool, true, false, cond, List, [], ◌∷◌, ◌++◌, length, take, drop, Some, None, arith, refl, ap, sym, subst, ◌∙◌}
 use Rattle.std.specs.Prelude.{unwrap_or}
 use Rattle.std.specs.Char.{is_ascii_digit}
 use Rattle.std.proofs.lemmas.List.{append-nil, take-append-drop, append_assoc, take-append-le, length-take, length-append, take_all, drop_all}
@@ -11,7 +11,7 @@ use Rattle.csi_codec.specs.declared.parameters.CsiParam.TheVariants.{Integer, P}
 use Rattle.csi_codec.specs.Rendition.{is_between}
 use Rattle.csi_codec.specs.Texts.{largest_number, begun_token, tokens_behind, tokens_of, all_parameter_bytes}
 use Rattle.csi_codec.specs.Fronts.{most_tokens, Front, IsSequence, HasNoFront, OneFront}
-use Rattle.csi_codec.specs.Keeping.{parameter_len, Kept, keep, keep_all, kept_of, nothing_kept, Taken, nothing_taken, kept_with, number_ended, TakesByte}
+use Rattle.csi_codec.specs.Keeping.{parameter_len, Kept, keep, keep_all, kept_of, Taken, kept_with, number_ended, TakesByte}
 use Rattle.csi_codec.proofs.BoolLemmas.{and_left, and_right, both_true}
 
 not_parameter : (b : ℕ) → 64 ≤ b → is_between 32 63 b ≡ false
@@ -107,6 +107,14 @@ more_kept : (before ts : List CsiParam) → keep_all (kept_from before) ts ≡ k
 more_kept before [] = ap kept_from (sym (append-nil before))
 more_kept before (t ∷ ts) = ap (λ k. keep_all k ts) (keep-kept before t) ∙ more_kept (before ++ t ∷ []) ts ∙ ap kept_from (append_assoc before (t ∷ []) ts)
 
+-- before any token
+abbrev pub nothing_kept : Kept
+nothing_kept = record { params = []; truncated = false }
+
+-- before any byte
+abbrev pub nothing_taken : Taken
+nothing_taken = record { kept = nothing_kept; begun = None }
+
 pub keep_all-kept : (ts : List CsiParam) → keep_all nothing_kept ts ≡ kept_from ts
 keep_all-kept ts = more_kept [] ts
 
@@ -116,6 +124,13 @@ all_taken t body i h e = sym (ap (kept_with t) (drop_all i body h)) ∙ e ∙ ke
 
 -- ---- Fronts
 
+-- one byte more at the front
+parameter_len-cons : (b : ℕ) (bytes : List ℕ) → parameter_len (b ∷ bytes) ≡ cond (is_between 32 63 b) (suc (parameter_len bytes)) 0
+parameter_len-cons b bytes = elim (is_between 32 63 b) as (λ v. cond v (1 + parameter_len bytes) 0 ≡ cond v (suc (parameter_len bytes)) 0) [
+  | true ↦ omega arith
+  | false ↦ refl
+]
+
 front_byte : (b : ℕ) (bytes : List ℕ) (v : Bool) → is_between 32 63 b ≡ v → all_parameter_bytes (take (parameter_len bytes) bytes) ≡ true
     → all_parameter_bytes (take (cond v (suc (parameter_len bytes)) 0) (b ∷ bytes)) ≡ true
 front_byte b bytes true h others = both_true (is_between 32 63 b) (all_parameter_bytes (take (parameter_len bytes) bytes)) h others
@@ -124,13 +139,15 @@ front_byte b bytes false h others = refl
 -- the bytes at the front are parameter bytes
 parameters-front : (bytes : List ℕ) → all_parameter_bytes (take (parameter_len bytes) bytes) ≡ true
 parameters-front [] = refl
-parameters-front (b ∷ bytes) = front_byte b bytes (is_between 32 63 b) refl (parameters-front bytes)
+parameters-front (b ∷ bytes) =
+    subst (λ n. all_parameter_bytes (take n (b ∷ bytes)) ≡ true) (sym (parameter_len-cons b bytes)) (front_byte b bytes (is_between 32 63 b) refl (parameters-front bytes))
 
 -- the parameter bytes of a sequence end where its final byte stands
 parameter_len-sequence : (body : List ℕ) (control : ℕ) (rest : List ℕ) → all_parameter_bytes body ≡ true → 64 ≤ control → parameter_len (body ++ control ∷ rest) ≡ length body
-parameter_len-sequence [] control rest h low = ap (λ v. cond v (suc (parameter_len rest)) 0) (not_parameter control low)
+parameter_len-sequence [] control rest h low = parameter_len-cons control rest ∙ ap (λ v. cond v (suc (parameter_len rest)) 0) (not_parameter control low)
 parameter_len-sequence (b ∷ body) control rest h low =
-    ap (λ v. cond v (suc (parameter_len (body ++ control ∷ rest))) 0) (and_left (is_between 32 63 b) (all_parameter_bytes body) h)
+    parameter_len-cons b (body ++ control ∷ rest)
+    ∙ ap (λ v. cond v (suc (parameter_len (body ++ control ∷ rest))) 0) (and_left (is_between 32 63 b) (all_parameter_bytes body) h)
     ∙ ap suc (parameter_len-sequence body control rest (and_right (is_between 32 63 b) (all_parameter_bytes body) h) low)
 
 -- behind the parameter bytes the final byte stands

@@ -11,8 +11,8 @@ use Rattle.std.proofs.lemmas.Str.Parse.{IsNumeralModel, numerals_by_fold}
 use Rattle.std.proofs.lemmas.Fmt.{digits_value-decimal, digits_decimal, decimal_is_IsNumeral}
 use Rattle.csi_codec.specs.declared.parameters.CsiParam.{CsiParam}
 use Rattle.csi_codec.specs.declared.parameters.CsiParam.TheVariants.{Integer, P}
-use Rattle.csi_codec.specs.Parameters.{token_text}
-use Rattle.csi_codec.specs.Texts.{largest_number, begun_token, tokens_behind, is_sign, begins_with_number, is_spellable, ParametersReadBack}
+use Rattle.csi_codec.specs.Parameters.{begins_with_number, token_text}
+use Rattle.csi_codec.specs.Texts.{largest_number, begun_token, tokens_behind, is_sign, is_spellable, ParametersReadBack}
 use Rattle.csi_codec.proofs.BoolLemmas.{and_left, and_right}
 
 -- ---- Digits

@@ -16,7 +16,7 @@ use Rattle.csi_codec.specs.declared.modes.Mode.{Mode}
 use Rattle.csi_codec.specs.declared.cursors.Cursor.{Cursor}
 use Rattle.csi_codec.specs.declared.edits.Edit.{Edit}
 use Rattle.csi_codec.specs.declared.devices.Device.{Device}
-use Rattle.csi_codec.specs.Parameters.{token_text, with_semicolon}
+use Rattle.csi_codec.specs.Parameters.{begins_with_number, token_text, with_semicolon}
 use Rattle.csi_codec.specs.Cursors.{cursor_reading}
 use Rattle.csi_codec.specs.Edits.{edit_reading}
 use Rattle.csi_codec.specs.Devices.{device_reading}
@@ -24,7 +24,7 @@ use Rattle.csi_codec.specs.Modes.{private_mode_reading, mode_reading}
 use Rattle.csi_codec.specs.Rendition.{taking, is_between, sgr_shape, sgr_piece}
 use Rattle.csi_codec.specs.Actions.{Kind, sgr_pieces, private_mode_pieces, standard_mode_pieces, Action, sgr, cursor, edit, mode, device, unspecified, mode_piece, piece_of, pieces_from, pieces, all_sgr_tokens, sgr_reading, modes_or, standard_reading, other_reading, csi_reading, spelling_of}
 use Rattle.csi_codec.specs.Laws.{ReadsBack, EachReadsBack}
-use Rattle.csi_codec.specs.Texts.{largest_number, is_sign, is_written_number, begins_with_number, is_spellable, all_parameter_bytes, TextReadsBack, EachTextReadsBack, TextsReadBack}
+use Rattle.csi_codec.specs.Texts.{largest_number, is_sign, is_written_number, is_spellable, all_parameter_bytes, TextReadsBack, EachTextReadsBack, TextsReadBack}
 use Rattle.csi_codec.proofs.TextLemmas.{list_back, decimal_digits, sign_text}
 use Rattle.csi_codec.proofs.ReadWritable.{cursor_reading-writable, edit_reading-writable, private_mode-writable, standard_mode-writable, sgr_shape-writable}
 use Rattle.csi_codec.proofs.Written.{IsWritten, action_written}

@@ -1,5 +1,6 @@
 -- A list as entries: numbers and absent ones.
-use Rattle.std.specs.Prelude.{ℤ, List, [], ◌∷◌, Bool, true, false, ◌&&◌, ◌==◌, Option, Some, None}
+use Rattle.std.specs.Prelude.{ℤ, List, [], ◌∷◌, Bool, true, false, ◌==◌, Option, Some, None}
+use Rattle.std.specs.List.{list_all}
 use Rattle.csi_codec.specs.declared.parameters.CsiParam.{CsiParam}
 use Rattle.csi_codec.specs.declared.parameters.CsiParam.TheVariants.{Integer, P}
 
@@ -9,8 +10,7 @@ is_crackable (Integer z) = true
 is_crackable (P b) = b == 59
 
 abbrev pub all_crackable : List CsiParam → Bool
-all_crackable [] = true
-all_crackable (t ∷ ts) = is_crackable t && all_crackable ts
+all_crackable ts = list_all is_crackable ts
 
 -- the entries of a list: a number is one, a `;` right behind a number separates, any other is an absent one
 abbrev pub entries : Bool → List CsiParam → List (Option CsiParam)

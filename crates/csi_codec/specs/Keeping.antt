@@ -1,5 +1,6 @@
 -- The tokens of parameter bytes, taken byte by byte. It is only there for the contracts of private steps.
-use Rattle.std.specs.Prelude.{◌≡◌, ℕ, suc, Bool, true, false, nat_lt, List, [], ◌∷◌, ◌++◌, length, Option, None, take, if◌then◌else◌}
+use Rattle.std.specs.Prelude.{◌≡◌, ℕ, Bool, true, nat_lt, List, [], ◌∷◌, ◌++◌, length, Option, None, take, if◌then◌else◌}
+use Rattle.std.specs.List.{prefix_len}
 use Rattle.csi_codec.specs.declared.parameters.CsiParam.{CsiParam}
 use Rattle.csi_codec.specs.Rendition.{is_between}
 use Rattle.csi_codec.specs.Texts.{begun_token, tokens_of, tokens_behind}
@@ -7,16 +8,12 @@ use Rattle.csi_codec.specs.Fronts.{most_tokens}
 
 -- how many parameter bytes stand at the front
 abbrev pub parameter_len : List ℕ → ℕ
-parameter_len [] = 0
-parameter_len (b ∷ bs) = if is_between 32 63 b then suc (parameter_len bs) else 0
+parameter_len bytes = prefix_len (is_between 32 63) bytes
 
 -- the tokens that are kept, and whether some were dropped
 pub record Kept : Type 0 where
   pub params : List CsiParam
   pub truncated : Bool
-
-abbrev pub nothing_kept : Kept
-nothing_kept = record { params = []; truncated = false }
 
 -- one more token: past the most it is dropped
 abbrev pub keep : Kept → CsiParam → Kept
@@ -37,9 +34,6 @@ pub record Taken : Type 0 where
 -- all tokens are kept, once the bytes behind come
 abbrev pub kept_with : Taken → List ℕ → Kept
 kept_with taken bytes = keep_all taken.kept (tokens_behind taken.begun bytes)
-
-abbrev pub nothing_taken : Taken
-nothing_taken = record { kept = nothing_kept; begun = None }
 
 -- one more byte was taken: whatever bytes come behind it, the same tokens are kept
 pub record TakesByte (before : Taken) (byte : ℕ) (after : Taken) : Type 0 where

@@ -19,17 +19,18 @@ KeepsRests ts truncated final (edit value ∷ others) = KeepsRests ts truncated 
 KeepsRests ts truncated final (mode value ∷ others) = KeepsRests ts truncated final others
 KeepsRests ts truncated final (device value ∷ others) = KeepsRests ts truncated final others
 
--- whether the last token is a `;`
+-- whether a token is a `;`
 abbrev pub is_semicolon : CsiParam → Bool
 is_semicolon (Integer z) = false
 is_semicolon (P b) = b == 59
 
+-- whether the last token is a `;`
 abbrev pub ends_in_semicolon : List CsiParam → Bool
 ends_in_semicolon [] = false
 ends_in_semicolon (t ∷ []) = is_semicolon t
 ends_in_semicolon (t ∷ u ∷ ts) = ends_in_semicolon (u ∷ ts)
 
--- no action is the rest of a list
+-- whether an action is not the rest of a list
 abbrev pub is_known : Action → Bool
 is_known (unspecified rest truncated final) = false
 is_known (sgr value) = true
@@ -38,6 +39,7 @@ is_known (edit value) = true
 is_known (mode value) = true
 is_known (device value) = true
 
+-- no action is the rest of a list
 abbrev pub all_known : List Action → Bool
 all_known [] = true
 all_known (a ∷ others) = is_known a && all_known others

@@ -7,10 +7,11 @@ use Rattle.csi_codec.specs.declared.parameters.Unspecified.{Unspecified}
 use Rattle.csi_codec.specs.declared.sequences.CSI.{CSI}
 use Rattle.csi_codec.specs.declared.sequences.CSI.TheVariants as csi
 
--- a CSI value without where it lies in memory
+-- the rest of a list without where it lies in memory
 abbrev pub rest_of : Unspecified → Action
 rest_of rest = unspecified rest.params.items rest.parameters_truncated rest.control
 
+-- a CSI value without where it lies in memory
 abbrev pub action_of : CSI → Action
 action_of (csi.Sgr value) = sgr value
 action_of (csi.Cursor value) = cursor value

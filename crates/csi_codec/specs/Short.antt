@@ -1,12 +1,11 @@
 -- Lists of at most three short numbers.
-use Rattle.std.specs.Prelude.{◌≡◌, ℕ, ℤ, pos, Bool, List, [], ◌∷◌, Option, Some, None, if◌then◌else◌}
+use Rattle.std.specs.Prelude.{◌≡◌, ℕ, ℤ, pos, Bool, List, [], ◌∷◌, Option, option_map}
 use Rattle.cell_base.specs.declared.color.ColorSpec.{ColorSpec}
 use Rattle.csi_codec.specs.Actions.{Action, csi_reading}
-use Rattle.csi_codec.specs.Parameters.{is_number}
+use Rattle.csi_codec.specs.ColourCases.{set_to, target_numbered}
 use Rattle.csi_codec.specs.declared.parameters.CsiParam.{CsiParam}
 use Rattle.csi_codec.specs.declared.parameters.CsiParam.TheVariants.{Integer, P}
 use Rattle.csi_codec.specs.declared.rendition.Sgr.{Sgr}
-use Rattle.csi_codec.specs.declared.rendition.Sgr.TheVariants as sgr
 use Rattle.csi_codec.specs.declared.short.ShortNumbers.{ShortNumbers}
 use Rattle.csi_codec.specs.declared.short.ShortNumbers.TheVariants.{Nothing, One, Two, Three}
 
@@ -27,10 +26,6 @@ BeginsAsNumber [] = Unit {0}
 BeginsAsNumber (Integer z ∷ ts) = Unit {0}
 BeginsAsNumber (P b ∷ ts) = ⊥
 
--- what a number in front of a colour sets
+-- the setting to a colour by the number in front of it
 abbrev pub targeted : ℤ → ColorSpec → Option Sgr
-targeted z c =
-    if is_number 38 z then Some (sgr.Foreground c)
-    else (if is_number 48 z then Some (sgr.Background c)
-    else (if is_number 58 z then Some (sgr.UnderlineColor c)
-    else None))
+targeted z c = option_map (λ target. set_to target c) (target_numbered z)

@@ -3,7 +3,7 @@ use Rattle.std.specs.Prelude.{◌≡◌, ◌≤◌, ℕ, ℤ, pos, negsuc, ◌+�
 use Rattle.std.specs.Char.{is_ascii_digit}
 use Rattle.csi_codec.specs.declared.parameters.CsiParam.{CsiParam}
 use Rattle.csi_codec.specs.declared.parameters.CsiParam.TheVariants.{Integer, P}
-use Rattle.csi_codec.specs.Parameters.{token_text}
+use Rattle.csi_codec.specs.Parameters.{begins_with_number, token_text}
 use Rattle.csi_codec.specs.Rendition.{is_between}
 use Rattle.csi_codec.specs.Actions.{Action, csi_reading}
 use Rattle.csi_codec.specs.Laws.{is_exempt}
@@ -38,11 +38,6 @@ is_sign b = is_between 32 47 b || is_between 58 63 b
 abbrev pub is_written_number : ℤ → Bool
 is_written_number (pos n) = nat_le n largest_number
 is_written_number (negsuc n) = false
-
-abbrev pub begins_with_number : List CsiParam → Bool
-begins_with_number [] = false
-begins_with_number (Integer z ∷ ts) = true
-begins_with_number (P b ∷ ts) = false
 
 -- no negative number, no two numbers side by side, and such bytes
 abbrev pub is_spellable : List CsiParam → Bool

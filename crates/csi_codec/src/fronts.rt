@@ -11,7 +11,7 @@ use std::alloc::{AllocError, Global};
 const MOST_TOKENS: usize = 256;
 
 /// The largest number of a token, that of an `i64`.
-const LARGEST_NUMBER: u64 = 9_223_372_036_854_775_807;
+const LARGEST_NUMBER: u64 = i64::MAX as u64;
 
 /// A control sequence at the front of some bytes, and what stands behind it.
 #[derive(Debug, PartialEq, Eq, Drop)]
@@ -101,12 +101,10 @@ fn parameter_len(bytes: &[u8]) -> usize
     ensures count { result ≡ parameter_len bytes.now }
     ensures within { result ≤ length bytes.now }
 {
-    for (len, byte) in bytes.iter().enumerate() {
-        if !matches!(*byte, 0x20..=0x3f) {
-            return len;
-        }
-    }
-    bytes.len()
+    bytes
+        .iter()
+        .take_while(|byte| matches!(**byte, 0x20..=0x3f))
+        .count()
 }
 
 /// The tokens of the bytes so far: those that are kept, whether some were dropped, and the number whose digits have

@@ -1,4 +1,4 @@
-//! Laws of the readings: functions without a body, each ensuring one.
+//! Laws of the readings, as functions that ensure them: most do nothing, those on equality compare.
 ghost use Rattle.std.specs.Prelude.{◌≡◌, ◌↔◌, IsTrue};
 ghost use Rattle.csi_codec.specs.CrackedView.{entries_of};
 ghost use Rattle.csi_codec.specs.FrontView.{front_of};

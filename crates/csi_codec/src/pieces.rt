@@ -117,7 +117,7 @@ pub(crate) fn all_behind(params: &[CsiParam], len: usize) -> bool
     all_sgr_tokens(behind(params, len))
 }
 
-/// The same, where most are numbers with a `;` behind each, which are taken two by two.
+/// Whether a list has only the tokens of SGR, where most are numbers with a `;` behind each, which are taken two by two.
 #[inline(always)]
 fn all_tokens_in_turn(params: &[CsiParam]) -> bool
     ensures { result ≡ all_sgr_tokens params.now }
@@ -136,7 +136,7 @@ fn all_tokens_in_turn(params: &[CsiParam]) -> bool
     last_tokens(others)
 }
 
-/// The same, where most are one number, or two with a `;` between them.
+/// Whether a list has only the tokens of SGR, where most are one number, or two with a `;` between them.
 #[inline(always)]
 fn last_tokens(params: &[CsiParam]) -> bool
     ensures { result ≡ all_sgr_tokens params.now }
@@ -152,7 +152,7 @@ fn last_tokens(params: &[CsiParam]) -> bool
     }
 }
 
-/// The same, token by token.
+/// Whether a list has only the tokens of SGR, which are looked at token by token.
 #[inline(never)]
 fn all_tokens(params: &[CsiParam]) -> bool
     ensures { result ≡ all_sgr_tokens params.now }

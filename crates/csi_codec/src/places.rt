@@ -468,10 +468,11 @@ fn any_lone(params: &[CsiParam], control: char) -> Option<CSI>
     lone_reading(params, control)
 }
 
-/// The same by a call, whose result is a place in memory of its own.
+/// The same by a call, whose result has room of its own; it is the one action of the list.
 #[inline(never)]
-fn lone_reading(params: &[CsiParam], control: char) -> Option<CSI>
-    ensures { IfSome result (λ value. lone_reading control params.now ≡ Some (action_of value)) }
+pub(crate) fn lone_reading(params: &[CsiParam], control: char) -> Option<CSI>
+    ensures reading { IfSome result (λ value. lone_reading control params.now ≡ Some (action_of value)) }
+    ensures whole { IfSome result (λ value. (truncated : Bool) → lone_or truncated control params.now ≡ action_of value ∷ []) }
 {
     if let Some(value) = cursor_reading(params, control) {
         return Some(CSI::Cursor(value));
@@ -489,7 +490,7 @@ fn known(read: usize, params: &[CsiParam], control: char) -> Option<(CSI, usize)
     known_at(read, params, control)
 }
 
-/// The same by a call, whose result is a place in memory of its own.
+/// The same by a call, whose result has room of its own.
 #[inline(never)]
 fn known_at(read: usize, params: &[CsiParam], control: char) -> Option<(CSI, usize)>
     requires { ¬ (control ≡ 109) }
@@ -506,7 +507,6 @@ fn known_at(read: usize, params: &[CsiParam], control: char) -> Option<(CSI, usi
 
 /// The first action of such a list, where it takes no memory, and how many tokens are read then.
 #[tactic(auto, unfolding(crate::specs::Actions::csi_reading))]
-#[inline(always)]
 fn first_known(params: &[CsiParam], control: char) -> Option<(CSI, usize)>
     requires { ¬ (control ≡ 109) }
     ensures found { IfSome result (λ found. (truncated : Bool) → csi_reading params.now truncated control ≡ action_of found.0 ∷ pieces (list_kind control params.now) truncated control (drop found.1 params.now)) }
@@ -536,19 +536,8 @@ fn known_lone(params: &[CsiParam], control: char) -> Option<(CSI, usize)>
     ensures found { IfSome result (λ found. (k : PieceKind) (truncated : Bool) → lone_or truncated control params.now ≡ action_of found.0 ∷ pieces k truncated control (drop found.1 params.now)) }
     ensures some { IfSome result (λ found. 0 < found.1) }
 {
-    let value = lone_action(params, control)?;
+    let value = lone_reading(params, control)?;
     Some((value, params.len().max(1)))
-}
-
-/// The one action of a whole list, where it is a cursor sequence or an edit.
-#[inline(always)]
-pub(crate) fn lone_action(params: &[CsiParam], control: char) -> Option<CSI>
-    ensures { IfSome result (λ value. (truncated : Bool) → lone_or truncated control params.now ≡ action_of value ∷ []) }
-{
-    if let Some(value) = cursor_reading(params, control) {
-        return Some(CSI::Cursor(value));
-    }
-    Some(CSI::Edit(edit_reading(params, control)?))
 }
 
 /// A further action of such a list, where it takes no memory, and how many tokens are read then.

@@ -13,10 +13,10 @@ use crate::cursors::Cursor;
 use crate::edits::{Edit, EraseInLine};
 use crate::one_based::OneBased;
 use crate::parameters::{CsiParam, place};
-use crate::places::lone_action;
+use crate::places::lone_reading;
 use crate::rendition::Sgr;
 use crate::sequences::CSI;
-use crate::sgr_reading::plain_code;
+use crate::sgr_reading::{Target, plain_code};
 use cell_base::ColorSpec;
 
 /// At most three numbers, each of at most 255, with a `;` between two.
@@ -42,7 +42,7 @@ pub fn read_short(numbers: ShortNumbers, control: u8) -> Option<CSI>
     }
 }
 
-/// The same before any final byte, frequent or not.
+/// The only action of a list without parameters, or of one number, before any final byte, frequent or not; else `None`.
 #[inline(always)]
 fn other_action(numbers: ShortNumbers, control: u8) -> Option<CSI>
     ensures { IfSome result (λ value. IsOnly (short_list numbers) control (action_of value)) }
@@ -98,7 +98,8 @@ fn short_erasure(numbers: ShortNumbers) -> Option<Edit>
     }
 }
 
-/// The same of a list of two or three numbers, where it is a position, margins, or a colour of the palette.
+/// The only action of a list of two or three numbers, where it is a position, margins, or a colour of the palette; else
+/// `None`, which is never wrong.
 #[inline(always)]
 pub fn read_numbers(numbers: ShortNumbers, control: u8) -> Option<CSI>
     ensures { IfSome result (λ value. IsOnly (short_list numbers) control (action_of value)) }
@@ -110,7 +111,7 @@ pub fn read_numbers(numbers: ShortNumbers, control: u8) -> Option<CSI>
     }
 }
 
-/// The same of a list without parameters.
+/// The only action of a list without parameters, where it is a reset, a cursor sequence or an edit; else `None`.
 #[inline(always)]
 fn bare_action(control: u8) -> Option<CSI>
     ensures { IfSome result (λ value. IsOnly [] control (action_of value)) }
@@ -121,7 +122,7 @@ fn bare_action(control: u8) -> Option<CSI>
     only_action(&[], control)
 }
 
-/// The same of a list of one number.
+/// The only action of a list of one number, where it is a setting, a cursor sequence or an edit; else `None`.
 #[inline(always)]
 fn numbered_action(number: u8, control: u8) -> Option<CSI>
     ensures { IfSome result (λ value. IsOnly (Integer (pos number) ∷ []) control (action_of value)) }
@@ -132,7 +133,7 @@ fn numbered_action(number: u8, control: u8) -> Option<CSI>
     only_action(&[CsiParam::Integer(i64::from(number))], control)
 }
 
-/// The one action of such a list, where it is a cursor sequence or an edit.
+/// The only action of a list that is empty or begins with a number, where it is a cursor sequence or an edit; else `None`.
 #[inline(always)]
 fn only_action(params: &[CsiParam], control: u8) -> Option<CSI>
     requires short { BeginsAsNumber params.now }
@@ -141,11 +142,11 @@ fn only_action(params: &[CsiParam], control: u8) -> Option<CSI>
 {
     match control {
         b'h' | b'l' => None,
-        _ => lone_action(params, char::from(control)),
+        _ => lone_reading(params, char::from(control)),
     }
 }
 
-/// The same of a list of two numbers, where it is a position or margins.
+/// The only action of a list of two numbers, where it is a position or margins; else `None`.
 #[inline(always)]
 fn pair_action(first: u8, second: u8, control: u8) -> Option<CSI>
     ensures { IfSome result (λ value. IsOnly (Integer (pos first) ∷ P 59 ∷ Integer (pos second) ∷ []) control (action_of value)) }
@@ -192,7 +193,7 @@ fn places(default: u32, first: u8, second: u8) -> Option<(OneBased, OneBased)>
     Some((first, second))
 }
 
-/// The same of a list of three numbers, where it is a colour of the palette.
+/// The only action of a list of three numbers, where it is a colour of the palette; else `None`.
 #[inline(always)]
 fn palette_action(target: u8, kind: u8, index: u8, control: u8) -> Option<CSI>
     ensures { IfSome result (λ value. IsOnly (Integer (pos target) ∷ P 59 ∷ Integer (pos kind) ∷ P 59 ∷ Integer (pos index) ∷ []) control (action_of value)) }
@@ -203,20 +204,15 @@ fn palette_action(target: u8, kind: u8, index: u8, control: u8) -> Option<CSI>
     if kind != 5 {
         return None;
     }
-    let value = palette_color(target, index)?;
+    let value = palette_setting(target, index)?;
     Some(CSI::Sgr(value))
 }
 
-/// The colour of the palette that a number in front of its index sets.
+/// The setting to a colour of the palette by the number in front of it.
 #[inline(always)]
-fn palette_color(target: u8, index: u8) -> Option<Sgr>
+fn palette_setting(target: u8, index: u8) -> Option<Sgr>
     ensures { result ≡ targeted (pos target) (PaletteIndex index) }
 {
-    let color = ColorSpec::PaletteIndex(index);
-    match target {
-        38 => Some(Sgr::Foreground(color)),
-        48 => Some(Sgr::Background(color)),
-        58 => Some(Sgr::UnderlineColor(color)),
-        _ => None,
-    }
+    let target = Target::of_number(i64::from(target))?;
+    Some(target.set_to(ColorSpec::PaletteIndex(index)))
 }

@@ -49,20 +49,9 @@ impl SequenceText {
         ensures { result ≡ 27 ∷ 91 ∷ [] }
     {
         let mut text = SequenceText::new();
-        text.push_ascii(0x1b);
-        text.push_ascii(b'[');
+        text.push_sign(0x1b);
+        text.push_sign(b'[');
         text
-    }
-
-    /// Appends a byte of ASCII.
-    #[inline(always)]
-    fn push_ascii(&mut self, byte: u8)
-        requires room { length self.old < 32 }
-        requires ascii { byte < 128 }
-        ensures { self.new ≡ self.old ++ byte ∷ [] }
-    {
-        self.bytes[self.len] = byte;
-        self.len += 1;
     }
 
     /// Appends the character of a byte that isn't ASCII.
@@ -81,10 +70,12 @@ impl SequenceText {
     pub(crate) fn push_sign(&mut self, byte: u8)
         requires room { length self.old < 32 }
         requires ascii { byte < 128 }
+        ensures byte { self.new ≡ self.old ++ byte ∷ [] }
         ensures text { self.new ≡ self.old ++ encode_utf8 byte }
         ensures short { length self.new ≤ length self.old + 1 }
     {
-        self.push_ascii(byte);
+        self.bytes[self.len] = byte;
+        self.len += 1;
     }
 
     /// Appends the character of a byte.
@@ -95,7 +86,7 @@ impl SequenceText {
         ensures short { length self.new ≤ length self.old + 2 }
     {
         if byte < 128 {
-            self.push_ascii(byte);
+            self.push_sign(byte);
         } else {
             self.push_pair(byte);
         }
@@ -139,7 +130,7 @@ impl SequenceText {
             self.push_small_number(number as u8);
         } else {
             self.push_large_number(number / 10);
-            self.push_ascii(b'0' + (number % 10) as u8);
+            self.push_sign(b'0' + (number % 10) as u8);
         }
     }
 

@@ -13,7 +13,7 @@ use Rattle.escape_framing.specs.Parameters.{Parameters}
 use Rattle.escape_framing.specs.Dispatch.{Dispatch, Print, Escape, ControlSequence, OperatingSystemCommand, Enter, Data, Exit, dispatches_of, controls_in, escape_dispatch}
 use Rattle.escape_framing.specs.Dispatch as dispatch
 use Rattle.escape_framing.specs.Held.{Kept, InCharacter, InEscape, InControlSequence, InCommand, InHeader, InDevice, InString, kept_of, Step, steps, character_step, opened, final_step, escape_step, control_sequence_step, command_step, header_step, device_step, string_step, kept_step, Held, Handed, interrupted, fresh_step, waiting_step, held_step}
-use Rattle.escape_framing.specs.Framed.{begun_in, begun}
+use Rattle.escape_framing.proofs.Begun.{begun_in, begun}
 use Rattle.escape_framing.specs.Existence.OutcomeLemmas.{first_of_text}
 
 -- each printed character but U+FFFD has at most so many bytes

@@ -8,7 +8,8 @@ use Rattle.escape_framing.specs.Bytes.{is_cut, is_stop}
 use Rattle.escape_framing.specs.Segment.{Begun, IsBegun, IsUnfinished}
 use Rattle.escape_framing.specs.Dispatch.{Print}
 use Rattle.escape_framing.specs.Held.{Kept, InCharacter, InEscape, InControlSequence, InCommand, InHeader, InDevice, InString, Step, steps, character_step, kept_step, Held, Handed, handed, interrupted, fresh_step, waiting_step, held_step, nothing_held, hand_out, held_of}
-use Rattle.escape_framing.specs.Framed.{Framed, Lone, framed, at_place, placed_behind, framed_behind, begun_bytes, bytes_begun, is_body, IsLendable}
+use Rattle.escape_framing.specs.Framed.{Framed, Lone, framed, at_place, placed_behind, framed_behind, begun_bytes, bytes_begun, IsLendable}
+use Rattle.escape_framing.proofs.Begun.{is_body}
 use Rattle.escape_framing.specs.Segment.{IsPrintable}
 use Rattle.escape_framing.specs.Existence.Utf8Lemmas.{Spelled, in_one, in_two, in_three, in_four, spelled}
 use Rattle.escape_framing.specs.Existence.OutcomeLemmas.{some_bytes}

@@ -5,7 +5,8 @@ use Rattle.std.proofs.lemmas.Bool.Decides.{nat_tests}
 use lib.Utf8.{encode}
 use Rattle.escape_framing.specs.Dispatch.{Dispatch, Print, Control, Escape, ControlSequence, OperatingSystemCommand, Enter, Data, Exit}
 use Rattle.escape_framing.specs.Held.{Held, held_step}
-use Rattle.escape_framing.specs.Framed.{Framed, Text, Lone, is_lent, put_text, put_character, framed, at_place, placed_behind, begun, framed_behind, IsLendable}
+use Rattle.escape_framing.specs.Framed.{Framed, Text, Lone, is_lent, put_text, put_character, framed, at_place, placed_behind, framed_behind, IsLendable}
+use Rattle.escape_framing.proofs.Begun.{begun}
 use Rattle.escape_framing.proofs.BoundLemmas.{AreWithin, held_short}
 
 -- the first text, if one stands first, begins behind so many bytes

@@ -7,6 +7,7 @@ pub mod KeptLemmas
 pub mod HeldLemmas
 pub mod PlacedLemmas
 pub mod FirstLemmas
+pub mod Begun
 pub mod BegunLemmas
 pub mod KindLemmas
 pub mod CharacterLemmas

@@ -8,7 +8,8 @@ use Rattle.escape_framing.specs.Segment.{IsPrintable}
 use Rattle.escape_framing.specs.Dispatch.{Dispatch, Print, Escape, ControlSequence, OperatingSystemCommand, Enter, Data, Exit}
 use Rattle.escape_framing.specs.Dispatch as dispatch
 use Rattle.escape_framing.specs.Held.{Kept, InCharacter, InEscape, InControlSequence, InCommand, InHeader, InDevice, InString, Held, Handed, held_step, held_of}
-use Rattle.escape_framing.specs.Framed.{Lone, is_lent, framed, at_place, placed_behind, framed_behind, begun_in, begun_bytes, bytes_begun, is_body, IsLendable, BeginsNoText, IsCarried}
+use Rattle.escape_framing.specs.Framed.{Lone, is_lent, framed, at_place, placed_behind, framed_behind, begun_bytes, bytes_begun, IsLendable, BeginsNoText, IsCarried}
+use Rattle.escape_framing.proofs.Begun.{begun_in, is_body}
 use Rattle.escape_framing.proofs.HeldLemmas.{step_decides}
 use Rattle.escape_framing.proofs.FramedLemmas.{BeginsFrom, begins_behind, never_lent}
 use Rattle.escape_framing.proofs.PrintLemmas.{PrintNone, Ending, goes_on, prints, quiet, replaces, Printing, whole_one, breaks_one}

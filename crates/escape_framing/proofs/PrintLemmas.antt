@@ -12,7 +12,8 @@ use Rattle.escape_framing.specs.Parameters.{Parameters}
 use Rattle.escape_framing.specs.Dispatch.{Dispatch, Print, Escape, ControlSequence, OperatingSystemCommand, Enter, Data, Exit, dispatches_of, controls_in, escape_dispatch}
 use Rattle.escape_framing.specs.Dispatch as dispatch
 use Rattle.escape_framing.specs.Held.{Kept, InCharacter, InEscape, InControlSequence, InCommand, InHeader, InDevice, InString, kept_of, Step, steps, character_step, opened, final_step, escape_step, control_sequence_step, command_step, header_step, device_step, string_step, kept_step}
-use Rattle.escape_framing.specs.Framed.{begun_in, bytes_begun, is_body}
+use Rattle.escape_framing.specs.Framed.{bytes_begun}
+use Rattle.escape_framing.proofs.Begun.{begun_in, is_body}
 use Rattle.escape_framing.specs.Existence.Utf8Lemmas.{order}
 use Rattle.escape_framing.specs.Existence.OutcomeLemmas.{Outcome, whole, begun as begun_on, broken, outcome}
 use Rattle.escape_framing.specs.Existence.StepLemmas.{char_of}

@@ -1,5 +1,5 @@
 -- What is read at once where nothing is unfinished.
-use Rattle.std.proofs.Common.{◌≡◌, ◌≢◌, ℕ, suc, ◌+◌, ◌<◌, ◌≤◌, ◌⊎◌, inl, inr, Bool, true, false, List, [], ◌∷◌, ◌++◌, length, map, fold, take, drop, Option, Some, None, refl, sym, ap, subst, ◌∙◌, arith, append_assoc, append-nil, length-append, eqb-true}
+use Rattle.std.proofs.Common.{◌≡◌, ◌≢◌, ℕ, suc, ◌+◌, ◌<◌, ◌≤◌, ◌⊎◌, inl, inr, Bool, true, false, List, [], ◌∷◌, ◌++◌, length, map, fold, take, drop, Some, None, refl, sym, ap, subst, ◌∙◌, arith, append_assoc, append-nil, length-append, eqb-true}
 use Rattle.std.specs.Prelude.{◌==◌, ◌&&◌}
 use Rattle.std.specs.List.{prefix_len, list_all}
 use Rattle.std.proofs.lemmas.Bool.Decides.{nat_tests}
@@ -16,7 +16,7 @@ use Rattle.escape_framing.specs.declared.step.Step as stepped
 use Rattle.escape_framing.specs.declared.lone.Lone.TheVariants as lone
 use Rattle.escape_framing.specs.Stepped.{items_in, Reads}
 use Rattle.escape_framing.specs.Quick.{text_step, lone_step, is_body_byte, IsSilent, ender_len, ReadsCommand, short_parameters, IsShort}
-use Rattle.escape_framing.specs.Wide.{is_plain}
+use Rattle.text_clusters.specs.Plain.{is_printable}
 use Rattle.escape_framing.proofs.HeldLemmas.{hand_append, held_append}
 use Rattle.escape_framing.proofs.PrintLemmas.{PrintNone}
 use Rattle.escape_framing.proofs.LoneLemmas.{none_alone, carried_none}
@@ -315,18 +315,18 @@ within_command body w n e = (λ i. record { kept = InCommand (n i); waiting = e 
 
 -- ---- how many bytes of a body stand at the front
 
-plain_body : (b : ℕ) → is_plain b ≡ true → is_body_byte b ≡ true
-unfolding is_plain is_body_byte is_control
+plain_body : (b : ℕ) → is_printable b ≡ true → is_body_byte b ≡ true
+unfolding is_body_byte is_control
 plain_body b h = grind (arith, nat_tests)
 
 -- the plain ones, and then others
-pub body_run : (xs : List ℕ) → prefix_len is_plain xs + prefix_len is_body_byte (drop (prefix_len is_plain xs) xs) ≡ prefix_len is_body_byte xs
+pub body_run : (xs : List ℕ) → prefix_len is_printable xs + prefix_len is_body_byte (drop (prefix_len is_printable xs) xs) ≡ prefix_len is_body_byte xs
 body_run [] = refl
-body_run (b ∷ xs) = by_test (is_plain b) refl (body_run xs)
+body_run (b ∷ xs) = by_test (is_printable b) refl (body_run xs)
   where
-    by_test : (t : Bool) → is_plain b ≡ t → prefix_len is_plain xs + prefix_len is_body_byte (drop (prefix_len is_plain xs) xs) ≡ prefix_len is_body_byte xs
-        → prefix_len is_plain (b ∷ xs) + prefix_len is_body_byte (drop (prefix_len is_plain (b ∷ xs)) (b ∷ xs)) ≡ prefix_len is_body_byte (b ∷ xs)
-    by_test true e h = let k : 1 + prefix_len is_plain xs ≡ suc (prefix_len is_plain xs) = omega arith in rw (e, plain_body b e, k) (omega (arith, h))
+    by_test : (t : Bool) → is_printable b ≡ t → prefix_len is_printable xs + prefix_len is_body_byte (drop (prefix_len is_printable xs) xs) ≡ prefix_len is_body_byte xs
+        → prefix_len is_printable (b ∷ xs) + prefix_len is_body_byte (drop (prefix_len is_printable (b ∷ xs)) (b ∷ xs)) ≡ prefix_len is_body_byte (b ∷ xs)
+    by_test true e h = let k : 1 + prefix_len is_printable xs ≡ suc (prefix_len is_printable xs) = omega arith in rw (e, plain_body b e, k) (omega (arith, h))
     by_test false e h = let k : 0 + prefix_len is_body_byte (b ∷ xs) ≡ prefix_len is_body_byte (b ∷ xs) = omega arith in rw e k
 
 -- ---- a command whose bytes stand there

@@ -1,5 +1,5 @@
 -- The digits of a number, read in a run.
-use Rattle.std.proofs.Common.{◌≡◌, ℕ, suc, pos, ◌+◌, ◌-◌, ◌<◌, ◌≤◌, Bool, true, false, List, [], ◌∷◌, ◌++◌, length, take, refl, sym, ap, subst, ◌∙◌, arith, Option, Some, None}
+use Rattle.std.proofs.Common.{◌≡◌, ℕ, pos, ◌+◌, ◌-◌, ◌≤◌, Bool, true, false, List, [], ◌∷◌, ◌++◌, length, take, refl, sym, ap, ◌∙◌, arith, Some, None}
 use Rattle.std.specs.Prelude.{fold, nat_lt}
 use Rattle.std.specs.Char.{is_ascii_digit}
 use Rattle.std.specs.List.{prefix_len}
@@ -8,7 +8,7 @@ use Rattle.std.proofs.Math.Seq.{take-length}
 use Rattle.csi_codec.specs.Texts.{largest_number}
 use Rattle.csi_codec.specs.Fronts.{most_tokens}
 use Rattle.csi_codec.specs.declared.parameters.CsiParam.{CsiParam}
-use Rattle.csi_codec.specs.declared.parameters.CsiParam.TheVariants.{Integer, P}
+use Rattle.csi_codec.specs.declared.parameters.CsiParam.TheVariants.{Integer}
 use Rattle.escape_framing.specs.Bytes.{is_parameter}
 use Rattle.escape_framing.specs.Parameters.{Parameters, with_token, with_number, next_number, number_run, with_byte, IsPushed}
 use Rattle.escape_framing.proofs.NumberLemmas.{digit_parameter}

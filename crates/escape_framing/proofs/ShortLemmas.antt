@@ -1,5 +1,5 @@
 -- Short numbers at the front of parameter bytes, and control sequences of them.
-use Rattle.std.proofs.Common.{◌≡◌, ℕ, pos, ◌+◌, ◌-◌, ◌*◌, ◌≤◌, Bool, true, false, List, [], ◌∷◌, ◌++◌, length, take, drop, Option, Some, None, refl, sym, ap, subst, ◌∙◌, arith, append_assoc, length-append}
+use Rattle.std.proofs.Common.{◌≡◌, ℕ, pos, ◌+◌, ◌-◌, ◌*◌, ◌≤◌, Bool, true, false, List, [], ◌∷◌, ◌++◌, length, take, drop, Some, None, refl, sym, ap, subst, ◌∙◌, arith, append_assoc, length-append}
 use Rattle.std.specs.Prelude.{◌&&◌, fold}
 use Rattle.std.specs.List.{prefix_len, list_all}
 use Rattle.std.proofs.lemmas.List.Folds.{list_all-append}
@@ -8,7 +8,7 @@ use Rattle.std.proofs.Math.Seq.{take-append_seam, drop-append_seam}
 use Rattle.csi_codec.specs.declared.parameters.CsiParam.TheVariants.{Integer, P}
 use Rattle.csi_codec.specs.declared.short.ShortNumbers.{ShortNumbers}
 use Rattle.csi_codec.specs.declared.short.ShortNumbers.TheVariants.{Nothing, One, Two, Three}
-use Rattle.escape_framing.specs.Bytes.{is_parameter, is_final}
+use Rattle.escape_framing.specs.Bytes.{is_parameter}
 use Rattle.escape_framing.specs.Parameters.{Parameters, no_parameters, digit_of, next_number, with_byte, parameters_of, IsFront, IsNumberFront}
 use Rattle.escape_framing.specs.Quick.{short_parameters, IsLastAt, IsShort}
 use Rattle.escape_framing.proofs.NumberLemmas.{digit_is, digit_range, digit_parameter}

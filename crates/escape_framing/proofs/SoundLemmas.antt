@@ -8,7 +8,8 @@ use Rattle.escape_framing.specs.Segment.{Tail, Begun, OpenEscape, OpenControlSeq
 use Rattle.escape_framing.specs.Decode.{read_on}
 use Rattle.escape_framing.specs.SevenBit.{seven_bit}
 use Rattle.escape_framing.specs.Held.{Kept, InCharacter, InEscape, InControlSequence, InCommand, InHeader, InDevice, InString, kept_of, Step, steps, character_step, escape_step, control_sequence_step, command_step, header_step, device_step, string_step, kept_step, Held, Handed, handed, handed_behind, interrupted, fresh_step, waiting_step, held_step, nothing_held, hand_out, held_of}
-use Rattle.escape_framing.specs.Framed.{begun_in, begun_bytes, bytes_begun, is_body}
+use Rattle.escape_framing.specs.Framed.{begun_bytes, bytes_begun}
+use Rattle.escape_framing.proofs.Begun.{begun_in, is_body}
 use Rattle.escape_framing.proofs.FirstLemmas.{first_escape}
 use Rattle.escape_framing.proofs.SequenceReading.{cut_is_no_parameter, neither}
 use Rattle.escape_framing.proofs.WaitingLemmas.{escape_cut, control_sequence_cut, escape_cuts, lead_cuts}

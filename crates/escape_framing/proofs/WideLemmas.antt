@@ -7,7 +7,8 @@ use Rattle.std.proofs.lemmas.Str.{encode_ascii}
 use lib.Utf8.{encode}
 use Rattle.std.specs.Prelude.{IsTrue}
 use Rattle.escape_framing.specs.Framed.{IsLendable, IsText, no_text, text_of, IsCharacterLen, IsTextLen}
-use Rattle.escape_framing.specs.Wide.{is_plain, is_second, is_behind, IsRunLen}
+use Rattle.text_clusters.specs.Plain.{is_printable}
+use Rattle.escape_framing.specs.Wide.{is_second, is_behind, IsRunLen}
 use Rattle.escape_framing.specs.Existence.Utf8Lemmas.{Spelled, in_one, in_two, in_three, in_four, spelled, scalar_low, two_bytes, three_bytes, four_bytes}
 
 -- ---- what the tests say
@@ -235,27 +236,25 @@ none_of_four x xs l n = none_at x xs by_shape
 
 -- ---- a first byte that begins none, and runs
 
-plain_says : (b : ℕ) → is_plain b ≡ true → (0x20 ≤ b) × (b ≤ 0x7E)
-unfolding is_plain
+plain_says : (b : ℕ) → is_printable b ≡ true → (0x20 ≤ b) × (b ≤ 0x7E)
 plain_says b h = (grind (arith, nat_tests), grind (arith, nat_tests))
 
-plain_is : (b : ℕ) → 0x20 ≤ b → b ≤ 0x7E → is_plain b ≡ true
-unfolding is_plain
+plain_is : (b : ℕ) → 0x20 ≤ b → b ≤ 0x7E → is_printable b ≡ true
 plain_is b l m = grind (arith, nat_tests)
 
 -- no plain character at the front
-not_plain : (x : ℕ) (xs : List ℕ) → prefix_len is_plain (x ∷ xs) ≡ 0 → is_plain x ≡ false
-not_plain x xs e = by_test (is_plain x) refl
+not_plain : (x : ℕ) (xs : List ℕ) → prefix_len is_printable (x ∷ xs) ≡ 0 → is_printable x ≡ false
+not_plain x xs e = by_test (is_printable x) refl
   where
-    by_test : (t : Bool) → is_plain x ≡ t → is_plain x ≡ false
-    by_test true k = let z : 1 + prefix_len is_plain xs ≡ 0 = rw k at e in absurd (omega arith)
+    by_test : (t : Bool) → is_printable x ≡ t → is_printable x ≡ false
+    by_test true k = let z : 1 + prefix_len is_printable xs ≡ 0 = rw k at e in absurd (omega arith)
     by_test false k = k
 
-pub none_of_first : (bytes : List ℕ) (x : ℕ) (xs : List ℕ) → bytes ≡ x ∷ xs → prefix_len is_plain bytes ≡ 0 → x < 0xC2 → IsCharacterLen bytes 0
+pub none_of_first : (bytes : List ℕ) (x : ℕ) (xs : List ℕ) → bytes ≡ x ∷ xs → prefix_len is_printable bytes ≡ 0 → x < 0xC2 → IsCharacterLen bytes 0
 none_of_first bytes x xs e p l = subst (λ (b : List ℕ). IsCharacterLen b 0) (sym e) (none_at x xs by_shape)
   where
     by_shape : Shape x xs → ⊥
-    by_shape (one g h) = let k : is_plain x ≡ false = not_plain x xs (ap (prefix_len is_plain) (sym e) ∙ p) in let m : is_plain x ≡ true = plain_is x g h in cc
+    by_shape (one g h) = let k : is_printable x ≡ false = not_plain x xs (ap (prefix_len is_printable) (sym e) ∙ p) in let m : is_printable x ≡ true = plain_is x g h in cc
     by_shape (two g h t) = omega arith
     by_shape (three g h t) = omega arith
     by_shape (four g t) = omega arith
@@ -270,21 +269,21 @@ none_of_nothing [] e = record { none = λ z. record { none = λ c more l k. absu
     by_kind c more (in_four g u k) e = let q : [] ≡ (240 + c / 262144) ∷ (128 + (c / 4096) % 64) ∷ (128 + (c / 64) % 64) ∷ (128 + c % 64) ∷ more = e ∙ ap (λ (b : List ℕ). b ++ more) k in cc
 none_of_nothing (x ∷ xs) e = absurd (omega arith)
 
-plain_text : (bytes : List ℕ) → IsText (take (prefix_len is_plain bytes) bytes)
+plain_text : (bytes : List ℕ) → IsText (take (prefix_len is_printable bytes) bytes)
 plain_text [] = no_text
-plain_text (b ∷ bytes) = by_test (is_plain b) refl (plain_text bytes)
+plain_text (b ∷ bytes) = by_test (is_printable b) refl (plain_text bytes)
   where
-    by_test : (t : Bool) → is_plain b ≡ t → IsText (take (prefix_len is_plain bytes) bytes) → IsText (take (prefix_len is_plain (b ∷ bytes)) (b ∷ bytes))
+    by_test : (t : Bool) → is_printable b ≡ t → IsText (take (prefix_len is_printable bytes) bytes) → IsText (take (prefix_len is_printable (b ∷ bytes)) (b ∷ bytes))
     by_test true e h =
         let r = plain_says b e in
-        let s : take (1 + prefix_len is_plain bytes) (b ∷ bytes) ≡ encode b ++ take (prefix_len is_plain bytes) bytes =
-        (let k : 1 + prefix_len is_plain bytes ≡ suc (prefix_len is_plain bytes) = omega arith in
-        ap (λ (n : ℕ). take n (b ∷ bytes)) k ∙ ap (λ (l : List ℕ). l ++ take (prefix_len is_plain bytes) bytes) (sym (encode_ascii b (omega arith)))) in
-        rw e (subst IsText (sym s) (text_of b (take (prefix_len is_plain bytes) bytes) (scalar_low b (omega arith), inl r, λ z. omega arith) h))
+        let s : take (1 + prefix_len is_printable bytes) (b ∷ bytes) ≡ encode b ++ take (prefix_len is_printable bytes) bytes =
+        (let k : 1 + prefix_len is_printable bytes ≡ suc (prefix_len is_printable bytes) = omega arith in
+        ap (λ (n : ℕ). take n (b ∷ bytes)) k ∙ ap (λ (l : List ℕ). l ++ take (prefix_len is_printable bytes) bytes) (sym (encode_ascii b (omega arith)))) in
+        rw e (subst IsText (sym s) (text_of b (take (prefix_len is_printable bytes) bytes) (scalar_low b (omega arith), inl r, λ z. omega arith) h))
     by_test false e h = rw e no_text
 
-pub plain_run : (bytes : List ℕ) (n : ℕ) → n ≡ prefix_len is_plain bytes → n ≢ 0 → IsRunLen bytes n
-plain_run bytes n e z = record { none = λ k. absurd (z k); text = subst (λ (m : ℕ). IsText (take m bytes)) (sym e) (plain_text bytes); within = let l = prefix_len-le-length is_plain bytes in omega arith }
+pub plain_run : (bytes : List ℕ) (n : ℕ) → n ≡ prefix_len is_printable bytes → n ≢ 0 → IsRunLen bytes n
+plain_run bytes n e z = record { none = λ k. absurd (z k); text = subst (λ (m : ℕ). IsText (take m bytes)) (sym e) (plain_text bytes); within = let l = prefix_len-le-length is_printable bytes in omega arith }
 
 -- ---- lists that are taken apart
 
@@ -350,33 +349,32 @@ above_four x others l m = none_of_four x others l (λ y z w ys e g k i j. omega 
 
 -- ---- the first byte says whether plain characters stand at the front
 
-pub some_plain : (bytes : List ℕ) (x : ℕ) (xs : List ℕ) → bytes ≡ x ∷ xs → is_plain x ≡ true → 0 < prefix_len is_plain bytes
-some_plain bytes x xs e h = let k : prefix_len is_plain bytes ≡ 1 + prefix_len is_plain xs = ap (prefix_len is_plain) e ∙ rw h refl in omega arith
+pub some_plain : (bytes : List ℕ) (x : ℕ) (xs : List ℕ) → bytes ≡ x ∷ xs → is_printable x ≡ true → 0 < prefix_len is_printable bytes
+some_plain bytes x xs e h = let k : prefix_len is_printable bytes ≡ 1 + prefix_len is_printable xs = ap (prefix_len is_printable) e ∙ rw h refl in omega arith
 
-pub no_plain : (bytes : List ℕ) (x : ℕ) (xs : List ℕ) → bytes ≡ x ∷ xs → is_plain x ≡ false → prefix_len is_plain bytes ≡ 0
-no_plain bytes x xs e h = ap (prefix_len is_plain) e ∙ rw h refl
+pub no_plain : (bytes : List ℕ) (x : ℕ) (xs : List ℕ) → bytes ≡ x ∷ xs → is_printable x ≡ false → prefix_len is_printable bytes ≡ 0
+no_plain bytes x xs e h = ap (prefix_len is_printable) e ∙ rw h refl
 
 -- ---- no text
 
 pub no_text_here : (bytes : List ℕ) → IsCharacterLen bytes 0 → IsTextLen bytes 0
 no_text_here bytes c = record { within = omega arith; text = no_text; rest = c.none refl }
 
-below_plain : (x : ℕ) → x < 0x20 → is_plain x ≡ false
-unfolding is_plain
+below_plain : (x : ℕ) → x < 0x20 → is_printable x ≡ false
 below_plain x h = grind (arith, nat_tests)
 
 pub no_text_below : (bytes : List ℕ) (x : ℕ) (xs : List ℕ) → bytes ≡ x ∷ xs → x < 0x20 → IsTextLen bytes 0
 no_text_below bytes x xs e h = no_text_here bytes (none_of_first bytes x xs e (no_plain bytes x xs e (below_plain x h)) (omega arith))
 
 -- a plain character in front of a C0 control
-lone_text : (x : ℕ) (others : List ℕ) (y : ℕ) (ys : List ℕ) → others ≡ y ∷ ys → is_plain x ≡ true → y < 0x20 → IsTextLen (x ∷ others) 1
+lone_text : (x : ℕ) (others : List ℕ) (y : ℕ) (ys : List ℕ) → others ≡ y ∷ ys → is_printable x ≡ true → y < 0x20 → IsTextLen (x ∷ others) 1
 lone_text x others y ys e h l =
-    let k : is_plain y ≡ false = below_plain y l in
-    let n : 1 ≡ prefix_len is_plain (x ∷ y ∷ ys) = rw (h, k) refl in
+    let k : is_printable y ≡ false = below_plain y l in
+    let n : 1 ≡ prefix_len is_printable (x ∷ y ∷ ys) = rw (h, k) refl in
     let r : IsRunLen (x ∷ y ∷ ys) 1 = plain_run (x ∷ y ∷ ys) 1 n (λ z. omega arith) in
     let t : IsTextLen (y ∷ ys) 0 = no_text_below (y ∷ ys) y ys refl l in
     subst (λ (b : List ℕ). IsTextLen (x ∷ b) 1) (sym e) (record { within = omega arith; text = r.text; rest = t.rest })
 
-pub lone_said : (said : Bool) (x : ℕ) (others : List ℕ) (y : ℕ) (ys : List ℕ) → others ≡ y ∷ ys → said ≡ is_plain x → y < 0x20 → IsTrue said → IsTextLen (x ∷ others) 1
+pub lone_said : (said : Bool) (x : ℕ) (others : List ℕ) (y : ℕ) (ys : List ℕ) → others ≡ y ∷ ys → said ≡ is_printable x → y < 0x20 → IsTrue said → IsTextLen (x ∷ others) 1
 lone_said true x others y ys e h l t = lone_text x others y ys e (sym h) l
 lone_said false x others y ys e h l t = cc

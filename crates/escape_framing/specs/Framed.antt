@@ -1,5 +1,5 @@
 -- What the bytes of one call hand out: texts, which are lent from them, and dispatches by themselves.
-use Rattle.std.specs.Prelude.{◌≡◌, ◌≢◌, ◌≤◌, ◌<◌, ℕ, ◌+◌, ◌-◌, Bool, true, false, not, ◌&&◌, ◌||◌, nat_lt, nat_le, ◌==◌, List, [], ◌∷◌, ◌++◌, length, map, take, drop, encode_utf8, encode_utf8_all, if◌then◌else◌}
+use Rattle.std.specs.Prelude.{◌≡◌, ◌≢◌, ◌≤◌, ◌<◌, ℕ, ◌+◌, ◌-◌, Bool, true, false, not, ◌&&◌, ◌||◌, nat_le, ◌==◌, List, [], ◌∷◌, ◌++◌, length, map, take, drop, encode_utf8, encode_utf8_all, if◌then◌else◌}
 use Rattle.std.specs.Char.{IsScalar}
 use Rattle.escape_framing.specs.Segment.{IsPrintable}
 use Rattle.escape_framing.specs.Dispatch.{Dispatch, Print, Control, Escape, ControlSequence, OperatingSystemCommand, Enter, Data, Exit}
@@ -65,16 +65,6 @@ bytes_begun (InHeader header) waiting = lead_in waiting
 bytes_begun InDevice waiting = []
 bytes_begun InString waiting = []
 
--- the body of a command, data, or a string that does nothing
-abbrev pub is_body : Kept → Bool
-is_body (InCharacter bytes) = false
-is_body (InEscape xs) = false
-is_body (InControlSequence p) = false
-is_body (InCommand body) = true
-is_body (InHeader header) = false
-is_body InDevice = true
-is_body InString = true
-
 abbrev pub kept_takes : Kept → Bool → ℕ → Bool
 kept_takes (InCharacter bytes) waiting b = true
 kept_takes (InEscape xs) waiting b = waiting || nat_le 0x80 b
@@ -83,19 +73,6 @@ kept_takes (InCommand body) waiting b = false
 kept_takes (InHeader header) waiting b = waiting || nat_le 0x80 b
 kept_takes InDevice waiting b = false
 kept_takes InString waiting b = false
-
--- how many bytes of a character are held, a C2 that waits among them
-abbrev pub begun_in : Kept → ℕ
-begun_in (InCharacter bytes) = length bytes
-begun_in (InEscape xs) = 0
-begun_in (InControlSequence p) = 0
-begun_in (InCommand body) = 0
-begun_in (InHeader header) = 0
-begun_in InDevice = 0
-begun_in InString = 0
-
-abbrev pub begun : Held → ℕ
-begun held = begun_in held.kept + (if held.waiting then 1 else 0)
 
 -- what bytes hand out behind so many others, of which this is held, in a call whose bytes begin behind the start
 abbrev pub framed_behind : ℕ → ℕ → Held → List ℕ → List Framed
@@ -136,14 +113,6 @@ pub record Frames (count : ℕ) (held : Held) (bytes : List ℕ) (items : ℕ �
   pub carried : IsCarried 0 (count + n) after (drop n bytes)
 
 -- ---- how texts are found
-
--- a character to lend stands at the front
-abbrev pub BeginsText : List ℕ → Type 0
-BeginsText bytes = (c : ℕ) × (more : List ℕ) × IsLendable c × (bytes ≡ encode_utf8 c ++ more)
-
--- how many bytes a character has that begins with this byte
-abbrev pub width : ℕ → ℕ
-width b = if nat_lt b 0x80 then 1 else if nat_lt b 0xE0 then 2 else if nat_lt b 0xF0 then 3 else 4
 
 -- so many bytes are the character at the front, which can be lent; 0 where none is
 pub record IsCharacterLen (bytes : List ℕ) (n : ℕ) : Type 0 where

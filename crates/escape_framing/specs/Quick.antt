@@ -1,7 +1,7 @@
 -- What a framer reads at once where nothing is unfinished, as a step.
 use Rattle.std.specs.Prelude.{◌≡◌, ◌≢◌, ◌<◌, ◌≤◌, ℕ, ◌+◌, Bool, true, false, not, ◌&&◌, ◌==◌, List, [], ◌∷◌, length, take, drop, Option, Some, None, if◌then◌else◌}
 use Rattle.std.specs.List.{prefix_len}
-use Rattle.escape_framing.specs.Bytes.{is_control, is_final, is_parameter}
+use Rattle.escape_framing.specs.Bytes.{is_control, is_final, is_escape_final, is_opener, is_parameter}
 use Rattle.csi_codec.specs.Short.{short_list}
 use Rattle.csi_codec.specs.declared.short.ShortNumbers.{ShortNumbers}
 use Rattle.csi_codec.specs.declared.short.ShortNumbers.TheVariants.{Nothing, One, Two, Three}
@@ -24,6 +24,16 @@ lone_step (lone.Part n) = record { text = 0; dispatches = []; count = n }
 lone_step (lone.Control b) = record { text = 0; dispatches = Some (dispatch.Control b) ∷ []; count = 1 }
 lone_step (lone.Escape final) = record { text = 0; dispatches = Some (dispatch.Escape None final) ∷ []; count = 2 }
 lone_step (lone.ControlSequence final n) = record { text = 0; dispatches = Some (dispatch.ControlSequence final) ∷ []; count = n }
+
+-- the control that stands at the front: C0 but ESC, or DEL
+abbrev pub control_at : List ℕ → Option ℕ
+control_at [] = None
+control_at (b ∷ bytes) = if is_control b && not (b == 0x1B) then Some b else None
+
+-- the final byte of the escape sequence of two bytes that stands there
+abbrev pub pair_at : List ℕ → Option ℕ
+pair_at (a ∷ b ∷ bytes) = if a == 0x1B && not (is_opener b) && is_escape_final b then Some b else None
+pair_at _ = None
 
 -- a final byte stands behind so many bytes, or the end or another byte does
 abbrev pub IsLastAt : List ℕ → ℕ → Option ℕ → Type 0

@@ -2,10 +2,6 @@
 use Rattle.std.specs.Prelude.{◌≡◌, ℕ, ◌≤◌, Bool, ◌&&◌, nat_le, ◌==◌, List, length, take, if◌then◌else◌}
 use Rattle.escape_framing.specs.Framed.{IsText, BeginsNoText}
 
--- a character from space to ~, which is one byte
-unfoldable pub is_plain : ℕ → Bool
-is_plain b = nat_le 0x20 b && nat_le b 0x7E
-
 -- the least and the greatest byte behind the first of a character
 abbrev pub least_second : ℕ → ℕ
 least_second x = if x == 0xC2 then 0xA0 else if x == 0xE0 then 0xA0 else if x == 0xF0 then 0x90 else 0x80

@@ -1,6 +1,7 @@
 //! The framer: from bytes to dispatches.
-ghost use Rattle.std.specs.Prelude.{◌≡◌, ◌≢◌, ◌↔◌, ◌<◌, ℕ, length, Bool, true, false, IsTrue, IsErrOf, IfOk, OnErr, List, [], ◌∷◌, ◌++◌, take, is_err};
+ghost use Rattle.std.specs.Prelude.{◌≡◌, ◌≢◌, ◌↔◌, ◌<◌, ◌≤◌, ℕ, length, Bool, true, false, IsTrue, IsErrOf, IfOk, OnErr, List, [], ◌∷◌, ◌++◌, take, is_err};
 ghost use Rattle.escape_framing.specs.Bytes.{is_control as in_controls, is_stop as in_stops, is_embedded as in_embedded, is_intermediate as in_intermediates, is_parameter as in_parameters, is_opener as in_openers, is_cut as in_cuts};
+ghost use Rattle.escape_framing.specs.SevenBit.{is_c1};
 ghost use Rattle.escape_framing.specs.Dispatch.{controls_in, Escape};
 ghost use Rattle.escape_framing.specs.Parameters.{Parameters as Tokens, no_parameters};
 ghost use Rattle.escape_framing.specs.Held.{InCharacter, InEscape, InControlSequence, InCommand, InHeader, InDevice, InString, character_step, escape_step, final_step, opened, control_sequence_step, command_step, header_step, device_step, string_step, kept_step, interrupted, fresh_step, waiting_step, held_step, nothing_held, held_of};
@@ -24,13 +25,13 @@ use std::alloc::{AllocError, Global};
 use std::marker::Model;
 use std::mem;
 
-const BEL: u8 = 0x07;
+pub(crate) const BEL: u8 = 0x07;
 
 const CANCEL: u8 = 0x18;
 
 const SUBSTITUTE: u8 = 0x1a;
 
-const ESCAPE: u8 = 0x1b;
+pub(crate) const ESCAPE: u8 = 0x1b;
 
 const DELETE: u8 = 0x7f;
 
@@ -91,7 +92,7 @@ fn is_embedded(byte: u8) -> bool
 fn is_intermediate(byte: u8) -> bool
     ensures { result ≡ in_intermediates byte }
 {
-    0x20 <= byte && byte <= 0x2f
+    matches!(byte, 0x20..=0x2f)
 }
 
 #[tactic(auto, unfolding(crate::specs::Bytes::is_cut))]
@@ -106,6 +107,15 @@ pub(crate) fn is_opener(byte: u8) -> bool
     ensures { result ≡ in_openers byte }
 {
     byte == b'[' || byte == b']' || byte == b'P' || byte == b'X' || byte == b'^' || byte == b'_'
+}
+
+// The second byte of the UTF-8 of a C1 control, whose first is C2.
+#[tactic(auto, unfolding(crate::specs::SevenBit::is_c1))]
+fn ends_c1(byte: u8) -> bool
+    ensures is { result ≡ is_c1 C1_LEAD byte }
+    ensures least { IsTrue result → 0x80 ≤ byte }
+{
+    matches!(byte, 0x80..=0x9f)
 }
 
 // ---- What is handed out
@@ -265,12 +275,12 @@ impl Framer {
         ensures held { self.new.held ≡ record self.old.held { kept = (character_step [] byte).kept } }
         ensures failed { self.new.failed ≡ self.old.failed }
     {
-        self.rest();
+        self.close();
         self.in_character(byte)
     }
 
-    // Nothing is open.
-    pub(crate) fn rest(&mut self)
+    // Closes what is open.
+    pub(crate) fn close(&mut self)
         ensures held { self.new.held ≡ record self.old.held { kept = InCharacter [] } }
         ensures parameters { self.new.parameters ≡ self.old.parameters }
         ensures failed { self.new.failed ≡ self.old.failed }
@@ -291,7 +301,7 @@ impl Framer {
             self.state = State::Escape(Intermediates::Zero);
             None
         } else {
-            self.rest();
+            self.close();
             Some(Dispatch::Control(byte))
         }
     }
@@ -332,15 +342,15 @@ impl Framer {
                 nothing()
             }
             Intermediates::Zero => {
-                self.rest();
+                self.close();
                 escape(None, byte)
             }
             Intermediates::One(first) => {
-                self.rest();
+                self.close();
                 escape(Some(first), byte)
             }
             Intermediates::More(_, _) => {
-                self.rest();
+                self.close();
                 nothing()
             }
         }
@@ -382,7 +392,7 @@ impl Framer {
         } else if is_cut(byte) {
             self.restart(byte)
         } else {
-            self.rest();
+            self.close();
             Handed {
                 ended: None,
                 own: Some(Dispatch::ControlSequence { control: byte }),
@@ -399,7 +409,7 @@ impl Framer {
     {
         if byte == BEL {
             let body = mem::replace(&mut self.text, Vec::new(self.alloc));
-            self.rest();
+            self.close();
             Ok(Handed {
                 ended: None,
                 own: Some(Dispatch::OperatingSystemCommand(body)),
@@ -510,7 +520,7 @@ impl Framer {
     {
         match self.state {
             State::Characters if !self.characters.is_empty() => {
-                self.rest();
+                self.close();
                 Handed {
                     ended: Some(Dispatch::Print('\u{fffd}')),
                     own: None,
@@ -546,7 +556,7 @@ impl Framer {
         ensures failed { IfOk result (λ ds. self.new.failed ≡ self.old.failed) }
         ensures memory { OnErr result (TakesMemory self.old.held.kept) }
     {
-        if 0x80 <= byte && byte <= 0x9f {
+        if ends_c1(byte) {
             let first = self.step(ESCAPE)?;
             let second = self.step(byte - 0x40)?;
             Ok([first.ended, first.own, second.ended, second.own])
@@ -630,7 +640,7 @@ impl Framer {
         ensures failed { self.new.failed ≡ self.old.failed }
     {
         self.waiting = false;
-        self.rest();
+        self.close();
     }
 
     // How many bytes the text at the front has, if one can stand there.
@@ -651,6 +661,7 @@ impl Framer {
         ensures reads { IfOk result (λ n. 0 < n → IsSilent self.old.held bytes.now n self.new.held) }
         ensures none { IfOk result (λ n. n ≡ 0 → self.new ≡ self.old) }
         ensures failed { IfOk result (λ n. self.new.failed ≡ self.old.failed) }
+        ensures memory { OnErr result (TakesMemory self.old.held.kept) }
     {
         match self.state {
             State::Command if !self.waiting => {
@@ -662,10 +673,12 @@ impl Framer {
         }
     }
 
-    // Reads the text at the front, or one byte; a text that breaks a character hands out U+FFFD first, and isn't read yet.
+    // Reads the text at the front, the bytes of a command's body there, or one byte; a text that breaks a character hands
+    // out U+FFFD first, and isn't read yet.
     fn read(&mut self, bytes: &[u8]) -> Result<Step, AllocError>
         ensures reads { IfOk result (λ s. Reads self.new.parameters self.old.held bytes.now s self.new.held) }
         ensures failed { IfOk result (λ s. self.new.failed ≡ self.old.failed) }
+        ensures memory { OnErr result (TakesMemory self.old.held.kept) }
     {
         let Some((byte, _)) = bytes.split_first() else {
             return Ok(Step::of_dispatches([None, None, None, None], 0));
@@ -689,13 +702,15 @@ impl Framer {
         }
     }
 
-    /// Reads a text at the front of some bytes of one call, or one byte of them, and answers what that hands out and how
-    /// many bytes were read; none where a text is to follow, behind a character that it breaks. A text is made of
-    /// printable characters, U+0020 to U+007E and from U+00A0, but U+FFFD. Refusals are those of `feed`.
+    /// Reads a text at the front of some bytes of one call, the bytes of a command's body there, or one byte, and answers
+    /// what that hands out and how many bytes were read: none where `bytes` is empty, or where a text is to follow behind a
+    /// character that it breaks. A text is made of printable characters, U+0020 to U+007E and from U+00A0, but U+FFFD.
+    /// Refusals are those of `feed`.
     pub fn next(&mut self, bytes: &[u8]) -> Result<Step, ParseError>
         ensures reads { IfOk result (λ s. Reads self.new.parameters self.old.held bytes.now s self.new.held) }
         // A call fails where an earlier one was refused memory, and only then is that its error.
         ensures failed { IsErrOf result ParseError.Failed ↔ (self.old.failed ≡ true) }
+        ensures memory { IsErrOf result ParseError.Memory → TakesMemory self.old.held.kept }
         // A framer has failed once it was refused memory.
         ensures after { self.new.failed ≡ is_err result }
     {

@@ -2,16 +2,15 @@
 #![tactic(auto)]
 
 mod characters;
-pub mod dispatch;
-pub mod error;
-pub mod framer;
+mod dispatch;
+mod error;
+mod framer;
 pub mod laws;
-pub mod lone;
+mod lone;
 mod parameters;
-mod plain;
 mod quick;
-pub mod short;
-pub mod step;
+mod short;
+mod step;
 mod texts;
 
 pub use dispatch::Dispatch;

@@ -13,7 +13,7 @@ use std::marker::Model;
 const MOST_TOKENS: usize = 256;
 
 /// The largest number of a token.
-const LARGEST_NUMBER: u64 = 9_223_372_036_854_775_807;
+const LARGEST_NUMBER: u64 = i64::MAX as u64;
 
 // A parameter byte or an intermediate byte.
 #[inline(always)]
@@ -21,7 +21,7 @@ const LARGEST_NUMBER: u64 = 9_223_372_036_854_775_807;
 pub(crate) fn is_parameter(byte: u8) -> bool
     ensures { result ≡ in_parameters byte }
 {
-    0x20 <= byte && byte <= 0x3f
+    matches!(byte, 0x20..=0x3f)
 }
 
 // The number whose digits have begun, with one digit more, cut at the largest.

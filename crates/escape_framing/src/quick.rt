@@ -1,23 +1,21 @@
 //! What a framer reads at once where nothing is unfinished: texts, controls, and sequences whose bytes stand there.
-ghost use Rattle.std.specs.Prelude.{◌≡◌, ◌≢◌, ◌↔◌, ◌<◌, ◌≤◌, ℕ, true, ◌∷◌, List, length, take, drop, IfSome, IfOk, IsErrOf, is_err};
+ghost use Rattle.std.specs.Prelude.{◌≡◌, ◌≢◌, ◌↔◌, ◌<◌, ◌≤◌, ℕ, true, ◌∷◌, List, length, take, drop, None, IfSome, IfOk, OnErr, IsErrOf, is_err};
 ghost use Rattle.std.specs.List.{prefix_len};
 ghost use Rattle.escape_framing.specs.Bytes.{is_final as in_finals, is_escape_final as in_escape_finals};
 ghost use Rattle.escape_framing.specs.Held.{nothing_held};
+ghost use Rattle.escape_framing.specs.Dispatched.{TakesMemory};
+ghost use Rattle.escape_framing.specs.Framed.{IsTextLen};
 ghost use Rattle.escape_framing.specs.Stepped.{Reads};
-ghost use Rattle.escape_framing.specs.Quick.{text_step, lone_step, IsLastAt, short_parameters, is_body_byte as in_bodies, ender_len as ender_read, ReadsCommand, IsSkipped};
+ghost use Rattle.escape_framing.specs.Quick.{text_step, lone_step, control_at, pair_at, IsLastAt, short_parameters, is_body_byte as in_bodies, ender_len as ender_read, ReadsCommand, IsSkipped};
 ghost use Rattle.escape_framing.specs.declared.lone.Lone.TheVariants.{Nothing, Control, Escape, ControlSequence};
 
 use crate::error::ParseError;
-use crate::framer::{Framer, State, is_control, is_opener};
+use crate::framer::{BEL, ESCAPE, Framer, State, is_control, is_opener};
 use crate::lone::Lone;
-use crate::plain::plain_len;
 use crate::short::{ShortSequence, numbers_sequence, short_sequence};
 use crate::texts::text_len;
 use std::alloc::AllocError;
-
-const BEL: u8 = 0x07;
-
-const ESCAPE: u8 = 0x1b;
+use text_clusters::printable_len;
 
 // The final byte of a control sequence.
 #[inline(always)]
@@ -25,7 +23,7 @@ const ESCAPE: u8 = 0x1b;
 fn is_final(byte: u8) -> bool
     ensures { result ≡ in_finals byte }
 {
-    0x40 <= byte && byte <= 0x7e
+    matches!(byte, 0x40..=0x7e)
 }
 
 // The final byte of an escape sequence.
@@ -34,7 +32,7 @@ fn is_final(byte: u8) -> bool
 fn is_escape_final(byte: u8) -> bool
     ensures { result ≡ in_escape_finals byte }
 {
-    0x30 <= byte && byte <= 0x7e
+    matches!(byte, 0x30..=0x7e)
 }
 
 // What stands behind so many bytes.
@@ -117,7 +115,7 @@ fn few_len(bytes: &[u8]) -> usize
 fn body_len(bytes: &[u8]) -> usize
     ensures { result ≡ prefix_len in_bodies bytes.now }
 {
-    let plain = plain_len(bytes);
+    let plain = printable_len(bytes);
     plain + few_len(behind(bytes, plain))
 }
 
@@ -130,20 +128,24 @@ pub(crate) fn body_of(bytes: &[u8]) -> &[u8]
 }
 
 impl Framer {
-    /// How many bytes the text at the front of some bytes of one call has, where nothing is unfinished; else 0. It is read
-    /// by this, as `next` reads it, since a text leaves nothing.
+    /// How many bytes the text at the front of some bytes of one call has, where nothing is unfinished: as many characters as
+    /// can be lent; else 0. The framer needs no change for it: the caller goes on behind these bytes.
     #[inline(always)]
     pub fn next_text(&self, bytes: &[u8]) -> usize
-        ensures { 0 < result → Reads self.now.parameters self.now.held bytes.now (text_step result) self.now.held }
+        ensures reads { 0 < result → Reads self.now.parameters self.now.held bytes.now (text_step result) self.now.held }
+        ensures exact { self.now.held ≡ nothing_held → IsTextLen bytes.now result }
+        ensures unfinished { self.now.held ≢ nothing_held → result ≡ 0 }
     {
         if self.is_idle() { text_len(bytes) } else { 0 }
     }
 
-    /// The control at the front of some bytes of one call, C0 but ESC, or DEL, where nothing is unfinished. It is read by
-    /// this, as `next` reads it, since it leaves nothing.
+    /// The control at the front of some bytes of one call, C0 but ESC, or DEL, where nothing is unfinished; else `None`. The
+    /// framer needs no change for it: the caller goes on behind this byte.
     #[inline(always)]
     pub fn next_control(&self, bytes: &[u8]) -> Option<u8>
-        ensures { IfSome result (λ byte. Reads self.now.parameters self.now.held bytes.now (lone_step (Control byte)) self.now.held) }
+        ensures reads { IfSome result (λ byte. Reads self.now.parameters self.now.held bytes.now (lone_step (Control byte)) self.now.held) }
+        ensures exact { self.now.held ≡ nothing_held → result ≡ control_at bytes.now }
+        ensures unfinished { self.now.held ≢ nothing_held → result ≡ None }
     {
         let (byte, _) = bytes.split_first()?;
         if !is_control(*byte) {
@@ -164,14 +166,15 @@ impl Framer {
         ensures failed { self.new.failed ≡ self.old.failed }
     {
         let count = self.parameters.read(others);
-        self.rest();
+        self.close();
         let control = last_at(others, count)?;
         Some((control, count + 3))
     }
 
     /// Reads the control sequence at the front of some bytes of one call, where nothing is unfinished and all its bytes
-    /// stand there, and answers its final byte and how many bytes it has. Else nothing is read, and the parameters of the
-    /// last control sequence are lent no more.
+    /// stand there, and answers its final byte and how many bytes it has. For anything else, which it leaves to `next`, it
+    /// answers `None`, which is never wrong: nothing is read, and the parameters of the last control sequence are lent no
+    /// more.
     #[inline(always)]
     pub fn next_sequence(&mut self, bytes: &[u8]) -> Option<(u8, usize)>
         ensures some { IfSome result (λ s. Reads self.new.parameters self.old.held bytes.now (lone_step (ControlSequence s.0 s.1)) self.new.held) }
@@ -186,8 +189,9 @@ impl Framer {
     }
 
     /// The control sequence at the front of some bytes of one call, without parameters or with one number of at most 255 and
-    /// of one to three digits, where nothing is unfinished and all its bytes stand there. It is read by this, as `next` reads
-    /// it, since it leaves nothing; the framer lends no parameters for it.
+    /// of one to three digits, where nothing is unfinished and all its bytes stand there. The framer needs no change for it,
+    /// and lends no parameters for it: the caller goes on behind these bytes. For anything else, which it leaves to `next`,
+    /// it answers `None`, which is never wrong.
     #[inline(always)]
     pub fn next_short(&self, bytes: &[u8]) -> Option<ShortSequence>
         ensures { IfSome result (λ s. Reads (short_parameters s.numbers) self.now.held bytes.now (lone_step (ControlSequence s.control s.count)) self.now.held) }
@@ -200,7 +204,10 @@ impl Framer {
         Some(short)
     }
 
-    /// The same with two or three such numbers, and a `;` between two.
+    /// The control sequence at the front of some bytes of one call, with two or three numbers of at most 255 and of one to
+    /// three digits each, and a `;` between two, where nothing is unfinished and all its bytes stand there. The framer needs
+    /// no change for it, and lends no parameters for it: the caller goes on behind these bytes. For anything else, which it
+    /// leaves to `next`, it answers `None`, which is never wrong.
     #[inline(always)]
     pub fn next_numbers(&self, bytes: &[u8]) -> Option<ShortSequence>
         ensures { IfSome result (λ s. Reads (short_parameters s.numbers) self.now.held bytes.now (lone_step (ControlSequence s.control s.count)) self.now.held) }
@@ -214,10 +221,12 @@ impl Framer {
     }
 
     /// The final byte of the escape sequence of two bytes at the front of some bytes of one call, where nothing is
-    /// unfinished. It is read by this, as `next` reads it, since it leaves nothing.
+    /// unfinished; else `None`. The framer needs no change for it: the caller goes on behind these two bytes.
     #[inline(always)]
     pub fn next_pair(&self, bytes: &[u8]) -> Option<u8>
-        ensures { IfSome result (λ byte. Reads self.now.parameters self.now.held bytes.now (lone_step (Escape byte)) self.now.held) }
+        ensures reads { IfSome result (λ byte. Reads self.now.parameters self.now.held bytes.now (lone_step (Escape byte)) self.now.held) }
+        ensures exact { self.now.held ≡ nothing_held → result ≡ pair_at bytes.now }
+        ensures unfinished { self.now.held ≢ nothing_held → result ≡ None }
     {
         let (first, others) = bytes.split_first()?;
         if *first != ESCAPE {
@@ -234,8 +243,9 @@ impl Framer {
     }
 
     /// The body of the operating system command at the front of some bytes of one call, where nothing is unfinished, the
-    /// bytes decide it, and none of the body is a control or a C2; and how many bytes are read by this: those of the
-    /// command, but for an ESC that ends it, which begins what is next. It leaves nothing.
+    /// bytes decide it, and none of the body is a control or a C2; and how many bytes are read with it: those of the
+    /// command, but for an ESC that ends it, which begins what is next. The framer needs no change for it: the caller goes
+    /// on behind these bytes. For anything else, which it leaves to `next`, it answers `None`, which is never wrong.
     #[inline(always)]
     pub fn next_command<'a>(&self, bytes: &'a [u8]) -> Option<(&'a [u8], usize)>
         ensures { IfSome result (λ c. ReadsCommand self.now.held bytes.now c.0.now c.1) }
@@ -254,6 +264,7 @@ impl Framer {
     fn skip_run(&mut self, bytes: &[u8]) -> Result<usize, AllocError>
         ensures reads { IfOk result (λ n. IsSkipped self.old.held bytes.now n self.new.held) }
         ensures failed { IfOk result (λ n. self.new.failed ≡ self.old.failed) }
+        ensures memory { OnErr result (TakesMemory self.old.held.kept) }
     {
         match self.state {
             State::ControlSequence if !self.waiting => Ok(self.parameters.push_all(bytes)),
@@ -272,6 +283,7 @@ impl Framer {
         ensures reads { IfOk result (λ n. IsSkipped self.old.held bytes.now n self.new.held) }
         // A call fails where an earlier one was refused memory, and only then is that its error.
         ensures failed { IsErrOf result ParseError.Failed ↔ (self.old.failed ≡ true) }
+        ensures memory { IsErrOf result ParseError.Memory → TakesMemory self.old.held.kept }
         // A framer has failed once it was refused memory.
         ensures after { self.new.failed ≡ is_err result }
     {
@@ -297,7 +309,7 @@ impl Framer {
         let count = self.parameters.read(others);
         match last_at(others, count) {
             Some(control) => {
-                self.rest();
+                self.close();
                 Lone::ControlSequence {
                     control,
                     count: count + 3,
@@ -348,8 +360,9 @@ impl Framer {
         }
     }
 
-    /// Reads a control, an escape sequence of two bytes, or a control sequence as far as its bytes stand there, where
-    /// nothing is unfinished. Of anything else, and where a call was refused memory, nothing is read.
+    /// Reads a control, an escape sequence of two bytes, the two bytes that begin a command, or a control sequence as far as
+    /// its bytes stand there, where nothing is unfinished. For anything else, which it leaves to `next`, and where a call
+    /// was refused memory, it answers `Lone::Nothing`, which is never wrong: nothing is read then.
     #[inline(always)]
     pub fn next_lone(&mut self, bytes: &[u8]) -> Lone
         ensures reads { result ≢ Nothing → Reads self.new.parameters self.old.held bytes.now (lone_step result) self.new.held }

@@ -3,23 +3,28 @@ ghost use Rattle.std.specs.Prelude.{◌≡◌, ◌↔◌, IsTrue, ℕ, ◌≤◌
 ghost use Rattle.std.specs.List.{prefix_len};
 ghost use Rattle.escape_framing.specs.Framed.{IsCharacterLen, IsTextLen};
 ghost use Rattle.escape_framing.specs.Wide.{IsRunLen};
-ghost use Rattle.escape_framing.specs.Wide.{is_plain as in_plain, least_second as least_behind, most_second as most_behind, is_second as in_second, is_behind as in_behind};
+ghost use Rattle.text_clusters.specs.Plain.{is_printable};
+ghost use Rattle.escape_framing.specs.Wide.{least_second as least_behind, most_second as most_behind, is_second as in_second, is_behind as in_behind};
 
-use crate::plain::{is_plain, plain_len};
+use text_clusters::printable_len;
+
+// A plain character, from space to ~.
+#[inline(always)]
+fn is_plain(byte: u8) -> bool
+    ensures { result ≡ is_printable byte }
+{
+    matches!(byte, 0x20..=0x7e)
+}
 
 // The least byte behind the first of a character.
 #[inline(always)]
 fn least_second(lead: u8) -> u8
     ensures { result ≡ least_behind lead }
 {
-    if lead == 0xc2 {
-        0xa0
-    } else if lead == 0xe0 {
-        0xa0
-    } else if lead == 0xf0 {
-        0x90
-    } else {
-        0x80
+    match lead {
+        0xc2 | 0xe0 => 0xa0,
+        0xf0 => 0x90,
+        _ => 0x80,
     }
 }
 
@@ -28,12 +33,10 @@ fn least_second(lead: u8) -> u8
 fn most_second(lead: u8) -> u8
     ensures { result ≡ most_behind lead }
 {
-    if lead == 0xed {
-        0x9f
-    } else if lead == 0xf4 {
-        0x8f
-    } else {
-        0xbf
+    match lead {
+        0xed => 0x9f,
+        0xf4 => 0x8f,
+        _ => 0xbf,
     }
 }
 
@@ -52,7 +55,18 @@ fn is_second(lead: u8, byte: u8) -> bool
 fn is_behind(byte: u8) -> bool
     ensures { result ≡ in_behind byte }
 {
-    0x80 <= byte && byte <= 0xbf
+    matches!(byte, 0x80..=0xbf)
+}
+
+// U+FFFD.
+#[inline(always)]
+fn is_replacement(lead: u8, second: u8, third: u8) -> bool
+    ensures { IsTrue result ↔ ((lead ≡ 0xEF) × (second ≡ 0xBF) × (third ≡ 0xBD)) }
+{
+    if lead != 0xef {
+        return false;
+    }
+    second == 0xbf && third == 0xbd
 }
 
 // How many bytes the character at the front has, of two bytes; 0 where there is none that can be lent.
@@ -66,17 +80,6 @@ fn two_len(lead: u8, others: &[u8]) -> usize
         return 0;
     };
     if is_second(lead, *second) { 2 } else { 0 }
-}
-
-// U+FFFD.
-#[inline(always)]
-fn is_replacement(lead: u8, second: u8, third: u8) -> bool
-    ensures { IsTrue result ↔ ((lead ≡ 0xEF) × (second ≡ 0xBF) × (third ≡ 0xBD)) }
-{
-    if lead != 0xef {
-        return false;
-    }
-    second == 0xbf && third == 0xbd
 }
 
 // The same of three bytes.
@@ -133,7 +136,7 @@ fn four_len(lead: u8, others: &[u8]) -> usize
 
 // How many bytes the character at the front has, which isn't plain; 0 where there is none that can be lent.
 fn wide_len(bytes: &[u8]) -> usize
-    requires { prefix_len in_plain bytes.now ≡ 0 }
+    requires { prefix_len is_printable bytes.now ≡ 0 }
     ensures { IsCharacterLen bytes.now result }
 {
     let Some((lead, others)) = bytes.split_first() else {
@@ -158,7 +161,7 @@ fn run_len(bytes: &[u8]) -> usize
         return 0;
     };
     if is_plain(*byte) {
-        plain_len(bytes)
+        printable_len(bytes)
     } else {
         wide_len(bytes)
     }

@@ -1,5 +1,5 @@
 -- Commands that can be written: what is written for them reads back as they are, and a byte stream carries it as it is.
-use Rattle.std.specs.Prelude.{◌≡◌, ℕ, ◌<◌, ◌==◌, ◌-◌, ◌^◌, nat_lt, Bool, true, false, ◌||◌, List, Option, None, Ok}
+use Rattle.std.specs.Prelude.{◌≡◌, ℕ, ◌<◌, ◌-◌, ◌^◌, true, false, List, Option, None, Ok}
 use Rattle.std.specs.List.{list_any, list_all, AllByRecursion}
 use Rattle.std.specs.List.Sorted.{IsStrictlySortedBy}
 use Rattle.std.specs.Map.{keys_of}
@@ -7,6 +7,7 @@ use Rattle.std.specs.Ordering.{nat_cmp}
 use Rattle.std.specs.Cmp.Lexicographic.{slice_cmp}
 use Rattle.std.specs.Int.RustNames.{bit_and}
 use Rattle.std.specs.Str.{IsUtf8}
+pub use Rattle.cell_base.specs.CellContent.{is_control}
 use Rattle.cell_base.specs.Link.{Link}
 use Rattle.cell_base.specs.LinkText.{link_reading, text_of_link, is_writable, is_empty_link}
 use Rattle.escape_osc.specs.Command.{Command, set_icon_name_and_window_title, set_icon_name, set_window_title, current_working_directory, set_hyperlink, set_selection, query_selection, clear_selection, unspecified}
@@ -17,10 +18,6 @@ use Rattle.escape_osc.specs.Text.{body_of}
 -- a command reads back equal from its body
 abbrev pub ReadsBack : Command → Type 0
 ReadsBack command = osc_reading (parts_of (body_of command)) ≡ command
-
--- whether a byte is a C0 control or DEL
-abbrev pub is_control : ℕ → Bool
-is_control b = nat_lt b 0x20 || (b == 0x7F)
 
 -- a text holds no control of any kind: no C0 control, no DEL, and no U+0080 to U+009F
 pub record LacksControls (text : List ℕ) : Type 0 where

@@ -1,4 +1,4 @@
-// The text of a command as bytes.
+//! The text of a command as bytes.
 
 ghost use Rattle.std.specs.Prelude.{◌≡◌, ◌∷◌, ◌++◌, map, IfOk, OnOk, OnErr};
 ghost use Rattle.escape_osc.specs.CommandView.{command_of};
@@ -6,18 +6,22 @@ ghost use Rattle.escape_osc.specs.Parts.{joined};
 ghost use Rattle.escape_osc.specs.Text.{framed, text_of};
 
 use crate::command::OperatingSystemCommand;
-use crate::parts::{joined, lent};
 use std::alloc::{AllocError, Global};
 
 // All parts joined by `;`.
+#[tactic(auto, using(crate::proofs::CopyLemmas::join_start, crate::proofs::CopyLemmas::join_next, crate::proofs::CopyLemmas::join_end))]
 fn joined_all(alloc: Global, parts: &[Vec<u8>]) -> Result<Vec<u8>, AllocError>
     ensures { IfOk result (λ v. v.items ≡ joined (map (λ p. p.items) parts.now)) }
 {
-    let slices = lent(alloc, parts)?;
-    match slices.split_first() {
-        Some((first, rest)) => joined(alloc, first, rest),
-        None => Ok(Vec::new(alloc)),
+    let Some((first, rest)) = parts.split_first() else {
+        return Ok(Vec::new(alloc));
+    };
+    let mut text = Vec::from_slice(alloc, first)?;
+    for part in rest {
+        text.push(b';')?;
+        text.extend_from_slice(part)?;
     }
+    Ok(text)
 }
 
 // ESC ], a body and ESC \.

@@ -1,4 +1,4 @@
-// Operating system commands.
+//! Operating system commands.
 
 ghost use Rattle.std.specs.Prelude.{Some};
 ghost use Rattle.escape_osc.specs.CommandView.{command_of};

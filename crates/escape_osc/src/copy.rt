@@ -1,18 +1,21 @@
-// Copies of commands.
+//! Copies of commands.
 
 ghost use Rattle.std.specs.Prelude.{◌≡◌, map, IfOk};
 ghost use Rattle.escape_osc.specs.CommandView.{command_of};
 
 use crate::command::OperatingSystemCommand;
-use crate::parts::{copied, lent};
 use std::alloc::{AllocError, Global};
 
 // A copy of all parts.
+#[tactic(auto, using(crate::proofs::CopyLemmas::copy_next, crate::proofs::CopyLemmas::copy_end))]
 fn copied_all(alloc: Global, parts: &[Vec<u8>]) -> Result<Vec<Vec<u8>>, AllocError>
     ensures { IfOk result (λ v. map (λ p. p.items) v.items ≡ map (λ p. p.items) parts.now) }
 {
-    let slices = lent(alloc, parts)?;
-    copied(alloc, &slices)
+    let mut copies = Vec::new(alloc);
+    for part in parts {
+        copies.push(Vec::from_slice(alloc, part)?)?;
+    }
+    Ok(copies)
 }
 
 impl OperatingSystemCommand {

@@ -1,4 +1,4 @@
-// The parts of a command's body: joined, copied and lent, and the characters that fit no command.
+//! The parts of a command's body: joined and copied, and the characters that fit no command.
 
 ghost use Rattle.std.specs.Prelude.{◌≡◌, ◌∷◌, map, IfOk};
 ghost use Rattle.escape_osc.specs.Parts.{is_c1, holds_c1, any_holds_c1, joined};
@@ -61,16 +61,4 @@ pub(crate) fn copied(alloc: Global, parts: &[&[u8]]) -> Result<Vec<Vec<u8>>, All
         copies.push(Vec::from_slice(alloc, part)?)?;
     }
     Ok(copies)
-}
-
-// Each part, lent.
-#[tactic(auto, using(crate::proofs::CopyLemmas::lent_next, crate::proofs::CopyLemmas::lent_end))]
-pub(crate) fn lent(alloc: Global, parts: &[Vec<u8>]) -> Result<Vec<&[u8]>, AllocError>
-    ensures { IfOk result (λ v. map (λ p. p.now) v.items ≡ map (λ p. p.items) parts.now) }
-{
-    let mut slices = Vec::new(alloc);
-    for part in parts {
-        slices.push(part.as_slice())?;
-    }
-    Ok(slices)
 }

@@ -1,4 +1,4 @@
-// From the parts of a body to its command.
+//! From the parts of a body to its command.
 
 ghost use Rattle.std.specs.Prelude.{◌≡◌, map, option_map, IfOk};
 ghost use Rattle.std.specs.String.{string_bytes};

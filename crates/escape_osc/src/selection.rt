@@ -1,4 +1,4 @@
-// The selections of OSC 52.
+//! The selections of OSC 52.
 
 ghost use Rattle.std.specs.Prelude.{⊤, ◌≡◌, option_map, Some};
 ghost use Rattle.escape_osc.specs.Selection.{bits_of, flag_table, letter_bits, letters_bits, selection_reading};

@@ -13,7 +13,8 @@ use Rattle.escape_framing.specs.Dispatch.{escape_dispatch, dispatches_of}
 use Rattle.escape_framing.specs.Existence.SevenBitLemmas.{both}
 use Rattle.escape_stream.specs.StreamAction.{StreamAction, esc}
 use Rattle.escape_stream.specs.StreamActions.{actions_of}
-use Rattle.escape_stream.specs.StreamWritable.{IsOpener, ArePairBytes, IsReadPair, string_terminator}
+use Rattle.csi_codec.specs.Writable.{IsOpener, ArePairBytes}
+use Rattle.escape_stream.specs.StreamWritable.{IsReadPair, string_terminator}
 use Rattle.escape_stream.proofs.PlainBytes.{same_number, low_byte, is_plain, taken_plain, controls_in_plain}
 use Rattle.escape_stream.proofs.TextSegments.{Says, says_same, says_segment, low_text}
 

@@ -30,6 +30,11 @@ both_actions p (code.Enter h f) = append-nil _
 both_actions p (code.Data b) = append-nil _
 both_actions p code.Exit = append-nil _
 
+-- a dispatch that is no control sequence has its own actions alone
+pub own_actions : (p : Parameters) (d : Dispatch) (found : Option Dispatch) → found ≡ Some d → later_actions p d ≡ [] → lone_actions p d ≡ actions_of (optional p found)
+own_actions p d found e k =
+    sym (append-nil (lone_actions p d)) ∙ (λ i. lone_actions p d ++ sym k i) ∙ both_actions p d ∙ sym (append-nil (actions_of_dispatch (dispatch_of p d))) ∙ ap (λ (x : Option Dispatch). actions_of (optional p x)) (sym e)
+
 -- an action of the sequence
 pub gives_of_sequence : (p : Parameters) (old new : Queue) (next : Option Action) → Gives (sequence_actions p old.sequence) next (sequence_actions p new.sequence) → new.waiting ≡ old.waiting → IsTrue (is_some next) → Gives (queue_actions p old) next (queue_actions p new)
 gives_of_sequence p old new None g w s = cc

@@ -46,15 +46,6 @@ abbrev pub open_pieces : ℕ → Pieces → List Piece
 open_pieces start it =
     map Lone (queue_actions it.parser.now.parameters it.queue) ++ pieces_of (framed_behind start (start + it.count) it.parser.now.held (drop it.count it.bytes.now))
 
-abbrev pub left_at : Stage → List Piece → List Piece
-left_at stage.Failed left = []
-left_at stage.Open left = left
-left_at stage.Over left = []
-
--- the pieces that are yet to come
-abbrev pub pieces_left : ℕ → Pieces → List Piece
-pieces_left start it = left_at it.stage (open_pieces start it)
-
 -- what is held of the stream once all is read
 abbrev pub held_at_end : Pieces → Held
 held_at_end it = (hand_out it.parser.now.held (drop it.count it.bytes.now)).held

@@ -31,25 +31,13 @@ sequence_values p control = actions_of_dispatch (stream.ControlSequence p.tokens
 
 -- the action of a dispatch, unless it is a control sequence
 abbrev pub lone_actions : Parameters → Dispatch → List StreamAction
-lone_actions p (code.Print c) = actions_of_dispatch (dispatch_of p (code.Print c))
-lone_actions p (code.Control b) = actions_of_dispatch (dispatch_of p (code.Control b))
-lone_actions p (code.Escape intermediate control) = actions_of_dispatch (dispatch_of p (code.Escape intermediate control))
 lone_actions p (code.ControlSequence control) = []
-lone_actions p (code.OperatingSystemCommand body) = actions_of_dispatch (dispatch_of p (code.OperatingSystemCommand body))
-lone_actions p (code.Enter header byte) = actions_of_dispatch (dispatch_of p (code.Enter header byte))
-lone_actions p (code.Data b) = actions_of_dispatch (dispatch_of p (code.Data b))
-lone_actions p code.Exit = actions_of_dispatch (dispatch_of p code.Exit)
+lone_actions p d = actions_of_dispatch (dispatch_of p d)
 
 -- the actions of a control sequence
 abbrev pub later_actions : Parameters → Dispatch → List StreamAction
-later_actions p (code.Print c) = []
-later_actions p (code.Control b) = []
-later_actions p (code.Escape intermediate control) = []
-later_actions p (code.ControlSequence control) = actions_of_dispatch (dispatch_of p (code.ControlSequence control))
-later_actions p (code.OperatingSystemCommand body) = []
-later_actions p (code.Enter header byte) = []
-later_actions p (code.Data b) = []
-later_actions p code.Exit = []
+later_actions p (code.ControlSequence control) = sequence_values p control
+later_actions p d = []
 
 -- no action waits
 abbrev pub IsEmpty : Queue → Type 0

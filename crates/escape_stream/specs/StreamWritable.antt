@@ -1,5 +1,5 @@
 -- Lists of actions that a byte stream can carry: what is written for them reads back.
-use Rattle.std.specs.Prelude.{◌≡◌, ◌≢◌, ℕ, ◌≤◌, ◌<◌, ◌⊎◌, List, [], ◌∷◌, ◌++◌, All, map, Option, None, Some, Bool, true, false, not, length, ◌&&◌, if◌then◌else◌}
+use Rattle.std.specs.Prelude.{◌≡◌, ◌≢◌, ℕ, ◌≤◌, ◌<◌, List, [], ◌∷◌, ◌++◌, All, map, Option, None, Some, Bool, true, false, not, length, ◌&&◌, if◌then◌else◌}
 use Rattle.std.specs.Str.{IsUtf8, chars}
 use Rattle.std.specs.Char.{IsScalar}
 use Rattle.csi_codec.specs.Actions.{csi_reading}
@@ -8,6 +8,7 @@ use Rattle.csi_codec.specs.Sequences.{csi_text}
 use Rattle.csi_codec.specs.Fronts.{Front, HasFront, most_tokens}
 use Rattle.csi_codec.specs.Texts.{is_spellable}
 use Rattle.csi_codec.specs.Laws.{is_exempt}
+use Rattle.csi_codec.specs.Writable.{ArePairBytes}
 use Rattle.csi_codec.specs.declared.parameters.CsiParam.{CsiParam}
 use Rattle.csi_codec.specs.Escapes.{esc_reading}
 use Rattle.csi_codec.specs.declared.escapes.EscCode.TheVariants as code
@@ -32,15 +33,6 @@ pub record IsReadBack (a : codec.Action) : Type 0 where
   pub stands : HasFront (csi_text a) front
   pub whole : front.rest ≡ []
   pub action : csi_reading front.params front.truncated front.control ≡ a ∷ []
-
--- the byte behind ESC opens a control sequence or a string: [ ] P X ^ _
-abbrev pub IsOpener : ℕ → Type 0
-IsOpener b = (b ≡ 91) ⊎ (b ≡ 93) ⊎ (b ≡ 80) ⊎ (b ≡ 88) ⊎ (b ≡ 94) ⊎ (b ≡ 95)
-
--- bytes that an ESC pair can have: at most one intermediate, 20h to 2Fh, and a final byte, 30h to 7Eh
-abbrev pub ArePairBytes : Option ℕ → ℕ → Type 0
-ArePairBytes None final = (48 ≤ final) × (final ≤ 126) × (IsOpener final → ⊥)
-ArePairBytes (Some between) final = (32 ≤ between) × (between ≤ 47) × (48 ≤ final) × (final ≤ 126)
 
 -- the ESC pair is the reading of such bytes
 pub record IsReadPair (e : Esc) : Type 0 where

@@ -1,4 +1,4 @@
-//! Laws of the actions of a stream: functions without a body, each ensuring one.
+//! Laws of the actions of a stream: each function ensures one or more. Most have an empty body.
 ghost use Rattle.std.specs.Prelude.{◌≡◌, ◌↔◌, IsTrue, ℕ, ◌<◌, List, ◌++◌, Some, length, map, filter, nat_lt};
 ghost use Rattle.std.specs.List.{slice_get};
 ghost use Rattle.escape_stream.specs.StreamAction.{StreamAction};
@@ -29,7 +29,7 @@ pub fn actions_of_pieces_join()
     ensures { (stream x y : List ℕ) → newly_decided_actions stream (x ++ y) ≡ newly_decided_actions stream x ++ newly_decided_actions (stream ++ x) y }
 {}
 
-/// A law, which needs no call: the pieces of a call, their texts character by character, are the actions of the
+/// The pieces of a call, their texts character by character, are the actions of the
 /// dispatches that have their places in it, in order, and so those that its bytes newly decide; no text is empty, and two
 /// stand side by side only where a segment of the stream without an action lies between them.
 pub fn pieces_are_actions()

@@ -21,10 +21,8 @@ fn call_at_bytes<F: FnMut(Action)>(bytes: &[u8], mut callback: F) -> F
     ensures called { IsCalledAt (λ f a f'. F.step f a tt f') callback (map print bytes.now) result }
     ensures callable { F.IsAlwaysCallable result }
 {
-    let mut rest = bytes;
-    while let Some((byte, others)) = rest.split_first() {
+    for byte in bytes {
         callback(Action::Print(char::from(*byte)));
-        rest = others;
     }
     callback
 }

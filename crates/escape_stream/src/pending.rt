@@ -11,6 +11,8 @@ ghost use Rattle.escape_stream.specs.StreamActions.{actions_of_dispatch, actions
 ghost use Rattle.escape_stream.specs.Controls.{control_named};
 ghost use Rattle.escape_stream.specs.StreamAction.{appended, command, enter};
 ghost use Rattle.escape_stream.specs.Pending.{Gives, pending_values, is_in_part};
+ghost use Rattle.escape_stream.specs.Queue.{lone_actions, later_actions};
+ghost use Rattle.escape_framing.specs.declared.dispatch.Dispatch.TheVariants as code;
 ghost use Rattle.std.specs.List.{prefix_len};
 ghost use Rattle.escape_stream.specs.Parsing.{IsCalledAt};
 
@@ -76,39 +78,14 @@ impl<'a> Pending<'a> {
     ) -> Result<Pending<'a>, AllocError>
         ensures { (p : Parameters) → p.tokens ≡ parameters.now → p.truncated ≡ truncated → IfOk result (λ pending. pending ≡ actions_of (optional p dispatch)) }
     {
-        match dispatch {
-            None => Ok(Pending::lone(None)),
-            Some(Dispatch::Print(character)) => Ok(Pending::lone(Some(Action::Print(character)))),
-            Some(Dispatch::Control(byte)) => Ok(Pending::lone(control_action(byte))),
-            Some(
-                Dispatch::Escape {
-                    intermediate,
-                    control,
-                },
-            ) => {
-                let pair = Esc::parse(intermediate, control);
-                Ok(Pending::lone(Some(Action::Esc(pair))))
-            }
-            Some(Dispatch::ControlSequence { control }) => {
-                Ok(Pending::several(alloc, parameters, truncated, control))
-            }
-            Some(Dispatch::OperatingSystemCommand(body)) => {
-                let action = command_action(alloc, &body)?;
-                Ok(Pending::lone(Some(action)))
-            }
-            Some(Dispatch::Enter { header, byte }) => {
-                let action = enter_action(alloc, header, byte)?;
-                Ok(Pending::lone(Some(action)))
-            }
-            Some(Dispatch::Data(byte)) => {
-                let part = DeviceControlMode::Data(byte);
-                Ok(Pending::lone(Some(Action::DeviceControl(part))))
-            }
-            Some(Dispatch::Exit) => {
-                let part = DeviceControlMode::Exit;
-                Ok(Pending::lone(Some(Action::DeviceControl(part))))
-            }
+        let Some(dispatch) = dispatch else {
+            return Ok(Pending::lone(None));
+        };
+        if let Some(control) = final_byte(&dispatch) {
+            return Ok(Pending::several(alloc, parameters, truncated, control));
         }
+        let one = lone_action(alloc, dispatch)?;
+        Ok(Pending::lone(one))
     }
 
     /// The next action, if there is one.
@@ -195,11 +172,47 @@ pub(crate) fn command_action(alloc: Global, body: &[u8]) -> Result<Action, Alloc
 }
 
 // The begin of a device control string.
-pub(crate) fn enter_action(alloc: Global, header: Vec<u8>, byte: u8) -> Result<Action, AllocError>
+fn enter_action(alloc: Global, header: Vec<u8>, byte: u8) -> Result<Action, AllocError>
     ensures { IfOk result (λ action. value_of action ≡ enter header.items byte) }
 {
     let opening = Box::new(alloc, EnterDeviceControlMode { header, byte })?;
     Ok(Action::DeviceControl(DeviceControlMode::Enter(opening)))
+}
+
+// The final byte of a dispatch that is a control sequence.
+fn final_byte(dispatch: &Dispatch) -> Option<u8>
+    ensures some { IfSome result (λ control. dispatch.now ≡ code.ControlSequence control) }
+    ensures none { (p : Parameters) → result ≡ None → later_actions p dispatch.now ≡ [] }
+{
+    match dispatch {
+        Dispatch::ControlSequence { control } => Some(*control),
+        _ => None,
+    }
+}
+
+/// The action of a dispatch, unless it is a control sequence.
+pub(crate) fn lone_action(alloc: Global, dispatch: Dispatch) -> Result<Option<Action>, AllocError>
+    ensures { (p : Parameters) → IfOk result (λ action. pending_values action None ≡ lone_actions p dispatch) }
+{
+    match dispatch {
+        Dispatch::Print(character) => Ok(Some(Action::Print(character))),
+        Dispatch::Control(byte) => Ok(control_action(byte)),
+        Dispatch::Escape {
+            intermediate,
+            control,
+        } => Ok(Some(Action::Esc(Esc::parse(intermediate, control)))),
+        Dispatch::ControlSequence { control: _ } => Ok(None),
+        Dispatch::OperatingSystemCommand(body) => {
+            let action = command_action(alloc, &body)?;
+            Ok(Some(action))
+        }
+        Dispatch::Enter { header, byte } => {
+            let action = enter_action(alloc, header, byte)?;
+            Ok(Some(action))
+        }
+        Dispatch::Data(byte) => Ok(Some(Action::DeviceControl(DeviceControlMode::Data(byte)))),
+        Dispatch::Exit => Ok(Some(Action::DeviceControl(DeviceControlMode::Exit))),
+    }
 }
 
 /// Pushes each action on a list, in order.

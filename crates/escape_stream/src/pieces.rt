@@ -466,12 +466,12 @@ impl<'a> Pieces<'a> {
         requires { IsIdle self.old }
         ensures { PiecesGo self.old result self.new }
     {
-        self.next_by_sequence()
+        self.next_of_list()
     }
 
     // The same of any control sequence whose bytes stand there.
     #[inline(never)]
-    fn next_by_sequence(&mut self) -> Option<Result<Piece<'a>, ParseError>>
+    fn next_of_list(&mut self) -> Option<Result<Piece<'a>, ParseError>>
         requires { IsIdle self.old }
         ensures { PiecesGo self.old result self.new }
     {
@@ -534,15 +534,6 @@ impl<'a> Pieces<'a> {
         Piece::Action(Action::Esc(Esc::parse(None, control)))
     }
 
-    // The same of an escape sequence of two bytes or a command at once, called where it is wanted, as `next_by_loop` is.
-    #[inline(always)]
-    fn next_by_command(&mut self) -> Option<Result<Piece<'a>, ParseError>>
-        requires { IsIdle self.old }
-        ensures { PiecesGo self.old result self.new }
-    {
-        self.next_of_command()
-    }
-
     // The next item of pieces that are open, where nothing waits: of an escape sequence of two bytes or a command at once.
     #[inline(never)]
     fn next_of_command(&mut self) -> Option<Result<Piece<'a>, ParseError>>
@@ -562,6 +553,15 @@ impl<'a> Pieces<'a> {
                 Some(Err(ParseError::Memory))
             }
         }
+    }
+
+    // The same, called where it is wanted, as `next_by_loop` is.
+    #[inline(always)]
+    fn next_by_command(&mut self) -> Option<Result<Piece<'a>, ParseError>>
+        requires { IsIdle self.old }
+        ensures { PiecesGo self.old result self.new }
+    {
+        self.next_of_command()
     }
 
     // Whether ESC stands at the front of the bytes that are left.

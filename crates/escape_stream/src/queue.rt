@@ -10,9 +10,8 @@ ghost use Rattle.escape_stream.specs.Queue.{waiting_dispatches, sequence_actions
 ghost use Rattle.escape_framing.specs.Dispatch.{ControlSequence};
 
 use crate::action::Action;
-use crate::device::DeviceControlMode;
-use crate::pending::{command_action, control_action, enter_action};
-use csi_codec::{CSIPlace, CsiParam, Esc, read_numbers, read_short};
+use crate::pending::lone_action;
+use csi_codec::{CSIPlace, CsiParam, read_numbers, read_short};
 use escape_framing::{Dispatch, ShortSequence};
 use std::alloc::{AllocError, Global};
 
@@ -108,31 +107,6 @@ pub(crate) fn numbers_action(short: ShortSequence) -> Option<Action>
 {
     let csi = read_numbers(short.numbers, short.control)?;
     Some(Action::CSI(csi))
-}
-
-// The action of a dispatch, unless it is a control sequence.
-fn lone_action(alloc: Global, dispatch: Dispatch) -> Result<Option<Action>, AllocError>
-    ensures { (p : Parameters) → IfOk result (λ action. pending_values action None ≡ lone_actions p dispatch) }
-{
-    match dispatch {
-        Dispatch::Print(character) => Ok(Some(Action::Print(character))),
-        Dispatch::Control(byte) => Ok(control_action(byte)),
-        Dispatch::Escape {
-            intermediate,
-            control,
-        } => Ok(Some(Action::Esc(Esc::parse(intermediate, control)))),
-        Dispatch::ControlSequence { control: _ } => Ok(None),
-        Dispatch::OperatingSystemCommand(body) => {
-            let action = command_action(alloc, &body)?;
-            Ok(Some(action))
-        }
-        Dispatch::Enter { header, byte } => {
-            let action = enter_action(alloc, header, byte)?;
-            Ok(Some(action))
-        }
-        Dispatch::Data(byte) => Ok(Some(Action::DeviceControl(DeviceControlMode::Data(byte)))),
-        Dispatch::Exit => Ok(Some(Action::DeviceControl(DeviceControlMode::Exit))),
-    }
 }
 
 // The control sequence of a dispatch.

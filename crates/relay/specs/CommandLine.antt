@@ -1,10 +1,12 @@
 -- The command line of the program: its options, and what words give for them, as the kit's `clap` reads words.
-use Rattle.std.specs.Prelude.{ℕ, pos, Bool, ◌&&◌, nat_lt, nat_le, true, false, List, [], ◌∷◌, Option, Some, None, codes, if◌then◌else◌}
+use Rattle.std.specs.Prelude.{◌≢◌, ℕ, pos, Bool, ◌&&◌, nat_lt, nat_le, true, false, List, [], ◌∷◌, Option, Some, None, codes, if◌then◌else◌}
 use Rattle.std.specs.Str.{bytes_eq}
 use Rattle.std.specs.Str.Parse.{digits_value, without_leading_plus}
 use Rattle.clap.specs.Simple.{on_top}
 use Rattle.clap.specs.ValueTests.{is_unsigned_in}
-use Rattle.clap.specs.Words.{App, Rule, Text, Kinds, new_app, new_rule, with_rule, matches_of, one_of, fault_of}
+use Rattle.clap.specs.Words.{App, IsAmong, Rule, Text, Kinds, new_app, new_rule, with_rule, matches_of, one_of, fault_of}
+use Rattle.clap.specs.declared.error.kind.ErrorKind.{ErrorKind}
+use Rattle.clap.specs.declared.error.kind.ErrorKind.TheVariants as kind
 use Rattle.clap.specs.declared.builder.action.ArgAction.TheVariants.{SetTrue}
 use Rattle.clap.specs.declared.builder.value_parser.ValueParser.TheVariants as value_parser
 
@@ -38,6 +40,10 @@ command_line =
 -- the kinds of error that the words may give: none where they are a command line to run
 unfoldable pub faults_in : List Text → Kinds
 faults_in words = fault_of command_line words
+
+-- one of some kinds is a mistake: they don't only ask for help or for the version
+abbrev pub HasMistake : Kinds → Type 0
+HasMistake kinds = (k : ErrorKind) × IsAmong k kinds × (k ≢ kind.DisplayHelp) × (k ≢ kind.DisplayVersion)
 
 -- the text that the words give an option, or its default
 unfoldable pub text_in : List Text → Text → Option Text

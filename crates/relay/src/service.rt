@@ -3,7 +3,7 @@ ghost use Rattle.std.specs.Prelude.{false, ◌≡◌, ◌≢◌, ◌⊎◌, ◌�
 ghost use Rattle.std.specs.Io.KnownBytes.{Appends, Keeps};
 ghost use Rattle.terminal.specs.Shown.{AppendsPrefix};
 ghost use Rattle.clap.specs.Words.{IsAmong, kind_of};
-ghost use Rattle.relay.specs.CommandLine.{faults_in};
+ghost use Rattle.relay.specs.CommandLine.{HasMistake, faults_in};
 ghost use Rattle.relay.specs.Output.{written, written_in};
 
 use crate::lent::Lent;
@@ -151,6 +151,8 @@ pub fn serve<S: AsStr, R: Read, T: Write, F: Write>(
     ensures asked { result ≡ 0 → faults_in (map S.text words.now) ≢ []
         → IsAmong ErrorKind.DisplayHelp (faults_in (map S.text words.now)) ⊎ IsAmong ErrorKind.DisplayVersion (faults_in (map S.text words.now)) }
     ensures quiet { result ≡ 0 → Keeps (F.contents faults.old) (F.contents faults.new) }
+    // Status 2 is for a mistake, and not for words that only ask for help or for the version.
+    ensures mistaken { result ≡ BAD_WORDS → HasMistake (faults_in (map S.text words.now)) }
     // Behind a bad command line nothing was written.
     ensures refused { result ≡ BAD_WORDS → Keeps (T.contents writer.old) (T.contents writer.new) }
     // A command line that can be run writes the updates of the input, or with `--show` its rows, of its size, where the

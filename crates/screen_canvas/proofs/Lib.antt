@@ -9,3 +9,4 @@ pub mod RunLemmas
 pub mod ShowLemmas
 pub mod TextLemmas
 pub mod WrittenLemmas
+pub mod TurningLemmas

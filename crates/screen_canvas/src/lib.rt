@@ -6,6 +6,7 @@ mod known;
 mod positions;
 mod rows;
 mod text;
+mod turning;
 
 pub use canvas::{Canvas, blank_of};
 pub use text::{split_at_control, split_control};

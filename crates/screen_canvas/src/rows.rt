@@ -13,6 +13,7 @@ ghost use Rattle.screen_canvas.specs.Rows.{blanked, cleared, rows_down, rows_up,
 ghost use Rattle.screen_canvas.specs.Written.{IsWrittenTo};
 
 use crate::known::Known;
+use crate::turning::Turning;
 use cell_base::{CellAttributes, ColorAttribute, LineAttribute, SEQ_ZERO, Widths};
 use cell_line::Line;
 use std::alloc::{AllocError, Global};
@@ -23,8 +24,8 @@ use text_clusters::are_printable;
 /// end, and what is written where nothing has to be dropped isn't looked at.
 #[derive(Drop)]
 pub(crate) struct Rows {
-    lines: Vec<Line>,
-    known: Vec<Known>,
+    lines: Turning<Line>,
+    known: Turning<Known>,
 }
 
 impl Model for Rows {
@@ -34,9 +35,9 @@ impl Model for Rows {
 
     ghost Value = { List LineContent };
 
-    ghost view = { λ r. r.lines.items };
+    ghost view = { λ r. r.lines };
 
-    ghost invariant = { λ r. AreKnown r.lines.items r.known.items };
+    ghost invariant = { λ r. AreKnown r.lines r.known };
 }
 
 impl Rows {
@@ -96,8 +97,27 @@ impl Rows {
         }
         let mut known = Vec::new(alloc);
         known.extend_from_slice(self.known.as_slice())?;
-        Ok(Rows { lines, known })
+        let mut rows = Rows {
+            lines: Turning::new(lines),
+            known: Turning::new(known),
+        };
+        add_room(alloc, &mut rows)?;
+        Ok(rows)
     }
+}
+
+// As many spare places as rows come to both lists where they have fewer: so the others seldom move as a line scrolls away.
+fn add_room(alloc: Global, rows: &mut Rows) -> Result<(), AllocError>
+    ensures { OnOk result (rows.new ≡ rows.old) }
+{
+    let height = rows.len();
+    for _ in rows.lines.room()..height {
+        rows.lines.add_room(Line::with_width(alloc, 0, SEQ_ZERO)?)?;
+    }
+    for _ in rows.known.room()..height {
+        rows.known.add_room(Known::nothing())?;
+    }
+    Ok(())
 }
 
 // Rows of plain blanks.
@@ -110,7 +130,12 @@ pub(crate) fn blank_lines(alloc: Global, width: usize, count: usize) -> Result<R
         lines.push(Line::with_width(alloc, width, SEQ_ZERO)?)?;
         known.push(Known::written_to(0, true))?;
     }
-    Ok(Rows { lines, known })
+    let mut rows = Rows {
+        lines: Turning::new(lines),
+        known: Turning::new(known),
+    };
+    add_room(alloc, &mut rows)?;
+    Ok(rows)
 }
 
 // Whether blanks on a background are plain.
@@ -225,8 +250,8 @@ pub(crate) fn scroll(rows: &mut Rows) -> Result<(), AllocError>
     requires { 0 < length rows.old }
     ensures { OnOk result (rows.new ≡ drop 1 rows.old ++ record (line_at rows.old 0) { bits = LineAttribute.SingleWidthLine; columns = plain_row (length (line_at rows.old 0).columns) } ∷ []) }
 {
-    rows.lines.rotate_left(1);
-    rows.known.rotate_left(1);
+    rows.lines.turn();
+    rows.known.turn();
     let last = rows.lines.len() - 1;
     clear_line(rows, last)?;
     Ok(())
@@ -465,8 +490,8 @@ pub(crate) fn scroll_up(
     requires fits { first + count ≤ behind }
     ensures { OnOk result (rows.new ≡ take first rows.old ++ rows_up count (take (behind - first) (drop first rows.old)) ++ drop behind rows.old) }
 {
-    rotate_up(&mut rows.lines, first, behind, count);
-    rotate_up(&mut rows.known, first, behind, count);
+    rotate_up(rows.lines.as_mut_slice(), first, behind, count);
+    rotate_up(rows.known.as_mut_slice(), first, behind, count);
     clear_rows(rows, behind - count, behind)?;
     Ok(())
 }
@@ -483,8 +508,8 @@ pub(crate) fn scroll_down(
     requires fits { first + count ≤ behind }
     ensures { OnOk result (rows.new ≡ take first rows.old ++ rows_down count (take (behind - first) (drop first rows.old)) ++ drop behind rows.old) }
 {
-    rotate_down(&mut rows.lines, first, behind, count);
-    rotate_down(&mut rows.known, first, behind, count);
+    rotate_down(rows.lines.as_mut_slice(), first, behind, count);
+    rotate_down(rows.known.as_mut_slice(), first, behind, count);
     clear_rows(rows, first, first + count)?;
     Ok(())
 }
@@ -535,10 +560,13 @@ fn add_row(alloc: Global, rows: &mut Rows, width: usize) -> Result<(), AllocErro
     ensures { OnOk result (rows.new ≡ rows.old ++ line_of 0 (plain_row width) ∷ []) }
 {
     let line = Line::with_width(alloc, width, SEQ_ZERO)?;
-    // Room for what is known of the line comes first, so that both come or neither does.
-    rows.known.reserve(1)?;
-    rows.lines.push(line)?;
+    let height = rows.len();
     rows.known.push(Known::written_to(0, true))?;
+    // What is known of the line goes again where the line is refused, so that both come or neither does.
+    if let Err(refused) = rows.lines.push(line) {
+        rows.known.truncate(height);
+        return Err(refused);
+    }
     Ok(())
 }
 
@@ -566,5 +594,6 @@ pub(crate) fn resize(
     rows.known.truncate(height);
     resize_rows(rows, width)?;
     add_rows(alloc, rows, width, height)?;
+    add_room(alloc, rows)?;
     Ok(())
 }

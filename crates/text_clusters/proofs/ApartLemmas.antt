@@ -25,7 +25,7 @@ use Rattle.ucd_derived.proofs.IndicConjunctBreakLemmas.{indic_conjunct_break_ste
 use Rattle.ucd_emoji.specs.Binary.{is_extended_pictographic}
 use Rattle.unicode_segmentation.specs.Grapheme.{graphemes, break_by_pair, ends_in_linker, ends_in_pictograph, ends_in_half_flag, is_consonant, is_zwj, is_regional, is_grapheme_break}
 use Rattle.unicode_segmentation.specs.Segments.{segments}
-use Rattle.text_clusters.specs.Apart.{is_early, is_sign, is_eastern, is_later, is_late, stands_apart, is_flag_half, is_apart_first, begins_apart, BeginsWith, BeginsPrintable, IsFirst, printable_len}
+use Rattle.text_clusters.specs.Apart.{is_early, is_sign, is_eastern, is_later, is_late, stands_apart, is_flag_half, is_apart_first, begins_apart, BeginsWith, BeginsPrintable, IsFirst, apart_len}
 use Rattle.text_clusters.specs.Plain.{is_printable, each}
 use Rattle.text_clusters.proofs.CharacterFacts.{is_conjunct_mark}
 use Rattle.text_clusters.proofs.CutLemmas.{by_test, breaks, pieces, forgets, cut_behind, cut_here, last_alone, pieces-nil}
@@ -256,13 +256,6 @@ module _ (text front back : List ℕ) (c n : ℕ) (u : IsUtf8 text) (b : BeginsW
         apart_cut text b.rest c u b.whole b.stands (ap begins_apart (sym back_is) ∙ a)
         ∙ (λ i. sym front_is i ∷ graphemes true (sym back_is i))
 
-    pub begins_next : (d m : ℕ) → BeginsWith back d m → begins_apart back ≡ true
-    unfolding begins_apart
-    begins_next d m p = ap is_apart_first (chars_past_char back p.rest d (subst IsUtf8 (sym back_is) rest_utf8) p.whole) ∙ ap (λ t. t || is_flag_half d) p.stands
-
-    pub lone_before : (d m : ℕ) → BeginsWith back d m → graphemes true text ≡ front ∷ graphemes true back
-    lone_before d m p = cut_before (begins_next d m p)
-
 -- a text that begins with one begins so
 pub begins_front : (text : List ℕ) (c n : ℕ) → IsUtf8 text → BeginsWith text c n → begins_apart text ≡ true
 unfolding begins_apart
@@ -337,16 +330,16 @@ module _ (text : List ℕ) where
   abbrev here : ℕ
   here = prefix_len is_printable text
 
-  len_whole : begins_apart (drop here text) ≡ true → printable_len text ≡ here
+  len_whole : begins_apart (drop here text) ≡ true → apart_len text ≡ here
   len_whole b = ap (λ t. if t then here else here - 1) b
 
-  len_less : begins_apart (drop here text) ≡ false → printable_len text ≡ here - 1
+  len_less : begins_apart (drop here text) ≡ false → apart_len text ≡ here - 1
   len_less b = ap (λ t. if t then here else here - 1) b
 
-  len_most : printable_len text ≤ here
+  len_most : apart_len text ≤ here
   len_most = by_test (begins_apart (drop here text)) (λ b. let l = len_whole b in omega arith) (λ b. let l = len_less b in omega arith)
 
-  len_least : here - 1 ≤ printable_len text
+  len_least : here - 1 ≤ apart_len text
   len_least = by_test (begins_apart (drop here text)) (λ b. let l = len_whole b in omega arith) (λ b. let l = len_less b in omega arith)
 
   -- a place behind printable characters
@@ -360,7 +353,7 @@ module _ (text : List ℕ) where
 
   module _ (most : ℕ) where
     abbrev front : ℕ
-    front = min most (printable_len text)
+    front = min most (apart_len text)
 
     front_most : front ≤ here
     front_most = let l = len_most in omega arith

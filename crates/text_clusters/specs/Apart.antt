@@ -1,5 +1,5 @@
 -- Characters that stand apart: between any two of them lies a boundary of clusters.
-use Rattle.std.specs.Prelude.{◌≡◌, ℕ, ◌-◌, Bool, true, ◌||◌, nat_lt, List, [], ◌∷◌, ◌++◌, drop, length, encode_utf8, Option, Some, None, if◌then◌else◌}
+use Rattle.std.specs.Prelude.{◌≡◌, ℕ, ◌-◌, Bool, true, ◌||◌, nat_lt, List, [], ◌∷◌, ◌++◌, drop, length, encode_utf8, if◌then◌else◌}
 use Rattle.std.specs.Int.{is_in_range}
 use Rattle.std.specs.List.{prefix_len}
 use Rattle.std.specs.Str.{chars}
@@ -47,15 +47,6 @@ is_apart_first (c ∷ cs) = stands_apart c || is_flag_half c
 unfoldable pub begins_apart : List ℕ → Bool
 begins_apart text = is_apart_first (chars text)
 
--- the first character, where it stands apart
-abbrev pub apart_front : List ℕ → Option ℕ
-apart_front [] = None
-apart_front (c ∷ cs) = if stands_apart c then Some c else None
-
--- that of a text
-unfoldable pub first_apart : List ℕ → Option ℕ
-first_apart text = apart_front (chars text)
-
 -- the text begins with this character, which has so many bytes
 pub record IsFirst (text : List ℕ) (character len : ℕ) : Type 0 where
   pub bytes : len ≡ length (encode_utf8 character)
@@ -77,5 +68,5 @@ pub record BeginsPrintable (text : List ℕ) : Type 0 where
   pub begins : BeginsWith text character 1
 
 -- how many printable characters stand at the front, less the last one where what is behind it may join it
-abbrev pub printable_len : List ℕ → ℕ
-printable_len text = let run = prefix_len is_printable text in if begins_apart (drop run text) then run else run - 1
+abbrev pub apart_len : List ℕ → ℕ
+apart_len text = let run = prefix_len is_printable text in if begins_apart (drop run text) then run else run - 1

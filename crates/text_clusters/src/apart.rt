@@ -1,9 +1,8 @@
 //! Characters that stand apart: between any two of them lies a boundary of clusters.
-ghost use Rattle.std.specs.Prelude.{◌≡◌, ◌↔◌, true, false, [], ◌∷◌, ◌++◌, ◌||◌, drop, IfSome, IsNone, encode_utf8};
+ghost use Rattle.std.specs.Prelude.{◌≡◌, ◌↔◌, true, [], ◌∷◌, ◌++◌, ◌||◌, IfSome, IsNone};
 ghost use Rattle.std.specs.Int.{is_in_range};
-ghost use Rattle.std.specs.Option.{option_map};
 ghost use Rattle.unicode_segmentation.specs.Grapheme.{graphemes};
-ghost use Rattle.text_clusters.specs.Apart.{is_early, is_sign, is_eastern, is_later, is_late, stands_apart, is_flag_half, begins_apart, first_apart as apart_character, BeginsWith, IsFirst};
+ghost use Rattle.text_clusters.specs.Apart.{is_early, is_sign, is_eastern, is_later, is_late, stands_apart, is_flag_half, begins_apart, IsFirst};
 
 // Whether a number lies between two others, or is one of them.
 #[inline(always)]
@@ -120,50 +119,6 @@ pub fn first_character(text: &str) -> Option<(char, usize)>
     Some((first, text.len() - characters.as_str().len()))
 }
 
-/// The first character of a text, where it stands apart, as most letters, ideographs, syllables and signs do, and printable
-/// ASCII characters (20h to 7Eh); and of how many bytes it is.
-#[inline(always)]
-pub fn first_apart(text: &str) -> Option<(char, usize)>
-    ensures value { option_map (λ first. first.0) result ≡ apart_character text.now }
-    ensures begins { IfSome result (λ first. BeginsWith text.now first.0 first.1) }
-{
-    let mut characters = text.chars();
-    let Some(first) = characters.next() else {
-        return None;
-    };
-    if stands_apart(first) {
-        return Some((first, text.len() - characters.as_str().len()));
-    }
-    None
-}
-
-/// Cuts off the first character of a text, which stands apart and has so many bytes, where it is a cluster by itself, since what
-/// is behind it doesn't join it: another such one, half of a flag, or nothing. Answers its text, the rest, and the first
-/// character of the rest, where that stands apart.
-#[inline(always)]
-pub fn split_lone(
-    text: &str,
-    first: char,
-    len: usize,
-) -> Option<(&str, &str, Option<(char, usize)>)>
-    requires { BeginsWith text.now first len }
-    ensures none { IsNone result ↔ (begins_apart (drop len text.now) ≡ false) }
-    ensures whole { IfSome result (λ parts. text.now ≡ parts.0.now ++ parts.1.now) }
-    ensures lone { IfSome result (λ parts. parts.0.now ≡ encode_utf8 first) }
-    ensures clusters { IfSome result (λ parts. graphemes true text.now ≡ parts.0.now ∷ graphemes true parts.1.now) }
-    ensures alone { IfSome result (λ parts. graphemes true parts.0.now ≡ parts.0.now ∷ []) }
-    ensures next { IfSome result (λ parts. option_map (λ next. next.0) parts.2 ≡ apart_character parts.1.now) }
-    ensures begins { IfSome result (λ parts. IfSome parts.2 (λ next. BeginsWith parts.1.now next.0 next.1)) }
-{
-    let _character = first;
-    let (cluster, rest) = text.split_at(len);
-    match first_apart(rest) {
-        Some(next) => Some((cluster, rest, Some(next))),
-        None if begins_apart(rest) => Some((cluster, rest, None)),
-        None => None,
-    }
-}
-
 // Cuts off a first character that stands apart, where what is behind it begins so too.
 #[inline(always)]
 pub(crate) fn split_apart(text: &str) -> Option<(&str, &str)>
@@ -171,7 +126,14 @@ pub(crate) fn split_apart(text: &str) -> Option<(&str, &str)>
     ensures clusters { IfSome result (λ parts. graphemes true text.now ≡ parts.0.now ∷ graphemes true parts.1.now) }
     ensures alone { IfSome result (λ parts. graphemes true parts.0.now ≡ parts.0.now ∷ []) }
 {
-    let (first, len) = first_apart(text)?;
-    let (cluster, rest, _) = split_lone(text, first, len)?;
-    Some((cluster, rest))
+    let (first, len) = first_character(text)?;
+    if !stands_apart(first) {
+        return None;
+    }
+    let (cluster, rest) = text.split_at(len);
+    if begins_apart(rest) {
+        Some((cluster, rest))
+    } else {
+        None
+    }
 }

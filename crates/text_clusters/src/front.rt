@@ -2,7 +2,7 @@
 ghost use Rattle.std.specs.Prelude.{◌≡◌, ◌↔◌, ◌++◌, ◌∷◌, ◌&&◌, ◌==◌, [], true, not, nat_lt, min, length, map, take, drop, slice_index, IfSome, IsNone, IsTrue};
 ghost use Rattle.std.specs.List.{list_all, prefix_len};
 ghost use Rattle.unicode_segmentation.specs.Grapheme.{graphemes};
-ghost use Rattle.text_clusters.specs.Apart.{printable_len as apart_len, BeginsPrintable};
+ghost use Rattle.text_clusters.specs.Apart.{apart_len, BeginsPrintable};
 ghost use Rattle.text_clusters.specs.Plain.{is_printable, each, plain_len};
 
 use crate::apart::{begins_apart, split_apart};
@@ -47,10 +47,10 @@ pub fn begins_printable(text: &str) -> bool
     }
 }
 
-// So many plain characters at the front of a text are worth to be taken together.
+// So many plain characters at the front of a text are worth taking together.
 const RUN: usize = 8;
 
-/// Whether several printable ASCII characters (20h to 7Eh) stand at the front, so that it is worth to cut off a run of them.
+/// Whether at least eight printable ASCII characters (20h to 7Eh) stand at the front; then a run of them is worth cutting off.
 #[inline(always)]
 pub fn begins_plainly(text: &str) -> bool
     ensures { result ≡ (prefix_len is_printable (take RUN text.now) == RUN) }

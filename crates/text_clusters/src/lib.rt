@@ -7,7 +7,7 @@ mod front;
 pub mod laws;
 mod printable;
 
-pub use apart::{begins_apart, first_apart, first_character, split_lone, stands_apart};
+pub use apart::{begins_apart, first_character, stands_apart};
 pub use front::{
     begins_plainly, begins_printable, split_first_cluster, split_plain, split_printable,
 };

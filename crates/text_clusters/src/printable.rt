@@ -128,7 +128,7 @@ pub fn printable_len(bytes: &[u8]) -> usize
         }
         rest = behind(rest, LANES);
     }
-    // (what is left, with as many before it as make a block)
+    // The last block, which may overlap the one before it.
     let last = bytes.len() - LANES;
     last + block_len(behind(bytes, last))
 }

@@ -1,7 +1,7 @@
 use Rattle.std.proofs.Common.{◌≡◌, ◌∙◌, ◌++◌, ◌-◌, ap, sym, length, arith}
 use Rattle.std.specs.Prelude.{min}
 use Rattle.std.proofs.lemmas.List.{take-append-drop, length-take}
-use Rattle.text_clusters.specs.Apart.{printable_len}
+use Rattle.text_clusters.specs.Apart.{apart_len}
 use Rattle.text_clusters.proofs.TextLemmas.{joined_clusters}
 use Rattle.cell_base.specs.CellContent.{row_of_cells}
 use Rattle.cell_edits.proofs.RunLemmas.{leads_front, leads_same, rest_front}
@@ -20,7 +20,7 @@ returns-clause-leads g c =
     let text = c.args.text.now in
     let front = c.split_printable.result.0.now in
     let rest = c.split_printable.result.1.now in
-    let n = min (c.args.end - c.args.at) (printable_len text) in
+    let n = min (c.args.end - c.args.at) (apart_len text) in
     let parts : text ≡ front ++ rest = sym (take-append-drop n text) ∙ (λ i. sym c.split_printable.ensures.front i ++ sym c.split_printable.ensures.rest i) in
     let long = ap length c.split_printable.ensures.front in
     let cut = length-take n text in

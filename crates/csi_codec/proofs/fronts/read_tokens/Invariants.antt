@@ -1,7 +1,8 @@
 -- What was taken, with the bytes that are left, is the whole.
 use Rattle.std.proofs.Common.{◌≡◌, drop}
 use Rattle.csi_codec.specs.FrontView.{taken_of}
-use Rattle.csi_codec.specs.Keeping.{kept_with, nothing_taken}
+use Rattle.csi_codec.specs.Keeping.{kept_with}
+use Rattle.csi_codec.proofs.FrontLemmas.{nothing_taken}
 use Rattle.csi_codec.proofs.fronts.read_tokens.Given as goal
 
 abbrev pub invariant-loop-byte : goal.invariant-loop-byte

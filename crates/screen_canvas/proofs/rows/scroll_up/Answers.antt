@@ -1,17 +1,17 @@
-use Rattle.std.proofs.Common.{◌≡◌, ◌≤◌, ◌-◌, ◌+◌, ◌++◌, List, length, take, drop, map, ap, ◌∙◌, arith}
+use Rattle.std.proofs.Common.{◌≡◌, ◌≤◌, ◌-◌, ◌++◌, List, length, take, drop, map, ap, ◌∙◌, arith}
 use Rattle.std.specs.Prelude.{ℕ}
 use Rattle.cell_line.specs.LineContent.{LineContent}
 use Rattle.screen_canvas.specs.Rows.{cleared}
 use Rattle.screen_canvas.proofs.KnownLemmas.{known-length, known-moved, known-same}
 use Rattle.screen_canvas.proofs.MoveLemmas.{moved_up}
-use Rattle.cell_edits.proofs.VecLemmas.{written}
+use Rattle.screen_canvas.proofs.TurningLemmas.{refilled}
 use Rattle.screen_canvas.proofs.rows.scroll_up.Goals as goal
 
 pub rotate_up-requires-2-clause-within : goal.rotate_up-requires-2-clause-within
 rotate_up-requires-2-clause-within c =
-    let n = known-length c.rows.inside.lines.items c.rows.inside.known.items c.rows.invariant in
+    let n = known-length c.rows.inside.lines c.rows.inside.known c.rows.invariant in
     let v = ap length c.rows.view_is in
-    let e = ap length c.deref_mut-2.ensures.value in
+    let e = ap length c.as_mut_slice-2.ensures.value in
     let r = c.requires.within in
     omega arith
 
@@ -20,19 +20,19 @@ moved first behind count l = take first l ++ (drop count (take (behind - first) 
 
 pub invariant_of-rows : goal.invariant_of-rows
 invariant_of-rows c =
-    let a = c.rotate_up.auto.items ∙ ap length c.deref_mut.ensures.value in
-    let b = c.rotate_up-2.auto.items ∙ ap length c.deref_mut-2.ensures.value in
+    let a = c.rotate_up.auto.items ∙ ap length c.as_mut_slice.ensures.value in
+    let b = c.rotate_up-2.auto.items ∙ ap length c.as_mut_slice-2.ensures.value in
     known-same _ _ _ _
-    (written c.rows.inside.lines c.rotate_up.new.items a ∙ c.rotate_up.ensures ∙ ap (moved c.args.first c.args.behind c.args.count) c.deref_mut.ensures.value)
-    (written c.rows.inside.known c.rotate_up-2.new.items b ∙ c.rotate_up-2.ensures ∙ ap (moved c.args.first c.args.behind c.args.count) c.deref_mut-2.ensures.value)
-    (known-moved c.args.first c.args.behind c.args.count c.rows.inside.lines.items c.rows.inside.known.items c.rows.invariant)
+    (refilled c.rows.inside.lines c.rotate_up.new.items a ∙ c.rotate_up.ensures ∙ ap (moved c.args.first c.args.behind c.args.count) c.as_mut_slice.ensures.value)
+    (refilled c.rows.inside.known c.rotate_up-2.new.items b ∙ c.rotate_up-2.ensures ∙ ap (moved c.args.first c.args.behind c.args.count) c.as_mut_slice-2.ensures.value)
+    (known-moved c.args.first c.args.behind c.args.count c.rows.inside.lines c.rows.inside.known c.rows.invariant)
 
 pub returns : goal.returns
 returns c =
     let now = c.args.rows.now in
     let within : c.args.behind ≤ length now = c.requires.within in
-    let same : length c.rotate_up.new.items ≡ length c.rows.inside.lines.items = c.rotate_up.auto.items ∙ ap length c.deref_mut.ensures.value in
-    let new = written c.rows.inside.lines c.rotate_up.new.items same in
-    let rotated = c.rotate_up.ensures ∙ ap (moved c.args.first c.args.behind c.args.count) (c.deref_mut.ensures.value ∙ c.rows.view_is) in
+    let same : length c.rotate_up.new.items ≡ length c.rows.inside.lines = c.rotate_up.auto.items ∙ ap length c.as_mut_slice.ensures.value in
+    let new = refilled c.rows.inside.lines c.rotate_up.new.items same in
+    let rotated = c.rotate_up.ensures ∙ ap (moved c.args.first c.args.behind c.args.count) (c.as_mut_slice.ensures.value ∙ c.rows.view_is) in
     c.in_ok-clear_rows.ensures ∙ ap (λ (l : List LineContent). take (c.args.behind - c.args.count) l ++ map cleared (take (c.args.behind - (c.args.behind - c.args.count)) (drop (c.args.behind - c.args.count) l)) ++ drop c.args.behind l) new
     ∙ moved_up cleared now c.rotate_up.new.items c.args.first c.args.behind c.args.count c.requires.order within c.requires.fits rotated

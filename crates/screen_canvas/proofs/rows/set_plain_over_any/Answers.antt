@@ -1,4 +1,4 @@
-use Rattle.std.proofs.Common.{ap, length, subst, sym, arith}
+use Rattle.std.proofs.Common.{ap, length, subst, sym, arith, length-set}
 use Rattle.cell_edits.specs.Bare.{IsBareRow}
 use Rattle.cell_line.specs.LineCalls.{set_plain as plain_set}
 use Rattle.cell_line.specs.LineContent.{LineContent}
@@ -10,28 +10,27 @@ use Rattle.screen_canvas.proofs.rows.set_plain_over_any.Goals as goal
 
 pub index_mut-requires : goal.index_mut-requires
 index_mut-requires c =
-    let k = c.rows.inside.known.ok.0 in
-    let n = known_place c.rows.inside.lines.items c.args.rows.now c.rows.inside.known.items c.args.row c.rows.invariant c.rows.view_is c.requires.row_in in
+    let n = known_place c.rows.inside.lines c.args.rows.now c.rows.inside.known c.args.row c.rows.invariant c.rows.view_is c.requires.row_in in
     omega arith
 
 pub invariant_of-rows : goal.invariant_of-rows
-invariant_of-rows c = known-set c.args.row c.rows.inside.lines.items c.rows.inside.known.items c.set_plain.new.self c.nothing.result c.rows.invariant (known_nothing c.nothing.result c.set_plain.new.self.columns c.nothing.ensures)
+invariant_of-rows c = known-set c.args.row c.rows.inside.lines c.rows.inside.known c.set_plain.new.self c.nothing.result c.rows.invariant (known_nothing c.nothing.result c.set_plain.new.self.columns c.nothing.ensures)
 
 pub index_mut-requires-2 : goal.index_mut-requires-2
 index_mut-requires-2 c =
-    let k = c.rows.inside.known.ok.0 in
-    let n = known_place c.rows.inside.lines.items c.args.rows.now c.rows.inside.known.items c.args.row c.rows.invariant c.rows.view_is c.requires.row_in in
+    let n = known_place c.rows.inside.lines c.args.rows.now c.rows.inside.known c.args.row c.rows.invariant c.rows.view_is c.requires.row_in in
+    let set_len = length-set c.rows.inside.known c.args.row c.nothing.result in
     omega arith
 
 pub invariant_of-rows-2 : goal.invariant_of-rows-2
 invariant_of-rows-2 c =
     let x = c.index_mut-line.result.now in
     let new = c.set_plain.new.self in
-    let there = line_is c.rows.inside.lines.items c.args.rows.now c.args.row x c.rows.view_is c.requires.row_in c.index_mut-line.ensures.value in
+    let there = line_is c.rows.inside.lines c.args.rows.now c.args.row x c.rows.view_is c.requires.row_in c.index_mut-line.ensures.value in
     let h : IsWrittenTo c.written_to-written.result x.columns = subst (λ (l : LineContent). IsWrittenTo c.written_to-written.result l.columns) (sym there) c.written_to-written.ensures in
     let long = ap (λ (l : LineContent). length l.columns) there in
     let r = c.requires.within in
-    known-reset c.args.row c.rows.inside.lines.items c.rows.inside.known.items new c.nothing.result c.written_to.result c.rows.invariant
+    known-reset c.args.row c.rows.inside.lines c.rows.inside.known new c.nothing.result c.written_to.result c.rows.invariant
     (known_written c.written_to.result new.columns c.max.result c.and_unlinked-is_bare.result c.written_to.ensures
     (characters_written x new c.written_to-written.result c.args.at c.max.result c.args.text.now c.args.attrs.now h c.in_ok-set_plain.ensures.done c.max.ensures (omega arith))
     (λ bare. plain_bare x new c.args.at c.args.text.now c.args.attrs.now (c.and_unlinked-is_bare.ensures.unlinked bare)
@@ -40,5 +39,5 @@ invariant_of-rows-2 c =
 pub returns-clause-lines : goal.returns-clause-lines
 returns-clause-lines c =
     let x = c.index_mut-line.result.now in
-    line_changed c.rows.inside.lines.items c.args.rows.now c.args.row x c.set_plain.new.self (λ (l : LineContent). plain_set l c.args.at c.args.text.now c.args.attrs.now) c.rows.view_is c.requires.row_in c.index_mut-line.ensures.value
+    line_changed c.rows.inside.lines c.args.rows.now c.args.row x c.set_plain.new.self (λ (l : LineContent). plain_set l c.args.at c.args.text.now c.args.attrs.now) c.rows.view_is c.requires.row_in c.index_mut-line.ensures.value
     c.in_ok-set_plain.ensures.done

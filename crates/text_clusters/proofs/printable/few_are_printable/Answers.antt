@@ -1,4 +1,4 @@
-use Rattle.std.proofs.Common.{◌∙◌, ap, length, take, arith}
+use Rattle.std.proofs.Common.{◌∙◌, arith}
 use Rattle.std.specs.Prelude.{◌==◌, ◌&&◌}
 use Rattle.text_clusters.specs.Plain.{is_printable}
 use Rattle.text_clusters.proofs.LaneLemmas.{both_blocks}

@@ -1,4 +1,4 @@
-use Rattle.std.proofs.Common.{◌∙◌, ap, length, take, arith}
+use Rattle.std.proofs.Common.{◌∙◌, ap, length, arith}
 use Rattle.std.specs.Prelude.{◌==◌, ◌&&◌}
 use Rattle.text_clusters.specs.Plain.{is_printable}
 use Rattle.text_clusters.proofs.LaneLemmas.{all_by_len, both_blocks}

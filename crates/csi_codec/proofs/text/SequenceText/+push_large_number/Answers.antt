@@ -11,8 +11,8 @@ push_large_number-requires t c =
     let front = behind_front c.args.number (omega arith) (omega arith) in
     (omega arith, omega arith)
 
-pub push_ascii-requires-clause-room : goal.push_ascii-requires-clause-room
-push_ascii-requires-clause-room t c = has_last_room _ _ c.args.number (omega arith) (omega arith) c.push_large_number.ensures c.requires
+pub push_sign-requires-clause-room : goal.push_sign-requires-clause-room
+push_sign-requires-clause-room t c = has_last_room _ _ c.args.number (omega arith) (omega arith) c.push_large_number.ensures c.requires
 
 pub returns-else-number-lt256 : goal.returns-else-number-lt256
-returns-else-number-lt256 t c = digit_behind _ _ _ c.args.number (omega arith) (omega arith) c.push_large_number.ensures c.push_ascii.ensures
+returns-else-number-lt256 t c = digit_behind _ _ _ c.args.number (omega arith) (omega arith) c.push_large_number.ensures c.push_sign.ensures.byte

@@ -1,21 +1,9 @@
-use Rattle.std.proofs.Common.{◌≡◌, ℕ, ◌<◌, ◌≤◌, Result, Ok, Err, true, false, ◌-◌, refl, ap, subst, ◌∙◌, arith}
+use Rattle.std.proofs.Common.{◌≡◌, Result, Ok, Err, ◌-◌, refl, ap, subst, ◌∙◌, rules}
 use Rattle.std.specs.Prelude.{OnErr}
-use Rattle.std.proofs.lemmas.Bool.Decides.{nat_tests}
-use Rattle.escape_framing.specs.SevenBit.{is_c1}
 use Rattle.escape_framing.specs.Held.{Held, Kept, kept_step, fresh_step}
 use Rattle.escape_framing.specs.Dispatched.{TakesMemory}
 use Rattle.escape_framing.proofs.WaitingLemmas.{took_memory, escape_cuts, lead_cuts, never, shows_pair, shows_other}
 use Rattle.escape_framing.proofs.framer.Framer.behind_lead.Goals as goal
-use Rattle.escape_framing.proofs.framer.Framer.behind_lead.Goals.{else-byte-ge128-via-then-byte-ge128+else-byte-le159, else-byte-ge128-via-else-byte-ge128}
-
-pair : (b : ℕ) → 0x80 ≤ b → b ≤ 0x9F → is_c1 0xC2 b ≡ true
-pair b l h = grind (arith, nat_tests)
-
-below : (b : ℕ) → b < 0x80 → is_c1 0xC2 b ≡ false
-below b h = grind (arith, nat_tests)
-
-above : (b : ℕ) → 0x9F < b → is_c1 0xC2 b ≡ false
-above b h = grind (arith, nat_tests)
 
 on_err : {T E : Type 0} (r : Result T E) (P : Type 0) → P → OnErr r P
 on_err (Ok x) P h = tt
@@ -28,20 +16,20 @@ returns-in_err-second-clause-memory c =
 
 pub returns-in_err-second-2-clause-memory : goal.returns-in_err-second-2-clause-memory
 returns-in_err-second-2-clause-memory c =
-    let kept : c.step-else-byte-ge128.new.self.held.kept ≡ (kept_step c.args.self.now.held.kept 0xC2).kept = ap (λ (h : Held). h.kept) c.in_ok-first-2.ensures.held in
+    let kept : c.step-else-ends_c1.new.self.held.kept ≡ (kept_step c.args.self.now.held.kept 0xC2).kept = ap (λ (h : Held). h.kept) c.in_ok-first-2.ensures.held in
     on_err _ _ (took_memory c.args.self.now.held.kept 0xC2 lead_cuts (subst TakesMemory kept c.in_err-second-2.ensures.memory))
 
 pub returns-in_ok-second-clause-shows : goal.returns-in_ok-second-clause-shows
 returns-in_ok-second-clause-shows c =
     let kept : c.step.new.self.held.kept ≡ (kept_step c.args.self.now.held.kept 0x1B).kept = ap (λ (h : Held). h.kept) c.in_ok-first.ensures.held in
-    shows_pair c.step-then-byte-le159.new.self.parameters c.in_ok-first.first c.in_ok-second.second c.args.self.now.held.kept c.args.byte (pair c.args.byte c.if-byte-ge128.true c.if-byte-le159.true)
-    (c.in_ok-first.ensures.shows c.step-then-byte-le159.new.self.parameters (never 0x1B escape_cuts))
-    (c.in_ok-second.ensures.shows c.step-then-byte-le159.new.self.parameters (λ e. refl) ∙ ap (λ (k : Kept). (kept_step k (c.args.byte - 0x40)).dispatches) kept)
+    shows_pair c.step-then-ends_c1.new.self.parameters c.in_ok-first.first c.in_ok-second.second c.args.self.now.held.kept c.args.byte (search rules)
+    (c.in_ok-first.ensures.shows c.step-then-ends_c1.new.self.parameters (never 0x1B escape_cuts))
+    (c.in_ok-second.ensures.shows c.step-then-ends_c1.new.self.parameters (λ e. refl) ∙ ap (λ (k : Kept). (kept_step k (c.args.byte - 0x40)).dispatches) kept)
 
 pub returns-in_ok-second-2-clause-shows : goal.returns-in_ok-second-2-clause-shows
 returns-in_ok-second-2-clause-shows c =
-    let kept : c.step-else-byte-ge128.new.self.held.kept ≡ (kept_step c.args.self.now.held.kept 0xC2).kept = ap (λ (h : Held). h.kept) c.in_ok-first-2.ensures.held in
+    let kept : c.step-else-ends_c1.new.self.held.kept ≡ (kept_step c.args.self.now.held.kept 0xC2).kept = ap (λ (h : Held). h.kept) c.in_ok-first-2.ensures.held in
     shows_other c.fresh.new.self.parameters c.in_ok-first-2.first c.in_ok-second-2.second c.args.self.now.held.kept c.args.byte
-    (elim c.else-byte-ge128.branch [ else-byte-ge128-via-then-byte-ge128+else-byte-le159 w ↦ above c.args.byte (omega arith) | else-byte-ge128-via-else-byte-ge128 w ↦ below c.args.byte (omega arith) ])
+    (search rules)
     (c.in_ok-first-2.ensures.shows c.fresh.new.self.parameters (never 0xC2 lead_cuts))
     (c.in_ok-second-2.ensures.shows ∙ ap (λ (k : Kept). (fresh_step k c.args.byte).dispatches) kept)

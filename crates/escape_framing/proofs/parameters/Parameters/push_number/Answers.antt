@@ -1,4 +1,4 @@
-use Rattle.std.proofs.Common.{rules, ◌≡◌, ◌≤◌, ◌-◌, pos, true, Some, arith}
+use Rattle.std.proofs.Common.{rules, ◌≡◌, ◌≤◌, ◌-◌, pos, true, Some}
 use Rattle.std.specs.Char.{is_ascii_digit}
 use Rattle.csi_codec.specs.Texts.{largest_number}
 use Rattle.csi_codec.specs.declared.parameters.CsiParam.TheVariants.{Integer}

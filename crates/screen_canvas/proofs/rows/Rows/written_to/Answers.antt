@@ -4,9 +4,8 @@ use Rattle.screen_canvas.proofs.rows.Rows.written_to.Goals as goal
 
 pub index-known-requires : goal.index-known-requires
 index-known-requires c =
-    let k = c.self.inside.known.ok.0 in
-    let n = known_place c.self.inside.lines.items c.args.self.now c.self.inside.known.items c.args.row c.self.invariant c.self.view_is c.requires in
+    let n = known_place c.self.inside.lines c.args.self.now c.self.inside.known c.args.row c.self.invariant c.self.view_is c.requires in
     omega arith
 
 pub returns-then-known : goal.returns-then-known
-returns-then-known c = (known_there c.self.inside.lines.items c.args.self.now c.self.inside.known.items c.args.row c.index-known.result.now c.self.invariant c.self.view_is c.requires c.index-known.ensures).written c.if-known.true
+returns-then-known c = (known_there c.self.inside.lines c.args.self.now c.self.inside.known c.args.row c.index-known.result.now c.self.invariant c.self.view_is c.requires c.index-known.ensures).written c.if-known.true
