@@ -1,9 +1,8 @@
 -- Letters that take two columns each, and letters that take one.
-use Rattle.std.proofs.Common.{◌≡◌, ℕ, ◌<◌, ◌≤◌, inl, inr, Bool, true, false, not, ◌||◌, ◌&&◌, [], ◌∷◌, List, refl, ap, sym, ◌∙◌, Some, unwrap_or, arith}
-use Rattle.std.specs.Prelude.{min, nat_lt, nat_le, encode_utf8}
+use Rattle.std.proofs.Common.{◌≡◌, ℕ, ◌<◌, ◌≤◌, inl, inr, Bool, true, false, not, ◌||◌, [], ◌∷◌, List, refl, ap, ◌∙◌, Some, unwrap_or, arith}
+use Rattle.std.specs.Prelude.{min, nat_le, encode_utf8}
 use Rattle.std.specs.Char.{IsScalar}
 use Rattle.std.specs.Int.{is_in_range}
-use Rattle.std.specs.Str.{chars}
 use Rattle.std.proofs.lemmas.Bool.{false≢true, and_parts, or_cases, leb-true}
 use Rattle.std.proofs.lemmas.Str.{IsUtf8-encode}
 use Rattle.std.proofs.lemmas.Bool.Decides.{nat_tests}
@@ -18,6 +17,7 @@ use Rattle.unicode_width.specs.Width.{alone, char_width, of_kind, str_width}
 use Rattle.unicode_width.proofs.Computing.{unicode_width}
 use Rattle.unicode_width.proofs.KindLemmas.{kind_stepped}
 use Rattle.text_clusters.specs.Apart.{stands_apart}
+use Rattle.text_clusters.proofs.CharacterFacts.{implies_from}
 use Rattle.cell_base.specs.Cluster.{program_width}
 use Rattle.cell_base.specs.KnownWidths.{is_eastern_letter, is_western_letter}
 use Rattle.cell_base.proofs.LoneWidths.{lone_width}
@@ -30,10 +30,6 @@ abbrev is_one : Kind → Bool
 is_one Narrow = true
 is_one Ambiguous = true
 is_one _ = false
-
-implies_from : (a b : Bool) → (not a || b) ≡ true → a ≡ true → b ≡ true
-implies_from true b e h = e
-implies_from false b e h = absurd (false≢true h)
 
 abbrev eastern_ranges : List Range
 eastern_ranges = (0x3041, 0x3096) ∷ (0x30A0, 0x30FF) ∷ (0x4E00, 0x9FFF) ∷ (0xAC00, 0xD7A3) ∷ []

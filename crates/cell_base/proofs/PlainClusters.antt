@@ -1,12 +1,12 @@
 -- Clusters as they are read.
-use Rattle.std.proofs.Common.{◌≡◌, ℕ, zero, suc, ◌<◌, true, List, [], ◌∷◌, ◌++◌, length, map, take, drop, IsUtf8, refl, sym, ap, ◌∙◌, append-nil, slice_index, arith}
+use Rattle.std.proofs.Common.{◌≡◌, ℕ, zero, suc, ◌<◌, true, List, [], ◌∷◌, ◌++◌, length, map, take, IsUtf8, refl, sym, ap, ◌∙◌, append-nil, slice_index, arith}
 use Rattle.std.specs.Prelude.{◌==◌, if◌then◌else◌}
 use Rattle.std.specs.Str.{IsAscii}
 use Rattle.std.specs.List.{list_all, prefix_len}
 use Rattle.std.proofs.lemmas.Bool.{and_parts}
 use Rattle.unicode_segmentation.specs.Grapheme.{graphemes}
 use Rattle.text_clusters.specs.Plain.{is_printable, each}
-use Rattle.text_clusters.proofs.PlainLemmas.{one_alone, printable_front, run, whole_run}
+use Rattle.text_clusters.proofs.PlainLemmas.{one_alone, printable_front, whole_run}
 use Rattle.text_clusters.proofs.TextLemmas.{same_at_clusters}
 use Rattle.std.specs.Str.Lossy.{replacement_bytes}
 use Rattle.std.proofs.lemmas.List.{take_all}

@@ -1,5 +1,6 @@
 -- A cell as its text, its width in columns and its attributes, and cells read as a row.
-use Rattle.std.specs.Prelude.{ℕ, Bool, true, false, ◌&&◌, ◌||◌, ◌==◌, nat_lt, nat_le, max, if◌then◌else◌, List, [], ◌∷◌}
+use Rattle.std.specs.Prelude.{ℕ, Bool, true, false, ◌&&◌, ◌==◌, nat_le, max, if◌then◌else◌, List, [], ◌∷◌}
+use Rattle.std.specs.Char.{is_ascii_control}
 use Rattle.cell_base.specs.Attributes.{Attributes}
 use Rattle.cell_base.specs.Row.{Row, Narrow, LeftHalf, RightHalf, space, blank}
 
@@ -9,14 +10,10 @@ pub record CellContent : Type 0 where
   pub width : ℕ
   pub attributes : Attributes
 
--- C0 and DEL
-abbrev pub is_control : ℕ → Bool
-is_control byte = nat_lt byte 32 || byte == 127
-
 -- what stands in no cell as it is: the empty text, a lone control, and CR LF
 abbrev pub shows_as_space : List ℕ → Bool
 shows_as_space [] = true
-shows_as_space (a ∷ []) = is_control a
+shows_as_space (a ∷ []) = is_ascii_control a
 shows_as_space (a ∷ b ∷ []) = a == 13 && b == 10
 shows_as_space (a ∷ b ∷ c ∷ rest) = false
 

@@ -7,7 +7,6 @@ mod attributes;
 mod cell;
 mod cell_attributes;
 mod cell_text;
-mod cluster;
 mod color;
 mod color_reading;
 mod columns;
@@ -28,7 +27,6 @@ pub use attributes::{
 };
 pub use cell::Cell;
 pub use cell_attributes::CellAttributes;
-pub use cluster::read_cluster;
 pub use color::{AnsiColor, ColorAttribute, ColorSpec, PaletteIndex, RgbColor, SrgbaTuple};
 pub use columns::{
     grapheme_column_width, is_white_space_char, is_white_space_grapheme, unicode_column_width,

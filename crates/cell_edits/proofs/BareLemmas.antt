@@ -1,10 +1,11 @@
 -- Cells over which can be written with nothing dropped, and their columns.
 use Rattle.std.proofs.Common.{◌≡◌, ℕ, zero, suc, ◌+◌, ◌-◌, ◌<◌, ◌≤◌, false, List, [], ◌∷◌, ◌++◌, length, take, drop, replicate, refl, sym, ap, subst, ◌∙◌, arith}
 use Rattle.std.specs.Prelude.{All, None, max, nat_le}
+use Rattle.std.specs.Char.{is_ascii_control}
 use Rattle.std.proofs.lemmas.List.{append-nil, drop-take, take-append-drop}
 use Rattle.std.proofs.lemmas.List.Elements.{All-append, All-cons, All-drop, All-head, All-nil, All-replicate, All-same, All-tail, All-take}
 use Rattle.cell_base.specs.Attributes.{Attributes, plain}
-use Rattle.cell_base.specs.CellContent.{CellContent, blank_cell, cell_of, is_control, row_of_cells, shows_as_space}
+use Rattle.cell_base.specs.CellContent.{CellContent, blank_cell, cell_of, row_of_cells, shows_as_space}
 use Rattle.cell_base.specs.Row.{LeftHalf, Narrow, RightHalf, Row, blank, closed_end, closed_start, plain_row, set_columns}
 use Rattle.cell_edits.specs.Bare.{IsBare, IsBareCell, IsBareRow}
 use Rattle.cell_edits.specs.CellList.{cell_columns, ends_halved}
@@ -18,7 +19,7 @@ pub bare_blank : (a : Attributes) → a.hyperlink ≡ None → IsBareCell (blank
 bare_blank a u = record { few = omega arith; unlinked = u }
 
 pub bare_ascii : (byte : ℕ) (a : Attributes) → a.hyperlink ≡ None → IsBareCell (cell_of (byte ∷ []) 1 a)
-bare_ascii byte a u = record { few = by_test (is_control byte) (λ e. rw e (omega arith)) (λ e. rw e (omega arith)); unlinked = u }
+bare_ascii byte a u = record { few = by_test (is_ascii_control byte) (λ e. rw e (omega arith)) (λ e. rw e (omega arith)); unlinked = u }
 
 -- ---- the cells of a bare row, but for the last one, which may be a wide cell that has no room
 

@@ -1,7 +1,7 @@
 -- Characters that stand apart, as cells.
 use Rattle.std.proofs.Common.{◌≡◌, ℕ, ◌<◌, ◌≤◌, true, false, List, [], ◌∷◌, ◌++◌, ◌-◌, IsUtf8, length, length-append, take, drop, set, refl, sym, ap, ◌∙◌, arith, inl, inr}
 use Rattle.std.specs.Prelude.{◌+◌, ◌/◌, ◌%◌, nat_lt, nat_le, max, if◌then◌else◌}
-use Rattle.std.specs.Char.{encode_utf8}
+use Rattle.std.specs.Char.{encode_utf8, is_ascii_control}
 use Rattle.std.proofs.lemmas.Bool.{ltb-true}
 use Rattle.std.proofs.lemmas.Bool.Decides.{leb_tells, nat_tests}
 use Rattle.std.proofs.lemmas.List.{length-take-le, take_at}
@@ -9,14 +9,14 @@ use Rattle.std.proofs.lemmas.Str.{encode_ascii, IsUtf8-take}
 use Rattle.text_clusters.specs.Apart.{stands_apart, BeginsWith}
 use Rattle.text_clusters.proofs.ApartLemmas.{lone_seam}
 use Rattle.cell_base.specs.Attributes.{Attributes}
-use Rattle.cell_base.specs.CellContent.{CellContent, blank_cell, cell_of, is_control, row_of_cells, shows_as_space}
+use Rattle.cell_base.specs.CellContent.{CellContent, blank_cell, cell_of, row_of_cells, shows_as_space}
 use Rattle.cell_base.specs.Row.{set_columns}
 use Rattle.cell_edits.specs.CellList.{cell_columns, ends_halved}
 use Rattle.cell_edits.specs.RowEdits.{cut, cut_front}
 use Rattle.cell_edits.proofs.CellLemmas.{before_clean, behind_clean, by_test}
 use Rattle.cell_edits.proofs.CutLemmas.{between_narrow, between_wide, columns_narrow, columns_wide, set_one, set_two, whole_narrow, whole_wide}
 
-low : (c : ℕ) → c < 128 → stands_apart c ≡ true → is_control c ≡ false
+low : (c : ℕ) → c < 128 → stands_apart c ≡ true → is_ascii_control c ≡ false
 unfolding stands_apart
 low c l h = grind (arith, nat_tests)
 

@@ -2,6 +2,7 @@
 use Rattle.std.proofs.Common.{◌≡◌, ℕ, zero, suc, ◌+◌, ◌-◌, ◌<◌, ◌≤◌, true, false, List, [], ◌∷◌, ◌++◌, length, take, drop, set, get_or, map, replicate, refl, sym, ap, ◌∙◌, append_assoc, length-append, arith, inl, inr}
 use Rattle.std.specs.Prelude.{nat_le, if◌then◌else◌}
 use Rattle.std.specs.List.{flat_map, concat, list_all}
+use Rattle.std.specs.Char.{is_ascii_control}
 use Rattle.std.proofs.lemmas.Bool.{and_parts, le-leb}
 use Rattle.std.proofs.lemmas.Bool.Decides.{leb_tells}
 use Rattle.std.proofs.lemmas.List.{append-nil, take_at, drop_all, drop_at, drop-drop, length-drop, length-take-le, length-replicate, replicate-append-replicate}
@@ -9,7 +10,7 @@ use Rattle.std.proofs.Math.Seq.{drop-append-add}
 use Rattle.unicode_segmentation.specs.Grapheme.{graphemes}
 use Rattle.text_clusters.specs.Plain.{is_printable, each}
 use Rattle.cell_base.specs.Attributes.{Attributes}
-use Rattle.cell_base.specs.CellContent.{CellContent, blank_cell, cell_of, is_control, row_of_cells}
+use Rattle.cell_base.specs.CellContent.{CellContent, blank_cell, cell_of, row_of_cells}
 use Rattle.cell_base.specs.Cluster.{read_cluster, clusters}
 use Rattle.cell_base.specs.Row.{Row, blank, set_columns}
 use Rattle.cell_base.proofs.PlainClusters.{read_alone, read_each}
@@ -115,7 +116,7 @@ blanks_set cells opened now start end a o w p q e =
     ∙ ap (λ n. cut start (row_of_cells cells) ++ replicate (end - start) (blank a) ++ cut_front n (row_of_cells cells)) last
 
 pub plain_narrow : (byte : ℕ) (a : Attributes) → nat_le 2 (cell_of (byte ∷ []) 1 a).width ≡ false
-plain_narrow byte a = by_test (is_control byte) (λ e. rw e refl) (λ e. rw e refl)
+plain_narrow byte a = by_test (is_ascii_control byte) (λ e. rw e refl) (λ e. rw e refl)
 
 plain_columns : (bytes : List ℕ) (a : Attributes) (cells : List CellContent) → row_of_cells (plain_cells bytes a ++ cells) ≡ flat_map cell_columns (plain_cells bytes a) ++ row_of_cells cells
 plain_columns [] a cells = refl

@@ -1,11 +1,11 @@
 //! Where texts and positions leave a cursor that doesn't scroll.
 ghost use Rattle.std.specs.Prelude.{◌≡◌, ◌≤◌, ◌<◌, min, pos, [], ◌∷◌, fold, map};
 ghost use Rattle.cell_base.specs.Cluster.{clusters};
-ghost use Rattle.screen_effects.specs.Strokes.{Cluster, Control, part_strokes};
+ghost use Rattle.screen_effects.specs.Strokes.{Cluster, Control};
 ghost use Rattle.change_sequence.specs.Sequence.{column_moved, most_signed, parts_moved, row_moved, signed_rest, stroke_moved, text_moved};
 ghost use Rattle.change_sequence.specs.Places.{place_of};
 
-use cell_base::{Position, Widths, read_cluster};
+use cell_base::{Position, Widths};
 use screen_canvas::{split_at_control, split_control};
 use unicode_segmentation::UnicodeSegmentation;
 
@@ -33,6 +33,7 @@ fn behind_cluster<W: Widths>(widths: &W, columns: usize, place: Place, cluster: 
 }
 
 // Behind the clusters of a text.
+#[tactic(auto, using(cell_base::proofs::PlainClusters::clusters_are))]
 fn behind_run<W: Widths>(widths: &W, columns: usize, place: Place, text: &str) -> Place
     requires within { place.0 ≤ columns }
     requires some { 0 < columns }
@@ -41,7 +42,7 @@ fn behind_run<W: Widths>(widths: &W, columns: usize, place: Place, text: &str) -
 {
     let mut place = place;
     for cluster in text.graphemes(true) {
-        place = behind_cluster(widths, columns, place, read_cluster(cluster));
+        place = behind_cluster(widths, columns, place, cluster);
     }
     place
 }

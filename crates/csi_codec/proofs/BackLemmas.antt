@@ -1,7 +1,7 @@
 -- What tables of whole lists give reads back.
 use Rattle.std.proofs.Common.{◌≡◌, ℕ, zero, suc, ◌≤◌, ℤ, pos, negsuc, eqb, leb, Bool, true, false, not, cond, ◌||◌, List, [], ◌∷◌, Option, Some, None, option_map, option_and_then, arith, refl, sym, ap, ◌∙◌, subst}
 use Rattle.std.specs.Option.{option_map_or, option_or, option_zip}
-use Rattle.std.proofs.lemmas.Bool.{eqb-true, leb-true, le-leb, false≢true}
+use Rattle.std.proofs.lemmas.Bool.{cond_both, eqb-true, leb-true, le-leb, false≢true, not-true}
 use Rattle.std.proofs.Math.Dec.{eqb-suc-zero}
 use Rattle.csi_codec.specs.declared.parameters.CsiParam.{CsiParam}
 use Rattle.csi_codec.specs.declared.parameters.CsiParam.TheVariants.{Integer, P}
@@ -54,14 +54,10 @@ is_plain [] = true
 is_plain (Integer z ∷ ts) = true
 is_plain (P b ∷ ts) = not (eqb b 63)
 
-not_true : (b : Bool) → not b ≡ true → b ≡ false
-not_true true h = cc
-not_true false h = refl
-
 plain_reading : (truncated : Bool) (final : ℕ) (ts : List CsiParam) → is_plain ts ≡ true → other_reading truncated final ts ≡ standard_reading truncated final ts
 plain_reading truncated final [] h = refl
 plain_reading truncated final (Integer z ∷ ts) h = refl
-plain_reading truncated final (P b ∷ ts) h = rw (not_true (eqb b 63) h) refl
+plain_reading truncated final (P b ∷ ts) h = rw (not-true (eqb b 63) h) refl
 
 -- finals under which one spelling covers the whole list
 pub record IsLone (final : ℕ) : Type 0 where
@@ -82,13 +78,10 @@ EachLine Q [] = Unit {0}
 EachLine Q (line ∷ lines) = ((ts : List CsiParam) (x : _) → line.1 ts ≡ Some x → Q x) × EachLine Q lines
 
 module _ {A : Type 0} (Q : A → Type 0) where
-  line_or_others : (b : Bool) (here there : Option A) (x : A) → (here ≡ Some x → Q x) → (there ≡ Some x → Q x) → cond b here there ≡ Some x → Q x
-  line_or_others true here there x h k e = h e
-  line_or_others false here there x h k e = k e
-
   pub read_by-each : (lines : Lines A) (final : ℕ) (ts : List CsiParam) (x : A) → EachLine Q lines → read_by lines final ts ≡ Some x → Q x
   read_by-each [] final ts x h e = cc
-  read_by-each (line ∷ lines) final ts x h e = line_or_others (eqb line.0 final) (line.1 ts) (read_by lines final ts) x (h.0 ts x) (read_by-each lines final ts x h.1) e
+  read_by-each (line ∷ lines) final ts x h e =
+      cond_both (eqb line.0 final) (line.1 ts) (read_by lines final ts) (λ found. found ≡ Some x → Q x) (λ p. h.0 ts x) (λ p. read_by-each lines final ts x h.1) e
 
   -- a value made of what a slot gives
   pub made : {B : Type 0} (make : B → A) (R : B → Type 0) (found : Option B) → ((y : B) → found ≡ Some y → R y) → ((y : B) → R y → Q (make y)) → (x : A) → option_map make found ≡ Some x → Q x

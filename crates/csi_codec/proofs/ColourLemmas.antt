@@ -1,28 +1,25 @@
 -- The forms of a colour by cases are the first form of the list that stands.
-use Rattle.std.proofs.Common.{IfSome, length, ◌≤◌, ◌≡◌, ℕ, ℤ, pos, negsuc, eqb, Bool, true, false, cond, ◌&&◌, List, [], ◌∷◌, Option, Some, None, refl, ap, sym, ◌∙◌, subst, inl, inr, arith}
-use Rattle.std.proofs.lemmas.Bool.{cases_Bool, eqb-true}
+use Rattle.std.proofs.Common.{IfSome, ◌≤◌, ◌≡◌, ℕ, ℤ, pos, eqb, true, false, List, [], ◌∷◌, Option, Some, None, refl, ap, sym, ◌∙◌, subst, inl, inr, arith}
+use Rattle.std.proofs.lemmas.Bool.{cases_Bool, eqb-true, and_right}
 use Rattle.std.proofs.lemmas.Bool.Decides.{nat_tests}
 use Rattle.cell_base.specs.declared.color.ColorSpec.{ColorSpec}
 use Rattle.csi_codec.specs.declared.parameters.CsiParam.{CsiParam}
 use Rattle.csi_codec.specs.declared.parameters.CsiParam.TheVariants.{Integer, P}
 use Rattle.csi_codec.specs.Parameters.{is_number}
-use Rattle.csi_codec.specs.Rendition.{Part, byte_part, any_number, stands, Form, taking, first_form, colour_forms, colour_form}
+use Rattle.csi_codec.specs.Rendition.{Part, byte_part, any_number, stands, first_form, colour_forms, colour_form}
 use Rattle.csi_codec.specs.ColourCases.{number_behind, three_behind, palette_case, opaque_case, bare_case, colon_case, alpha_case, colon_form, semicolon_form, form_case}
+use Rattle.csi_codec.proofs.ShapeLemmas.{number_is, EachForm, first_form-each}
 
 -- a number stands behind a sign, or no shape with one there stands
 data Behind (s : ℕ) (ts : List CsiParam) : Type 0 where
   found : (z : ℤ) (us : List CsiParam) → ts ≡ P s ∷ Integer z ∷ us → number_behind s ts ≡ Some (z, us) → Behind s ts
   lost : number_behind s ts ≡ None → ((shape : List Part) → stands (byte_part s ∷ any_number ∷ shape) ts ≡ false) → Behind s ts
 
-and_no : (b : Bool) → (b && false) ≡ false
-and_no true = refl
-and_no false = refl
-
 behind : (s : ℕ) (ts : List CsiParam) → Behind s ts
 behind s [] = lost refl (λ shape. refl)
 behind s (Integer z ∷ ts) = lost refl (λ shape. refl)
-behind s (P b ∷ []) = lost refl (λ shape. and_no (eqb b s))
-behind s (P b ∷ P c ∷ ts) = lost refl (λ shape. and_no (eqb b s))
+behind s (P b ∷ []) = lost refl (λ shape. and_right (eqb b s) false refl)
+behind s (P b ∷ P c ∷ ts) = lost refl (λ shape. and_right (eqb b s) false refl)
 behind s (P b ∷ Integer z ∷ ts) = elim (cases_Bool (eqb b s)) [
   | inl e ↦ found z ts (ap (λ k. P k ∷ Integer z ∷ ts) (eqb-true b s e)) (rw e refl)
   | inr e ↦ lost (rw e refl) (λ shape. rw e refl)
@@ -106,8 +103,8 @@ colons : (ts : List CsiParam) → colon_case ts ≡ forms_at (P 58 ∷ Integer (
 unfolding colon_case
 colons [] = bare [] (λ shape. refl)
 colons (Integer z ∷ ts) = bare (Integer z ∷ ts) (λ shape. refl)
-colons (P b ∷ []) = bare (P b ∷ []) (λ shape. and_no (eqb b 58))
-colons (P b ∷ Integer z ∷ ts) = bare (P b ∷ Integer z ∷ ts) (λ shape. and_no (eqb b 58))
+colons (P b ∷ []) = bare (P b ∷ []) (λ shape. and_right (eqb b 58) false refl)
+colons (P b ∷ Integer z ∷ ts) = bare (P b ∷ Integer z ∷ ts) (λ shape. and_right (eqb b 58) false refl)
 colons (P b ∷ P c ∷ ts) = elim (cases_Bool (eqb b 58)) [
   | inl e ↦ subst (λ k. colon_case (P k ∷ P c ∷ ts) ≡ forms_at (P 58 ∷ Integer (pos 2) ∷ P k ∷ P c ∷ ts)) (sym (eqb-true b 58 e)) (no_space c ts)
   | inr e ↦ rw e refl
@@ -128,10 +125,6 @@ alphas (P b ∷ ts) = elim (cases_Bool (eqb b 58)) [
     ]
   ]
 ]
-
-pub number_is : (k : ℕ) (z : ℤ) → is_number k z ≡ true → z ≡ pos k
-number_is k (negsuc m) h = cc
-number_is k (pos m) h = ap pos (eqb-true m k h)
 
 behind_colon : (z : ℤ) (ts : List CsiParam) → colon_form z ts ≡ forms_at (P 58 ∷ Integer z ∷ ts)
 unfolding colon_form
@@ -184,26 +177,9 @@ colour_form_is_case (P b ∷ Integer z ∷ ts) = elim (cases_Bool (eqb b 58)) [
 
 -- ---- How many tokens a form takes
 
-abbrev Small : Option (ColorSpec × ℕ) → Type 0
-Small r = IfSome r (λ f. f.1 ≤ 11)
+forms_small : EachForm (λ ts f. f.1 ≤ 11) colour_forms
+forms_small = (λ ts c s e. omega arith, (λ ts c s e. omega arith, (λ ts c s e. omega arith, (λ ts c s e. omega arith, (λ ts c s e. omega arith, (λ ts c s e. omega arith, (λ ts c s e. omega arith, tt)))))))
 
-abbrev AllSmall : List Form → Type 0
-AllSmall [] = Unit {0}
-AllSmall (form ∷ forms) = (length form.0 ≤ 11) × AllSmall forms
-
-taken_small : (n : ℕ) (v : Option ColorSpec) → n ≤ 11 → Small (taking n v)
-taken_small n None h = tt
-taken_small n (Some c) h = h
-
-either : (b : Bool) (x y : Option (ColorSpec × ℕ)) → Small x → Small y → Small (cond b x y)
-either true x y h k = h
-either false x y h k = k
-
-forms_small : (forms : List Form) (ts : List CsiParam) → AllSmall forms → Small (first_form forms ts)
-forms_small [] ts h = tt
-forms_small (form ∷ forms) ts h =
-    either (stands form.0 ts) (taking (length form.0) (form.1 ts)) (first_form forms ts) (taken_small (length form.0) (form.1 ts) h.0) (forms_small forms ts h.1)
-
-pub colour_form_small : (ts : List CsiParam) → Small (colour_form ts)
+pub colour_form_small : (ts : List CsiParam) → IfSome (colour_form ts) (λ f. f.1 ≤ 11)
 unfolding colour_form
-colour_form_small ts = forms_small colour_forms ts (omega arith, (omega arith, (omega arith, (omega arith, (omega arith, (omega arith, (omega arith, tt)))))))
+colour_form_small ts = first_form-each (λ ts f. f.1 ≤ 11) colour_forms forms_small ts

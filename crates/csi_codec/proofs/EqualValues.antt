@@ -2,8 +2,8 @@
 use Rattle.std.proofs.Common.{◌≡◌, ℕ, Bool, true, false, ◌&&◌, List, [], ◌∷◌, Option, Some, None, Decides, refl, ap, ◌==◌, eq-eqb, eqb-true}
 use Rattle.std.specs.Cmp.Lexicographic.{pointwise}
 use Rattle.std.specs.Option.{option_eq}
-use Rattle.std.proofs.lemmas.Bool.{false≢true, and_parts, and_from}
-use Rattle.std.proofs.lemmas.Bool.Decides.{Decides-int_eq}
+use Rattle.std.proofs.lemmas.Bool.{false≢true}
+use Rattle.std.proofs.lemmas.Bool.Decides.{Decides-and, Decides-int_eq}
 use denote.Enum.Declared.{Declared, tag_of}
 use denote.Enum.Bare.{Bare, sameb, same_true}
 use Rattle.cell_base.specs.declared.color.ColorSpec.{ColorSpec}
@@ -65,17 +65,13 @@ bare D h x y = (λ e. same_true D h x y e, λ e. eq-eqb (tag_of D x) (tag_of D y
 numbers : (m n : ℕ) → Decides (m == n) (m ≡ n)
 numbers m n = (λ e. eqb-true m n e, λ e. eq-eqb m n e)
 
--- two parts are equal where both are
-both : {P Q : Type 0} (a b : Bool) → Decides a P → Decides b Q → Decides (a && b) (P × Q)
-both a b p q = (λ e. let h = and_parts a b e in (p.0 h.0, q.0 h.1), λ h. and_from a b (p.1 h.0) (q.1 h.1))
-
 -- a value of one part
 one : {X Y : Type 0} (make : X → Y) (x y : X) (b : Bool) → (make x ≡ make y → x ≡ y) → Decides b (x ≡ y) → Decides b (make x ≡ make y)
 one make x y b same d = (λ e. ap make (d.0 e), λ e. d.1 (same e))
 
 two : {Y : Type 0} (make : ℕ → ℕ → Y) (a b x y : ℕ) → (make a b ≡ make x y → (a ≡ x) × (b ≡ y)) → Decides ((a == x) && (b == y)) (make a b ≡ make x y)
 two make a b x y same =
-    let d = both (a == x) (b == y) (numbers a x) (numbers b y) in
+    let d = Decides-and (a == x) (b == y) (numbers a x) (numbers b y) in
     (λ e. let h = d.0 e in λ i. make (h.0 i) (h.1 i), λ e. d.1 (same e))
 
 pub param_eq : (a b : CsiParam) → Decides (param_impl.ghosts.eq a b) (a ≡ b)
@@ -90,7 +86,7 @@ module _ {A : Type 0} (same : A → A → Bool) (decides : (a b : A) → Decides
   lists [] (y ∷ ys) = (λ e. absurd (false≢true e), λ e. cc)
   lists (x ∷ xs) [] = (λ e. absurd (false≢true e), λ e. cc)
   lists (x ∷ xs) (y ∷ ys) =
-      let d = both (same x y) (pointwise same xs ys) (decides x y) (lists xs ys) in
+      let d = Decides-and (same x y) (pointwise same xs ys) (decides x y) (lists xs ys) in
       (λ e. let h = d.0 e in λ i. h.0 i ∷ h.1 i, λ e. d.1 (cc, cc))
 
   options : (x y : Option A) → Decides (option_eq same x y) (x ≡ y)
@@ -103,8 +99,8 @@ module _ {A : Type 0} (same : A → A → Bool) (decides : (a b : A) → Decides
 
 tuple_eq : (x y : SrgbaTuple) → Decides (sgr_impl.ghosts.eq (value.Foreground (color.TrueColor x)) (value.Foreground (color.TrueColor y))) (x ≡ y)
 tuple_eq x y =
-    let d = both (x.0 == y.0) ((x.1 == y.1) && ((x.2 == y.2) && (x.3 == y.3))) (numbers x.0 y.0)
-    (both (x.1 == y.1) ((x.2 == y.2) && (x.3 == y.3)) (numbers x.1 y.1) (both (x.2 == y.2) (x.3 == y.3) (numbers x.2 y.2) (numbers x.3 y.3))) in (
+    let d = Decides-and (x.0 == y.0) ((x.1 == y.1) && ((x.2 == y.2) && (x.3 == y.3))) (numbers x.0 y.0)
+    (Decides-and (x.1 == y.1) ((x.2 == y.2) && (x.3 == y.3)) (numbers x.1 y.1) (Decides-and (x.2 == y.2) (x.3 == y.3) (numbers x.2 y.2) (numbers x.3 y.3))) in (
       λ e. let h = d.0 e in λ i. record { 0 = h.0 i; 1 = h.1.0 i; 2 = h.1.1.0 i; 3 = h.1.1.1 i },
       λ e. d.1 (ap (λ c. c.0) e, (ap (λ c. c.1) e, (ap (λ c. c.2) e, ap (λ c. c.3) e))),
     )
@@ -204,12 +200,12 @@ edit_eq (change.EraseInDisplay x) (change.EraseInDisplay y) = one change.EraseIn
 edit_eq (change.EraseInLine x) (change.EraseInLine y) = one change.EraseInLine x y _ (λ e. cc) (bare line.the_type tt x y)
 edit_eq a b = (λ e. absurd (false≢true e), λ e. cc)
 
--- ---- What is left of a list, and sequences
+-- ---- The rest of a list, and sequences
 
 pub rest_eq : (a b : Unspecified) → Decides (rest_impl.ghosts.eq a b) (rest_of a ≡ rest_of b)
 rest_eq a b =
-    let d = both (pointwise param_impl.ghosts.eq a.params.items b.params.items) _ (lists param_impl.ghosts.eq param_eq a.params.items b.params.items)
-    (both _ (a.control == b.control) (switch_eq a.parameters_truncated b.parameters_truncated) (numbers a.control b.control)) in (
+    let d = Decides-and (pointwise param_impl.ghosts.eq a.params.items b.params.items) _ (lists param_impl.ghosts.eq param_eq a.params.items b.params.items)
+    (Decides-and _ (a.control == b.control) (switch_eq a.parameters_truncated b.parameters_truncated) (numbers a.control b.control)) in (
       λ e. let h = d.0 e in λ i. unspecified (h.0 i) (h.1.0 i) (h.1.1 i),
       λ e. d.1 (cc, (cc, cc)),
     )
@@ -228,9 +224,9 @@ cracked_eq a b = lists (option_eq param_impl.ghosts.eq) (options param_impl.ghos
 
 pub front_eq : (a b : CsiFront) → Decides (front_impl.ghosts.eq a b) (front_of a ≡ front_of b)
 front_eq a b =
-    let d = both (pointwise param_impl.ghosts.eq a.params.items b.params.items) _ (lists param_impl.ghosts.eq param_eq a.params.items b.params.items)
-    (both _ _ (switch_eq a.truncated b.truncated)
-    (both (a.control == b.control) (pointwise (λ m n. m == n) a.rest.now b.rest.now) (numbers a.control b.control) (lists (λ m n. m == n) numbers a.rest.now b.rest.now))) in (
+    let d = Decides-and (pointwise param_impl.ghosts.eq a.params.items b.params.items) _ (lists param_impl.ghosts.eq param_eq a.params.items b.params.items)
+    (Decides-and _ _ (switch_eq a.truncated b.truncated)
+    (Decides-and (a.control == b.control) (pointwise (λ m n. m == n) a.rest.now b.rest.now) (numbers a.control b.control) (lists (λ m n. m == n) numbers a.rest.now b.rest.now))) in (
       λ e. let h = d.0 e in λ i. record { params = h.0 i; truncated = h.1.0 i; control = h.1.1.0 i; rest = h.1.1.1 i },
       λ e. d.1 (ap (λ f. f.params) e, (ap (λ f. f.truncated) e, (ap (λ f. f.control) e, ap (λ f. f.rest) e))),
     )

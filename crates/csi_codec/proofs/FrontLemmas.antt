@@ -4,7 +4,7 @@ use Rattle.std.specs.Prelude.{unwrap_or}
 use Rattle.std.specs.Char.{is_ascii_digit}
 use Rattle.std.proofs.lemmas.List.{append-nil, take-append-drop, append_assoc, take-append-le, length-take, length-append, take_all, drop_all}
 use Rattle.std.proofs.Math.Seq.{take-append_seam, drop-append_seam}
-use Rattle.std.proofs.lemmas.Bool.{ltb-true, ltb-false, lt-ltb}
+use Rattle.std.proofs.lemmas.Bool.{ltb-true, ltb-false, lt-ltb, and_from, and_parts}
 use Rattle.std.proofs.lemmas.Bool.Decides.{nat_tests}
 use Rattle.csi_codec.specs.declared.parameters.CsiParam.{CsiParam}
 use Rattle.csi_codec.specs.declared.parameters.CsiParam.TheVariants.{Integer, P}
@@ -12,7 +12,6 @@ use Rattle.csi_codec.specs.Rendition.{is_between}
 use Rattle.csi_codec.specs.Texts.{largest_number, begun_token, tokens_behind, tokens_of, all_parameter_bytes}
 use Rattle.csi_codec.specs.Fronts.{most_tokens, Front, IsSequence, HasNoFront, OneFront}
 use Rattle.csi_codec.specs.Keeping.{parameter_len, Kept, keep, keep_all, kept_of, Taken, kept_with, number_ended, TakesByte}
-use Rattle.csi_codec.proofs.BoolLemmas.{and_left, and_right, both_true}
 
 not_parameter : (b : ℕ) → 64 ≤ b → is_between 32 63 b ≡ false
 not_parameter b h = grind (arith, nat_tests)
@@ -133,7 +132,7 @@ parameter_len-cons b bytes = elim (is_between 32 63 b) as (λ v. cond v (1 + par
 
 front_byte : (b : ℕ) (bytes : List ℕ) (v : Bool) → is_between 32 63 b ≡ v → all_parameter_bytes (take (parameter_len bytes) bytes) ≡ true
     → all_parameter_bytes (take (cond v (suc (parameter_len bytes)) 0) (b ∷ bytes)) ≡ true
-front_byte b bytes true h others = both_true (is_between 32 63 b) (all_parameter_bytes (take (parameter_len bytes) bytes)) h others
+front_byte b bytes true h others = and_from (is_between 32 63 b) (all_parameter_bytes (take (parameter_len bytes) bytes)) h others
 front_byte b bytes false h others = refl
 
 -- the bytes at the front are parameter bytes
@@ -147,8 +146,8 @@ parameter_len-sequence : (body : List ℕ) (control : ℕ) (rest : List ℕ) →
 parameter_len-sequence [] control rest h low = parameter_len-cons control rest ∙ ap (λ v. cond v (suc (parameter_len rest)) 0) (not_parameter control low)
 parameter_len-sequence (b ∷ body) control rest h low =
     parameter_len-cons b (body ++ control ∷ rest)
-    ∙ ap (λ v. cond v (suc (parameter_len (body ++ control ∷ rest))) 0) (and_left (is_between 32 63 b) (all_parameter_bytes body) h)
-    ∙ ap suc (parameter_len-sequence body control rest (and_right (is_between 32 63 b) (all_parameter_bytes body) h) low)
+    ∙ ap (λ v. cond v (suc (parameter_len (body ++ control ∷ rest))) 0) (and_parts (is_between 32 63 b) (all_parameter_bytes body) h).0
+    ∙ ap suc (parameter_len-sequence body control rest (and_parts (is_between 32 63 b) (all_parameter_bytes body) h).1 low)
 
 -- behind the parameter bytes the final byte stands
 others-sequence : (bytes behind body : List ℕ) (control : ℕ) (rest : List ℕ) → bytes ≡ 27 ∷ 91 ∷ behind → IsSequence bytes body control rest → drop (parameter_len behind) behind ≡ control ∷ rest

@@ -1,5 +1,6 @@
 -- The text of each action of a spellable list is one sequence.
-use Rattle.std.proofs.Common.{◌≡◌, ℕ, ◌+◌, ◌<◌, ◌≤◌, eqb, ltb, Bool, true, false, cond, List, [], ◌∷◌, ◌++◌, length, take, drop, arith, ap, sym, ◌∙◌, subst}
+use Rattle.std.proofs.Common.{◌≡◌, ℕ, ◌+◌, ◌<◌, ◌≤◌, eqb, ltb, Bool, false, List, [], ◌∷◌, ◌++◌, length, take, drop, arith, ap, sym, ◌∙◌, subst}
+use Rattle.std.proofs.lemmas.Bool.{cond_both}
 use Rattle.std.specs.Prelude.{flat_map}
 use Rattle.std.proofs.lemmas.List.{take_all, length-drop}
 use Rattle.std.proofs.lemmas.Bool.Decides.{nat_tests}
@@ -46,15 +47,11 @@ use Rattle.csi_codec.proofs.TextTrip.{list_bytes, EachIsWritten, reading-written
 abbrev Short : List CsiParam → Type 0
 Short ts = length ts ≤ 12
 
-one_of : (b : Bool) (x y : List CsiParam) → Short x → Short y → Short (cond b x y)
-one_of true x y h k = h
-one_of false x y h k = k
-
 count_short : (n : ℕ) → Short (count_tokens n)
-count_short n = one_of (eqb n 1) [] (number_tokens n) (omega arith) (omega arith)
+count_short n = cond_both (eqb n 1) [] (number_tokens n) Short (λ e. omega arith) (λ e. omega arith)
 
 extent_short : (n : ℕ) → Short (extent_tokens n)
-extent_short n = one_of (eqb n 0) [] (number_tokens n) (omega arith) (omega arith)
+extent_short n = cond_both (eqb n 0) [] (number_tokens n) Short (λ e. omega arith) (λ e. omega arith)
 
 cursor_short : (c : Cursor) → Short (cursor_spelling c).params
 unfolding cursor_spelling
@@ -115,12 +112,12 @@ mode_short (does.SetMode m) = omega arith
 mode_short (does.ResetMode m) = omega arith
 
 colour_short : (target : ℕ) (c : SrgbaTuple) → Short (colour_tokens target c)
-colour_short target c = one_of (eqb c.3 255) (opaque_tokens target c.0 c.1 c.2) (alpha_tokens target c.0 c.1 c.2 c.3) (omega arith) (omega arith)
+colour_short target c = cond_both (eqb c.3 255) (opaque_tokens target c.0 c.1 c.2) (alpha_tokens target c.0 c.1 c.2 c.3) Short (λ e. omega arith) (λ e. omega arith)
 
 named_short : (target off low bright : ℕ) (c : ColorSpec) → Short (short_colour_tokens target off low bright c)
 named_short target off low bright color.Default = omega arith
 named_short target off low bright (color.PaletteIndex n) =
-    one_of (ltb n 8) _ _ (omega arith) (one_of (ltb n 16) (number_tokens (bright + n)) (palette_tokens target n) (omega arith) (omega arith))
+    cond_both (ltb n 8) _ _ Short (λ e. omega arith) (λ e. cond_both (ltb n 16) (number_tokens (bright + n)) (palette_tokens target n) Short (λ e. omega arith) (λ e. omega arith))
 named_short target off low bright (color.TrueColor c) = colour_short target c
 
 line_colour_short : (c : ColorSpec) → Short (underline_colour_tokens c)

@@ -1,9 +1,9 @@
 -- SGR lists joined by a `;`.
-use Rattle.std.proofs.Common.{◌≡◌, ℕ, zero, suc, ◌+◌, ◌-◌, ◌<◌, ◌≤◌, ℤ, pos, negsuc, eqb, Bool, true, false, not, cond, ◌&&◌, List, [], ◌∷◌, ◌++◌, length, Option, Some, None, option_map, option_and_then, slice_get, arith, refl, sym, ap, ◌∙◌, subst}
+use Rattle.std.proofs.Common.{◌≡◌, ℕ, zero, suc, ◌+◌, ◌-◌, ◌<◌, ◌≤◌, ℤ, pos, negsuc, eqb, Bool, true, false, not, cond, ◌&&◌, List, [], ◌∷◌, ◌++◌, length, Option, Some, None, IfSome, option_map, option_and_then, slice_get, arith, refl, sym, ap, ◌∙◌, subst}
 use Rattle.std.specs.Prelude.{is_some}
 use Rattle.std.specs.Option.{option_map_or}
 use Rattle.std.proofs.lemmas.Option.{slice_get_past}
-use Rattle.std.proofs.lemmas.Bool.{eqb-true, false≢true}
+use Rattle.std.proofs.lemmas.Bool.{cond_both, eqb-true, false≢true, and_parts, and_right, not-true}
 use Rattle.std.proofs.lemmas.Bool.Decides.{eqb_tells}
 use Rattle.std.proofs.Common.{inl, inr}
 use Rattle.cell_base.specs.declared.color.ColorSpec.{ColorSpec}
@@ -12,12 +12,12 @@ use Rattle.csi_codec.specs.declared.parameters.CsiParam.{CsiParam}
 use Rattle.csi_codec.specs.declared.parameters.CsiParam.TheVariants.{Integer, P}
 use Rattle.csi_codec.specs.declared.rendition.Sgr.{Sgr}
 use Rattle.csi_codec.specs.declared.rendition.Sgr.TheVariants as value
-use Rattle.csi_codec.specs.Parameters.{is_number, number_within, semicolon_count, semicolon_at, with_semicolon}
-use Rattle.csi_codec.specs.Rendition.{Part, byte_part, number_part, any_number, is_part, stands, byte_of, byte_at, palette_at, opaque_at, colour_at, taking, Form, first_form, colour_forms, colour_form, colour_shape, underline_shape, numbered_shape, single_code, sgr_shape, sgr_piece}
+use Rattle.csi_codec.specs.Parameters.{semicolon_count, semicolon_at, with_semicolon}
+use Rattle.csi_codec.specs.Rendition.{Part, byte_part, number_part, any_number, is_part, stands, byte_of, byte_at, palette_at, opaque_at, colour_at, taking, Form, first_form, colour_forms, colour_form, colour_shape, underline_shape, numbered_shape, sgr_shape, sgr_piece}
 use Rattle.csi_codec.specs.Actions.{Action, sgr, unspecified, rendition_piece, pieces_from, pieces, all_sgr_tokens, is_sgr_token, csi_reading}
 use Rattle.csi_codec.specs.Laws.{is_semicolon, ends_in_semicolon, all_known, SgrListsJoin}
+use Rattle.csi_codec.proofs.ShapeLemmas.{first_form-each, numbered_shape-by}
 use Rattle.csi_codec.proofs.SgrLemmas.{stands-length, sgr_shape_takes, Takes}
-use Rattle.csi_codec.proofs.BoolLemmas.{and_left, and_right}
 
 -- ---- Shapes at the front of a longer list
 
@@ -43,17 +43,13 @@ no_semicolon (byte_part b ∷ parts) = not (eqb 59 b) && no_semicolon parts
 no_semicolon (number_part n ∷ parts) = no_semicolon parts
 no_semicolon (any_number ∷ parts) = no_semicolon parts
 
-not_and : (a b : Bool) → (not a && b) ≡ true → (a ≡ false) × (b ≡ true)
-not_and true b h = cc
-not_and false b h = (refl, h)
-
 -- so it stands in front of a `;` only where it stands without
 stands_open : (parts : List Part) (ts x : List CsiParam) → no_semicolon parts ≡ true → stands parts (ts ++ P 59 ∷ x) ≡ stands parts ts
 stands_open [] ts x n = refl
-stands_open (byte_part b ∷ parts) [] x n = rw (not_and (eqb 59 b) (no_semicolon parts) n).0 refl
+stands_open (byte_part b ∷ parts) [] x n = rw (not-true (eqb 59 b) (and_parts (not (eqb 59 b)) (no_semicolon parts) n).0) refl
 stands_open (number_part c ∷ parts) [] x n = refl
 stands_open (any_number ∷ parts) [] x n = refl
-stands_open (byte_part b ∷ parts) (t ∷ ts) x n = ap (λ v. is_part (byte_part b) t && v) (stands_open parts ts x (not_and (eqb 59 b) (no_semicolon parts) n).1)
+stands_open (byte_part b ∷ parts) (t ∷ ts) x n = ap (λ v. is_part (byte_part b) t && v) (stands_open parts ts x (and_parts (not (eqb 59 b)) (no_semicolon parts) n).1)
 stands_open (number_part c ∷ parts) (t ∷ ts) x n = ap (λ v. is_part (number_part c) t && v) (stands_open parts ts x n)
 stands_open (any_number ∷ parts) (t ∷ ts) x n = ap (λ v. is_part any_number t && v) (stands_open parts ts x n)
 
@@ -83,10 +79,6 @@ colour_reads parts i j k m p q r u ts x s =
 
 -- ---- The first form that stands
 
-and_false : (a b : Bool) → b ≡ false → (a && b) ≡ false
-and_false true b h = h
-and_false false b h = refl
-
 sign_conflict : (t : CsiParam) → is_part (byte_part 58) t ≡ true → is_part (byte_part 59) t ≡ false
 sign_conflict (Integer z) h = cc
 sign_conflict (P c) h = let e : c ≡ 58 = eqb-true c 58 h in rw e refl
@@ -98,39 +90,33 @@ code_conflict (Integer (pos m)) h = let e : m ≡ 5 = eqb-true m 5 h in rw e ref
 
 first_conflict : (ps qs : List Part) (ts x : List CsiParam) → stands (byte_part 58 ∷ ps) ts ≡ true → stands (byte_part 59 ∷ qs) (ts ++ x) ≡ false
 first_conflict ps qs [] x h = cc
-first_conflict ps qs (t ∷ ts) x h = rw (sign_conflict t (and_left (is_part (byte_part 58) t) (stands ps ts) h)) refl
+first_conflict ps qs (t ∷ ts) x h = rw (sign_conflict t (and_parts (is_part (byte_part 58) t) (stands ps ts) h).0) refl
 
 second_conflict : (ps qs : List Part) (ts x : List CsiParam) → stands (byte_part 59 ∷ number_part 5 ∷ ps) ts ≡ true → stands (byte_part 59 ∷ number_part 2 ∷ qs) (ts ++ x) ≡ false
 second_conflict ps qs [] x h = cc
-second_conflict ps qs (t ∷ []) x h = let e : false ≡ true = and_right (is_part (byte_part 59) t) false h in cc
+second_conflict ps qs (t ∷ []) x h = let e : false ≡ true = (and_parts (is_part (byte_part 59) t) false h).1 in cc
 second_conflict ps qs (t ∷ u ∷ ts) x h =
-    let r : (is_part (number_part 5) u && stands ps ts) ≡ true = and_right (is_part (byte_part 59) t) (is_part (number_part 5) u && stands ps ts) h in
-    and_false (is_part (byte_part 59) t) (is_part (number_part 2) u && stands qs (ts ++ x)) (rw (code_conflict u (and_left (is_part (number_part 5) u) (stands ps ts) r)) refl)
+    let r : (is_part (number_part 5) u && stands ps ts) ≡ true = (and_parts (is_part (byte_part 59) t) (is_part (number_part 5) u && stands ps ts) h).1 in
+    and_right (is_part (byte_part 59) t) (is_part (number_part 2) u && stands qs (ts ++ x)) (rw (code_conflict u (and_parts (is_part (number_part 5) u) (stands ps ts) r).0) refl)
 
 -- what a list of forms finds is found again where the list goes on behind a `;`
 abbrev IsStable : List Form → Type 0
 IsStable forms = (ts x : List CsiParam) → is_some (first_form forms ts) ≡ true → first_form forms (ts ++ P 59 ∷ x) ≡ first_form forms ts
 
-colon_form-stable : (form : Form) (forms : List Form) → no_semicolon form.0 ≡ true → Reads form → IsStable forms → IsStable (form ∷ forms)
-colon_form-stable form forms n reads stable ts x h = rw (stands_open form.0 ts x n) (by (stands form.0 ts) refl h)
-  where
-    by : (b : Bool) → stands form.0 ts ≡ b → is_some (cond b (taking (length form.0) (form.1 ts)) (first_form forms ts)) ≡ true
-        → cond b (taking (length form.0) (form.1 (ts ++ P 59 ∷ x))) (first_form forms (ts ++ P 59 ∷ x)) ≡ cond b (taking (length form.0) (form.1 ts)) (first_form forms ts)
-    by true e k = ap (taking (length form.0)) (reads ts (P 59 ∷ x) e)
-    by false e k = stable ts x k
-
 none-stable : IsStable []
 none-stable ts x h = cc
 
--- a form with `;` cannot come to stand where a later form stands
-semicolon_form-stable : (form : Form) (forms : List Form) → Reads form → IsStable forms
-    → ((ts x : List CsiParam) → is_some (first_form forms ts) ≡ true → stands form.0 (ts ++ x) ≡ false) → IsStable (form ∷ forms)
-semicolon_form-stable form forms reads stable apart ts x h = by (stands form.0 ts) refl h
-  where
-    by : (b : Bool) → stands form.0 ts ≡ b → is_some (cond b (taking (length form.0) (form.1 ts)) (first_form forms ts)) ≡ true
-        → cond (stands form.0 (ts ++ P 59 ∷ x)) (taking (length form.0) (form.1 (ts ++ P 59 ∷ x))) (first_form forms (ts ++ P 59 ∷ x)) ≡ cond b (taking (length form.0) (form.1 ts)) (first_form forms ts)
-    by true e k = rw (stands-append form.0 ts (P 59 ∷ x) e) (ap (taking (length form.0)) (reads ts (P 59 ∷ x) e))
-    by false e k = rw (apart ts (P 59 ∷ x) k) (stable ts x k)
+-- a form that stands goes on standing, so it is enough that it cannot come to stand where a later one stands
+form-stable : (form : Form) (forms : List Form) → Reads form → IsStable forms
+    → ((ts x : List CsiParam) → stands form.0 ts ≡ false → is_some (first_form forms ts) ≡ true → stands form.0 (ts ++ P 59 ∷ x) ≡ false) → IsStable (form ∷ forms)
+form-stable form forms reads stable apart ts x =
+    cond_both (stands form.0 ts) _ _
+    (λ found. is_some found ≡ true → cond (stands form.0 (ts ++ P 59 ∷ x)) (taking (length form.0) (form.1 (ts ++ P 59 ∷ x))) (first_form forms (ts ++ P 59 ∷ x)) ≡ found)
+    (λ e h. rw (stands-append form.0 ts (P 59 ∷ x) e) (ap (taking (length form.0)) (reads ts (P 59 ∷ x) e)))
+    (λ e h. rw (apart ts x e h) (stable ts x h))
+
+colon_form-stable : (form : Form) (forms : List Form) → no_semicolon form.0 ≡ true → Reads form → IsStable forms → IsStable (form ∷ forms)
+colon_form-stable form forms n reads stable = form-stable form forms reads stable (λ ts x e h. stands_open form.0 ts x n ∙ e)
 
 abbrev palette_form : Form
 palette_form = (byte_part 58 ∷ number_part 5 ∷ byte_part 58 ∷ any_number ∷ [], palette_at 3)
@@ -138,22 +124,27 @@ palette_form = (byte_part 58 ∷ number_part 5 ∷ byte_part 58 ∷ any_number �
 abbrev palette_semicolons : Form
 palette_semicolons = (byte_part 59 ∷ number_part 5 ∷ byte_part 59 ∷ any_number ∷ [], palette_at 3)
 
+abbrev palettes : List Form
+palettes = palette_form ∷ palette_semicolons ∷ []
+
 abbrev semicolons_rest : List Part
 semicolons_rest = byte_part 59 ∷ any_number ∷ byte_part 59 ∷ any_number ∷ byte_part 59 ∷ any_number ∷ []
 
-palettes_apart : (ts x : List CsiParam) → is_some (first_form (palette_form ∷ palette_semicolons ∷ []) ts) ≡ true → stands (byte_part 59 ∷ number_part 2 ∷ semicolons_rest) (ts ++ x) ≡ false
-palettes_apart ts x h = first (stands palette_form.0 ts) refl h
-  where
-    second : (b : Bool) → stands palette_semicolons.0 ts ≡ b → is_some (cond b (taking 4 (palette_at 3 ts)) None) ≡ true → stands (byte_part 59 ∷ number_part 2 ∷ semicolons_rest) (ts ++ x) ≡ false
-    second true e k = second_conflict (byte_part 59 ∷ any_number ∷ []) semicolons_rest ts x e
-    second false e k = cc
+given_some : {A C : Type 0} (found : Option A) → is_some found ≡ true → IfSome found (λ f. C) → C
+given_some None h c = absurd (false≢true h)
+given_some (Some f) h c = c
 
-    first : (b : Bool) → stands palette_form.0 ts ≡ b → is_some (cond b (taking 4 (palette_at 3 ts)) (first_form (palette_semicolons ∷ []) ts)) ≡ true → stands (byte_part 59 ∷ number_part 2 ∷ semicolons_rest) (ts ++ x) ≡ false
-    first true e k = first_conflict (number_part 5 ∷ byte_part 58 ∷ any_number ∷ []) (number_part 2 ∷ semicolons_rest) ts x e
-    first false e k = second (stands palette_semicolons.0 ts) refl k
+-- a form with `;` and the number 2 cannot come to stand where one of the palette stands
+palettes_apart : (ts x : List CsiParam) → is_some (first_form palettes ts) ≡ true → stands (byte_part 59 ∷ number_part 2 ∷ semicolons_rest) (ts ++ x) ≡ false
+palettes_apart ts x h =
+    given_some (first_form palettes ts) h
+    (first_form-each (λ ts f. stands (byte_part 59 ∷ number_part 2 ∷ semicolons_rest) (ts ++ x) ≡ false) palettes (
+      λ ts c s e. first_conflict (number_part 5 ∷ byte_part 58 ∷ any_number ∷ []) (number_part 2 ∷ semicolons_rest) ts x s,
+      (λ ts c s e. second_conflict (byte_part 59 ∷ any_number ∷ []) semicolons_rest ts x s, tt),
+    ) ts)
 
 last_form-stable : IsStable (palette_semicolons ∷ [])
-last_form-stable = semicolon_form-stable palette_semicolons [] (palette_reads palette_semicolons.0 3 (omega arith)) none-stable (λ ts x h. cc)
+last_form-stable = form-stable palette_semicolons [] (palette_reads palette_semicolons.0 3 (omega arith)) none-stable (λ ts x e h. cc)
 
 abbrev alpha_form : Form
 alpha_form = (byte_part 58 ∷ number_part 6 ∷ byte_part 58 ∷ byte_part 58 ∷ any_number ∷ byte_part 58 ∷ any_number ∷ byte_part 58 ∷ any_number ∷ byte_part 58 ∷ any_number ∷ [], colour_at 4 6 8 10)
@@ -170,14 +161,11 @@ bare_form = (byte_part 58 ∷ number_part 2 ∷ byte_part 58 ∷ any_number ∷ 
 abbrev semicolons_form : Form
 semicolons_form = (byte_part 59 ∷ number_part 2 ∷ semicolons_rest, opaque_at 3 5 7)
 
-abbrev palettes : List Form
-palettes = palette_form ∷ palette_semicolons ∷ []
-
 palettes-stable : IsStable palettes
 palettes-stable = colon_form-stable palette_form (palette_semicolons ∷ []) refl (palette_reads palette_form.0 3 (omega arith)) last_form-stable
 
 semicolons-stable : IsStable (semicolons_form ∷ palettes)
-semicolons-stable = semicolon_form-stable semicolons_form palettes (opaque_reads semicolons_form.0 3 5 7 (omega arith) (omega arith) (omega arith)) palettes-stable palettes_apart
+semicolons-stable = form-stable semicolons_form palettes (opaque_reads semicolons_form.0 3 5 7 (omega arith) (omega arith) (omega arith)) palettes-stable (λ ts x e h. palettes_apart ts (P 59 ∷ x) h)
 
 bare-stable : IsStable (bare_form ∷ semicolons_form ∷ palettes)
 bare-stable = colon_form-stable bare_form (semicolons_form ∷ palettes) refl (opaque_reads bare_form.0 3 5 7 (omega arith) (omega arith) (omega arith)) semicolons-stable
@@ -213,23 +201,13 @@ underline_shape-stable (P b ∷ []) x = refl
 underline_shape-stable (P b ∷ Integer z ∷ ts) x = refl
 underline_shape-stable (P b ∷ P c ∷ ts) x = refl
 
-module _ {A : Type 0} where
-  ways : (p q r s : Bool) (a b c d e a' b' c' d' : Option A) → is_some (cond p a (cond q b (cond r c (cond s d e)))) ≡ true
-      → (is_some a ≡ true → a' ≡ a) → (is_some b ≡ true → b' ≡ b) → (is_some c ≡ true → c' ≡ c) → d' ≡ d
-      → cond p a' (cond q b' (cond r c' (cond s d' e))) ≡ cond p a (cond q b (cond r c (cond s d e)))
-  ways true q r s a b c d e a' b' c' d' h u v w y = u h
-  ways false true r s a b c d e a' b' c' d' h u v w y = v h
-  ways false false true s a b c d e a' b' c' d' h u v w y = w h
-  ways false false false true a b c d e a' b' c' d' h u v w y = y
-  ways false false false false a b c d e a' b' c' d' h u v w y = refl
-
 numbered_shape-stable : (z : ℤ) (ts x : List CsiParam) → is_some (numbered_shape z ts) ≡ true → numbered_shape z (ts ++ P 59 ∷ x) ≡ numbered_shape z ts
 unfolding numbered_shape
-numbered_shape-stable z ts x h =
-    ways (is_number 38 z) (is_number 48 z) (is_number 58 z) (is_number 4 z) (colour_shape value.Foreground ts) (colour_shape value.Background ts) (colour_shape value.UnderlineColor ts)
-    (underline_shape ts) (taking 1 (option_and_then single_code (number_within 255 z))) (colour_shape value.Foreground (ts ++ P 59 ∷ x)) (colour_shape value.Background (ts ++ P 59 ∷ x))
-    (colour_shape value.UnderlineColor (ts ++ P 59 ∷ x)) (underline_shape (ts ++ P 59 ∷ x)) h
-    (colour_shape-stable value.Foreground ts x) (colour_shape-stable value.Background ts x) (colour_shape-stable value.UnderlineColor ts x) (underline_shape-stable ts x)
+numbered_shape-stable z ts x =
+    numbered_shape-by (λ found. is_some found ≡ true → numbered_shape z (ts ++ P 59 ∷ x) ≡ found) z ts
+    (λ p h. ap (λ y. numbered_shape y (ts ++ P 59 ∷ x)) p ∙ colour_shape-stable value.Foreground ts x h) (λ p h. ap (λ y. numbered_shape y (ts ++ P 59 ∷ x)) p ∙ colour_shape-stable value.Background ts x h)
+    (λ p h. ap (λ y. numbered_shape y (ts ++ P 59 ∷ x)) p ∙ colour_shape-stable value.UnderlineColor ts x h)
+    (λ p h. ap (λ y. numbered_shape y (ts ++ P 59 ∷ x)) p ∙ underline_shape-stable ts x) (λ p q r s h. rw (p, q, r, s) refl)
 
 -- what stands at the front stands there where the list goes on behind a `;`
 pub sgr_shape-stable : (ts x : List CsiParam) → is_some (sgr_shape ts) ≡ true → sgr_shape (ts ++ P 59 ∷ x) ≡ sgr_shape ts
@@ -268,13 +246,13 @@ semicolon_count-le (Some (Integer z)) = omega arith
 semicolon_count-le (Some (P b)) = elim (eqb b 59) as (λ v. ones v ≤ 1) [ true ↦ omega arith | false ↦ omega arith ]
 
 -- a list's actions are used up with its tokens
-from-behind : (piece : List CsiParam → Option (Action × ℕ)) (left : List CsiParam → Action) (ts b : List CsiParam) → pieces_from piece left (suc (length ts)) (ts ++ P 59 ∷ b) ≡ pieces_from piece left 0 b
-from-behind piece left [] b = refl
-from-behind piece left (t ∷ ts) b = from-behind piece left ts b
+from-behind : (piece : List CsiParam → Option (Action × ℕ)) (unread : List CsiParam → Action) (ts b : List CsiParam) → pieces_from piece unread (suc (length ts)) (ts ++ P 59 ∷ b) ≡ pieces_from piece unread 0 b
+from-behind piece unread [] b = refl
+from-behind piece unread (t ∷ ts) b = from-behind piece unread ts b
 
-from-all : (piece : List CsiParam → Option (Action × ℕ)) (left : List CsiParam → Action) (ts : List CsiParam) → pieces_from piece left (length ts) ts ≡ []
-from-all piece left [] = refl
-from-all piece left (t ∷ ts) = from-all piece left ts
+from-all : (piece : List CsiParam → Option (Action × ℕ)) (unread : List CsiParam → Action) (ts : List CsiParam) → pieces_from piece unread (length ts) ts ≡ []
+from-all piece unread [] = refl
+from-all piece unread (t ∷ ts) = from-all piece unread ts
 
 shorter_by : (ts : List CsiParam) (n s : ℕ) → semicolon_at ts n ≡ s → s ≤ 1 → n < length ts → ends_in_semicolon ts ≡ false → n + s < length ts
 shorter_by ts n zero q l h e = omega arith

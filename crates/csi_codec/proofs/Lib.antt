@@ -1,4 +1,4 @@
-mod BoolLemmas
+mod ShapeLemmas
 mod SgrLemmas
 mod PieceLemmas
 mod SgrTokens

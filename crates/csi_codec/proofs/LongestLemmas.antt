@@ -1,17 +1,17 @@
 -- No listed shape that stands is longer than the one that is chosen.
-use Rattle.std.proofs.Common.{◌≡◌, ℕ, ◌+◌, ◌≤◌, ℤ, pos, eqb, Bool, true, false, cond, ◌&&◌, List, [], ◌∷◌, ◌++◌, map, length, Option, Some, None, option_map, option_and_then, arith, refl, ap, sym, subst, ◌∙◌}
-use Rattle.std.proofs.lemmas.Bool.{and_parts}
+use Rattle.std.proofs.Common.{◌≡◌, ℕ, ◌+◌, ◌≤◌, ℤ, pos, eqb, true, false, cond, ◌&&◌, List, [], ◌∷◌, ◌++◌, map, length, Option, Some, None, option_map, arith, refl, ap, sym, subst, ◌∙◌}
+use Rattle.std.proofs.lemmas.Bool.{and_parts, cond_both}
 use Rattle.cell_base.specs.declared.color.ColorSpec.{ColorSpec}
 use Rattle.cell_base.specs.declared.attributes.Underline.{Underline}
-use Rattle.cell_base.specs.declared.attributes.Underline.TheVariants as underline
 use Rattle.csi_codec.specs.declared.parameters.CsiParam.{CsiParam}
 use Rattle.csi_codec.specs.declared.parameters.CsiParam.TheVariants.{Integer, P}
 use Rattle.csi_codec.specs.declared.rendition.Sgr.{Sgr}
 use Rattle.csi_codec.specs.declared.rendition.Sgr.TheVariants as value
-use Rattle.csi_codec.specs.Parameters.{is_number, number_within}
-use Rattle.csi_codec.specs.Rendition.{Part, number_part, stands, Form, first_form, colour_forms, colour_form, colour_shape, taking, single_code, underline_numbered, underline_or_single, underline_shape, numbered_shape, sgr_shape, colon}
+use Rattle.csi_codec.specs.Parameters.{is_number}
+use Rattle.csi_codec.specs.Rendition.{Part, number_part, stands, Form, first_form, colour_forms, colour_form, colour_shape, taking, underline_numbered, underline_or_single, underline_shape, numbered_shape, sgr_shape, colon}
 use Rattle.csi_codec.specs.Longest.{lone_numbers, underline_shapes, colour_shapes, sgr_shapes, NoneIsLonger, LongestShapeDecides}
-use Rattle.csi_codec.proofs.ColourLemmas.{number_is}
+use Rattle.csi_codec.proofs.ShapeLemmas.{number_is, numbered_shape-by}
+use Rattle.csi_codec.proofs.SgrLemmas.{Takes, sgr_shape_takes}
 
 -- how many tokens a value took
 second : {X : Type 0} (x y : X) (k n : ℕ) → ◌≡◌ {A = Option (X × ℕ)} (Some (x, k)) (Some (y, n)) → k ≡ n
@@ -62,13 +62,11 @@ taken_length k n c (Some d) e = second d c k n e
 
 first_longest : (forms : List Form) (ts : List CsiParam) (c : ColorSpec) (n : ℕ) → LongestFirst forms → first_form forms ts ≡ Some (c, n) → NoneIsLonger (shapes_of forms) ts n
 first_longest [] ts c n h e = tt
-first_longest (form ∷ forms) ts c n h e = by (first_longest forms ts c n h.1) (stands form.0 ts) refl e
-  where
-    by : (first_form forms ts ≡ Some (c, n) → NoneIsLonger (shapes_of forms) ts n) → (b : Bool) → stands form.0 ts ≡ b → cond b (taking (length form.0) (form.1 ts)) (first_form forms ts) ≡ Some (c, n) → NoneIsLonger (shapes_of (form ∷ forms)) ts n
-    by later true q r =
-        let same : length form.0 ≡ n = taken_length (length form.0) n c (form.1 ts) r in
-        subst (λ (k : ℕ). NoneIsLonger (shapes_of (form ∷ forms)) ts k) same (λ s. omega arith, all_shorter forms ts (length form.0) h.0)
-    by later false q r = (λ s. cc, later r)
+first_longest (form ∷ forms) ts c n h e =
+    cond_both (stands form.0 ts) (taking (length form.0) (form.1 ts)) (first_form forms ts) (λ found. found ≡ Some (c, n) → NoneIsLonger (shapes_of (form ∷ forms)) ts n)
+    (λ p q. let same : length form.0 ≡ n = taken_length (length form.0) n c (form.1 ts) q in
+    subst (λ (k : ℕ). NoneIsLonger (shapes_of (form ∷ forms)) ts k) same (λ s. omega arith, all_shorter forms ts (length form.0) h.0))
+    (λ p q. (λ s. cc, first_longest forms ts c n h.1 q)) e
 
 -- behind its number
 abbrev behind : ℕ → List Form → List (List Part)
@@ -146,10 +144,6 @@ module _ (ts : List CsiParam) (n : ℕ) (some : 1 ≤ n) where
         (none-append underline_shapes (colour_shapes 38 ++ (colour_shapes 48 ++ colour_shapes 58)) ts n under (none-append (colour_shapes 38) (colour_shapes 48 ++ colour_shapes 58) ts n fore (none-append (colour_shapes 48) (colour_shapes 58) ts n back line))),
   )
 
-sgr_length : (k n : ℕ) (v : Sgr) (found : Option Sgr) → taking k found ≡ Some (v, n) → k ≡ n
-sgr_length k n v None e = cc
-sgr_length k n v (Some d) e = second d v k n e
-
 -- a colour that was chosen
 coloured : (target : ColorSpec → Sgr) (ts : List CsiParam) (v : Sgr) (n : ℕ) → colour_shape target ts ≡ Some (v, n) → (m : ℕ) × ((m + 1 ≡ n) × NoneIsLonger (shapes_of colour_forms) ts m)
 unfolding colour_form
@@ -161,66 +155,36 @@ coloured target ts v n e = by (first_form colour_forms ts) refl e
     by (Some f) q r =
         (f.1, (second (target f.0) v (f.1 + 1) n r, first_longest colour_forms ts f.0 f.1 listed q))
 
-number_at : (k : ℕ) (z : ℤ) (b : Bool) → is_number k z ≡ b → z ≡ pos k → b ≡ is_number k (pos k)
-number_at k z b h e = sym h ∙ ap (is_number k) e
-
 module _ (z : ℤ) (ts : List CsiParam) (v : Sgr) (n : ℕ) where
   no_line : is_number 4 z ≡ false → NoneIsLonger underline_shapes (Integer z ∷ ts) n
   no_line h = other_line (0 ∷ 1 ∷ 2 ∷ 3 ∷ 4 ∷ 5 ∷ []) z ts n h
 
-  -- a number that a token is, it is no other
-  not_number : (k j : ℕ) → is_number k z ≡ true → eqb k j ≡ false → is_number j z ≡ false
-  not_number k j h d = ap (is_number j) (number_is k z h) ∙ d
+  a_line : z ≡ pos 4 → underline_shape ts ≡ Some (v, n) → NoneIsLonger underline_shapes (Integer z ∷ ts) n
+  a_line p e = subst (λ (y : ℤ). NoneIsLonger underline_shapes (Integer y ∷ ts) n) (sym p) (chosen_line (0 ∷ 1 ∷ 2 ∷ 3 ∷ 4 ∷ 5 ∷ []) ts v n underlines e)
 
-  a_colour : (target : ℕ) (make : ColorSpec → Sgr) → colour_shape make ts ≡ Some (v, n) → NoneIsLonger (colour_shapes target) (Integer z ∷ ts) n × (1 ≤ n)
+  a_colour : (target : ℕ) (make : ColorSpec → Sgr) → colour_shape make ts ≡ Some (v, n) → NoneIsLonger (colour_shapes target) (Integer z ∷ ts) n
   a_colour target make e =
       let c = coloured make ts v n e in
-      let some : 1 ≤ n = omega (arith, c.1.0) in
-      (subst (λ (k : ℕ). NoneIsLonger (colour_shapes target) (Integer z ∷ ts) k) c.1.0 (chosen_colour target colour_forms z ts c.0 c.1.1), some)
+      subst (λ (k : ℕ). NoneIsLonger (colour_shapes target) (Integer z ∷ ts) k) c.1.0 (chosen_colour target colour_forms z ts c.0 c.1.1)
 
   another : (target : ℕ) → is_number target z ≡ false → NoneIsLonger (colour_shapes target) (Integer z ∷ ts) n
   another target h = other_colour target colour_forms z ts n h
 
-  line_some : (found : Option Underline) → underline_or_single found ≡ Some (v, n) → 1 ≤ n
-  line_some None e = let same : 1 ≡ n = second (value.Underline underline.Single) v 1 n e in omega arith
-  line_some (Some line) e = let same : 3 ≡ n = second (value.Underline line) v 3 n e in omega arith
+  number_longest : 1 ≤ n → numbered_shape z ts ≡ Some (v, n) → NoneIsLonger sgr_shapes (Integer z ∷ ts) n
+  number_longest some =
+      numbered_shape-by (λ found. found ≡ Some (v, n) → NoneIsLonger sgr_shapes (Integer z ∷ ts) n) z ts
+      (λ p e. every (Integer z ∷ ts) n some (no_line (ap (is_number 4) p)) (a_colour 38 value.Foreground e) (another 48 (ap (is_number 48) p)) (another 58 (ap (is_number 58) p)))
+      (λ p e. every (Integer z ∷ ts) n some (no_line (ap (is_number 4) p)) (another 38 (ap (is_number 38) p)) (a_colour 48 value.Background e) (another 58 (ap (is_number 58) p)))
+      (λ p e. every (Integer z ∷ ts) n some (no_line (ap (is_number 4) p)) (another 38 (ap (is_number 38) p)) (another 48 (ap (is_number 48) p)) (a_colour 58 value.UnderlineColor e))
+      (λ p e. every (Integer z ∷ ts) n some (a_line p e) (another 38 (ap (is_number 38) p)) (another 48 (ap (is_number 48) p)) (another 58 (ap (is_number 58) p)))
+      (λ p q r s e. every (Integer z ∷ ts) n some (no_line s) (another 38 p) (another 48 q) (another 58 r))
 
-  underline_some : (us : List CsiParam) → underline_shape us ≡ Some (v, n) → 1 ≤ n
-  underline_some [] e = line_some None e
-  underline_some (Integer w ∷ us) e = line_some None e
-  underline_some (P b ∷ []) e = line_some None e
-  underline_some (P b ∷ P d ∷ us) e = line_some None e
-  underline_some (P b ∷ Integer w ∷ us) e = line_some (cond (eqb b 58) (underline_numbered w) None) e
-
-  by_number : (single : Option Sgr) (a b c d : Bool) → is_number 38 z ≡ a → is_number 48 z ≡ b → is_number 58 z ≡ c → is_number 4 z ≡ d
-      → cond a (colour_shape value.Foreground ts) (cond b (colour_shape value.Background ts) (cond c (colour_shape value.UnderlineColor ts) (cond d (underline_shape ts) (taking 1 single)))) ≡ Some (v, n)
-      → NoneIsLonger sgr_shapes (Integer z ∷ ts) n
-  by_number single true b c d p q r s e =
-      let found = a_colour 38 value.Foreground e in
-      every (Integer z ∷ ts) n found.1 (no_line (not_number 38 4 p refl)) found.0 (another 48 (not_number 38 48 p refl)) (another 58 (not_number 38 58 p refl))
-  by_number single false true c d p q r s e =
-      let found = a_colour 48 value.Background e in
-      every (Integer z ∷ ts) n found.1 (no_line (not_number 48 4 q refl)) (another 38 p) found.0 (another 58 (not_number 48 58 q refl))
-  by_number single false false true d p q r s e =
-      let found = a_colour 58 value.UnderlineColor e in
-      every (Integer z ∷ ts) n found.1 (no_line (not_number 58 4 r refl)) (another 38 p) (another 48 q) found.0
-  by_number single false false false true p q r s e =
-      let under : NoneIsLonger underline_shapes (Integer z ∷ ts) n =
-      subst (λ (y : ℤ). NoneIsLonger underline_shapes (Integer y ∷ ts) n) (sym (number_is 4 z s)) (chosen_line (0 ∷ 1 ∷ 2 ∷ 3 ∷ 4 ∷ 5 ∷ []) ts v n underlines e) in
-      every (Integer z ∷ ts) n (underline_some ts e) under (another 38 p) (another 48 q) (another 58 r)
-  by_number single false false false false p q r s e =
-      let one : 1 ≡ n = sgr_length 1 n v single e in
-      every (Integer z ∷ ts) n (omega arith) (no_line s) (another 38 p) (another 48 q) (another 58 r)
-
-number_longest : (z : ℤ) (ts : List CsiParam) (v : Sgr) (n : ℕ) → numbered_shape z ts ≡ Some (v, n) → NoneIsLonger sgr_shapes (Integer z ∷ ts) n
-unfolding numbered_shape
-number_longest z ts v n e =
-    by_number z ts v n (option_and_then single_code (number_within 255 z)) (is_number 38 z) (is_number 48 z) (is_number 58 z) (is_number 4 z) refl refl refl refl e
+some_taken : (ts : List CsiParam) (v : Sgr) (n : ℕ) → sgr_shape ts ≡ Some (v, n) → 1 ≤ n
+some_taken ts v n e = let Q : Option (Sgr × ℕ) → Type 0 = λ found. Takes (length ts) found in (subst Q e (sgr_shape_takes ts)).0
 
 pub longest_shape_decides-lem : LongestShapeDecides
 unfolding sgr_shape
 longest_shape_decides-lem [] v n e = cc
 longest_shape_decides-lem (P b ∷ ts) v n e =
-    let one : 1 ≡ n = sgr_length 1 n v (cond (eqb b 59) (Some value.Reset) None) e in
-    every (P b ∷ ts) n (omega arith) (byte_line (0 ∷ 1 ∷ 2 ∷ 3 ∷ 4 ∷ 5 ∷ []) b ts n) (byte_colour 38 colour_forms b ts n) (byte_colour 48 colour_forms b ts n) (byte_colour 58 colour_forms b ts n)
-longest_shape_decides-lem (Integer z ∷ ts) v n e = number_longest z ts v n e
+    every (P b ∷ ts) n (some_taken (P b ∷ ts) v n e) (byte_line (0 ∷ 1 ∷ 2 ∷ 3 ∷ 4 ∷ 5 ∷ []) b ts n) (byte_colour 38 colour_forms b ts n) (byte_colour 48 colour_forms b ts n) (byte_colour 58 colour_forms b ts n)
+longest_shape_decides-lem (Integer z ∷ ts) v n e = number_longest z ts v n (some_taken (Integer z ∷ ts) v n e) e

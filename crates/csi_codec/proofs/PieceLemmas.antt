@@ -54,10 +54,10 @@ piece_of_takes k final ts a n e = let P : Option (Action × ℕ) → Type 0 = λ
 -- ---- The first piece
 
 -- used up tokens are as good as dropped
-pub pieces_from-drop : (piece : List CsiParam → Option (Action × ℕ)) (left : List CsiParam → Action) (k : ℕ) (ts : List CsiParam) → pieces_from piece left k ts ≡ pieces_from piece left 0 (drop k ts)
-pieces_from-drop piece left zero ts = refl
-pieces_from-drop piece left (suc k) [] = refl
-pieces_from-drop piece left (suc k) (t ∷ ts) = pieces_from-drop piece left k ts
+pub pieces_from-drop : (piece : List CsiParam → Option (Action × ℕ)) (unread : List CsiParam → Action) (k : ℕ) (ts : List CsiParam) → pieces_from piece unread k ts ≡ pieces_from piece unread 0 (drop k ts)
+pieces_from-drop piece unread zero ts = refl
+pieces_from-drop piece unread (suc k) [] = refl
+pieces_from-drop piece unread (suc k) (t ∷ ts) = pieces_from-drop piece unread k ts
 
 -- where a piece stands it is the first action, and the others are those of what follows
 pub pieces_found : (k : Kind) (truncated : Bool) (final : ℕ) (ts : List CsiParam) (a : Action) (n : ℕ) → piece_of k final ts ≡ Some (a, n) → pieces k truncated final ts ≡ a ∷ pieces k truncated final (drop n ts)
@@ -65,23 +65,23 @@ unfolding pieces
 pieces_found k truncated final [] a n e = let t : (0 < n) × (n ≤ 0) = piece_of_takes k final [] a n e in absurd (omega (arith, t.0, t.1))
 pieces_found k truncated final (t ∷ ts) a zero e = let h : (0 < 0) × (0 ≤ length (t ∷ ts)) = piece_of_takes k final (t ∷ ts) a zero e in absurd (omega (arith, h.0))
 pieces_found k truncated final (t ∷ ts) a (suc n) e =
-    let left : List CsiParam → Action = λ rest. unspecified rest truncated final in
+    let unread : List CsiParam → Action = λ rest. unspecified rest truncated final in
     let piece : List CsiParam → Option (Action × ℕ) = piece_of k final in
-    ap (λ found. option_map_or (λ f. f.0 ∷ pieces_from piece left (f.1 - 1) ts) found (left (t ∷ ts) ∷ [])) e
-    ∙ ap (λ m. a ∷ pieces_from piece left m ts) (sub_one n)
-    ∙ ap (λ rest. a ∷ rest) (pieces_from-drop piece left n ts)
+    ap (λ found. option_map_or (λ f. f.0 ∷ pieces_from piece unread (f.1 - 1) ts) found (unread (t ∷ ts) ∷ [])) e
+    ∙ ap (λ m. a ∷ pieces_from piece unread m ts) (sub_one n)
+    ∙ ap (λ rest. a ∷ rest) (pieces_from-drop piece unread n ts)
   where
     sub_one : (n : ℕ) → suc n - 1 ≡ n
     sub_one n = omega arith
 
--- where none stands the list is left
+-- where none stands the list remains
 pub pieces_rest : (k : Kind) (truncated : Bool) (final : ℕ) (ts : List CsiParam) → piece_of k final ts ≡ None → 0 < length ts → pieces k truncated final ts ≡ unspecified ts truncated final ∷ []
 unfolding pieces
 pieces_rest k truncated final [] e h = absurd (omega arith)
 pieces_rest k truncated final (t ∷ ts) e h =
-    let left : List CsiParam → Action = λ rest. unspecified rest truncated final in
+    let unread : List CsiParam → Action = λ rest. unspecified rest truncated final in
     let piece : List CsiParam → Option (Action × ℕ) = piece_of k final in
-    ap (λ found. option_map_or (λ f. f.0 ∷ pieces_from piece left (f.1 - 1) ts) found (left (t ∷ ts) ∷ [])) e
+    ap (λ found. option_map_or (λ f. f.0 ∷ pieces_from piece unread (f.1 - 1) ts) found (unread (t ∷ ts) ∷ [])) e
 
 -- an empty list has no actions
 pub pieces_none : (k : Kind) (truncated : Bool) (final : ℕ) (ts : List CsiParam) → length ts ≡ 0 → pieces k truncated final ts ≡ []

@@ -1,8 +1,9 @@
 -- Steps from place to place of a list.
 use Rattle.std.proofs.Common.{◌≡◌, ◌≢◌, ℕ, ◌+◌, ℤ, inl, inr, ◌<◌, ◌≤◌, eqb, Bool, true, false, cond, List, [], ◌∷◌, length, length-drop, drop, drop-drop, Option, Some, None, Result, IfSome, IfNone, option_map, option_and_then, arith, refl, sym, ap, ◌∙◌, subst}
+use Rattle.std.proofs.lemmas.Option.{none-some}
 use Rattle.std.specs.Prelude.{is_some}
 use Rattle.std.specs.Option.{option_map_or}
-use Rattle.std.proofs.lemmas.Bool.{cases_Bool, eqb-true}
+use Rattle.std.proofs.lemmas.Bool.{cases_Bool, eqb-true, cond_both}
 use Rattle.std.proofs.lemmas.Bool.Decides.{nat_tests}
 use Rattle.std.specs.declared.alloc.AllocError.{AllocError}
 use Rattle.csi_codec.specs.declared.parameters.CsiParam.{CsiParam}
@@ -65,16 +66,12 @@ rendition_lost : (ts : List CsiParam) (v : Sgr) (n : ℕ) (truncated : Bool) (fi
     → sgr_reading truncated final ts ≡ unspecified ts truncated final ∷ []
 rendition_lost ts v n truncated final h e tokens = reading_by truncated final ts false h (sgr_tokens_behind ts (sgr v) n (as_piece ts v n e) ∙ tokens)
 
-either : (b : Bool) (x y : List Action) → x ≡ y → cond b x y ≡ y
-either true x y e = e
-either false x y e = refl
-
 no_piece : (ts : List CsiParam) → sgr_piece ts ≡ None → rendition_piece ts ≡ None
 no_piece ts e = ap (λ found. option_map (λ f. (sgr f.0, f.1)) found) e
 
 rendition_none : (ts : List CsiParam) (truncated : Bool) (final : ℕ) → 0 < length ts → sgr_piece ts ≡ None → sgr_reading truncated final ts ≡ unspecified ts truncated final ∷ []
 rendition_none ts truncated final h e =
-    reading_by truncated final ts (all_sgr_tokens ts) h refl ∙ either (all_sgr_tokens ts) _ _ (pieces_rest sgr_pieces truncated final ts (no_piece ts e) h)
+    reading_by truncated final ts (all_sgr_tokens ts) h refl ∙ cond_both (all_sgr_tokens ts) _ _ (λ found. found ≡ unspecified ts truncated final ∷ []) (λ p. pieces_rest sgr_pieces truncated final ts (no_piece ts e) h) (λ p. refl)
 
 -- ---- The end, and what is behind some tokens
 
@@ -145,19 +142,16 @@ next_piece k read n ts us final a h kind at first =
 
 -- ---- Settings of an SGR list, and what is to come
 
-no_setting : {A : Type 0} {a : A} → None ≡ Some a → ⊥
-no_setting e = cc
-
 -- the first of a list that is not empty is its piece, and only tokens of SGR stand behind it
 first_is_piece : (ts : List CsiParam) (v : Sgr) (n : ℕ) (found : Option (Sgr × ℕ)) → sgr_piece ts ≡ found → before_tokens ts found ≡ Some (v, n)
     → (sgr_piece ts ≡ Some (v, n)) × (all_sgr_tokens (drop n ts) ≡ true)
-first_is_piece ts v n None e first = absurd (no_setting first)
+first_is_piece ts v n None e first = absurd (none-some _ first)
 first_is_piece ts v n (Some f) e first = elim (cases_Bool (all_sgr_tokens (drop f.1 ts))) [
   | inl tokens ↦
       let same : Some f ≡ Some (v, n) = ap (λ b. cond b (Some f) None) (sym tokens) ∙ first in
       let P : Option (Sgr × ℕ) → Type 0 = λ found. IfSome found (λ g. all_sgr_tokens (drop g.1 ts) ≡ true) in
       (e ∙ same, subst P same tokens)
-  | inr tokens ↦ absurd (no_setting (ap (λ b. cond b (Some f) None) (sym tokens) ∙ first))
+  | inr tokens ↦ absurd (none-some _ (ap (λ b. cond b (Some f) None) (sym tokens) ∙ first))
 ]
 
 reset_next : IsNext 0 [] 109 (sgr Reset) 1
@@ -176,19 +170,19 @@ first_unread : (ts : List CsiParam) (truncated : Bool) (found : Option (Sgr × �
     → sgr_reading truncated 109 ts ≡ unspecified ts truncated 109 ∷ []
 first_unread ts truncated None h e first = rendition_none ts truncated 109 h e
 first_unread ts truncated (Some f) h e first = elim (cases_Bool (all_sgr_tokens (drop f.1 ts))) [
-  | inl tokens ↦ absurd (no_setting (sym first ∙ ap (λ b. cond b (Some f) None) tokens))
+  | inl tokens ↦ absurd (none-some _ (sym first ∙ ap (λ b. cond b (Some f) None) tokens))
   | inr tokens ↦ rendition_lost ts f.0 f.1 truncated 109 h e tokens
 ]
 
 first_none : (ts : List CsiParam) → first_setting ts ≡ None → HasNoSetting 0 ts
 unfolding first_setting actions_behind csi_reading
-first_none [] e = absurd (no_setting (sym e))
+first_none [] e = absurd (none-some _ (sym e))
 first_none (t ∷ ts) e = record { rest = λ truncated. first_unread (t ∷ ts) truncated (sgr_piece (t ∷ ts)) (omega arith) refl e; within = omega arith }
 
 -- a further one is the piece at its place
 further_is_piece : (read n : ℕ) (ts : List CsiParam) (v : Sgr) (found : Option (Sgr × ℕ)) → 0 < read → sgr_piece (drop read ts) ≡ found
     → counted_from read found ≡ Some (v, n) → IsNext read ts 109 (sgr v) n
-further_is_piece read n ts v None h e further = absurd (no_setting further)
+further_is_piece read n ts v None h e further = absurd (none-some _ further)
 further_is_piece read n ts v (Some f) h e further =
     let fits = rendition_fits (drop read ts) f.0 f.1 e in
     let P : Option (Sgr × ℕ) → Type 0 = λ found. IfSome found (λ g. IsNext read ts 109 (sgr g.0) g.1) in
@@ -204,7 +198,7 @@ further_next read n ts v h e = further_is_piece read n ts v (sgr_piece (drop rea
 
 no_further : (read : ℕ) (found : Option (Sgr × ℕ)) → counted_from read found ≡ None → found ≡ None
 no_further read None e = refl
-no_further read (Some f) e = absurd (no_setting (sym e))
+no_further read (Some f) e = absurd (none-some _ (sym e))
 
 pub further_none : (read : ℕ) (ts : List CsiParam) → 0 < read → read < length ts → further_setting read ts ≡ None → HasNoSetting read ts
 unfolding further_setting
@@ -225,10 +219,10 @@ further_at read n final ts v h m e = subst (λ k. IsNext read ts k (sgr v) n) (s
 pub none_at : (read : ℕ) (ts : List CsiParam) → read ≡ 0 → first_setting ts ≡ None → HasNoSetting read ts
 none_at read ts h e = subst (λ k. HasNoSetting k ts) (sym h) (first_none ts e)
 
--- what is left is the last action
-pub left_is_last : (read : ℕ) (ts : List CsiParam) (truncated : Bool) (action : Option (Result CSI AllocError)) → HasNoSetting read ts
+-- the rest is the last action
+pub rest_is_last : (read : ℕ) (ts : List CsiParam) (truncated : Bool) (action : Option (Result CSI AllocError)) → HasNoSetting read ts
     → HandsOut (unspecified (drop read ts) truncated 109 ∷ []) action [] → HandsOut (actions_behind read ts truncated 109) action (actions_behind (length ts) ts truncated 109)
-left_is_last read ts truncated action none h =
+rest_is_last read ts truncated action none h =
     let P : List Action → Type 0 = λ before. HandsOut before action (actions_behind (length ts) ts truncated 109) in
     let Q : List Action → Type 0 = λ after. HandsOut (unspecified (drop read ts) truncated 109 ∷ []) action after in
     let last : actions_behind (length ts) ts truncated 109 ≡ [] =
@@ -237,9 +231,6 @@ left_is_last read ts truncated action none h =
 
 not_both : (found : Option Action) (a : Action) → found ≡ None → found ≡ Some a → ⊥
 not_both found a none e = cc
-
-no_mode : (m : Mode) → None ≡ Some m → ⊥
-no_mode m e = cc
 
 -- the only one of a list with no sign at its front, by its reading: no such list before m, h or l has one
 other_final : (n final : ℕ) (ts : List CsiParam) (a : Action) → lone_reading n ts ≡ None → lone_reading final ts ≡ Some a → eqb final n ≡ false
@@ -317,7 +308,7 @@ private_next_by z final m e other =
 either_mode : (p q : Bool) (a b c : Option Mode) (m : Mode) → cond p a (cond q b None) ≡ Some m → cond p a (cond q b c) ≡ Some m
 either_mode true q a b c m e = e
 either_mode false true a b c m e = e
-either_mode false false a b c m e = absurd (no_mode m e)
+either_mode false false a b c m e = absurd (none-some m e)
 
 switched_is : (final : ℕ) (n : Option ℕ) (m : Mode) → option_and_then (λ n. switched_step final (dec_mode_of n)) n ≡ Some m → option_and_then (λ n. private_step final (dec_mode_of n)) n ≡ Some m
 switched_is final None m e = e
@@ -335,13 +326,13 @@ private_next (P b ∷ Integer z ∷ []) final m e = elim (cases_Bool (eqb b 63))
   | inl h ↦
       let at : lone_private_mode final (P 63 ∷ Integer z ∷ []) ≡ Some m = subst (λ k. lone_private_mode final (P k ∷ Integer z ∷ []) ≡ Some m) (eqb-true b 63 h) e in
       subst (λ k. IsNext 0 (P k ∷ Integer z ∷ []) final (mode m) 2) (sym (eqb-true b 63 h)) (private_by z final m at)
-  | inr h ↦ absurd (no_mode m (ap (λ v. cond v (switched_mode final z) None) (sym h) ∙ e))
+  | inr h ↦ absurd (none-some m (ap (λ v. cond v (switched_mode final z) None) (sym h) ∙ e))
 ]
-private_next [] final m e = absurd (no_mode m e)
-private_next (Integer y ∷ ts) final m e = absurd (no_mode m e)
-private_next (P b ∷ []) final m e = absurd (no_mode m e)
-private_next (P b ∷ P d ∷ ts) final m e = absurd (no_mode m e)
-private_next (P b ∷ Integer y ∷ t ∷ ts) final m e = absurd (no_mode m e)
+private_next [] final m e = absurd (none-some m e)
+private_next (Integer y ∷ ts) final m e = absurd (none-some m e)
+private_next (P b ∷ []) final m e = absurd (none-some m e)
+private_next (P b ∷ P d ∷ ts) final m e = absurd (none-some m e)
+private_next (P b ∷ Integer y ∷ t ∷ ts) final m e = absurd (none-some m e)
 
 -- ---- The end of a list
 

@@ -1,7 +1,9 @@
 -- A setting of SGR with a `;` behind its number: what it is told by, and how many tokens are read then.
 use Rattle.std.proofs.Common.{◌≡◌, ◌<◌, ◌≤◌, ◌+◌, ℕ, zero, suc, ℤ, pos, eqb, nat_lt, Bool, true, false, cond, ◌||◌, List, [], ◌∷◌, length, length-drop, drop, slice_index_or, Option, Some, None, option_map, inl, inr, arith, refl, sym, ap, ◌∙◌, subst}
-use Rattle.std.proofs.lemmas.Bool.{cases_Bool, eqb-true}
+use Rattle.std.proofs.lemmas.Option.{none-some}
+use Rattle.std.proofs.lemmas.Bool.{cases_Bool, eqb-true, or_right}
 use Rattle.std.proofs.lemmas.Bool.Decides.{nat_tests}
+use Rattle.std.proofs.lemmas.List.{at_drop_all}
 use Rattle.cell_base.specs.declared.color.ColorSpec.{ColorSpec}
 use Rattle.csi_codec.specs.declared.parameters.CsiParam.{CsiParam}
 use Rattle.csi_codec.specs.declared.parameters.CsiParam.TheVariants.{Integer, P}
@@ -15,7 +17,8 @@ use Rattle.std.specs.Option.{option_zip}
 use Rattle.csi_codec.specs.Rendition.{taking, colour_form, colour_shape, plain_code, single_code, numbered_shape, sgr_shape, sgr_piece}
 use Rattle.csi_codec.specs.ColourCases.{IsTold, begins_signed, form_case, opaque_behind, opaque_case, palette_behind, palette_case, semicolon_form, target_numbered, set_to}
 use Rattle.csi_codec.specs.Parsing.{before_tokens, behind_all, counted_from, end_at, ended, first_setting, further_setting}
-use Rattle.csi_codec.proofs.ColourLemmas.{colour_form_is_case, number_is}
+use Rattle.csi_codec.proofs.ColourLemmas.{colour_form_is_case}
+use Rattle.csi_codec.proofs.ShapeLemmas.{number_is, numbered_shape-by}
 use Rattle.csi_codec.proofs.PlainLemmas.{plain_last, plain_next}
 
 -- ---- The numbers behind a kind
@@ -69,20 +72,18 @@ told_form k us = sym (colour_form_is_case (P 59 ∷ Integer k ∷ us))
 
 -- ---- A colour behind its target's number
 
-targets : (p q r : Bool) (a b c : Target) (t : Target) (x y z w v : Option (Sgr × ℕ)) (s : Bool) (Q : Target → Option (Sgr × ℕ))
-    → Q a ≡ x → Q b ≡ y → Q c ≡ z → cond p (Some a) (cond q (Some b) (cond r (Some c) None)) ≡ Some t → cond p x (cond q y (cond r z (cond s w v))) ≡ Q t
-targets true q r a b c t x y z w v s Q e f g h = let same : a ≡ t = cc in sym e ∙ ap Q same
-targets false true r a b c t x y z w v s Q e f g h = let same : b ≡ t = cc in sym f ∙ ap Q same
-targets false false true a b c t x y z w v s Q e f g h = let same : c ≡ t = cc in sym g ∙ ap Q same
-targets false false false a b c t x y z w v s Q e f g h = absurd (nothing h)
-  where
-    nothing : {A : Type 0} {a : A} → None ≡ Some a → ⊥
-    nothing e = cc
+same_target : (z : ℤ) (us : List CsiParam) (a t : Target) → target_numbered z ≡ Some a → target_numbered z ≡ Some t → colour_shape (set_to a) us ≡ colour_shape (set_to t) us
+same_target z us a t p e = let same : a ≡ t = cc in ap (λ t. colour_shape (set_to t) us) same
+
+no_other_target : (z : ℤ) → is_number 38 z ≡ false → is_number 48 z ≡ false → is_number 58 z ≡ false → target_numbered z ≡ None
+no_other_target z p q r = rw (p, q, r) refl
 
 pub targeted_shape : (z : ℤ) (us : List CsiParam) (t : Target) → target_numbered z ≡ Some t → numbered_shape z us ≡ colour_shape (set_to t) us
-unfolding numbered_shape
 targeted_shape z us t e =
-    targets (is_number 38 z) (is_number 48 z) (is_number 58 z) target.Foreground target.Background target.Underline t _ _ _ _ _ (is_number 4 z) (λ t. colour_shape (set_to t) us) refl refl refl e
+    numbered_shape-by (λ found. found ≡ colour_shape (set_to t) us) z us
+    (λ p. same_target z us target.Foreground t (ap target_numbered p) e) (λ p. same_target z us target.Background t (ap target_numbered p) e)
+    (λ p. same_target z us target.Underline t (ap target_numbered p) e)
+    (λ p. absurd (none-some _ (sym (ap target_numbered p) ∙ e))) (λ p q r s. absurd (none-some _ (sym (no_other_target z p q r) ∙ e)))
 
 -- the piece of a colour told with `;`
 told_piece : (y k : ℤ) (us : List CsiParam) (t : Target) → target_numbered y ≡ Some t
@@ -189,27 +190,13 @@ no_sign [] n h = refl
 no_sign (t ∷ ts) zero h = absurd (omega arith)
 no_sign (t ∷ ts) (suc n) h = no_sign ts n (omega arith)
 
-no_tokens : (ts : List CsiParam) (n : ℕ) → length ts ≤ n → all_sgr_tokens (drop n ts) ≡ true
-no_tokens ts n h = nothing (drop n ts) (omega (arith, length-drop n ts))
-  where
-    nothing : (us : List CsiParam) → length us ≡ 0 → all_sgr_tokens us ≡ true
-    nothing [] e = refl
-    nothing (t ∷ us) e = absurd (omega arith)
-
-or_true : (a b : Bool) → b ≡ true → (a || b) ≡ true
-or_true true b h = refl
-or_true false b h = h
-
 pub ends_list : (read n : ℕ) (ts : List CsiParam) → read + n ≡ length ts → end_at read n ts ≡ Some (length ts)
 unfolding end_at
 ends_list read n ts h =
     let k : read + n + semicolon_at ts (read + n) ≡ length ts = omega (arith, no_sign ts (read + n) (omega (arith, h)), h) in
-    ap (behind_all read ts) k ∙ ap (λ b. cond b (Some (length ts)) None) (or_true (nat_lt 0 read) (all_sgr_tokens (drop (length ts) ts)) (no_tokens ts (length ts) (omega arith)))
+    ap (behind_all read ts) k ∙ ap (λ b. cond b (Some (length ts)) None) (or_right (nat_lt 0 read) (all_sgr_tokens (drop (length ts) ts)) (at_drop_all all_sgr_tokens ts (length ts) (omega arith)))
 
 -- ---- A colour told with `;`, and how many tokens are read then
-
-nothing_told : {A : Type 0} {a : A} → None ≡ Some a → ⊥
-nothing_told e = cc
 
 pub told_some : (t : Target) (k : ℤ) (ts : List CsiParam) → IsTold t k ts → 0 < length ts
 told_some t k [] h = absurd h
@@ -218,12 +205,12 @@ told_some t k (x ∷ ts) h = omega arith
 pub palette_length : (ts : List CsiParam) (c : ColorSpec) → palette_behind ts ≡ Some c → 5 ≤ length ts
 unfolding palette_behind
 palette_length (t ∷ u ∷ w ∷ P b ∷ Integer n ∷ ts) c e = omega arith
-palette_length _ c e = absurd (nothing_told e)
+palette_length _ c e = absurd (none-some _ e)
 
 pub opaque_length : (ts : List CsiParam) (c : ColorSpec) → opaque_behind ts ≡ Some c → 9 ≤ length ts
 unfolding opaque_behind
 opaque_length (t ∷ u ∷ w ∷ P a ∷ Integer x ∷ P b ∷ Integer y ∷ P d ∷ Integer z ∷ ts) c e = omega arith
-opaque_length _ c e = absurd (nothing_told e)
+opaque_length _ c e = absurd (none-some _ e)
 
 pub first_palette : (t : Target) (ts : List CsiParam) (found : Option ColorSpec) → IsTold t (pos 5) ts → palette_behind ts ≡ found → first_setting ts ≡ ended 0 5 ts (option_map (set_to t) found)
 first_palette t ts found h e = first_ended ts 5 (option_map (set_to t) found) (told_some t (pos 5) ts h) (palette_piece t ts h ∙ ap (λ found. with_semicolon ts (taking 5 (option_map (set_to t) found))) e)
@@ -284,31 +271,22 @@ unfolding further_setting
 further_lost read ts us at e = ap (λ us. counted_from read (sgr_piece us)) (sym at) ∙ ap (counted_from read) e
 
 -- a number that means nothing
-meaningless : (p q r s : Bool) (a b c d e : Option (Sgr × ℕ)) → (p ≡ true → a ≡ None) → (q ≡ true → b ≡ None) → (r ≡ true → c ≡ None) → (s ≡ true → ⊥) → e ≡ None
-    → cond p a (cond q b (cond r c (cond s d e))) ≡ None
-meaningless true q r s a b c d e f g h i j = f refl
-meaningless false true r s a b c d e f g h i j = g refl
-meaningless false false true s a b c d e f g h i j = h refl
-meaningless false false false true a b c d e f g h i j = absurd (i refl)
-meaningless false false false false a b c d e f g h i j = j
-
-is_single : (z : ℤ) → plain_code z ≡ None → is_number 4 z ≡ true → ⊥
+not_single : (z : ℤ) → plain_code z ≡ None → z ≡ pos 4 → ⊥
 unfolding single_code
-is_single z e h = let f : plain_code (pos 4) ≡ None = sym (ap plain_code (number_is 4 z h)) ∙ e in cc
+not_single z e p = let f : plain_code (pos 4) ≡ None = sym (ap plain_code p) ∙ e in cc
 
-is_target : (n : ℕ) (z : ℤ) (t : Target) → target_numbered (pos n) ≡ Some t → target_numbered z ≡ None → is_number n z ≡ true → ⊥
-is_target n z t e none h = let f : None ≡ Some t = sym none ∙ (ap target_numbered (number_is n z h) ∙ e) in nothing_told f
+not_target : (n : ℕ) (z : ℤ) (t : Target) → target_numbered (pos n) ≡ Some t → target_numbered z ≡ None → z ≡ pos n → ⊥
+not_target n z t e none p = none-some t (sym none ∙ ap target_numbered p ∙ e)
 
 unnumbered : (z : ℤ) (us : List CsiParam) → target_numbered z ≡ None → plain_code z ≡ None → numbered_shape z us ≡ None
-unfolding numbered_shape
 unnumbered z us none plain =
-    meaningless (is_number 38 z) (is_number 48 z) (is_number 58 z) (is_number 4 z) _ _ _ _ _
-    (λ h. absurd (is_target 38 z target.Foreground refl none h)) (λ h. absurd (is_target 48 z target.Background refl none h)) (λ h. absurd (is_target 58 z target.Underline refl none h))
-    (is_single z plain) (ap (taking 1) plain)
+    numbered_shape-by (λ found. found ≡ None) z us
+    (λ p. absurd (not_target 38 z target.Foreground refl none p)) (λ p. absurd (not_target 48 z target.Background refl none p)) (λ p. absurd (not_target 58 z target.Underline refl none p))
+    (λ p. absurd (not_single z plain p)) (λ p q r s. ap (taking 1) plain)
 
 -- the foreground's number is a target's
 pub is_foreground : (z : ℤ) → target_numbered z ≡ None → is_number 38 z ≡ true → ⊥
-is_foreground z none h = is_target 38 z target.Foreground refl none h
+is_foreground z none h = not_target 38 z target.Foreground refl none (number_is 38 z h)
 
 pub no_meaning : (z : ℤ) (ts : List CsiParam) → begins_signed z ts → target_numbered z ≡ None → plain_code z ≡ None → sgr_piece ts ≡ None
 unfolding sgr_piece sgr_shape
@@ -363,9 +341,8 @@ abbrev first_token : List CsiParam → CsiParam
 first_token ts = slice_index_or ts 0 (Integer (pos 0))
 
 unnumbered_alone : (z : ℤ) → plain_code z ≡ None → numbered_shape z [] ≡ None
-unfolding numbered_shape colour_form
-unnumbered_alone z plain =
-    meaningless (is_number 38 z) (is_number 48 z) (is_number 58 z) (is_number 4 z) _ _ _ _ _ (λ h. refl) (λ h. refl) (λ h. refl) (is_single z plain) (ap (taking 1) plain)
+unfolding colour_form
+unnumbered_alone z plain = numbered_shape-by (λ found. found ≡ None) z [] (λ p. refl) (λ p. refl) (λ p. refl) (λ p. absurd (not_single z plain p)) (λ p q r s. ap (taking 1) plain)
 
 pub alone_lost : (ts : List CsiParam) (z : ℤ) → 1 ≤ length ts → length ts < 2 → first_token ts ≡ Integer z → plain_code z ≡ None → sgr_piece ts ≡ None
 unfolding sgr_piece sgr_shape
@@ -379,7 +356,7 @@ alone_piece (t ∷ []) v z h l e plain = subst (λ t. sgr_piece (t ∷ []) ≡ S
 alone_piece (t ∷ u ∷ ts) v z h l e plain = absurd (omega arith)
 
 pub first_alone : (ts : List CsiParam) (v : Sgr) (z : ℤ) → 1 ≤ length ts → length ts < 2 → first_token ts ≡ Integer z → plain_code z ≡ Some v → first_setting ts ≡ Some (v, 1)
-first_alone ts v z h l e plain = first_told ts v 1 true (omega arith) (alone_piece ts v z h l e plain) (no_tokens ts 1 (omega arith))
+first_alone ts v z h l e plain = first_told ts v 1 true (omega arith) (alone_piece ts v z h l e plain) (at_drop_all all_sgr_tokens ts 1 (omega arith))
 
 pub further_alone : (read : ℕ) (ts us : List CsiParam) (v : Sgr) (z : ℤ) → us ≡ drop read ts → 1 ≤ length us → length us < 2 → first_token us ≡ Integer z → plain_code z ≡ Some v
     → further_setting read ts ≡ Some (v, length ts)
@@ -394,18 +371,15 @@ empty_reset (t ∷ ts) h = absurd (omega arith)
 
 -- ---- Two places
 
-no_pair : {pair : ℕ × ℕ} → None ≡ Some pair → ⊥
-no_pair e = cc
-
 pub pair_placed : (ts : List CsiParam) (pair : ℕ × ℕ) → number_pair ts ≡ Some pair → place_pair 1 ts ≡ Some pair
 pair_placed (Integer a ∷ P s ∷ Integer b ∷ []) pair e = elim (cases_Bool (eqb s 59)) [
   | inl h ↦ subst (λ k. number_pair (Integer a ∷ P k ∷ Integer b ∷ []) ≡ Some pair → place_pair 1 (Integer a ∷ P k ∷ Integer b ∷ []) ≡ Some pair) (sym (eqb-true s 59 h)) (λ p. p) e
-  | inr h ↦ absurd (no_pair (ap (λ v. cond v (option_zip (place 1 (Some a)) (place 1 (Some b))) None) (sym h) ∙ e))
+  | inr h ↦ absurd (none-some _ (ap (λ v. cond v (option_zip (place 1 (Some a)) (place 1 (Some b))) None) (sym h) ∙ e))
 ]
-pair_placed [] pair e = absurd (no_pair e)
-pair_placed (P s ∷ ts) pair e = absurd (no_pair e)
-pair_placed (Integer a ∷ []) pair e = absurd (no_pair e)
-pair_placed (Integer a ∷ Integer b ∷ ts) pair e = absurd (no_pair e)
-pair_placed (Integer a ∷ P s ∷ []) pair e = absurd (no_pair e)
-pair_placed (Integer a ∷ P s ∷ P t ∷ ts) pair e = absurd (no_pair e)
-pair_placed (Integer a ∷ P s ∷ Integer b ∷ t ∷ ts) pair e = absurd (no_pair e)
+pair_placed [] pair e = absurd (none-some _ e)
+pair_placed (P s ∷ ts) pair e = absurd (none-some _ e)
+pair_placed (Integer a ∷ []) pair e = absurd (none-some _ e)
+pair_placed (Integer a ∷ Integer b ∷ ts) pair e = absurd (none-some _ e)
+pair_placed (Integer a ∷ P s ∷ []) pair e = absurd (none-some _ e)
+pair_placed (Integer a ∷ P s ∷ P t ∷ ts) pair e = absurd (none-some _ e)
+pair_placed (Integer a ∷ P s ∷ Integer b ∷ t ∷ ts) pair e = absurd (none-some _ e)

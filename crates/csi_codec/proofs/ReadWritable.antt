@@ -1,10 +1,8 @@
 -- What the readings give can be written.
-use Rattle.std.proofs.Common.{◌≡◌, ℕ, ◌+◌, ◌≤◌, ℤ, pos, negsuc, eqb, leb, Bool, true, false, cond, List, [], ◌∷◌, Option, Some, None, option_map, option_and_then, slice_get, arith, refl, subst}
-use Rattle.std.proofs.lemmas.Bool.{leb-true}
+use Rattle.std.proofs.Common.{◌≡◌, ℕ, ◌≤◌, ℤ, pos, negsuc, eqb, leb, Bool, true, false, cond, List, [], ◌∷◌, Option, Some, None, IfSome, option_map, option_and_then, slice_get, arith, refl, subst}
+use Rattle.std.proofs.lemmas.Bool.{leb-true, and_parts, cond_both}
 use Rattle.cell_base.specs.declared.color.ColorSpec.{ColorSpec}
 use Rattle.cell_base.specs.declared.color.ColorSpec.TheVariants as color
-use Rattle.cell_base.specs.declared.attributes.Underline.{Underline}
-use Rattle.cell_base.specs.declared.attributes.Underline.TheVariants as underline
 use Rattle.csi_codec.specs.declared.parameters.CsiParam.{CsiParam}
 use Rattle.csi_codec.specs.declared.parameters.CsiParam.TheVariants.{Integer, P}
 use Rattle.csi_codec.specs.declared.cursors.Cursor.{Cursor}
@@ -16,15 +14,17 @@ use Rattle.csi_codec.specs.declared.modes.TerminalModeCode.{TerminalModeCode}
 use Rattle.csi_codec.specs.declared.modes.Mode.{Mode}
 use Rattle.csi_codec.specs.declared.modes.Mode.TheVariants as does
 use Rattle.csi_codec.specs.declared.rendition.Sgr.{Sgr}
-use Rattle.csi_codec.specs.declared.rendition.Sgr.TheVariants as value
 use Rattle.csi_codec.specs.Parameters.{is_number, word_max, number_within, count, place_pair, one_slot, slot_and_space, slot_number}
 use Rattle.csi_codec.specs.Cursors.{cursor_style_named, tabulation_clear_named, tabulation_control_named, cursor_lines, cursor_reading, save_or_margins, restore, position_request}
 use Rattle.csi_codec.specs.Edits.{erase_in_line_named, erase_in_display_named, edit_lines, edit_reading}
 use Rattle.csi_codec.specs.Modes.{dec_private_mode_named, dec_mode_by, dec_mode_of, terminal_mode_named, ansi_mode_by, ansi_mode_of, private_step, standard_step, private_mode_reading, mode_reading}
-use Rattle.csi_codec.specs.Rendition.{stands, byte_of, byte_at, palette_at, opaque_at, colour_at, colour, taking, Form, first_form, colour_forms, colour_form, colour_shape, listed_or, single_codes, ranged_code, single_code, is_between, underline_numbered, underline_or_single, underline_shape, numbered_shape, sgr_shape}
+use Rattle.csi_codec.specs.Rendition.{byte_of, byte_at, palette_at, opaque_at, colour_at, colour, colour_forms, listed_or, single_codes, ranged_code, single_code, is_between, sgr_shape}
 use Rattle.csi_codec.specs.Writable.{IsPlace, IsWritableCursor, IsWritableEdit, IsWritablePrivateMode, IsWritableStandardMode, IsWritableMode, IsColour, IsWritableSgr}
 use Rattle.csi_codec.proofs.BackLemmas.{EachLine, read_by-each, made, count_valid, pair_valid}
-use Rattle.csi_codec.proofs.BoolLemmas.{and_left, and_right}
+use Rattle.csi_codec.proofs.ShapeLemmas.{EachForm, EachShape, sgr_shape-each}
+use Rattle.csi_codec.specs.declared.sgr_reading.Target.{Target}
+use Rattle.csi_codec.specs.declared.sgr_reading.Target.TheVariants as target
+use Rattle.csi_codec.specs.ColourCases.{set_to}
 
 same_value : {A : Type 0} (Q : A → Type 0) (x y : A) → Some x ≡ Some y → Q x → Q y
 same_value Q x y e h = let q : x ≡ y = cc in subst Q q h
@@ -179,10 +179,6 @@ colour-valid (Some x) (Some y) (Some z) None c h k l m e = cc
 colour-valid (Some x) (Some y) (Some z) (Some w) c h k l m e =
     let q : colour x y z w ≡ c = cc in subst (λ (v : ColorSpec). IsColour v) q (h x refl, k y refl, l z refl, m w refl)
 
-abbrev FormsValid : List Form → Type 0
-FormsValid [] = Unit {0}
-FormsValid (form ∷ forms) = ((ts : List CsiParam) (c : ColorSpec) → form.1 ts ≡ Some c → IsColour c) × FormsValid forms
-
 at_palette : (i : ℕ) (ts : List CsiParam) (c : ColorSpec) → palette_at i ts ≡ Some c → IsColour c
 at_palette i ts c e = palette-valid (byte_at ts i) c (byte_at-valid ts i) e
 
@@ -192,21 +188,8 @@ at_opaque i j k ts c e = opaque-valid (byte_at ts i) (byte_at ts j) (byte_at ts 
 at_colour : (i j k l : ℕ) (ts : List CsiParam) (c : ColorSpec) → colour_at i j k l ts ≡ Some c → IsColour c
 at_colour i j k l ts c e = colour-valid (byte_at ts i) (byte_at ts j) (byte_at ts k) (byte_at ts l) c (byte_at-valid ts i) (byte_at-valid ts j) (byte_at-valid ts k) (byte_at-valid ts l) e
 
-forms-valid : FormsValid colour_forms
-forms-valid = (at_colour 4 6 8 10, (at_opaque 5 7 9, (at_opaque 4 6 8, (at_opaque 3 5 7, (at_opaque 3 5 7, (at_palette 3, (at_palette 3, tt)))))))
-
-taken-valid : (n : ℕ) (found : Option ColorSpec) (f : ColorSpec × ℕ) → ((c : ColorSpec) → found ≡ Some c → IsColour c) → taking n found ≡ Some f → IsColour f.0
-taken-valid n None f h e = cc
-taken-valid n (Some c) f h e = let q : (c, n) ≡ f = cc in subst (λ (x : ColorSpec × ℕ). IsColour x.0) q (h c refl)
-
-form_by : (b : Bool) (here there : Option (ColorSpec × ℕ)) (f : ColorSpec × ℕ) → (here ≡ Some f → IsColour f.0) → (there ≡ Some f → IsColour f.0) → cond b here there ≡ Some f → IsColour f.0
-form_by true here there f h k e = h e
-form_by false here there f h k e = k e
-
-first_form-valid : (forms : List Form) (ts : List CsiParam) (f : ColorSpec × ℕ) → FormsValid forms → first_form forms ts ≡ Some f → IsColour f.0
-first_form-valid [] ts f h e = cc
-first_form-valid (form ∷ forms) ts f h e =
-    form_by (stands form.0 ts) (taking _ (form.1 ts)) (first_form forms ts) f (taken-valid _ (form.1 ts) f (h.0 ts)) (first_form-valid forms ts f h.1) e
+forms-valid : EachForm (λ ts f. IsColour f.0) colour_forms
+forms-valid = (λ ts c s. at_colour 4 6 8 10 ts c, (λ ts c s. at_opaque 5 7 9 ts c, (λ ts c s. at_opaque 4 6 8 ts c, (λ ts c s. at_opaque 3 5 7 ts c, (λ ts c s. at_opaque 3 5 7 ts c, (λ ts c s. at_palette 3 ts c, (λ ts c s. at_palette 3 ts c, tt)))))))
 
 -- ---- Numbers and shapes of SGR
 
@@ -217,87 +200,44 @@ EachListed (line ∷ lines) = IsWritableSgr line.1 × EachListed lines
 listed-writable : EachListed single_codes
 listed-writable = (tt, (tt, (tt, (tt, (tt, (tt, (tt, (tt, (tt, (tt, (tt, (tt, (tt, (tt, (tt, (tt, (tt, (tt, (tt, (tt, (tt, (tt, (tt, (tt, (tt, (tt, (tt, tt)))))))))))))))))))))))))))
 
-same_sgr : (x y : Sgr) → Some x ≡ Some y → IsWritableSgr x → IsWritableSgr y
-same_sgr x y e h = let q : x ≡ y = cc in subst (λ (v : Sgr). IsWritableSgr v) q h
+abbrev WritableIfSome : Option Sgr → Type 0
+WritableIfSome found = IfSome found (λ v. IsWritableSgr v)
 
-listed_by : (b : Bool) (v x : Sgr) (other : Option Sgr) → IsWritableSgr v → (other ≡ Some x → IsWritableSgr x) → cond b (Some v) other ≡ Some x → IsWritableSgr x
-listed_by true v x other h k e = same_sgr v x e h
-listed_by false v x other h k e = k e
+listed_or-writable : (lines : List (ℕ × Sgr)) (n : ℕ) (other : Option Sgr) → EachListed lines → WritableIfSome other → WritableIfSome (listed_or lines n other)
+listed_or-writable [] n other h k = k
+listed_or-writable (line ∷ lines) n other h k = cond_both (eqb line.0 n) (Some line.1) (listed_or lines n other) WritableIfSome (λ e. h.0) (λ e. listed_or-writable lines n other h.1 k)
 
-listed_or-writable : (lines : List (ℕ × Sgr)) (n : ℕ) (other : Option Sgr) (x : Sgr) → EachListed lines → (other ≡ Some x → IsWritableSgr x) → listed_or lines n other ≡ Some x → IsWritableSgr x
-listed_or-writable [] n other x h k e = k e
-listed_or-writable (line ∷ lines) n other x h k e = listed_by (eqb line.0 n) line.1 x (listed_or lines n other) h.0 (listed_or-writable lines n other x h.1 k) e
+between-writable : (low high n : ℕ) (v : Sgr) (other : Option Sgr) → (low ≤ n → n ≤ high → IsWritableSgr v) → WritableIfSome other → WritableIfSome (cond (is_between low high n) (Some v) other)
+between-writable low high n v other h k =
+    cond_both (is_between low high n) (Some v) other WritableIfSome
+    (λ e. let both = and_parts (leb low n) (leb n high) e in h (leb-true low n both.0) (leb-true n high both.1)) (λ e. k)
 
-ranged_by : (low high n : ℕ) (b : Bool) → is_between low high n ≡ b → (v x : Sgr) (other : Option Sgr) → (low ≤ n → n ≤ high → IsWritableSgr v) → (other ≡ Some x → IsWritableSgr x) → cond b (Some v) other ≡ Some x → IsWritableSgr x
-ranged_by low high n true p v x other h k e = same_sgr v x e (h (leb-true low n (and_left (leb low n) (leb n high) p)) (leb-true n high (and_right (leb low n) (leb n high) p)))
-ranged_by low high n false p v x other h k e = k e
+ranged-writable : (n : ℕ) → WritableIfSome (ranged_code n)
+ranged-writable n =
+    between-writable 11 19 n _ _ (λ l h. (omega arith, omega arith))
+    (between-writable 30 37 n _ _ (λ l h. omega arith)
+    (between-writable 40 47 n _ _ (λ l h. omega arith)
+    (between-writable 90 97 n _ _ (λ l h. omega arith)
+    (between-writable 100 107 n _ None (λ l h. omega arith) tt))))
 
-none_is_some : (x : Sgr) → None ≡ Some x → ⊥
-none_is_some x q = cc
-
-ranged-writable : (n : ℕ) (x : Sgr) → ranged_code n ≡ Some x → IsWritableSgr x
-ranged-writable n x e =
-    ranged_by 11 19 n (is_between 11 19 n) refl _ x _ (λ l h. (omega arith, omega arith))
-    (ranged_by 30 37 n (is_between 30 37 n) refl _ x _ (λ l h. omega arith)
-    (ranged_by 40 47 n (is_between 40 47 n) refl _ x _ (λ l h. omega arith)
-    (ranged_by 90 97 n (is_between 90 97 n) refl _ x _ (λ l h. omega arith)
-    (ranged_by 100 107 n (is_between 100 107 n) refl _ x _ (λ l h. omega arith)
-    (λ q. absurd (none_is_some x q)))))) e
-
--- ---- Shapes
-
-abbrev FindsWritable : Option (Sgr × ℕ) → Type 0
-FindsWritable found = (f : Sgr × ℕ) → found ≡ Some f → IsWritableSgr f.0
-
-taken-writable : (n : ℕ) (found : Option Sgr) → ((x : Sgr) → found ≡ Some x → IsWritableSgr x) → FindsWritable (taking n found)
-taken-writable n None h f e = cc
-taken-writable n (Some v) h f e = let q : (v, n) ≡ f = cc in subst (λ (x : Sgr × ℕ). IsWritableSgr x.0) q (h v refl)
-
-coloured-writable : (target : ColorSpec → Sgr) (found : Option (ColorSpec × ℕ)) → ((g : ColorSpec × ℕ) → found ≡ Some g → IsColour g.0) → ((c : ColorSpec) → IsColour c → IsWritableSgr (target c))
-    → FindsWritable (option_map (λ form. (target form.0, form.1 + 1)) found)
-coloured-writable target None valid back f e = cc
-coloured-writable target (Some g) valid back f e = let q : (target g.0, g.1 + 1) ≡ f = cc in subst (λ (x : Sgr × ℕ). IsWritableSgr x.0) q (back g.0 (valid g refl))
-
-colour_shape-writable : (target : ColorSpec → Sgr) → ((c : ColorSpec) → IsColour c → IsWritableSgr (target c)) → (ts : List CsiParam) → FindsWritable (colour_shape target ts)
-unfolding colour_form
-colour_shape-writable target back ts = coloured-writable target (first_form colour_forms ts) (λ g e. first_form-valid colour_forms ts g forms-valid e) back
-
-underlined-writable : (line : Option Underline) → FindsWritable (underline_or_single line)
-underlined-writable None f e = let q : (value.Underline underline.Single, 1) ≡ f = cc in subst (λ (x : Sgr × ℕ). IsWritableSgr x.0) q tt
-underlined-writable (Some line) f e = let q : (value.Underline line, 3) ≡ f = cc in subst (λ (x : Sgr × ℕ). IsWritableSgr x.0) q tt
-
-underline_shape-writable : (ts : List CsiParam) → FindsWritable (underline_shape ts)
-underline_shape-writable [] = underlined-writable None
-underline_shape-writable (Integer z ∷ ts) = underlined-writable None
-underline_shape-writable (P b ∷ []) = underlined-writable None
-underline_shape-writable (P b ∷ P c ∷ ts) = underlined-writable None
-underline_shape-writable (P b ∷ Integer z ∷ ts) = underlined-writable (cond (eqb b 58) (underline_numbered z) None)
-
-single-writable : (found : Option ℕ) (x : Sgr) → option_and_then single_code found ≡ Some x → IsWritableSgr x
+single-writable : (found : Option ℕ) → WritableIfSome (option_and_then single_code found)
 unfolding single_code
-single-writable None x e = cc
-single-writable (Some n) x e = listed_or-writable single_codes n (ranged_code n) x listed-writable (ranged-writable n x) e
+single-writable None = tt
+single-writable (Some n) = listed_or-writable single_codes n (ranged_code n) listed-writable (ranged-writable n)
 
-five_ways : (p q r s : Bool) (a b c d e : Option (Sgr × ℕ)) → FindsWritable a → FindsWritable b → FindsWritable c → FindsWritable d → FindsWritable e → FindsWritable (cond p a (cond q b (cond r c (cond s d e))))
-five_ways true q r s a b c d e u v w x y = u
-five_ways false true r s a b c d e u v w x y = v
-five_ways false false true s a b c d e u v w x y = w
-five_ways false false false true a b c d e u v w x y = x
-five_ways false false false false a b c d e u v w x y = y
+set_to-writable : (t : Target) (c : ColorSpec) → IsColour c → IsWritableSgr (set_to t c)
+set_to-writable target.Foreground c h = h
+set_to-writable target.Background c h = h
+set_to-writable target.Underline c h = h
 
-numbered_shape-writable : (z : ℤ) (ts : List CsiParam) → FindsWritable (numbered_shape z ts)
-unfolding numbered_shape
-numbered_shape-writable z ts =
-    five_ways (is_number 38 z) (is_number 48 z) (is_number 58 z) (is_number 4 z) _ _ _ _ _
-    (colour_shape-writable value.Foreground (λ c h. h) ts) (colour_shape-writable value.Background (λ c h. h) ts) (colour_shape-writable value.UnderlineColor (λ c h. h) ts)
-    (underline_shape-writable ts) (taken-writable 1 (option_and_then single_code (number_within 255 z)) (single-writable (number_within 255 z)))
-
-reset_by : (b : Bool) (x : Sgr) → cond b (Some value.Reset) None ≡ Some x → IsWritableSgr x
-reset_by true x e = same_sgr value.Reset x e tt
-reset_by false x e = cc
+shapes-writable : EachShape (λ ts f. IsColour f.0) (λ ts f. IsWritableSgr f.0)
+shapes-writable = record {
+  form = forms-valid;
+  colour = λ t z ts f h. set_to-writable t f.0 h;
+  line = λ z y ts u. tt;
+  lone = λ z ts v e. subst WritableIfSome e (single-writable (number_within 255 z));
+  reset = λ ts. tt;
+}
 
 pub sgr_shape-writable : (ts : List CsiParam) (f : Sgr × ℕ) → sgr_shape ts ≡ Some f → IsWritableSgr f.0
-unfolding sgr_shape
-sgr_shape-writable [] f e = cc
-sgr_shape-writable (P b ∷ ts) f e = taken-writable 1 (cond (eqb b 59) (Some value.Reset) None) (reset_by (eqb b 59)) f e
-sgr_shape-writable (Integer z ∷ ts) f e = numbered_shape-writable z ts f e
+sgr_shape-writable ts f e = let Q : Option (Sgr × ℕ) → Type 0 = λ found. IfSome found (λ f. IsWritableSgr f.0) in subst Q e (sgr_shape-each shapes-writable ts)

@@ -1,5 +1,6 @@
 -- How many actions a reading has, and where the rest stands.
-use Rattle.std.proofs.Common.{◌≡◌, ℕ, zero, suc, ◌-◌, ◌<◌, ◌≤◌, max, ℤ, eqb, Bool, true, false, cond, ◌||◌, List, [], ◌∷◌, length, drop, Option, Some, None, IfSome, option_map, arith, refl}
+use Rattle.std.proofs.Common.{◌≡◌, ℕ, zero, suc, ◌-◌, ◌<◌, ◌≤◌, max, ℤ, eqb, Bool, true, ◌||◌, List, [], ◌∷◌, length, drop, Option, Some, None, IfSome, option_map, arith, refl}
+use Rattle.std.proofs.lemmas.Bool.{cond_both}
 use Rattle.std.specs.Prelude.{is_some}
 use Rattle.std.specs.Option.{option_map_or, option_or}
 use Rattle.csi_codec.specs.declared.parameters.CsiParam.{CsiParam}
@@ -22,22 +23,22 @@ use Rattle.csi_codec.proofs.PieceLemmas.{piece_of_takes}
 
 -- ---- The count
 
-pieces_from-length : (piece : List CsiParam → Option (Action × ℕ)) (left : List CsiParam → Action) (k : ℕ) (ts : List CsiParam) → length (pieces_from piece left k ts) ≤ length ts
-pieces_from-length piece left zero [] = omega arith
-pieces_from-length piece left (suc k) [] = omega arith
-pieces_from-length piece left (suc k) (t ∷ ts) = let h : length (pieces_from piece left k ts) ≤ length ts = pieces_from-length piece left k ts in omega arith
-pieces_from-length piece left zero (t ∷ ts) =
-    elim (piece (t ∷ ts)) as (λ found. length (option_map_or (λ f. f.0 ∷ pieces_from piece left (f.1 - 1) ts) found (left (t ∷ ts) ∷ [])) ≤ length (t ∷ ts)) [
+pieces_from-length : (piece : List CsiParam → Option (Action × ℕ)) (unread : List CsiParam → Action) (k : ℕ) (ts : List CsiParam) → length (pieces_from piece unread k ts) ≤ length ts
+pieces_from-length piece unread zero [] = omega arith
+pieces_from-length piece unread (suc k) [] = omega arith
+pieces_from-length piece unread (suc k) (t ∷ ts) = let h : length (pieces_from piece unread k ts) ≤ length ts = pieces_from-length piece unread k ts in omega arith
+pieces_from-length piece unread zero (t ∷ ts) =
+    elim (piece (t ∷ ts)) as (λ found. length (option_map_or (λ f. f.0 ∷ pieces_from piece unread (f.1 - 1) ts) found (unread (t ∷ ts) ∷ [])) ≤ length (t ∷ ts)) [
       | None ↦ omega arith
-      | Some f ↦ let h : length (pieces_from piece left (f.1 - 1) ts) ≤ length ts = pieces_from-length piece left (f.1 - 1) ts in omega arith
+      | Some f ↦ let h : length (pieces_from piece unread (f.1 - 1) ts) ≤ length ts = pieces_from-length piece unread (f.1 - 1) ts in omega arith
     ]
 
 pieces-some : (k : Kind) (truncated : Bool) (final : ℕ) (ts : List CsiParam) → 0 < length ts → 0 < length (pieces k truncated final ts)
 unfolding pieces
 pieces-some k truncated final [] h = absurd (omega arith)
 pieces-some k truncated final (t ∷ ts) h =
-    let left : List CsiParam → Action = λ rest. unspecified rest truncated final in
-    elim (piece_of k final (t ∷ ts)) as (λ found. 0 < length (option_map_or (λ f. f.0 ∷ pieces_from (piece_of k final) left (f.1 - 1) ts) found (left (t ∷ ts) ∷ [])))
+    let unread : List CsiParam → Action = λ rest. unspecified rest truncated final in
+    elim (piece_of k final (t ∷ ts)) as (λ found. 0 < length (option_map_or (λ f. f.0 ∷ pieces_from (piece_of k final) unread (f.1 - 1) ts) found (unread (t ∷ ts) ∷ [])))
     [ None ↦ omega arith | Some f ↦ omega arith ]
 
 -- between one action and as many as there are tokens, or one
@@ -59,41 +60,35 @@ stands_in k final ts None e h = cc
 stands_in k final ts (Some f) e h = let t : (0 < f.1) × (f.1 ≤ length ts) = piece_of_takes k final ts f.0 f.1 e in omega (arith, t.0, t.1)
 
 modes_or-counted : (k : Kind) (truncated : Bool) (final : ℕ) (ts whole : List CsiParam) → length ts ≤ length whole → IsCounted whole (modes_or k truncated final ts whole)
-modes_or-counted k truncated final ts whole le = by (is_some (piece_of k final ts)) refl
-  where
-    by : (b : Bool) → is_some (piece_of k final ts) ≡ b → IsCounted whole (cond b (pieces k truncated final ts) (unspecified whole truncated final ∷ []))
-    by true e = pieces-counted k truncated final ts whole (stands_in k final ts (piece_of k final ts) refl e) le
-    by false e = counted_one whole (unspecified whole truncated final)
+modes_or-counted k truncated final ts whole le =
+    cond_both (is_some (piece_of k final ts)) _ _ (IsCounted whole) (λ e. pieces-counted k truncated final ts whole (stands_in k final ts (piece_of k final ts) refl e) le)
+    (λ e. counted_one whole (unspecified whole truncated final))
 
 lone_or-counted : (truncated : Bool) (final : ℕ) (ts : List CsiParam) → IsCounted ts (lone_or truncated final ts)
 lone_or-counted truncated final ts =
     elim (lone_reading final ts) as (λ found. IsCounted ts (option_map_or (λ known. known ∷ []) found (unspecified ts truncated final ∷ [])))
     [ None ↦ counted_one ts (unspecified ts truncated final) | Some known ↦ counted_one ts known ]
 
-chosen : (ts : List CsiParam) (b : Bool) (x y : List Action) → IsCounted ts x → IsCounted ts y → IsCounted ts (cond b x y)
-chosen ts true x y h k = h
-chosen ts false x y h k = k
-
 standard_reading-counted : (truncated : Bool) (final : ℕ) (ts : List CsiParam) → IsCounted ts (standard_reading truncated final ts)
 standard_reading-counted truncated final ts =
-    chosen ts (eqb final 104 || eqb final 108) _ _ (modes_or-counted standard_mode_pieces truncated final ts ts (omega arith)) (lone_or-counted truncated final ts)
+    cond_both (eqb final 104 || eqb final 108) _ _ (IsCounted ts) (λ e. modes_or-counted standard_mode_pieces truncated final ts ts (omega arith)) (λ e. lone_or-counted truncated final ts)
 
 other_reading-counted : (truncated : Bool) (final : ℕ) (ts : List CsiParam) → IsCounted ts (other_reading truncated final ts)
 other_reading-counted truncated final [] = standard_reading-counted truncated final []
 other_reading-counted truncated final (Integer z ∷ ts) = standard_reading-counted truncated final (Integer z ∷ ts)
 other_reading-counted truncated final (P b ∷ ts) =
-    chosen (P b ∷ ts) (eqb b 63) _ _ (modes_or-counted private_mode_pieces truncated final ts (P b ∷ ts) (omega arith)) (standard_reading-counted truncated final (P b ∷ ts))
+    cond_both (eqb b 63) _ _ (IsCounted (P b ∷ ts)) (λ e. modes_or-counted private_mode_pieces truncated final ts (P b ∷ ts) (omega arith)) (λ e. standard_reading-counted truncated final (P b ∷ ts))
 
 sgr_reading-counted : (truncated : Bool) (final : ℕ) (ts : List CsiParam) → IsCounted ts (sgr_reading truncated final ts)
 sgr_reading-counted truncated final [] = counted_one [] (sgr Reset)
 sgr_reading-counted truncated final (t ∷ ts) =
-    chosen (t ∷ ts) (all_sgr_tokens (t ∷ ts)) _ _ (pieces-counted sgr_pieces truncated final (t ∷ ts) (t ∷ ts) (omega arith) (omega arith)) (counted_one (t ∷ ts) (unspecified (t ∷ ts) truncated final))
+    cond_both (all_sgr_tokens (t ∷ ts)) _ _ (IsCounted (t ∷ ts)) (λ e. pieces-counted sgr_pieces truncated final (t ∷ ts) (t ∷ ts) (omega arith) (omega arith)) (λ e. counted_one (t ∷ ts) (unspecified (t ∷ ts) truncated final))
 
 pub csi_reading-counted : (ts : List CsiParam) (truncated : Bool) (final : ℕ) → IsCounted ts (csi_reading ts truncated final)
 unfolding csi_reading
-csi_reading-counted ts truncated final = chosen ts (eqb final 109) _ _ (sgr_reading-counted truncated final ts) (other_reading-counted truncated final ts)
+csi_reading-counted ts truncated final = cond_both (eqb final 109) _ _ (IsCounted ts) (λ e. sgr_reading-counted truncated final ts) (λ e. other_reading-counted truncated final ts)
 
--- ---- What is left
+-- ---- What remains
 
 abbrev pub IsKnown : Action → Type 0
 IsKnown (unspecified rest truncated final) = ⊥
@@ -111,8 +106,8 @@ keeps-known ts truncated final (edit value) others k h = h
 keeps-known ts truncated final (mode value) others k h = h
 keeps-known ts truncated final (device value) others k h = h
 
-keeps-left : (ts : List CsiParam) (truncated : Bool) (final n : ℕ) (rest : List CsiParam) → rest ≡ drop n ts → KeepsRests ts truncated final (unspecified rest truncated final ∷ [])
-keeps-left ts truncated final n rest e = ((n, e), refl, refl, refl)
+keeps-rest : (ts : List CsiParam) (truncated : Bool) (final n : ℕ) (rest : List CsiParam) → rest ≡ drop n ts → KeepsRests ts truncated final (unspecified rest truncated final ∷ [])
+keeps-rest ts truncated final n rest e = ((n, e), refl, refl, refl)
 
 abbrev FindsKnown : Option (Action × ℕ) → Type 0
 FindsKnown found = IfSome found (λ f. IsKnown f.0)
@@ -143,8 +138,8 @@ drop-next (x ∷ ts) zero t rest e = cc
 drop-next (x ∷ ts) (suc n) t rest e = drop-next ts n t rest e
 
 module _ (k : Kind) (truncated : Bool) (final : ℕ) (whole : List CsiParam) where
-  left_action : List CsiParam → Action
-  left_action rest = unspecified rest truncated final
+  rest_action : List CsiParam → Action
+  rest_action rest = unspecified rest truncated final
 
   abbrev from : ℕ → List CsiParam → List Action
   from = pieces_from (piece_of k final) (λ rest. unspecified rest truncated final)
@@ -152,7 +147,7 @@ module _ (k : Kind) (truncated : Bool) (final : ℕ) (whole : List CsiParam) whe
   found_keeps : (rest : List CsiParam) (n : ℕ) → rest ≡ drop n whole → (found : Option (Action × ℕ)) (others : ℕ → List Action) → FindsKnown found
       → ((j : ℕ) → KeepsRests whole truncated final (others j))
       → KeepsRests whole truncated final (option_map_or (λ f. f.0 ∷ others (f.1 - 1)) found (unspecified rest truncated final ∷ []))
-  found_keeps rest n e None others known h = keeps-left whole truncated final n rest e
+  found_keeps rest n e None others known h = keeps-rest whole truncated final n rest e
   found_keeps rest n e (Some f) others known h = keeps-known whole truncated final f.0 (others (f.1 - 1)) known (h (f.1 - 1))
 
   from-keeps : (j : ℕ) (ts : List CsiParam) (n : ℕ) → ts ≡ drop n whole → KeepsRests whole truncated final (from j ts)
@@ -166,37 +161,32 @@ pieces-keep : (k : Kind) (truncated : Bool) (final : ℕ) (whole ts : List CsiPa
 unfolding pieces
 pieces-keep k truncated final whole ts n e = from-keeps k truncated final whole 0 ts n e
 
-chosen_keeps : (ts : List CsiParam) (truncated : Bool) (final : ℕ) (b : Bool) (x y : List Action) → KeepsRests ts truncated final x → KeepsRests ts truncated final y → KeepsRests ts truncated final (cond b x y)
-chosen_keeps ts truncated final true x y h k = h
-chosen_keeps ts truncated final false x y h k = k
-
 modes_or-keeps : (k : Kind) (truncated : Bool) (final : ℕ) (ts whole : List CsiParam) (n : ℕ) → ts ≡ drop n whole → KeepsRests whole truncated final (modes_or k truncated final ts whole)
 modes_or-keeps k truncated final ts whole n e =
-    chosen_keeps whole truncated final (is_some (piece_of k final ts)) _ _ (pieces-keep k truncated final whole ts n e) (keeps-left whole truncated final 0 whole refl)
+    cond_both (is_some (piece_of k final ts)) _ _ (KeepsRests whole truncated final) (λ p. pieces-keep k truncated final whole ts n e) (λ p. keeps-rest whole truncated final 0 whole refl)
 
 lone_keeps : (truncated : Bool) (final : ℕ) (ts : List CsiParam) (c : Option Cursor) (e : Option Edit) (d : Option Device)
     → KeepsRests ts truncated final (option_map_or (λ known. known ∷ []) (option_or (option_map cursor c) (option_or (option_map edit e) (option_map device d))) (unspecified ts truncated final ∷ []))
 lone_keeps truncated final ts (Some c) e d = tt
 lone_keeps truncated final ts None (Some e) d = tt
 lone_keeps truncated final ts None None (Some d) = tt
-lone_keeps truncated final ts None None None = keeps-left ts truncated final 0 ts refl
+lone_keeps truncated final ts None None None = keeps-rest ts truncated final 0 ts refl
 
 standard_reading-keeps : (truncated : Bool) (final : ℕ) (ts : List CsiParam) → KeepsRests ts truncated final (standard_reading truncated final ts)
 standard_reading-keeps truncated final ts =
-    chosen_keeps ts truncated final (eqb final 104 || eqb final 108) _ _ (modes_or-keeps standard_mode_pieces truncated final ts ts 0 refl)
-    (lone_keeps truncated final ts (cursor_reading final ts) (edit_reading final ts) (device_reading final ts))
+    cond_both (eqb final 104 || eqb final 108) _ _ (KeepsRests ts truncated final) (λ e. modes_or-keeps standard_mode_pieces truncated final ts ts 0 refl) (λ e. lone_keeps truncated final ts (cursor_reading final ts) (edit_reading final ts) (device_reading final ts))
 
 other_reading-keeps : (truncated : Bool) (final : ℕ) (ts : List CsiParam) → KeepsRests ts truncated final (other_reading truncated final ts)
 other_reading-keeps truncated final [] = standard_reading-keeps truncated final []
 other_reading-keeps truncated final (Integer z ∷ ts) = standard_reading-keeps truncated final (Integer z ∷ ts)
 other_reading-keeps truncated final (P b ∷ ts) =
-    chosen_keeps (P b ∷ ts) truncated final (eqb b 63) _ _ (modes_or-keeps private_mode_pieces truncated final ts (P b ∷ ts) 1 refl) (standard_reading-keeps truncated final (P b ∷ ts))
+    cond_both (eqb b 63) _ _ (KeepsRests (P b ∷ ts) truncated final) (λ e. modes_or-keeps private_mode_pieces truncated final ts (P b ∷ ts) 1 refl) (λ e. standard_reading-keeps truncated final (P b ∷ ts))
 
 sgr_reading-keeps : (truncated : Bool) (final : ℕ) (ts : List CsiParam) → KeepsRests ts truncated final (sgr_reading truncated final ts)
 sgr_reading-keeps truncated final [] = tt
 sgr_reading-keeps truncated final (t ∷ ts) =
-    chosen_keeps (t ∷ ts) truncated final (all_sgr_tokens (t ∷ ts)) _ _ (pieces-keep sgr_pieces truncated final (t ∷ ts) (t ∷ ts) 0 refl) (keeps-left (t ∷ ts) truncated final 0 (t ∷ ts) refl)
+    cond_both (all_sgr_tokens (t ∷ ts)) _ _ (KeepsRests (t ∷ ts) truncated final) (λ e. pieces-keep sgr_pieces truncated final (t ∷ ts) (t ∷ ts) 0 refl) (λ e. keeps-rest (t ∷ ts) truncated final 0 (t ∷ ts) refl)
 
 pub csi_reading-keeps : (ts : List CsiParam) (truncated : Bool) (final : ℕ) → KeepsRests ts truncated final (csi_reading ts truncated final)
 unfolding csi_reading
-csi_reading-keeps ts truncated final = chosen_keeps ts truncated final (eqb final 109) _ _ (sgr_reading-keeps truncated final ts) (other_reading-keeps truncated final ts)
+csi_reading-keeps ts truncated final = cond_both (eqb final 109) _ _ (KeepsRests ts truncated final) (λ e. sgr_reading-keeps truncated final ts) (λ e. other_reading-keeps truncated final ts)

@@ -1,8 +1,8 @@
 -- Each action of a list reads back.
-use Rattle.std.proofs.Common.{◌≡◌, ℕ, zero, suc, ◌-◌, ◌<◌, ◌≤◌, ℤ, eqb, Bool, true, false, cond, ◌||◌, List, [], ◌∷◌, length, length-drop, drop, Option, Some, None, option_map, arith, refl, sym, ap, ◌∙◌, subst}
+use Rattle.std.proofs.Common.{◌≡◌, ℕ, zero, suc, ◌-◌, ◌<◌, ◌≤◌, ℤ, eqb, Bool, true, false, cond, ◌||◌, List, [], ◌∷◌, length, length-drop, drop, Option, Some, None, option_map, inl, inr, arith, refl, sym, ap, ◌∙◌, subst}
 use Rattle.std.specs.Prelude.{is_some}
 use Rattle.std.specs.Option.{option_map_or, option_or}
-use Rattle.std.proofs.lemmas.Bool.{eqb-true, le-leb, false≢true}
+use Rattle.std.proofs.lemmas.Bool.{eqb-true, le-leb, false≢true, and_parts, or_parts, or_cases, or_left}
 use Rattle.csi_codec.specs.declared.parameters.CsiParam.{CsiParam}
 use Rattle.csi_codec.specs.declared.parameters.CsiParam.TheVariants.{Integer, P}
 use Rattle.csi_codec.specs.declared.rendition.Sgr.{Sgr}
@@ -25,11 +25,6 @@ use Rattle.csi_codec.proofs.ReadWritable.{cursor_reading-writable, edit_reading-
 use Rattle.csi_codec.proofs.TableBack.{cursor_back, edit_back, device_back}
 use Rattle.csi_codec.proofs.SgrBack.{sgr_back}
 use Rattle.csi_codec.proofs.ModeBack.{mode_back, neither_mode, some_private}
-use Rattle.csi_codec.proofs.BoolLemmas.{and_right}
-
-or_false : (a b : Bool) → (a || b) ≡ false → (a ≡ false) × (b ≡ false)
-or_false true b h = cc
-or_false false b h = (refl, h)
 
 abbrev pub as_actions : Option (Sgr × ℕ) → Option (Action × ℕ)
 as_actions found = option_map (λ f. (sgr f.0, f.1)) found
@@ -72,14 +67,14 @@ module _ (truncated : Bool) where
   -- ---- A list of pieces
 
   module _ (k : Kind) (final : ℕ) (whole : List CsiParam) (Keeps : List CsiParam → Type 0) (tail : (t : CsiParam) (ts : List CsiParam) → Keeps (t ∷ ts) → Keeps ts)
-      (left : (t : CsiParam) (ts : List CsiParam) → Keeps (t ∷ ts) → piece_of k final (t ∷ ts) ≡ None → is_exempt whole final (unspecified (t ∷ ts) truncated final) ≡ false → ReadsBack truncated (unspecified (t ∷ ts) truncated final)) where
+      (unread : (t : CsiParam) (ts : List CsiParam) → Keeps (t ∷ ts) → piece_of k final (t ∷ ts) ≡ None → is_exempt whole final (unspecified (t ∷ ts) truncated final) ≡ false → ReadsBack truncated (unspecified (t ∷ ts) truncated final)) where
     abbrev from : ℕ → List CsiParam → List Action
     from = pieces_from (piece_of k final) (λ rest. unspecified rest truncated final)
 
     from_found : (t : CsiParam) (ts : List CsiParam) (others : ℕ → List Action) (found : Option (Action × ℕ)) → piece_of k final (t ∷ ts) ≡ found → Keeps (t ∷ ts)
         → ((j : ℕ) → EachReadsBack whole truncated final (others j))
         → EachReadsBack whole truncated final (option_map_or (λ f. f.0 ∷ others (f.1 - 1)) found (unspecified (t ∷ ts) truncated final ∷ []))
-    from_found t ts others None e h each = (left t ts h e, tt)
+    from_found t ts others None e h each = (unread t ts h e, tt)
     from_found t ts others (Some f) e h each = (λ x. piece-back k final (t ∷ ts) f.0 f.1 e, each (f.1 - 1))
 
     from-each : (j : ℕ) (ts : List CsiParam) → Keeps ts → EachReadsBack whole truncated final (from j ts)
@@ -110,7 +105,7 @@ module _ (truncated : Bool) where
   sgr_by : (t : CsiParam) (ts : List CsiParam) (b : Bool) → all_sgr_tokens (t ∷ ts) ≡ b
       → EachReadsBack (t ∷ ts) truncated 109 (cond b (pieces sgr_pieces truncated 109 (t ∷ ts)) (unspecified (t ∷ ts) truncated 109 ∷ []))
   unfolding csi_reading
-  sgr_by t ts true h = pieces-each sgr_pieces 109 (t ∷ ts) AreSgr (λ u us. and_right (is_sgr_token u) (all_sgr_tokens us)) (λ u us r e x. sgr_rest u us r e) (t ∷ ts) h
+  sgr_by t ts true h = pieces-each sgr_pieces 109 (t ∷ ts) AreSgr (λ u us h. (and_parts (is_sgr_token u) (all_sgr_tokens us) h).1) (λ u us r e x. sgr_rest u us r e) (t ∷ ts) h
   sgr_by t ts false h = whole-each (t ∷ ts) 109 (ap (λ b. cond b (pieces sgr_pieces truncated 109 (t ∷ ts)) (unspecified (t ∷ ts) truncated 109 ∷ [])) h)
 
   sgr-each : (ts : List CsiParam) → EachReadsBack ts truncated 109 (sgr_reading truncated 109 ts)
@@ -154,18 +149,17 @@ module _ (truncated : Bool) where
   exempt_not final whole rest h o e = sym (rw (le-leb (suc (length rest)) (length whole) h, o) refl) ∙ e
 
   under_h_or_l : (final : ℕ) → ((eqb final 104 || eqb final 108) || (eqb final 115 || eqb final 114)) ≡ true → (eqb final 115 || eqb final 114) ≡ false → (eqb final 104 || eqb final 108) ≡ true
-  under_h_or_l final h e = by (eqb final 104 || eqb final 108) (eqb final 115 || eqb final 114) h e
-    where
-      by : (a b : Bool) → (a || b) ≡ true → b ≡ false → a ≡ true
-      by true b p q = refl
-      by false b p q = absurd (false≢true (sym q ∙ p))
+  under_h_or_l final h e = elim (or_cases (eqb final 104 || eqb final 108) (eqb final 115 || eqb final 114) h) [
+    | inl p ↦ p
+    | inr q ↦ absurd (false≢true (sym e ∙ q))
+  ]
 
   modes_rest : (k : Kind) (final : ℕ) (whole : List CsiParam) → IsModes k → eqb final 109 ≡ false → ((eqb final 104 || eqb final 108) || (eqb final 115 || eqb final 114)) ≡ true
       → (t : CsiParam) (ts : List CsiParam) → Shorter whole (t ∷ ts) → piece_of k final (t ∷ ts) ≡ None → is_exempt whole final (unspecified (t ∷ ts) truncated final) ≡ false
       → ReadsBack truncated (unspecified (t ∷ ts) truncated final)
   modes_rest k final whole m o h t ts s e x =
       let not_exempt : (begins_with_question (t ∷ ts) || (eqb final 115 || eqb final 114)) ≡ false = exempt_not final whole (t ∷ ts) s o x in
-      let parts : (begins_with_question (t ∷ ts) ≡ false) × ((eqb final 115 || eqb final 114) ≡ false) = or_false (begins_with_question (t ∷ ts)) (eqb final 115 || eqb final 114) not_exempt in
+      let parts : (begins_with_question (t ∷ ts) ≡ false) × ((eqb final 115 || eqb final 114) ≡ false) = or_parts (begins_with_question (t ∷ ts)) (eqb final 115 || eqb final 114) not_exempt in
       let standard : (eqb final 104 || eqb final 108) ≡ true = under_h_or_l final h parts.1 in
       standard_whole final (t ∷ ts) o standard parts.0 (no_standard_of k final (t ∷ ts) m standard e)
 
@@ -214,10 +208,6 @@ module _ (truncated : Bool) where
       ∙ ap (λ c. option_map_or (λ known. known ∷ []) (option_or (option_map cursor c) (option_or (option_map edit (edit_reading final ts)) (option_map device (device_reading final ts)))) (unspecified ts truncated final ∷ [])) p
       ∙ ap (λ e. option_map_or (λ known. known ∷ []) (option_or (option_map edit e) (option_map device (device_reading final ts))) (unspecified ts truncated final ∷ [])) q
       ∙ ap (λ d. option_map_or (λ known. known ∷ []) (option_map device d) (unspecified ts truncated final ∷ [])) r)
-
-  or_left : (a b : Bool) → a ≡ true → (a || b) ≡ true
-  or_left true b h = refl
-  or_left false b h = cc
 
   standard_by : (ts : List CsiParam) (final : ℕ) (b : Bool) → (eqb final 104 || eqb final 108) ≡ b → eqb final 109 ≡ false
       → csi_reading ts truncated final ≡ cond b (modes_or standard_mode_pieces truncated final ts ts) (lone_or truncated final ts)

@@ -1,9 +1,9 @@
 -- How many bytes the text of a value that can be written has at most.
-use Rattle.std.proofs.Common.{◌≡◌, ℕ, suc, ◌+◌, ◌<◌, ◌≤◌, ◌^◌, pos, negsuc, eqb, ltb, Bool, true, false, cond, List, [], ◌∷◌, ◌++◌, length, length-append, Option, Some, None, arith, ap, refl, subst, sym}
+use Rattle.std.proofs.Common.{◌≡◌, ℕ, suc, ◌+◌, ◌<◌, ◌≤◌, ◌^◌, pos, negsuc, eqb, ltb, true, false, cond, List, [], ◌∷◌, ◌++◌, length, length-append, Option, Some, None, arith, ap, subst, sym}
 use Rattle.std.specs.Prelude.{flat_map, encode_utf8}
 use Rattle.std.specs.Fmt.{decimal}
 use Rattle.std.proofs.lemmas.Fmt.{length-decimal-le}
-use Rattle.std.proofs.lemmas.Bool.{leb-true}
+use Rattle.std.proofs.lemmas.Bool.{leb-true, cond_both}
 use Rattle.std.proofs.lemmas.Str.{encode_ascii}
 use Rattle.cell_base.specs.declared.color.ColorSpec.{ColorSpec}
 use Rattle.cell_base.specs.declared.color.ColorSpec.TheVariants as color
@@ -81,15 +81,11 @@ Short k ts = length (flat_map token_text ts) ≤ k
 short_by : (k : ℕ) (ks : List ℕ) (ts : List CsiParam) → Within ks ts → total ks ≤ k → Short k ts
 short_by k ks ts h l = omega (arith, tokens_within ks ts h)
 
-one_of : (k : ℕ) (b : Bool) (x y : List CsiParam) → Short k x → Short k y → Short k (cond b x y)
-one_of k true x y h l = h
-one_of k false x y h l = l
-
 number_short : (k n : ℕ) → 0 < k → n < 10 ^ k → n < 2 ^ 64 → Short k (number_tokens n)
 number_short k n s h w = short_by k (k ∷ []) (number_tokens n) (s, h, w, tt) (omega arith)
 
 count_short : (n : ℕ) → IsPlace n → Short 10 (count_tokens n)
-count_short n h = one_of 10 (eqb n 1) [] (number_tokens n) (omega arith) (number_short 10 n (omega arith) (omega (arith, h.1)) (omega (arith, h.1)))
+count_short n h = cond_both (eqb n 1) [] (number_tokens n) (Short 10) (λ e. omega arith) (λ e. number_short 10 n (omega arith) (omega (arith, h.1)) (omega (arith, h.1)))
 
 pair_short : (a b : ℕ) → IsPlace a → IsPlace b → Short 21 (pair_tokens a b)
 pair_short a b h l = short_by 21 (10 ∷ 1 ∷ 10 ∷ []) (pair_tokens a b)
@@ -189,7 +185,7 @@ cursors_are_short variant.RestoreCursor h = text_short 21 (cursor variant.Restor
 cursors_are_short variant.RequestActivePositionReport h = text_short 21 (cursor variant.RequestActivePositionReport) (digit_wide 6 (omega arith)) (omega arith)
 
 extent_short : (n : ℕ) → n < 10 → Short 10 (extent_tokens n)
-extent_short n h = one_of 10 (eqb n 0) [] (number_tokens n) (omega arith) (weaker 1 10 (number_tokens n) (digit_short n h) (omega arith))
+extent_short n h = cond_both (eqb n 0) [] (number_tokens n) (Short 10) (λ e. omega arith) (λ e. weaker 1 10 (number_tokens n) (digit_short n h) (omega arith))
 
 pub edits_are_short : EditsAreShort
 unfolding edit_spelling
@@ -312,22 +308,17 @@ alpha_short target r g b a t h l m o = short_by 21 (2 ∷ 1 ∷ 1 ∷ 1 ∷ 1 �
 ) (omega arith)
 
 colour_short : (target : ℕ) (c : SrgbaTuple) → target < 100 → IsColour (color.TrueColor c) → Short 21 (colour_tokens target c)
-colour_short target c t h = one_of 21 (eqb c.3 255) (opaque_tokens target c.0 c.1 c.2) (alpha_tokens target c.0 c.1 c.2 c.3)
-    (opaque_short target c.0 c.1 c.2 t h.0 h.1 h.2) (alpha_short target c.0 c.1 c.2 c.3 t h.0 h.1 h.2 h.3)
+colour_short target c t h = cond_both (eqb c.3 255) (opaque_tokens target c.0 c.1 c.2) (alpha_tokens target c.0 c.1 c.2 c.3) (Short 21) (λ e. opaque_short target c.0 c.1 c.2 t h.0 h.1 h.2) (λ e. alpha_short target c.0 c.1 c.2 c.3 t h.0 h.1 h.2 h.3)
 
-index_short : (target low bright n : ℕ) (b c : Bool) → target < 100 → ltb n 8 ≡ b → ltb n 16 ≡ c → low < 100 → bright < 100 → n ≤ 255
-    → Short 21 (cond b (number_tokens (low + n)) (cond c (number_tokens (bright + n)) (palette_tokens target n)))
-index_short target low bright n true c t e f l m h =
-    let small : n < 8 = leb-true (suc n) 8 e in
-    byte_short (low + n) (omega arith)
-index_short target low bright n false true t e f l m h =
-    let small : n < 16 = leb-true (suc n) 16 f in
-    byte_short (bright + n) (omega arith)
-index_short target low bright n false false t e f l m h = palette_short target n t h
+index_short : (target low bright n : ℕ) → target < 100 → low < 100 → bright < 100 → n ≤ 255
+    → Short 21 (cond (ltb n 8) (number_tokens (low + n)) (cond (ltb n 16) (number_tokens (bright + n)) (palette_tokens target n)))
+index_short target low bright n t l m h =
+    cond_both (ltb n 8) _ _ (Short 21) (λ e. let small : n < 8 = leb-true (suc n) 8 e in byte_short (low + n) (omega arith)) (λ e.
+    cond_both (ltb n 16) _ _ (Short 21) (λ e. let small : n < 16 = leb-true (suc n) 16 e in byte_short (bright + n) (omega arith)) (λ e. palette_short target n t h))
 
 named_short : (target off low bright : ℕ) (c : ColorSpec) → target < 100 → off < 100 → low < 100 → bright < 100 → IsColour c → Short 21 (short_colour_tokens target off low bright c)
 named_short target off low bright color.Default t o l m h = byte_short off (omega arith)
-named_short target off low bright (color.PaletteIndex n) t o l m h = index_short target low bright n (ltb n 8) (ltb n 16) t refl refl l m h
+named_short target off low bright (color.PaletteIndex n) t o l m h = index_short target low bright n t l m h
 named_short target off low bright (color.TrueColor c) t o l m h = colour_short target c t h
 
 line_colour_short : (c : ColorSpec) → IsColour c → Short 21 (underline_colour_tokens c)

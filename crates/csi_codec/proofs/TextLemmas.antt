@@ -4,7 +4,7 @@ use Rattle.std.specs.Prelude.{flat_map, unwrap_or, encode_utf8}
 use Rattle.std.specs.Char.{is_ascii_digit}
 use Rattle.std.specs.Str.{all_ascii_digits}
 use Rattle.std.specs.Fmt.{decimal}
-use Rattle.std.proofs.lemmas.Bool.{leb-true}
+use Rattle.std.proofs.lemmas.Bool.{leb-true, and_parts}
 use Rattle.std.proofs.lemmas.Bool.Decides.{nat_tests}
 use Rattle.std.proofs.lemmas.Str.{encode_ascii}
 use Rattle.std.proofs.lemmas.Str.Parse.{IsNumeralModel, numerals_by_fold}
@@ -13,7 +13,6 @@ use Rattle.csi_codec.specs.declared.parameters.CsiParam.{CsiParam}
 use Rattle.csi_codec.specs.declared.parameters.CsiParam.TheVariants.{Integer, P}
 use Rattle.csi_codec.specs.Parameters.{begins_with_number, token_text}
 use Rattle.csi_codec.specs.Texts.{largest_number, begun_token, tokens_behind, is_sign, is_spellable, ParametersReadBack}
-use Rattle.csi_codec.proofs.BoolLemmas.{and_left, and_right}
 
 -- ---- Digits
 
@@ -33,14 +32,14 @@ decimal_digits n h = search (rules, digits_decimal own)
 behind-digits : (ds x : List ℕ) (m : ℕ) → all_ascii_digits ds ≡ true → tokens_behind (Some m) (ds ++ x) ≡ tokens_behind (Some (read_on m ds)) x
 behind-digits [] x m h = refl
 behind-digits (c ∷ cs) x m h =
-    ap (λ b. cond b (tokens_behind (Some (10 * m + (c - 48))) (cs ++ x)) (Integer (pos (min m largest_number)) ∷ P c ∷ tokens_behind None (cs ++ x))) (and_left (is_ascii_digit c) (all_ascii_digits cs) h)
-    ∙ behind-digits cs x (10 * m + (c - 48)) (and_right (is_ascii_digit c) (all_ascii_digits cs) h)
+    ap (λ b. cond b (tokens_behind (Some (10 * m + (c - 48))) (cs ++ x)) (Integer (pos (min m largest_number)) ∷ P c ∷ tokens_behind None (cs ++ x))) (and_parts (is_ascii_digit c) (all_ascii_digits cs) h).0
+    ∙ behind-digits cs x (10 * m + (c - 48)) (and_parts (is_ascii_digit c) (all_ascii_digits cs) h).1
 
 some-digits : (ds x : List ℕ) → 0 < length ds → all_ascii_digits ds ≡ true → tokens_behind None (ds ++ x) ≡ tokens_behind (Some (read_on 0 ds)) x
 some-digits [] x l h = absurd (omega arith)
 some-digits (c ∷ cs) x l h =
-    ap (λ b. cond b (tokens_behind (Some (0 + (c - 48))) (cs ++ x)) (P c ∷ tokens_behind None (cs ++ x))) (and_left (is_ascii_digit c) (all_ascii_digits cs) h)
-    ∙ behind-digits cs x (0 + (c - 48)) (and_right (is_ascii_digit c) (all_ascii_digits cs) h)
+    ap (λ b. cond b (tokens_behind (Some (0 + (c - 48))) (cs ++ x)) (P c ∷ tokens_behind None (cs ++ x))) (and_parts (is_ascii_digit c) (all_ascii_digits cs) h).0
+    ∙ behind-digits cs x (0 + (c - 48)) (and_parts (is_ascii_digit c) (all_ascii_digits cs) h).1
 
 -- ---- Other bytes
 
@@ -75,25 +74,25 @@ mutual
   pub list_back : (ts : List CsiParam) → is_spellable ts ≡ true → tokens_behind None (flat_map token_text ts) ≡ ts
   list_back [] h = refl
   list_back (P b ∷ ts) h =
-      behind-sign None b (flat_map token_text ts) (and_left (is_sign b) (is_spellable ts) h)
-      ∙ ap (λ us. P b ∷ us) (list_back ts (and_right (is_sign b) (is_spellable ts) h))
+      behind-sign None b (flat_map token_text ts) (and_parts (is_sign b) (is_spellable ts) h).0
+      ∙ ap (λ us. P b ∷ us) (list_back ts (and_parts (is_sign b) (is_spellable ts) h).1)
   list_back (Integer (negsuc n) ∷ ts) h = cc
   list_back (Integer (pos n) ∷ ts) h =
-      let small : n ≤ largest_number = leb-true n largest_number (and_left (leb n largest_number) (not (begins_with_number ts) && is_spellable ts) h) in
-      let others : (not (begins_with_number ts) && is_spellable ts) ≡ true = and_right (leb n largest_number) (not (begins_with_number ts) && is_spellable ts) h in
+      let small : n ≤ largest_number = leb-true n largest_number (and_parts (leb n largest_number) (not (begins_with_number ts) && is_spellable ts) h).0 in
+      let others : (not (begins_with_number ts) && is_spellable ts) ≡ true = (and_parts (leb n largest_number) (not (begins_with_number ts) && is_spellable ts) h).1 in
       let fits : n < 2 ^ 64 = omega arith in
       some-digits (decimal n) (flat_map token_text ts) (nonempty_decimal n fits) (decimal_digits n fits)
       ∙ ap (λ k. tokens_behind (Some k) (flat_map token_text ts)) (decimal_value n fits)
-      ∙ list_behind n ts small (not_number ts (and_left (not (begins_with_number ts)) (is_spellable ts) others)) (and_right (not (begins_with_number ts)) (is_spellable ts) others)
+      ∙ list_behind n ts small (not_number ts (and_parts (not (begins_with_number ts)) (is_spellable ts) others).0) (and_parts (not (begins_with_number ts)) (is_spellable ts) others).1
 
   -- behind a number
   list_behind : (n : ℕ) (ts : List CsiParam) → n ≤ largest_number → begins_with_number ts ≡ false → is_spellable ts ≡ true → tokens_behind (Some n) (flat_map token_text ts) ≡ Integer (pos n) ∷ ts
   list_behind n [] s b h = ap (λ k. Integer (pos k) ∷ []) (min_large n s)
   list_behind n (Integer z ∷ ts) s b h = cc
   list_behind n (P c ∷ ts) s b h =
-      behind-sign (Some n) c (flat_map token_text ts) (and_left (is_sign c) (is_spellable ts) h)
+      behind-sign (Some n) c (flat_map token_text ts) (and_parts (is_sign c) (is_spellable ts) h).0
       ∙ ap (λ k. Integer (pos k) ∷ P c ∷ tokens_behind None (flat_map token_text ts)) (min_large n s)
-      ∙ ap (λ us. Integer (pos n) ∷ P c ∷ us) (list_back ts (and_right (is_sign c) (is_spellable ts) h))
+      ∙ ap (λ us. Integer (pos n) ∷ P c ∷ us) (list_back ts (and_parts (is_sign c) (is_spellable ts) h).1)
 
 pub parameters_read_back-lem : ParametersReadBack
 parameters_read_back-lem ts h = list_back ts h

@@ -4,7 +4,7 @@ use Rattle.std.specs.Prelude.{encode_utf8, flat_map, slice_set}
 use Rattle.std.specs.Fmt.{decimal}
 use Rattle.std.specs.Char.{IsScalar}
 use lib.Utf8.{encode}
-use Rattle.std.proofs.lemmas.Bool.{cases_lt}
+use Rattle.std.proofs.lemmas.Bool.{cases_lt, and_parts}
 use Rattle.std.proofs.lemmas.Bool.Decides.{nat_tests}
 use Rattle.std.proofs.lemmas.Fmt.{decimal_digit, decimal_step, IsAscii-decimal}
 use Rattle.std.proofs.lemmas.List.{take_more_set, take-set-le, length-take, length-set}
@@ -14,7 +14,6 @@ use Rattle.csi_codec.specs.declared.parameters.CsiParam.{CsiParam}
 use Rattle.csi_codec.specs.Parameters.{token_text, spelled, sequence_text}
 use Rattle.csi_codec.specs.Writing.{are_digits, opened_text}
 use Rattle.csi_codec.specs.declared.text.TheConstants.{NUMBERS}
-use Rattle.csi_codec.proofs.BoolLemmas.{and_left, and_right}
 
 -- ---- Places
 
@@ -151,13 +150,13 @@ all_have_digits (suc n) = has_digits n && all_have_digits n
 
 digits_below : (count n : ℕ) → all_have_digits count ≡ true → n < count → has_digits n ≡ true
 digits_below zero n all h = absurd (omega arith)
-digits_below (suc count) n all h = by_order (cases_lt n count) (λ l. digits_below count n (and_right (has_digits count) (all_have_digits count) all) l)
+digits_below (suc count) n all h = by_order (cases_lt n count) (λ l. digits_below count n (and_parts (has_digits count) (all_have_digits count) all).1 l)
   where
     by_order : (n < count) ⊎ (count ≤ n) → (n < count → has_digits n ≡ true) → has_digits n ≡ true
     by_order (inl l) before = before l
     by_order (inr g) before =
         let e : n ≡ count = omega arith in
-        ap has_digits e ∙ and_left (has_digits count) (all_have_digits count) all
+        ap has_digits e ∙ (and_parts (has_digits count) (all_have_digits count) all).0
 
 pub table_digits : (n : ℕ) → n < 256 → has_digits n ≡ true
 table_digits n h = digits_below 256 n refl h

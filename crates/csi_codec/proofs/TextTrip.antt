@@ -1,11 +1,11 @@
 -- The text of each action of a spellable list reads back.
-use Rattle.std.proofs.Common.{◌≡◌, ℕ, zero, suc, ◌-◌, ◌<◌, ◌≤◌, ℤ, pos, negsuc, eqb, Bool, true, false, not, cond, ◌&&◌, ◌||◌, List, [], ◌∷◌, ◌++◌, Option, Some, None, option_map, arith, refl, ap, ◌∙◌, subst}
+use Rattle.std.proofs.Common.{◌≡◌, ℕ, zero, suc, ◌-◌, ◌<◌, ◌≤◌, ℤ, pos, negsuc, eqb, Bool, true, not, ◌&&◌, ◌||◌, List, [], ◌∷◌, ◌++◌, Option, Some, None, option_map, arith, refl, ap, ◌∙◌, subst}
 use Rattle.std.specs.Prelude.{is_some, flat_map, encode_utf8}
 use Rattle.std.specs.Option.{option_map_or, option_or}
 use Rattle.std.specs.Char.{is_ascii_digit}
 use Rattle.std.specs.Str.{all_ascii_digits}
 use Rattle.std.specs.Fmt.{decimal}
-use Rattle.std.proofs.lemmas.Bool.{leb-true}
+use Rattle.std.proofs.lemmas.Bool.{leb-true, and_from, and_parts, cond_both}
 use Rattle.std.proofs.lemmas.Bool.Decides.{nat_tests}
 use Rattle.std.proofs.lemmas.Str.{encode_ascii}
 use Rattle.csi_codec.specs.declared.parameters.CsiParam.{CsiParam}
@@ -29,7 +29,6 @@ use Rattle.csi_codec.proofs.TextLemmas.{list_back, decimal_digits, sign_text}
 use Rattle.csi_codec.proofs.ReadWritable.{cursor_reading-writable, edit_reading-writable, private_mode-writable, standard_mode-writable, sgr_shape-writable}
 use Rattle.csi_codec.proofs.Written.{IsWritten, action_written}
 use Rattle.csi_codec.proofs.RoundTrip.{as_actions, first_of, actions_read_back-lem}
-use Rattle.csi_codec.proofs.BoolLemmas.{and_left, and_right, both_true}
 
 -- ---- Bytes
 
@@ -41,18 +40,18 @@ digit_byte b h = grind (arith, nat_tests)
 
 bytes-append : (a b : List ℕ) → all_parameter_bytes a ≡ true → all_parameter_bytes b ≡ true → all_parameter_bytes (a ++ b) ≡ true
 bytes-append [] b h k = k
-bytes-append (x ∷ a) b h k = both_true (is_between 32 63 x) (all_parameter_bytes (a ++ b)) (and_left (is_between 32 63 x) (all_parameter_bytes a) h) (bytes-append a b (and_right (is_between 32 63 x) (all_parameter_bytes a) h) k)
+bytes-append (x ∷ a) b h k = and_from (is_between 32 63 x) (all_parameter_bytes (a ++ b)) (and_parts (is_between 32 63 x) (all_parameter_bytes a) h).0 (bytes-append a b (and_parts (is_between 32 63 x) (all_parameter_bytes a) h).1 k)
 
 digit_bytes : (ds : List ℕ) → all_ascii_digits ds ≡ true → all_parameter_bytes ds ≡ true
 digit_bytes [] h = refl
-digit_bytes (d ∷ ds) h = both_true (is_between 32 63 d) (all_parameter_bytes ds) (digit_byte d (and_left (is_ascii_digit d) (all_ascii_digits ds) h)) (digit_bytes ds (and_right (is_ascii_digit d) (all_ascii_digits ds) h))
+digit_bytes (d ∷ ds) h = and_from (is_between 32 63 d) (all_parameter_bytes ds) (digit_byte d (and_parts (is_ascii_digit d) (all_ascii_digits ds) h).0) (digit_bytes ds (and_parts (is_ascii_digit d) (all_ascii_digits ds) h).1)
 
 spellable-tail : (t : CsiParam) (ts : List CsiParam) → is_spellable (t ∷ ts) ≡ true → is_spellable ts ≡ true
-spellable-tail (P b) ts h = and_right (is_sign b) (is_spellable ts) h
-spellable-tail (Integer z) ts h = and_right (not (begins_with_number ts)) (is_spellable ts) (and_right (is_written_number z) (not (begins_with_number ts) && is_spellable ts) h)
+spellable-tail (P b) ts h = (and_parts (is_sign b) (is_spellable ts) h).1
+spellable-tail (Integer z) ts h = (and_parts (not (begins_with_number ts)) (is_spellable ts) (and_parts (is_written_number z) (not (begins_with_number ts) && is_spellable ts) h).1).1
 
 sign_bytes : (b : ℕ) → is_sign b ≡ true → all_parameter_bytes (encode_utf8 b) ≡ true
-sign_bytes b h = ap all_parameter_bytes (sign_text b h) ∙ both_true (is_between 32 63 b) true (sign_byte b h) refl
+sign_bytes b h = ap all_parameter_bytes (sign_text b h) ∙ and_from (is_between 32 63 b) true (sign_byte b h) refl
 
 number_bytes : (z : ℤ) → is_written_number z ≡ true → all_parameter_bytes (token_text (Integer z)) ≡ true
 number_bytes (negsuc n) h = cc
@@ -60,9 +59,9 @@ number_bytes (pos n) h = let small : n ≤ largest_number = leb-true n largest_n
 
 pub list_bytes : (ts : List CsiParam) → is_spellable ts ≡ true → all_parameter_bytes (flat_map token_text ts) ≡ true
 list_bytes [] h = refl
-list_bytes (P b ∷ ts) h = bytes-append (encode_utf8 b) (flat_map token_text ts) (sign_bytes b (and_left (is_sign b) (is_spellable ts) h)) (list_bytes ts (spellable-tail (P b) ts h))
+list_bytes (P b ∷ ts) h = bytes-append (encode_utf8 b) (flat_map token_text ts) (sign_bytes b (and_parts (is_sign b) (is_spellable ts) h).0) (list_bytes ts (spellable-tail (P b) ts h))
 list_bytes (Integer z ∷ ts) h =
-    bytes-append (token_text (Integer z)) (flat_map token_text ts) (number_bytes z (and_left (is_written_number z) (not (begins_with_number ts) && is_spellable ts) h)) (list_bytes ts (spellable-tail (Integer z) ts h))
+    bytes-append (token_text (Integer z)) (flat_map token_text ts) (number_bytes z (and_parts (is_written_number z) (not (begins_with_number ts) && is_spellable ts) h).0) (list_bytes ts (spellable-tail (Integer z) ts h))
 
 -- ---- Each action is written
 
@@ -117,12 +116,8 @@ module _ (truncated : Bool) (final : ℕ) (low : 64 ≤ final) (high : final ≤
   unfolding pieces
   pieces-written k ts h = from-each k 0 ts h
 
-  chosen : (b : Bool) (x y : List Action) → EachIsWritten x → EachIsWritten y → EachIsWritten (cond b x y)
-  chosen true x y h k = h
-  chosen false x y h k = k
-
   modes-written : (k : Kind) (ts whole : List CsiParam) → is_spellable ts ≡ true → is_spellable whole ≡ true → EachIsWritten (modes_or k truncated final ts whole)
-  modes-written k ts whole h w = chosen (is_some (piece_of k final ts)) _ _ (pieces-written k ts h) (rest_written whole w, tt)
+  modes-written k ts whole h w = cond_both (is_some (piece_of k final ts)) _ _ EachIsWritten (λ e. pieces-written k ts h) (λ e. (rest_written whole w, tt))
 
   lone_by : (ts : List CsiParam) (c : Option Cursor) (e : Option Edit) (d : Option Device) → cursor_reading final ts ≡ c → edit_reading final ts ≡ e → device_reading final ts ≡ d → is_spellable ts ≡ true
       → EachIsWritten (option_map_or (λ known. known ∷ []) (option_or (option_map cursor c) (option_or (option_map edit e) (option_map device d))) (unspecified ts truncated final ∷ []))
@@ -132,21 +127,20 @@ module _ (truncated : Bool) (final : ℕ) (low : 64 ≤ final) (high : final ≤
   lone_by ts None None None p q r h = (rest_written ts h, tt)
 
   standard-written : (ts : List CsiParam) → is_spellable ts ≡ true → EachIsWritten (standard_reading truncated final ts)
-  standard-written ts h = chosen (eqb final 104 || eqb final 108) _ _ (modes-written standard_mode_pieces ts ts h h)
-      (lone_by ts (cursor_reading final ts) (edit_reading final ts) (device_reading final ts) refl refl refl h)
+  standard-written ts h = cond_both (eqb final 104 || eqb final 108) _ _ EachIsWritten (λ e. modes-written standard_mode_pieces ts ts h h) (λ e. lone_by ts (cursor_reading final ts) (edit_reading final ts) (device_reading final ts) refl refl refl h)
 
   other-written : (ts : List CsiParam) → is_spellable ts ≡ true → EachIsWritten (other_reading truncated final ts)
   other-written [] h = standard-written [] h
   other-written (Integer z ∷ ts) h = standard-written (Integer z ∷ ts) h
-  other-written (P b ∷ ts) h = chosen (eqb b 63) _ _ (modes-written private_mode_pieces ts (P b ∷ ts) (spellable-tail (P b) ts h) h) (standard-written (P b ∷ ts) h)
+  other-written (P b ∷ ts) h = cond_both (eqb b 63) _ _ EachIsWritten (λ e. modes-written private_mode_pieces ts (P b ∷ ts) (spellable-tail (P b) ts h) h) (λ e. standard-written (P b ∷ ts) h)
 
   sgr-written : (ts : List CsiParam) → is_spellable ts ≡ true → EachIsWritten (sgr_reading truncated final ts)
   sgr-written [] h = (action_written (sgr value.Reset) tt, tt)
-  sgr-written (t ∷ ts) h = chosen (all_sgr_tokens (t ∷ ts)) _ _ (pieces-written sgr_pieces (t ∷ ts) h) (rest_written (t ∷ ts) h, tt)
+  sgr-written (t ∷ ts) h = cond_both (all_sgr_tokens (t ∷ ts)) _ _ EachIsWritten (λ e. pieces-written sgr_pieces (t ∷ ts) h) (λ e. (rest_written (t ∷ ts) h, tt))
 
   pub reading-written : (ts : List CsiParam) → is_spellable ts ≡ true → EachIsWritten (csi_reading ts truncated final)
   unfolding csi_reading
-  reading-written ts h = chosen (eqb final 109) _ _ (sgr-written ts h) (other-written ts h)
+  reading-written ts h = cond_both (eqb final 109) _ _ EachIsWritten (λ e. sgr-written ts h) (λ e. other-written ts h)
 
 -- ---- The text of one action, and of each
 

@@ -85,7 +85,7 @@ end_at read len ts = behind_all read ts (read + len + semicolon_at ts (read + le
 abbrev pub ended : {A : Type 0} → ℕ → ℕ → List CsiParam → Option A → Option (A × ℕ)
 ended read len ts value = option_and_then (λ v. option_map (λ n. (v, n)) (end_at read len ts)) value
 
--- no setting is to come where so many tokens were read: what is left is the last action
+-- no setting is to come where so many tokens were read: the rest is the last action
 pub record HasNoSetting (read : ℕ) (ts : List CsiParam) : Type 0 where
   pub rest : (truncated : Bool) → actions_behind read ts truncated 109 ≡ unspecified (drop read ts) truncated 109 ∷ []
   pub within : read < length ts

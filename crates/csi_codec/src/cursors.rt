@@ -17,9 +17,11 @@ ghost use Rattle.csi_codec.specs.Parameters.{sequence_text, spelled_text};
 
 use crate::one_based::OneBased;
 use crate::parameters::{
-    CsiParam, count, number_pair, one_place, one_slot, place_pair, slot_and_space, slot_number,
+    CsiParam, count, number_and_space, number_pair, one_number, one_place, place_pair,
 };
-use crate::spelling::{put_bare, put_count, put_number, put_pair};
+use crate::spelling::{
+    ControlSequence, put_bare, put_count, put_number, put_pair, write_parameters,
+};
 use crate::text::SequenceText;
 use std::fmt;
 
@@ -170,19 +172,16 @@ impl fmt::Display for Cursor {
     ghost output = { λ cursor. Some (spelled_text (cursor_spelling cursor)) };
 
     fn fmt<W: fmt::Write>(&self, f: &mut fmt::Formatter<W>) -> fmt::Result {
-        let mut text = SequenceText::new();
-        self.put_text(&mut text);
-        f.write_str(text.parameters())
+        write_parameters(self, f)
     }
 }
 
-impl Cursor {
-    /// Makes `text` what is written for it.
+impl ControlSequence for Cursor {
+    ghost spelling = { cursor_spelling };
+
     #[tactic(auto, unfolding(crate::specs::Cursors::cursor_spelling))]
     #[inline(never)]
-    pub(crate) fn put_text(&self, text: &mut SequenceText)
-        ensures { text.new ≡ sequence_text (cursor_spelling self.now) }
-    {
+    fn put_text(&self, text: &mut SequenceText) {
         match *self {
             Cursor::Up(n) => put_count(n, b'A', text),
             Cursor::Down(n) => put_count(n, b'B', text),
@@ -262,12 +261,10 @@ pub(crate) fn cursor_reading(params: &[CsiParam], control: char) -> Option<Curso
         'I' => Some(Cursor::ForwardTabulation(count(params)?)),
         'Z' => Some(Cursor::BackwardTabulation(count(params)?)),
         'Y' => Some(Cursor::LineTabulation(count(params)?)),
-        'g' => Some(Cursor::TabulationClear(TabulationClear::from_i64(slot_number(one_slot(
+        'g' => Some(Cursor::TabulationClear(TabulationClear::from_i64(one_number(params)?)?)),
+        'W' => Some(Cursor::TabulationControl(CursorTabulationControl::from_i64(one_number(
             params,
-        )?))?)),
-        'W' => Some(Cursor::TabulationControl(CursorTabulationControl::from_i64(slot_number(
-            one_slot(params)?,
-        ))?)),
+        )?)?)),
         'r' => {
             let (top, bottom) = place_pair(u32::MAX, params)?;
             Some(Cursor::SetTopAndBottomMargins { top, bottom })
@@ -275,9 +272,7 @@ pub(crate) fn cursor_reading(params: &[CsiParam], control: char) -> Option<Curso
         's' => save_or_margins(params),
         'u' if params.is_empty() => Some(Cursor::RestoreCursor),
         'n' => position_request(params),
-        'q' => Some(Cursor::CursorStyle(CursorStyle::from_i64(slot_number(slot_and_space(
-            params,
-        )?))?)),
+        'q' => Some(Cursor::CursorStyle(CursorStyle::from_i64(number_and_space(params)?)?)),
         _ => None,
     }
 }

@@ -4,7 +4,7 @@ ghost use Rattle.csi_codec.specs.Devices.{device_reading, device_spelling};
 ghost use Rattle.csi_codec.specs.Parameters.{sequence_text, spelled_text};
 
 use crate::parameters::CsiParam;
-use crate::spelling::{put_bare, put_number};
+use crate::spelling::{ControlSequence, put_bare, put_number, write_parameters};
 use crate::text::SequenceText;
 use std::fmt;
 
@@ -20,19 +20,16 @@ impl fmt::Display for Device {
     ghost output = { λ device. Some (spelled_text (device_spelling device)) };
 
     fn fmt<W: fmt::Write>(&self, f: &mut fmt::Formatter<W>) -> fmt::Result {
-        let mut text = SequenceText::new();
-        self.put_text(&mut text);
-        f.write_str(text.parameters())
+        write_parameters(self, f)
     }
 }
 
-impl Device {
-    /// Makes `text` what is written for it.
+impl ControlSequence for Device {
+    ghost spelling = { device_spelling };
+
     #[tactic(auto, unfolding(crate::specs::Devices::device_spelling))]
     #[inline(never)]
-    pub(crate) fn put_text(&self, text: &mut SequenceText)
-        ensures { text.new ≡ sequence_text (device_spelling self.now) }
-    {
+    fn put_text(&self, text: &mut SequenceText) {
         match *self {
             Device::SoftReset => put_soft_reset(text),
             Device::RequestPrimaryDeviceAttributes => put_bare(b'c', text),

@@ -10,8 +10,8 @@ ghost use Rattle.csi_codec.specs.Edits.{
 };
 ghost use Rattle.csi_codec.specs.Parameters.{sequence_text, spelled_text};
 
-use crate::parameters::{CsiParam, count, one_slot, slot_number};
-use crate::spelling::{put_count, put_extent};
+use crate::parameters::{CsiParam, count, one_number};
+use crate::spelling::{ControlSequence, put_count, put_extent, write_parameters};
 use crate::text::SequenceText;
 use std::fmt;
 
@@ -94,19 +94,16 @@ impl fmt::Display for Edit {
     ghost output = { λ edit. Some (spelled_text (edit_spelling edit)) };
 
     fn fmt<W: fmt::Write>(&self, f: &mut fmt::Formatter<W>) -> fmt::Result {
-        let mut text = SequenceText::new();
-        self.put_text(&mut text);
-        f.write_str(text.parameters())
+        write_parameters(self, f)
     }
 }
 
-impl Edit {
-    /// Makes `text` what is written for it.
+impl ControlSequence for Edit {
+    ghost spelling = { edit_spelling };
+
     #[tactic(auto, unfolding(crate::specs::Edits::edit_spelling))]
     #[inline(never)]
-    pub(crate) fn put_text(&self, text: &mut SequenceText)
-        ensures { text.new ≡ sequence_text (edit_spelling self.now) }
-    {
+    fn put_text(&self, text: &mut SequenceText) {
         match *self {
             Edit::InsertCharacter(n) => put_count(n, b'@', text),
             Edit::DeleteCharacter(n) => put_count(n, b'P', text),
@@ -137,10 +134,8 @@ pub(crate) fn edit_reading(params: &[CsiParam], control: char) -> Option<Edit>
         'S' => Some(Edit::ScrollUp(count(params)?)),
         'T' => Some(Edit::ScrollDown(count(params)?)),
         'b' => Some(Edit::Repeat(count(params)?)),
-        'J' => Some(Edit::EraseInDisplay(EraseInDisplay::from_i64(slot_number(one_slot(
-            params,
-        )?))?)),
-        'K' => Some(Edit::EraseInLine(EraseInLine::from_i64(slot_number(one_slot(params)?))?)),
+        'J' => Some(Edit::EraseInDisplay(EraseInDisplay::from_i64(one_number(params)?)?)),
+        'K' => Some(Edit::EraseInLine(EraseInLine::from_i64(one_number(params)?)?)),
         _ => None,
     }
 }

@@ -11,6 +11,7 @@ ghost use Rattle.csi_codec.specs.Modes.{
   ansi_mode_code,
   private_mode_reading,
   switched_mode,
+  switched_step,
   lone_private_mode,
   mode_reading,
   mode_spelling,
@@ -18,7 +19,7 @@ ghost use Rattle.csi_codec.specs.Modes.{
 ghost use Rattle.csi_codec.specs.Parameters.{number_within, private_tokens, sequence_text, spelled, spelled_text};
 
 use crate::parameters::CsiParam;
-use crate::spelling::put_number;
+use crate::spelling::{ControlSequence, put_number, write_parameters};
 use crate::text::SequenceText;
 use std::fmt;
 
@@ -178,19 +179,16 @@ impl fmt::Display for Mode {
     ghost output = { λ mode. Some (spelled_text (mode_spelling mode)) };
 
     fn fmt<W: fmt::Write>(&self, f: &mut fmt::Formatter<W>) -> fmt::Result {
-        let mut text = SequenceText::new();
-        self.put_text(&mut text);
-        f.write_str(text.parameters())
+        write_parameters(self, f)
     }
 }
 
-impl Mode {
-    /// Makes `text` what is written for it.
+impl ControlSequence for Mode {
+    ghost spelling = { mode_spelling };
+
     #[tactic(auto, unfolding(crate::specs::Modes::mode_spelling))]
     #[inline(never)]
-    pub(crate) fn put_text(&self, text: &mut SequenceText)
-        ensures { text.new ≡ sequence_text (mode_spelling self.now) }
-    {
+    fn put_text(&self, text: &mut SequenceText) {
         match *self {
             Mode::SetDecPrivateMode(mode) => put_private(mode, b'h', text),
             Mode::ResetDecPrivateMode(mode) => put_private(mode, b'l', text),
@@ -215,6 +213,7 @@ fn put_private(mode: DecPrivateMode, control: u8, text: &mut SequenceText)
 }
 
 impl DecPrivateMode {
+    /// The number of this private mode.
     fn number(self) -> u16
         ensures { result ≡ dec_mode_code self }
     {
@@ -224,18 +223,20 @@ impl DecPrivateMode {
         }
     }
 
+    /// The private mode of this number: by its name, where it has one.
     #[inline(always)]
     fn of_number(number: u16) -> Self
         ensures { result ≡ dec_mode_of number }
     {
-        match DecPrivateModeCode::from_i64(i64::from(number)) {
-            Some(code) => DecPrivateMode::Code(code),
-            None => DecPrivateMode::Unspecified(number),
-        }
+        DecPrivateModeCode::from_i64(i64::from(number)).map_or(
+            DecPrivateMode::Unspecified(number),
+            DecPrivateMode::Code,
+        )
     }
 }
 
 impl TerminalMode {
+    /// The number of this mode.
     fn number(self) -> u16
         ensures { result ≡ ansi_mode_code self }
     {
@@ -245,13 +246,14 @@ impl TerminalMode {
         }
     }
 
+    /// The mode of this number: by its name, where it has one.
     fn of_number(number: u16) -> Self
         ensures { result ≡ ansi_mode_of number }
     {
-        match TerminalModeCode::from_i64(i64::from(number)) {
-            Some(code) => TerminalMode::Code(code),
-            None => TerminalMode::Unspecified(number),
-        }
+        TerminalModeCode::from_i64(i64::from(number)).map_or(
+            TerminalMode::Unspecified(number),
+            TerminalMode::Code,
+        )
     }
 }
 
@@ -262,8 +264,7 @@ pub(crate) fn private_mode_reading(value: i64, control: char) -> Option<Mode>
 {
     let mode = DecPrivateMode::of_number(mode_number(value)?);
     match control {
-        'h' => Some(Mode::SetDecPrivateMode(mode)),
-        'l' => Some(Mode::ResetDecPrivateMode(mode)),
+        'h' | 'l' => set_or_reset(mode, control),
         's' => Some(Mode::SaveDecPrivateMode(mode)),
         'r' => Some(Mode::RestoreDecPrivateMode(mode)),
         _ => None,
@@ -291,7 +292,14 @@ fn switched_mode(value: i64, control: char) -> Option<Mode>
     let Some(number) = mode_number(value) else {
         return None;
     };
-    let mode = DecPrivateMode::of_number(number);
+    set_or_reset(DecPrivateMode::of_number(number), control)
+}
+
+/// What a final byte does to a private mode, where it sets or resets it.
+#[inline(always)]
+fn set_or_reset(mode: DecPrivateMode, control: char) -> Option<Mode>
+    ensures { result ≡ switched_step control mode }
+{
     match control {
         'h' => Some(Mode::SetDecPrivateMode(mode)),
         'l' => Some(Mode::ResetDecPrivateMode(mode)),
@@ -312,6 +320,7 @@ pub(crate) fn mode_reading(value: i64, control: char) -> Option<Mode>
     }
 }
 
+/// The number of a mode, if it is from 0 to 65535.
 #[inline(always)]
 fn mode_number(value: i64) -> Option<u16>
     ensures { result ≡ number_within 65535 value }

@@ -82,7 +82,7 @@ impl OneBased {
         ensures { result ≡ one_based default param }
     {
         match param {
-            CsiParam::Integer(value) => place(default, Some(value)).ok_or(CrackError::NotASpelling),
+            CsiParam::Integer(value) => place(default, value).ok_or(CrackError::NotASpelling),
             CsiParam::P(_) => Err(CrackError::NotASpelling),
         }
     }

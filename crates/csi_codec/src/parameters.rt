@@ -1,5 +1,5 @@
-//! Tokens of a CSI list, the slots that a list can have, and how tokens are written.
-ghost use Rattle.std.specs.Prelude.{◌≡◌, ◌≤◌, ◌++◌, true, Some, IfOk, OnErr, OnOk, is_some, drop, length, take};
+//! Tokens of a CSI list, the numbers and places that a list can have, and how tokens are written.
+ghost use Rattle.std.specs.Prelude.{◌≡◌, ◌≤◌, ◌++◌, true, Some, IfOk, OnErr, OnOk, is_some, option_map, drop, length, take};
 ghost use Rattle.std.specs.Fmt.{signed_decimal};
 ghost use Rattle.csi_codec.specs.Parameters.{is_number_token, number_within, word_max, token_text, sequence_text, spelled, spelled_text, one_slot, two_slots, slot_and_space, place, slot_number, count, place_pair, number_pair, begins_with_number, semicolon_at};
 ghost use Rattle.csi_codec.specs.Rests.{IsSameRest};
@@ -145,67 +145,36 @@ pub(crate) fn number_within(top: u32, value: i64) -> Option<u32>
     }
 }
 
-/// The number in a slot, where an absent one is 0.
-pub(crate) fn slot_number(slot: Option<i64>) -> i64
-    ensures { result ≡ slot_number slot }
-{
-    slot.unwrap_or(0)
-}
-
-/// The place in a slot where absent and 0 stand for `default`, if a parameter can hold it.
+/// The place of a number, where 0 stands for `default`, if a parameter can hold it.
 #[inline(always)]
-pub(crate) fn place(default: u32, slot: Option<i64>) -> Option<OneBased>
+pub(crate) fn place(default: u32, value: i64) -> Option<OneBased>
     requires { 1 ≤ default }
-    ensures { result ≡ place default slot }
+    ensures { result ≡ place default (Some value) }
 {
-    let Some(value) = slot else {
-        return Some(OneBased::new(default));
-    };
     match number_within(u32::MAX, value)? {
         0 => Some(OneBased::new(default)),
         number => Some(OneBased::new(number)),
     }
 }
 
-/// The slot of a list that is empty or one number.
-pub(crate) fn one_slot(params: &[CsiParam]) -> Option<Option<i64>>
-    ensures { result ≡ one_slot params.now }
+/// The number of a list that is empty or one number, where an absent one is 0.
+pub(crate) fn one_number(params: &[CsiParam]) -> Option<i64>
+    ensures { result ≡ option_map slot_number (one_slot params.now) }
 {
     match params {
-        [] => Some(None),
-        [CsiParam::Integer(value)] => Some(Some(*value)),
+        [] => Some(0),
+        [CsiParam::Integer(value)] => Some(*value),
         _ => None,
     }
 }
 
-/// The two slots of a list with at most one number on each side of a `;`.
-#[inline(always)]
-pub(crate) fn two_slots(params: &[CsiParam]) -> Option<(Option<i64>, Option<i64>)>
-    ensures { result ≡ two_slots params.now }
+/// The number of a list that is at most one number, and a space behind it, where an absent one is 0.
+pub(crate) fn number_and_space(params: &[CsiParam]) -> Option<i64>
+    ensures { result ≡ option_map slot_number (slot_and_space params.now) }
 {
     match params {
-        [
-            CsiParam::Integer(a),
-            CsiParam::P(b';'),
-            CsiParam::Integer(b),
-        ] => { Some((Some(*a), Some(*b))) }
-        [] | [CsiParam::P(b';')] => Some((None, None)),
-        [CsiParam::Integer(a)] | [CsiParam::Integer(a), CsiParam::P(b';')] => Some((
-            Some(*a),
-            None,
-        )),
-        [CsiParam::P(b';'), CsiParam::Integer(b)] => Some((None, Some(*b))),
-        _ => None,
-    }
-}
-
-/// The slot of a list that is at most one number, and a space behind it.
-pub(crate) fn slot_and_space(params: &[CsiParam]) -> Option<Option<i64>>
-    ensures { result ≡ slot_and_space params.now }
-{
-    match params {
-        [CsiParam::P(b' ')] => Some(None),
-        [CsiParam::Integer(value), CsiParam::P(b' ')] => Some(Some(*value)),
+        [CsiParam::P(b' ')] => Some(0),
+        [CsiParam::Integer(value), CsiParam::P(b' ')] => Some(*value),
         _ => None,
     }
 }
@@ -214,7 +183,7 @@ pub(crate) fn slot_and_space(params: &[CsiParam]) -> Option<Option<i64>>
 pub(crate) fn one_place(params: &[CsiParam]) -> Option<OneBased>
     ensures { result ≡ count params.now }
 {
-    place(1, one_slot(params)?)
+    place(1, one_number(params)?)
 }
 
 /// The count that a list spells, where absent and 0 are 1.
@@ -224,13 +193,31 @@ pub(crate) fn count(params: &[CsiParam]) -> Option<u32>
     Some(one_place(params)?.as_one_based())
 }
 
+/// The two numbers of a list with at most one on each side of a `;`, where an absent one is 0.
+#[inline(always)]
+fn two_numbers(params: &[CsiParam]) -> Option<(i64, i64)>
+    ensures { result ≡ option_map (λ slots. (slot_number slots.0, slot_number slots.1)) (two_slots params.now) }
+{
+    match params {
+        [
+            CsiParam::Integer(a),
+            CsiParam::P(b';'),
+            CsiParam::Integer(b),
+        ] => Some((*a, *b)),
+        [] | [CsiParam::P(b';')] => Some((0, 0)),
+        [CsiParam::Integer(a)] | [CsiParam::Integer(a), CsiParam::P(b';')] => Some((*a, 0)),
+        [CsiParam::P(b';'), CsiParam::Integer(b)] => Some((0, *b)),
+        _ => None,
+    }
+}
+
 /// The two places that a list spells, where absent and 0 are 1, or `default` for the second.
 #[inline(always)]
 pub(crate) fn place_pair(default: u32, params: &[CsiParam]) -> Option<(OneBased, OneBased)>
     requires { 1 ≤ default }
     ensures { result ≡ place_pair default params.now }
 {
-    let (a, b) = two_slots(params)?;
+    let (a, b) = two_numbers(params)?;
     Some((place(1, a)?, place(default, b)?))
 }
 

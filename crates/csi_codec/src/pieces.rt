@@ -1,8 +1,8 @@
 //! Pieces of lists: what they can be, and those of modes.
 ghost use Rattle.std.specs.Prelude.{◌≡◌, ◌≤◌, true, drop, length, option_map};
-ghost use Rattle.csi_codec.specs.Actions.{all_sgr_tokens, mode_piece};
+ghost use Rattle.csi_codec.specs.Actions.{all_sgr_tokens, piece_of};
 ghost use Rattle.csi_codec.specs.Known.{found_mode};
-ghost use Rattle.csi_codec.specs.Modes.{mode_reading, private_mode_reading};
+ghost use Rattle.csi_codec.specs.Parsing.{kind_of};
 
 use crate::modes::{Mode, mode_reading, private_mode_reading};
 use crate::parameters::{CsiParam, behind, semicolon_at};
@@ -166,31 +166,19 @@ fn all_tokens(params: &[CsiParam]) -> bool
     true
 }
 
-/// The mode at the front of a list of private modes, and how many tokens it takes.
+/// The mode at the front of a list, and how many tokens it takes.
 #[tactic(auto, unfolding(crate::specs::Actions::mode_piece))]
 #[inline(always)]
-pub(crate) fn private_mode_piece(params: &[CsiParam], control: char) -> Option<(Mode, usize)>
-    ensures { option_map found_mode result ≡ mode_piece (private_mode_reading control) params.now }
+pub(crate) fn mode_piece(kind: Kind, params: &[CsiParam], control: char) -> Option<(Mode, usize)>
+    ensures { option_map found_mode result ≡ piece_of (kind_of kind) control params.now }
 {
     match params.first().copied()? {
         CsiParam::P(_) => None,
         CsiParam::Integer(value) => {
-            let mode = private_mode_reading(value, control)?;
-            Some((mode, 1 + semicolon_at(params, 1)))
-        }
-    }
-}
-
-/// The mode at the front of a list of modes of the standard, and how many tokens it takes.
-#[tactic(auto, unfolding(crate::specs::Actions::mode_piece))]
-#[inline(always)]
-pub(crate) fn standard_mode_piece(params: &[CsiParam], control: char) -> Option<(Mode, usize)>
-    ensures { option_map found_mode result ≡ mode_piece (mode_reading control) params.now }
-{
-    match params.first().copied()? {
-        CsiParam::P(_) => None,
-        CsiParam::Integer(value) => {
-            let mode = mode_reading(value, control)?;
+            let mode = match kind {
+                Kind::PrivateModes => private_mode_reading(value, control)?,
+                Kind::StandardModes => mode_reading(value, control)?,
+            };
             Some((mode, 1 + semicolon_at(params, 1)))
         }
     }

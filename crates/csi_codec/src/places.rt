@@ -1,6 +1,6 @@
 //! Reading the actions of a list from place to place.
 ghost use Rattle.std.specs.Prelude.{◌≡◌, ◌≢◌, ◌+◌, ◌<◌, ◌≤◌, ℕ, pos, Bool, List, true, false, IfNone, IfSome, Some, ◌∷◌, [], drop, length, option_map};
-ghost use Rattle.csi_codec.specs.Actions.{Kind as PieceKind, csi_reading, lone_or, lone_reading, modes_or, piece_of, pieces, private_mode_pieces, standard_mode_pieces, unspecified};
+ghost use Rattle.csi_codec.specs.Actions.{Kind as PieceKind, csi_reading, lone_or, lone_reading, modes_or, piece_of, pieces, unspecified};
 ghost use Rattle.csi_codec.specs.Known.{found_action};
 ghost use Rattle.csi_codec.specs.ColourCases.{IsTold, begins_signed, has_more, opaque_behind, set_to};
 ghost use Rattle.csi_codec.specs.Parsing.{HasNoPiece, HasNoSetting, IsEnd, IsFirstPiece, IsNext, IsStart, actions_behind, actions_from, end_at, ended, first_setting, further_setting, kind_of, list_kind};
@@ -13,9 +13,7 @@ use crate::edits::{Edit, EraseInDisplay, EraseInLine, edit_reading};
 use crate::modes::lone_private_mode;
 use crate::one_based::OneBased;
 use crate::parameters::{CsiParam, begins_with_number, behind, semicolon_at};
-use crate::pieces::{
-    Kind, all_behind, all_behind_two, all_sgr_tokens, private_mode_piece, standard_mode_piece,
-};
+use crate::pieces::{Kind, all_behind, all_behind_two, all_sgr_tokens, mode_piece};
 use crate::rendition::Sgr;
 use crate::sequences::{CSI, request, unspecified};
 use crate::sgr_reading::{
@@ -99,7 +97,7 @@ impl CSIPlace {
         read >= params.len()
     }
 
-    /// What is left of an SGR list at this place, where no setting stands: the last action.
+    /// The rest of an SGR list at this place, where no setting stands: the last action.
     #[inline(always)]
     fn leave(
         &mut self,
@@ -112,7 +110,7 @@ impl CSIPlace {
     {
         let read = self.index;
         self.index = params.len();
-        left_at(read, alloc, params, truncated)
+        rest_at(read, alloc, params, truncated)
     }
 
     /// The action at this place of a list before another final byte than `m`, whatever stands there.
@@ -162,10 +160,10 @@ fn bare_lone(control: char) -> Option<CSI>
     }
 }
 
-/// What is left of an SGR list behind so many tokens, as its last action.
+/// The rest of an SGR list behind so many tokens, as its last action.
 #[cold]
 #[inline(never)]
-fn left_at(
+fn rest_at(
     read: usize,
     alloc: Global,
     params: &[CsiParam],
@@ -695,38 +693,12 @@ fn rest(
     Some(unspecified(alloc, params, truncated, control))
 }
 
-/// The piece at the front of a list, and how many tokens it takes.
+/// The mode at the front of a list as an action, and how many tokens it takes.
 #[inline(always)]
 fn piece(kind: Kind, params: &[CsiParam], control: char) -> Option<(CSI, usize)>
     ensures { option_map found_action result ≡ piece_of (kind_of kind) control params.now }
 {
-    match kind {
-        Kind::PrivateModes => {
-            let (value, len) = private_piece(params, control)?;
-            Some((value, len))
-        }
-        Kind::StandardModes => {
-            let (value, len) = standard_piece(params, control)?;
-            Some((value, len))
-        }
-    }
-}
-
-/// The private mode at the front of a list, and how many tokens it takes.
-#[inline(always)]
-fn private_piece(params: &[CsiParam], control: char) -> Option<(CSI, usize)>
-    ensures { option_map found_action result ≡ piece_of private_mode_pieces control params.now }
-{
-    let (value, len) = private_mode_piece(params, control)?;
-    Some((CSI::Mode(value), len))
-}
-
-/// The mode of the standard at the front of a list, and how many tokens it takes.
-#[inline(always)]
-fn standard_piece(params: &[CsiParam], control: char) -> Option<(CSI, usize)>
-    ensures { option_map found_action result ≡ piece_of standard_mode_pieces control params.now }
-{
-    let (value, len) = standard_mode_piece(params, control)?;
+    let (value, len) = mode_piece(kind, params, control)?;
     Some((CSI::Mode(value), len))
 }
 

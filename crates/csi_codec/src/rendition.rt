@@ -3,7 +3,7 @@ ghost use Rattle.std.specs.Prelude.{Some};
 ghost use Rattle.csi_codec.specs.Parameters.{spelled_text};
 ghost use Rattle.csi_codec.specs.Rendition.{sgr_spelling};
 
-use crate::text::SequenceText;
+use crate::spelling::write_parameters;
 use cell_base::{Blink, ColorSpec, Intensity, Underline, VerticalAlign};
 use std::fmt;
 
@@ -37,8 +37,6 @@ impl fmt::Display for Sgr {
     ghost output = { λ sgr. Some (spelled_text (sgr_spelling sgr)) };
 
     fn fmt<W: fmt::Write>(&self, f: &mut fmt::Formatter<W>) -> fmt::Result {
-        let mut text = SequenceText::new();
-        self.put_text(&mut text);
-        f.write_str(text.parameters())
+        write_parameters(self, f)
     }
 }

@@ -11,6 +11,7 @@ use crate::modes::Mode;
 use crate::parameters::{CsiParam, Unspecified};
 use crate::places::CSIPlace;
 use crate::rendition::Sgr;
+use crate::spelling::ControlSequence;
 use crate::text::SequenceText;
 use std::alloc::{AllocError, Global};
 use std::fmt;

@@ -17,17 +17,16 @@ ghost use Rattle.csi_codec.specs.Rendition.{
 ghost use Rattle.csi_codec.specs.Writing.{opened_text};
 
 use crate::rendition::{Font, Sgr};
-use crate::spelling::put_number;
+use crate::spelling::{ControlSequence, put_number};
 use crate::text::SequenceText;
 use cell_base::{Blink, ColorSpec, Intensity, SrgbaTuple, Underline, VerticalAlign};
 
-impl Sgr {
-    /// Makes `text` what is written for it.
+impl ControlSequence for Sgr {
+    ghost spelling = { sgr_spelling };
+
     #[tactic(auto, unfolding(crate::specs::Rendition::sgr_spelling))]
     #[inline(never)]
-    pub(crate) fn put_text(&self, text: &mut SequenceText)
-        ensures { text.new ≡ sequence_text (sgr_spelling self.now) }
-    {
+    fn put_text(&self, text: &mut SequenceText) {
         match self {
             Sgr::Reset => put_number(0, b'm', text),
             Sgr::Intensity(Intensity::Bold) => put_number(1, b'm', text),

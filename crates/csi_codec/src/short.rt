@@ -188,8 +188,8 @@ fn places(default: u32, first: u8, second: u8) -> Option<(OneBased, OneBased)>
     requires { 1 ≤ default }
     ensures { result ≡ place_pair default (Integer (pos first) ∷ P 59 ∷ Integer (pos second) ∷ []) }
 {
-    let first = place(1, Some(i64::from(first)))?;
-    let second = place(default, Some(i64::from(second)))?;
+    let first = place(1, i64::from(first))?;
+    let second = place(default, i64::from(second))?;
     Some((first, second))
 }
 

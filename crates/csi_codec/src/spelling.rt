@@ -1,9 +1,33 @@
-//! The texts that families of sequences share: `ESC [`, parameters and a final byte, which is ASCII.
-ghost use Rattle.std.specs.Prelude.{◌≡◌, ◌<◌, []};
-ghost use Rattle.csi_codec.specs.Parameters.{spelled, sequence_text, count_tokens, number_tokens, pair_tokens, extent_tokens};
+//! What is written as a control sequence, and the texts that families share: `ESC [`, parameters and a final byte, which is
+//! ASCII.
+ghost use Rattle.std.specs.Prelude.{◌≡◌, ◌<◌, [], Some};
+ghost use Rattle.std.specs.Fmt.{DisplaysOnOk};
+ghost use Rattle.csi_codec.specs.Parameters.{Spelled, spelled, spelled_text, sequence_text, count_tokens, number_tokens, pair_tokens, extent_tokens};
 
 use crate::one_based::OneBased;
 use crate::text::SequenceText;
+use std::fmt;
+
+/// What is written as a control sequence: parameters and a final byte behind `ESC [`.
+pub(crate) trait ControlSequence {
+    ghost spelling: { Self → Spelled };
+
+    /// Makes `text` what is written for it.
+    fn put_text(&self, text: &mut SequenceText)
+        ensures { text.new ≡ sequence_text (spelling self.now) };
+}
+
+/// Writes the parameters and the final byte of a control sequence.
+pub(crate) fn write_parameters<S: ControlSequence, W: fmt::Write>(
+    sequence: &S,
+    f: &mut fmt::Formatter<W>,
+) -> fmt::Result
+    ensures { DisplaysOnOk W.write_str_gives f.old result (Some (spelled_text (S.spelling sequence.now))) f.new }
+{
+    let mut text = SequenceText::new();
+    sequence.put_text(&mut text);
+    f.write_str(text.parameters())
+}
 
 /// No parameters.
 pub(crate) fn put_bare(control: u8, text: &mut SequenceText)

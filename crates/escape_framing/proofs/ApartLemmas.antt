@@ -5,8 +5,9 @@ use Rattle.std.specs.Char.{IsScalar}
 use Rattle.std.specs.List.{flat_map}
 use Rattle.std.proofs.lemmas.Bool.Decides.{nat_tests}
 use Rattle.std.proofs.lemmas.List.{map-append}
+use Rattle.text_clusters.specs.Controls.{is_c1}
 use lib.Utf8.{encode}
-use Rattle.escape_framing.specs.SevenBit.{is_c1, seven_bit}
+use Rattle.escape_framing.specs.SevenBit.{seven_bit}
 use Rattle.escape_framing.specs.Bytes.{taken}
 use Rattle.escape_framing.specs.Segment.{Tail, Begun, OpenEscape, OpenControlSequence, OpenCommand, OpenHeader, OpenDevice, OpenString, Segment, Character, IllFormed, CutOff, bytes_of, IsPrintable}
 use Rattle.escape_framing.specs.Segment as segment

@@ -1,13 +1,14 @@
 -- A character that a byte prints has no more bytes than were held of one, and that byte.
 use Rattle.std.proofs.Common.{◌≡◌, ℕ, ◌+◌, ◌-◌, ◌≤◌, ◌⊎◌, inl, inr, Bool, true, false, List, [], ◌∷◌, ◌++◌, length, refl, sym, ap, subst, arith, length-append}
-use Rattle.std.specs.Prelude.{◌==◌, ◌&&◌, ◌||◌, nat_le, nat_lt, is_none, encode_utf8, slice_index}
+use Rattle.std.specs.Prelude.{◌==◌, nat_lt, is_none, encode_utf8, slice_index}
 use Rattle.std.specs.List.{flat_map}
 use Rattle.std.specs.Str.{is_utf8, chars}
 use Rattle.std.specs.Str.Lossy.{utf8_error_len}
+use Rattle.std.specs.Char.{is_ascii_control}
 use Rattle.std.proofs.lemmas.Str.{IsUtf8-from_is_utf8, chars_past_char}
+use Rattle.text_clusters.specs.Controls.{is_c1, in_c1}
 use lib.Utf8.{encode}
-use Rattle.escape_framing.specs.SevenBit.{is_c1}
-use Rattle.escape_framing.specs.Bytes.{is_stop, is_embedded, is_intermediate, is_parameter, is_control, is_opener, is_cut}
+use Rattle.escape_framing.specs.Bytes.{is_stop, is_embedded, is_intermediate, is_parameter, is_opener, is_cut}
 use Rattle.escape_framing.specs.Decode.{segment_of, first_byte, in_character}
 use Rattle.escape_framing.specs.Parameters.{Parameters}
 use Rattle.escape_framing.specs.Dispatch.{Dispatch, Print, Escape, ControlSequence, OperatingSystemCommand, Enter, Data, Exit, dispatches_of, controls_in, escape_dispatch}
@@ -58,9 +59,9 @@ pub record IsShort (n : ℕ) (s : Step) : Type 0 where
   pub keeps : begun_in s.kept ≤ n
 
 segment_within : (bytes : List ℕ) (c : ℕ) → length (encode c) ≤ length bytes → AreWithin (length bytes) (flat_map dispatches_of (segment_of bytes c ∷ []))
-segment_within bytes c l = by_test (nat_le 0x80 c && nat_le c 0x9F) (nat_lt c 0x20 || (c == 0x7F)) refl refl
+segment_within bytes c l = by_test (in_c1 c) (is_ascii_control c) refl refl
   where
-    by_test : (x y : Bool) → (nat_le 0x80 c && nat_le c 0x9F) ≡ x → (nat_lt c 0x20 || (c == 0x7F)) ≡ y → AreWithin (length bytes) (flat_map dispatches_of (segment_of bytes c ∷ []))
+    by_test : (x y : Bool) → in_c1 c ≡ x → is_ascii_control c ≡ y → AreWithin (length bytes) (flat_map dispatches_of (segment_of bytes c ∷ []))
     by_test true y e f = rw e (inl refl, tt)
     by_test false true e f = rw (e, f) tt
     by_test false false e f = rw (e, f) (inr l, tt)
@@ -150,9 +151,9 @@ control_sequence_short p b = by_test (is_embedded b) (is_parameter b) (is_cut b)
 
 command_short : (body : List ℕ) (b : ℕ) → IsShort 1 (command_step body b)
 unfolding command_step
-command_short body b = by_test (b == 0x07) (is_stop b) (is_control b) (b == 0x1B) refl refl refl refl
+command_short body b = by_test (b == 0x07) (is_stop b) (is_ascii_control b) (b == 0x1B) refl refl refl refl
   where
-    by_test : (t u v w : Bool) → (b == 0x07) ≡ t → is_stop b ≡ u → is_control b ≡ v → (b == 0x1B) ≡ w → IsShort 1 (command_step body b)
+    by_test : (t u v w : Bool) → (b == 0x07) ≡ t → is_stop b ≡ u → is_ascii_control b ≡ v → (b == 0x1B) ≡ w → IsShort 1 (command_step body b)
     by_test true u v w e f g h = rw e (record { prints = tt; keeps = omega arith })
     by_test false true v true e f g h = let k = character_short [] b in rw (e, f, h) (record { prints = k.prints; keeps = k.keeps })
     by_test false true v false e f g h = let k = character_short [] b in rw (e, f, h) (record { prints = k.prints; keeps = k.keeps })

@@ -2,8 +2,8 @@
 use Rattle.std.proofs.Common.{◌≡◌, ◌≢◌, ℕ, ◌+◌, ◌/◌, ◌%◌, ◌<◌, ◌≤◌, inl, inr, Bool, true, false, List, [], ◌∷◌, ◌++◌, refl, sym, ap, subst, ◌∙◌, arith, append-nil}
 use Rattle.std.specs.Prelude.{◌==◌, ◌||◌, nat_le}
 use Rattle.std.proofs.lemmas.Bool.Decides.{nat_tests}
+use Rattle.text_clusters.specs.Controls.{is_c1}
 use lib.Utf8.{encode}
-use Rattle.escape_framing.specs.SevenBit.{is_c1}
 use Rattle.escape_framing.specs.Bytes.{is_cut, is_stop}
 use Rattle.escape_framing.specs.Segment.{Begun, IsBegun, IsUnfinished}
 use Rattle.escape_framing.specs.Dispatch.{Print}

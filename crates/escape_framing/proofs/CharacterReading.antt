@@ -1,11 +1,12 @@
 -- The plain reading of characters, ill-formed pieces and controls.
 use Rattle.std.proofs.Common.{◌≡◌, ◌≢◌, ℕ, ◌+◌, ◌/◌, ◌<◌, ◌≤◌, inl, inr, Bool, true, false, List, [], ◌∷◌, ◌++◌, refl, sym, ap, subst, ◌∙◌, arith, append_assoc}
-use Rattle.std.specs.Prelude.{◌==◌, ◌&&◌, ◌||◌, nat_le, nat_lt, is_none}
-use Rattle.std.specs.Char.{IsScalar}
+use Rattle.std.specs.Prelude.{◌==◌, is_none}
+use Rattle.std.specs.Char.{IsScalar, is_ascii_control}
 use Rattle.std.specs.Str.{is_utf8}
 use Rattle.std.specs.Str.Lossy.{utf8_error_len}
 use Rattle.std.proofs.lemmas.Bool.Decides.{nat_tests}
 use Rattle.std.proofs.lemmas.Str.{encode_same, encode_ascii}
+use Rattle.text_clusters.specs.Controls.{in_c1}
 use lib.Utf8.{encode, low_scalar}
 use Rattle.escape_framing.specs.Segment.{Begun, Segment, Character, IllFormed, Control, IsPrintable, IsControl, BeginsCharacter, IsBegun, IsUnfinished, IsSegment}
 use Rattle.escape_framing.specs.Decode.{waits, ends, ends_before, segment_of, first_byte, in_character, next_byte, read_on}
@@ -94,34 +95,34 @@ last_byte c = by_list (encode c) refl
 
 pub plain_segment : (bytes : List ℕ) (c : ℕ) → IsPrintable c → segment_of bytes c ≡ Character c
 plain_segment bytes c (inl p) =
-    let e : (nat_le 0x80 c && nat_le c 0x9F) ≡ false = low c p.1 in
-    let f : (nat_lt c 0x20 || (c == 0x7F)) ≡ false = plain c p.0 p.1 in rw (e, f) refl
+    let e : in_c1 c ≡ false = low c p.1 in
+    let f : is_ascii_control c ≡ false = plain c p.0 p.1 in rw (e, f) refl
   where
-    low : (c : ℕ) → c ≤ 0x7E → (nat_le 0x80 c && nat_le c 0x9F) ≡ false
+    low : (c : ℕ) → c ≤ 0x7E → in_c1 c ≡ false
     low c h = grind (arith, nat_tests)
 
-    plain : (c : ℕ) → 0x20 ≤ c → c ≤ 0x7E → (nat_lt c 0x20 || (c == 0x7F)) ≡ false
+    plain : (c : ℕ) → 0x20 ≤ c → c ≤ 0x7E → is_ascii_control c ≡ false
     plain c h k = grind (arith, nat_tests)
 plain_segment bytes c (inr p) =
-    let e : (nat_le 0x80 c && nat_le c 0x9F) ≡ false = high c p in
-    let f : (nat_lt c 0x20 || (c == 0x7F)) ≡ false = plain c p in rw (e, f) refl
+    let e : in_c1 c ≡ false = high c p in
+    let f : is_ascii_control c ≡ false = plain c p in rw (e, f) refl
   where
-    high : (c : ℕ) → 0x9F < c → (nat_le 0x80 c && nat_le c 0x9F) ≡ false
+    high : (c : ℕ) → 0x9F < c → in_c1 c ≡ false
     high c h = grind (arith, nat_tests)
 
-    plain : (c : ℕ) → 0x9F < c → (nat_lt c 0x20 || (c == 0x7F)) ≡ false
+    plain : (c : ℕ) → 0x9F < c → is_ascii_control c ≡ false
     plain c h = grind (arith, nat_tests)
 
 pub control_segment : (bytes : List ℕ) (c : ℕ) → IsControl c → segment_of bytes c ≡ Control c
 control_segment bytes c (inl p) =
-    let e : (nat_le 0x80 c && nat_le c 0x9F) ≡ false = low c p.0 in
-    let f : (nat_lt c 0x20 || (c == 0x7F)) ≡ true = is_control c p.0 in rw (e, f) refl
+    let e : in_c1 c ≡ false = low c p.0 in
+    let f : is_ascii_control c ≡ true = control c p.0 in rw (e, f) refl
   where
-    low : (c : ℕ) → c < 0x20 → (nat_le 0x80 c && nat_le c 0x9F) ≡ false
+    low : (c : ℕ) → c < 0x20 → in_c1 c ≡ false
     low c h = grind (arith, nat_tests)
 
-    is_control : (c : ℕ) → c < 0x20 → (nat_lt c 0x20 || (c == 0x7F)) ≡ true
-    is_control c h = grind (arith, nat_tests)
+    control : (c : ℕ) → c < 0x20 → is_ascii_control c ≡ true
+    control c h = grind (arith, nat_tests)
 control_segment bytes c (inr p) = ap (λ (x : ℕ). segment_of bytes x) p ∙ ap Control (sym p)
 
 -- the last byte of a character ends it

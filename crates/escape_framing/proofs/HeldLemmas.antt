@@ -6,8 +6,9 @@ use Rattle.std.specs.List.{flat_map}
 use Rattle.std.proofs.lemmas.Bool.Decides.{nat_tests}
 use Rattle.std.proofs.lemmas.List.{append-nil, drop_at}
 use Rattle.std.proofs.lemmas.Grind.{flat_map-append}
+use Rattle.text_clusters.specs.Controls.{is_c1}
 use lib.Utf8.{encode}
-use Rattle.escape_framing.specs.SevenBit.{is_c1, seven_bit}
+use Rattle.escape_framing.specs.SevenBit.{seven_bit}
 use Rattle.escape_framing.specs.Segment.{Tail, Begun, OpenEscape, OpenControlSequence, OpenCommand, OpenHeader, OpenDevice, OpenString, bytes_of_tail, IllFormed, CutOff, bytes_of, BeginsCharacter, IsBegun, IsUnfinished, is_before_final}
 use Rattle.escape_framing.specs.Decode.{Reading, waits, ends_before, first_byte, in_character, next_byte, read_on}
 use Rattle.escape_framing.specs.Dispatch.{Dispatch, Data, Enter, controls_in, settled, decided_of, dispatches_of}

@@ -4,18 +4,19 @@ use Rattle.std.specs.Prelude.{◌==◌, not, nat_lt, is_none, filter}
 use Rattle.std.specs.List.{flat_map, list_all, list_any}
 use Rattle.std.specs.Str.{is_utf8}
 use Rattle.std.specs.Str.Lossy.{utf8_error_len}
+use Rattle.std.specs.Char.{is_ascii_control}
+use Rattle.std.proofs.lemmas.Bool.{and_parts}
 use Rattle.std.proofs.lemmas.Bool.Decides.{nat_tests}
 use Rattle.std.proofs.lemmas.List.{append-nil, map-append}
 use Rattle.std.proofs.lemmas.List.Elements.{filter-append}
 use Rattle.std.proofs.lemmas.List.Sums.{fold-append}
-use Rattle.escape_framing.specs.Bytes.{is_control, is_stop, is_embedded, is_intermediate, is_parameter, is_opener, is_cut, in_escape, taken}
+use Rattle.escape_framing.specs.Bytes.{is_stop, is_embedded, is_intermediate, is_parameter, is_opener, is_cut, in_escape, taken}
 use Rattle.escape_framing.specs.Segment.{Tail, Begun, OpenEscape, OpenControlSequence, OpenCommand, OpenHeader, OpenDevice, OpenString, Segment, Escape, ControlSequence, OperatingSystemCommand, DeviceControl, String, CutOff, IsUnfinished}
 use Rattle.escape_framing.specs.Decode.{Reading, waits, ends, ends_before, first_byte, in_character, opened_by, behind_escape, next_byte}
 use Rattle.escape_framing.specs.Dispatch.{Dispatch, Data, Enter, Exit, controls_in, escape_dispatch, control_sequence_dispatch, command_dispatch, decided_of, dispatches_of}
 use Rattle.escape_framing.specs.Dispatch as dispatch
 use Rattle.escape_framing.specs.Parameters.{with_byte, parameters_of}
 use Rattle.escape_framing.specs.Held.{Kept, InCharacter, InEscape, InControlSequence, InCommand, InHeader, kept_of, Step, steps, before, character_step, opened, final_step, escape_step, control_sequence_step, command_step, header_step, device_step, string_step, kept_step}
-use Rattle.escape_framing.specs.Existence.SevenBitLemmas.{both}
 use Rattle.escape_framing.proofs.ParameterLemmas.{parameters_kept}
 
 -- what is open has handed out where no C2 waits
@@ -38,28 +39,28 @@ pub record Goes (front : List Dispatch) (r : Reading) (s : Step) : Type 0 where
 controls_push : (xs : List ℕ) (b : ℕ) → controls_in (xs ++ b ∷ []) ≡ controls_in xs ++ controls_in (b ∷ [])
 controls_push xs b = ap (map dispatch.Control) (filter-append (λ x. nat_lt x 0x20) xs (b ∷ [])) ∙ map-append dispatch.Control (filter (λ x. nat_lt x 0x20) xs) (filter (λ x. nat_lt x 0x20) (b ∷ []))
 
-taken_push : (xs : List ℕ) (b : ℕ) → is_control b ≡ false → taken (xs ++ b ∷ []) ≡ taken xs ++ b ∷ []
-taken_push xs b h = filter-append (λ x. not (is_control x)) xs (b ∷ []) ∙ ap (λ (t : Bool). taken xs ++ cond (not t) (b ∷ []) []) h
+taken_push : (xs : List ℕ) (b : ℕ) → is_ascii_control b ≡ false → taken (xs ++ b ∷ []) ≡ taken xs ++ b ∷ []
+taken_push xs b h = filter-append (λ x. not (is_ascii_control x)) xs (b ∷ []) ∙ ap (λ (t : Bool). taken xs ++ cond (not t) (b ∷ []) []) h
 
-taken_skip : (xs : List ℕ) (b : ℕ) → is_control b ≡ true → taken (xs ++ b ∷ []) ≡ taken xs
-taken_skip xs b h = filter-append (λ x. not (is_control x)) xs (b ∷ []) ∙ ap (λ (t : Bool). taken xs ++ cond (not t) (b ∷ []) []) h ∙ append-nil (taken xs)
+taken_skip : (xs : List ℕ) (b : ℕ) → is_ascii_control b ≡ true → taken (xs ++ b ∷ []) ≡ taken xs
+taken_skip xs b h = filter-append (λ x. not (is_ascii_control x)) xs (b ∷ []) ∙ ap (λ (t : Bool). taken xs ++ cond (not t) (b ∷ []) []) h ∙ append-nil (taken xs)
 
 -- ---- classes of bytes
 
-embedded_is_control : (b : ℕ) → is_embedded b ≡ true → is_control b ≡ true
+embedded_is_control : (b : ℕ) → is_embedded b ≡ true → is_ascii_control b ≡ true
 unfolding is_embedded
-embedded_is_control b h = (both (is_control b) (not (is_stop b)) h).0
+embedded_is_control b h = (and_parts (is_ascii_control b) (not (is_stop b)) h).0
 
 record Plain (b : ℕ) : Type 0 where
-  control : is_control b ≡ false
+  control : is_ascii_control b ≡ false
   low : nat_lt b 0x20 ≡ false
 
 intermediate_is_plain : (b : ℕ) → is_intermediate b ≡ true → Plain b
-unfolding is_intermediate is_control
+unfolding is_intermediate
 intermediate_is_plain b h = record { control = grind (arith, nat_tests); low = grind (arith, nat_tests) }
 
 parameter_is_plain : (b : ℕ) → is_parameter b ≡ true → Plain b
-unfolding is_parameter is_control
+unfolding is_parameter
 parameter_is_plain b h = record { control = grind (arith, nat_tests); low = grind (arith, nat_tests) }
 
 none_low : (b : ℕ) → nat_lt b 0x20 ≡ false → controls_in (b ∷ []) ≡ []
@@ -123,7 +124,7 @@ data Intermediates (body : List ℕ) : Type 0 where
 
 intermediates : (body : List ℕ) → list_all in_escape body ≡ true → Intermediates body
 intermediates [] h = none refl refl
-intermediates (b ∷ body) h = by_test (is_embedded b) (is_intermediate b) refl refl (intermediates body (both (in_escape b) (list_all in_escape body) h).1)
+intermediates (b ∷ body) h = by_test (is_embedded b) (is_intermediate b) refl refl (intermediates body (and_parts (in_escape b) (list_all in_escape body) h).1)
   where
     skipped : is_embedded b ≡ true → is_intermediate b ≡ false → Intermediates body → Intermediates (b ∷ body)
     skipped e f (none k l) = let c = embedded_is_control b e in none (rw c k) (rw (f, l) refl)
@@ -132,7 +133,7 @@ intermediates (b ∷ body) h = by_test (is_embedded b) (is_intermediate b) refl 
     by_test : (u v : Bool) → is_embedded b ≡ u → is_intermediate b ≡ v → Intermediates body → Intermediates (b ∷ body)
     by_test u true e f k = let c = (intermediate_is_plain b f).control in some b (taken body) (rw c refl) (rw f refl)
     by_test true false e f k = skipped e f k
-    by_test false false e f k = let l = (both (in_escape b) (list_all in_escape body) h).0 in let m : in_escape b ≡ false = rw (e, f) refl in cc
+    by_test false false e f k = let l = (and_parts (in_escape b) (list_all in_escape body) h).0 in let m : in_escape b ≡ false = rw (e, f) refl in cc
 
 escape_with : (x : ℕ) (xs : List ℕ) (b : ℕ) → escape_dispatch (x ∷ xs) b ≡ escape_dispatch (take 2 (x ∷ xs)) b
 unfolding escape_dispatch
@@ -202,9 +203,9 @@ stop body b e = rw e refl
 
 goes_command : (o body : List ℕ) (b : ℕ) → Goes (controls_in o) (next_byte (OpenCommand o body) b) (command_step (taken body) b)
 unfolding next_byte command_step
-goes_command o body b = by_test (b == 0x07) (is_stop b) (is_control b) refl refl refl
+goes_command o body b = by_test (b == 0x07) (is_stop b) (is_ascii_control b) refl refl refl
   where
-    by_test : (u v w : Bool) → (b == 0x07) ≡ u → is_stop b ≡ v → is_control b ≡ w → Goes (controls_in o) (next_byte (OpenCommand o body) b) (command_step (taken body) b)
+    by_test : (u v w : Bool) → (b == 0x07) ≡ u → is_stop b ≡ v → is_ascii_control b ≡ w → Goes (controls_in o) (next_byte (OpenCommand o body) b) (command_step (taken body) b)
     by_test true v w e f g = rw e (goes_end (OperatingSystemCommand o body b) (controls_in o) _ (ap (λ ds. controls_in o ++ ds) (bell body b e)))
     by_test false true w e f g = rw (e, f) (goes_before (OperatingSystemCommand o body b) (controls_in o) _ b (ap (λ ds. controls_in o ++ ds) (stop body b e)))
     by_test false false true e f g = rw (e, f, g) (goes_on (OpenCommand o (body ++ b ∷ [])) (controls_in o) [] _ (sym (append-nil _)) (ap InCommand (taken_skip body b g)))

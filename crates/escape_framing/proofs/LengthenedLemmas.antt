@@ -2,6 +2,7 @@
 use Rattle.std.proofs.Common.{◌≡◌, ◌≢◌, ℕ, ◌+◌, ◌/◌, ◌<◌, ◌≤◌, ◌⊎◌, inl, inr, Bool, true, false, List, [], ◌∷◌, ◌++◌, length, refl, sym, ap, subst, ◌∙◌, arith, append_assoc, length-append}
 use Rattle.std.specs.Prelude.{◌||◌, not}
 use Rattle.std.specs.List.{flat_map, list_any}
+use Rattle.std.proofs.lemmas.Bool.{or_right}
 use lib.Utf8.{encode, low_scalar}
 use Rattle.escape_framing.specs.Bytes.{is_stop, is_intermediate, is_final, is_escape_final, is_string_opener, is_opener}
 use Rattle.escape_framing.specs.Segment.{Tail, Begun, OpenEscape, OpenControlSequence, OpenCommand, OpenHeader, OpenDevice, OpenString, bytes_of_tail, Segment, Character, Escape, ControlSequence, OperatingSystemCommand, DeviceControl, String, bytes_of, IsBegun, IsUnfinished}
@@ -78,10 +79,6 @@ mark_is_final : (is_final 0x6D ≡ true) × (not (is_stop 0x61) ≡ true) × (is
 unfolding is_final is_stop
 mark_is_final = (refl, refl, refl)
 
-or_true : (b : Bool) → (b || true) ≡ true
-or_true true = refl
-or_true false = refl
-
 longer_tail : (t : Tail) → IsUnfinished t → bytes_of_tail t ≢ [] → IsLengthened (bytes_of_tail t)
 longer_tail (Begun bytes) (inl e) n = absurd (n e)
 longer_tail (Begun bytes) (inr g) n = longer_character bytes g
@@ -89,7 +86,7 @@ longer_tail (OpenEscape body) g n = record {
   segment = Escape body 0x63;
   more = 0x63 ∷ [];
   following = [];
-  stands = (g, letter_is_final.0, ap (λ (b : Bool). list_any is_intermediate body || not b) letter_is_final.1 ∙ or_true (list_any is_intermediate body));
+  stands = (g, letter_is_final.0, ap (λ (b : Bool). list_any is_intermediate body || not b) letter_is_final.1 ∙ or_right (list_any is_intermediate body) true refl);
   is = refl;
   longer = some 0x63 [];
 }

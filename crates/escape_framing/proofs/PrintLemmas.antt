@@ -1,11 +1,12 @@
 -- What a byte prints: the character that it ends, U+FFFD, or nothing.
 use Rattle.std.proofs.Common.{◌≡◌, ◌≢◌, ℕ, ◌<◌, ◌≤◌, ◌⊎◌, inl, inr, Bool, true, false, List, [], ◌∷◌, ◌++◌, refl, ap, ◌∙◌, arith, append-nil}
-use Rattle.std.specs.Prelude.{◌==◌, ◌&&◌, ◌||◌, nat_le, nat_lt}
-use Rattle.std.specs.Char.{IsScalar}
+use Rattle.std.specs.Prelude.{◌==◌, ◌||◌, nat_lt}
+use Rattle.std.specs.Char.{IsScalar, is_ascii_control}
 use Rattle.std.specs.List.{flat_map}
 use Rattle.std.proofs.lemmas.Bool.Decides.{nat_tests}
+use Rattle.text_clusters.specs.Controls.{in_c1}
 use lib.Utf8.{encode}
-use Rattle.escape_framing.specs.Bytes.{is_stop, is_embedded, is_intermediate, is_parameter, is_control, is_opener, is_cut}
+use Rattle.escape_framing.specs.Bytes.{is_stop, is_embedded, is_intermediate, is_parameter, is_opener, is_cut}
 use Rattle.escape_framing.specs.Segment.{Begun, IsUnfinished, IsPrintable}
 use Rattle.escape_framing.specs.Decode.{segment_of, in_character, first_byte}
 use Rattle.escape_framing.specs.Parameters.{Parameters}
@@ -63,16 +64,16 @@ Prints p b s = Printing p b s.dispatches s.kept false
 -- ---- a byte of a character
 
 of_segment : (p bytes : List ℕ) (b c : ℕ) → IsScalar c → encode c ≡ p ++ b ∷ [] → Ends p b (steps (flat_map dispatches_of (segment_of bytes c ∷ [])) (InCharacter []))
-of_segment p bytes b c s e = by_test (nat_le 0x80 c && nat_le c 0x9F) (nat_lt c 0x20 || (c == 0x7F)) refl refl
+of_segment p bytes b c s e = by_test (in_c1 c) (is_ascii_control c) refl refl
   where
-    printable : (c : ℕ) → (nat_le 0x80 c && nat_le c 0x9F) ≡ false → (nat_lt c 0x20 || (c == 0x7F)) ≡ false → IsPrintable c
+    printable : (c : ℕ) → in_c1 c ≡ false → is_ascii_control c ≡ false → IsPrintable c
     printable c f g = by_order (order 0x9F c)
       where
         by_order : (0x9F < c) ⊎ (c ≤ 0x9F) → IsPrintable c
         by_order (inl l) = inr l
         by_order (inr l) = inl (grind (arith, nat_tests), grind (arith, nat_tests))
 
-    by_test : (x y : Bool) → (nat_le 0x80 c && nat_le c 0x9F) ≡ x → (nat_lt c 0x20 || (c == 0x7F)) ≡ y → Ends p b (steps (flat_map dispatches_of (segment_of bytes c ∷ [])) (InCharacter []))
+    by_test : (x y : Bool) → in_c1 c ≡ x → is_ascii_control c ≡ y → Ends p b (steps (flat_map dispatches_of (segment_of bytes c ∷ [])) (InCharacter []))
     by_test true y f g = rw f (replaces refl refl refl)
     by_test false true f g = rw (f, g) (quiet tt refl refl)
     by_test false false f g = rw (f, g) (prints c s (printable c f g) e refl refl refl)
@@ -200,12 +201,12 @@ pub record IsQuietBody (b : ℕ) (s : Step) : Type 0 where
 
 pub command_quiet : (body : List ℕ) (b : ℕ) → IsQuietBody b (command_step body b)
 unfolding command_step
-command_quiet body b = by_test (b == 0x07) (is_stop b) (is_control b) (b == 0x1B) refl refl refl refl
+command_quiet body b = by_test (b == 0x07) (is_stop b) (is_ascii_control b) (b == 0x1B) refl refl refl refl
   where
     is : (b x : ℕ) → (b == x) ≡ true → b ≡ x
     is b x k = grind (arith, nat_tests)
 
-    by_test : (t u v w : Bool) → (b == 0x07) ≡ t → is_stop b ≡ u → is_control b ≡ v → (b == 0x1B) ≡ w → IsQuietBody b (command_step body b)
+    by_test : (t u v w : Bool) → (b == 0x07) ≡ t → is_stop b ≡ u → is_ascii_control b ≡ v → (b == 0x1B) ≡ w → IsQuietBody b (command_step body b)
     by_test true u v w e f g h = rw e (record { none = tt; begun = refl; goes = λ n m. absurd (m (is b 0x07 e)) })
     by_test false true v true e f g h = let k = stop_quiet b f in rw (e, f, h) (record { none = k.0; begun = k.1; goes = λ n m. cc })
     by_test false true v false e f g h = let k = stop_quiet b f in rw (e, f, h) (record { none = k.0; begun = k.1; goes = λ n m. cc })

@@ -1,11 +1,13 @@
 -- What is read at once where nothing is unfinished.
 use Rattle.std.proofs.Common.{◌≡◌, ◌≢◌, ℕ, suc, ◌+◌, ◌<◌, ◌≤◌, ◌⊎◌, inl, inr, Bool, true, false, List, [], ◌∷◌, ◌++◌, length, map, fold, take, drop, Some, None, refl, sym, ap, subst, ◌∙◌, arith, append_assoc, append-nil, length-append, eqb-true}
-use Rattle.std.specs.Prelude.{◌==◌, ◌&&◌}
+use Rattle.std.specs.Prelude.{◌==◌}
 use Rattle.std.specs.List.{prefix_len, list_all}
+use Rattle.std.specs.Char.{is_ascii_control}
+use Rattle.std.proofs.lemmas.Bool.{and_parts}
 use Rattle.std.proofs.lemmas.Bool.Decides.{nat_tests}
 use Rattle.std.proofs.lemmas.List.{map-append, take-append-drop, length-take-le}
 use Rattle.std.proofs.lemmas.List.Sums.{prefix_len-le-length}
-use Rattle.escape_framing.specs.Bytes.{is_control, is_stop, is_embedded, is_intermediate, is_parameter, is_final, is_escape_final, is_string_opener, is_opener, is_cut}
+use Rattle.escape_framing.specs.Bytes.{is_stop, is_embedded, is_intermediate, is_parameter, is_final, is_escape_final, is_string_opener, is_opener, is_cut}
 use Rattle.escape_framing.specs.Dispatch.{Dispatch, Print, Control, Escape, ControlSequence, OperatingSystemCommand, Enter, Data, Exit, escape_dispatch}
 use Rattle.csi_codec.specs.declared.short.ShortNumbers.{ShortNumbers}
 use Rattle.escape_framing.specs.Parameters.{Parameters, no_parameters, with_byte}
@@ -81,7 +83,7 @@ reads_front p h after bytes front rest s e l t n d a q z = subst (λ (b : List �
 -- ---- parameter bytes
 
 embedded_not : (b : ℕ) → is_parameter b ≡ true → (is_embedded b ≡ false) × ((b == 0xC2) ≡ false)
-unfolding is_parameter is_embedded is_control is_stop
+unfolding is_parameter is_embedded is_stop
 embedded_not b h = (grind (arith, nat_tests), grind (arith, nat_tests))
 
 abbrev in_sequence : Parameters → Held
@@ -91,15 +93,11 @@ parameter_step : (p : Parameters) (b : ℕ) → is_parameter b ≡ true → held
 unfolding held_step fresh_step control_sequence_step
 parameter_step p b h = let e = embedded_not b h in rw (e.1, e.0, h) refl
 
-both : (x y : Bool) → (x && y) ≡ true → (x ≡ true) × (y ≡ true)
-both true y h = (refl, h)
-both false y h = cc
-
 pub parameters_handed : (p : Parameters) (xs : List ℕ) → list_all is_parameter xs ≡ true → hand_out (in_sequence p) xs ≡ record { dispatches = []; held = in_sequence (fold with_byte p xs) }
 unfolding hand_out
 parameters_handed p [] h = refl
 parameters_handed p (b ∷ xs) h =
-    let t = both (is_parameter b) (list_all is_parameter xs) h in
+    let t = and_parts (is_parameter b) (list_all is_parameter xs) h in
     rw (parameter_step p b t.0) (rw (parameters_handed (with_byte p b) xs t.1) refl)
 
 all_taken : (xs : List ℕ) → list_all is_parameter (take (prefix_len is_parameter xs) xs) ≡ true
@@ -117,7 +115,7 @@ unfolding held_step fresh_step
 escape_handed = ap (λ (s : Step). handed s false) first_escape
 
 bracket_handed : held_step (record { kept = InEscape []; waiting = false }) 0x5B ≡ record { dispatches = []; held = in_sequence no_parameters }
-unfolding held_step fresh_step escape_step opened is_embedded is_control is_stop is_intermediate is_cut is_opener
+unfolding held_step fresh_step escape_step opened is_embedded is_stop is_intermediate is_cut is_opener
 bracket_handed = refl
 
 opening_handed : (xs : List ℕ) → hand_out nothing_held (0x1B ∷ 0x5B ∷ xs) ≡ hand_out (in_sequence no_parameters) xs
@@ -125,7 +123,7 @@ unfolding hand_out
 opening_handed xs = rw escape_handed (rw bracket_handed refl)
 
 final_not : (b : ℕ) → is_final b ≡ true → (is_embedded b ≡ false) × (is_parameter b ≡ false) × (is_cut b ≡ false) × ((b == 0xC2) ≡ false)
-unfolding is_final is_embedded is_parameter is_cut is_control is_stop
+unfolding is_final is_embedded is_parameter is_cut is_stop
 final_not b h = (grind (arith, nat_tests), grind (arith, nat_tests), grind (arith, nat_tests), grind (arith, nat_tests))
 
 final_handed : (p : Parameters) (b : ℕ) → is_final b ≡ true → held_step (in_sequence p) b ≡ record { dispatches = ControlSequence p.tokens p.truncated b ∷ []; held = nothing_held }
@@ -209,24 +207,23 @@ within_sequence p w e = ap (λ (x : Bool). record { kept = InControlSequence p; 
 
 -- ---- a control, and an escape sequence of two bytes
 
-control_range : (b : ℕ) → is_control b ≡ true → (b < 0x20) ⊎ (b ≡ 0x7F)
-unfolding is_control
+control_range : (b : ℕ) → is_ascii_control b ≡ true → (b < 0x20) ⊎ (b ≡ 0x7F)
 control_range b h = grind (arith, nat_tests)
 
 not_lead : (b : ℕ) → (b < 0x20) ⊎ (b ≡ 0x7F) → (b == 0xC2) ≡ false
 not_lead b h = grind (arith, nat_tests)
 
-control_handed : (b : ℕ) → is_control b ≡ true → b ≢ 0x1B → held_step nothing_held b ≡ record { dispatches = Control b ∷ []; held = nothing_held }
+control_handed : (b : ℕ) → is_ascii_control b ≡ true → b ≢ 0x1B → held_step nothing_held b ≡ record { dispatches = Control b ∷ []; held = nothing_held }
 unfolding held_step fresh_step
 control_handed b h n = let k = control_range b h in rw (not_lead b k) (ap (λ (s : Step). handed s false) (first_control b k n))
 
-pub control_reads : (p : Parameters) (held : Held) (bytes : List ℕ) (b : ℕ) (rest : List ℕ) → held ≡ nothing_held → bytes ≡ b ∷ rest → is_control b ≡ true → b ≢ 0x1B → Reads p held bytes (lone_step (lone.Control b)) held
+pub control_reads : (p : Parameters) (held : Held) (bytes : List ℕ) (b : ℕ) (rest : List ℕ) → held ≡ nothing_held → bytes ≡ b ∷ rest → is_ascii_control b ≡ true → b ≢ 0x1B → Reads p held bytes (lone_step (lone.Control b)) held
 control_reads p held bytes b rest e s h n =
     let k : hand_out held (b ∷ []) ≡ record { dispatches = Control b ∷ []; held = nothing_held } = ap (λ (x : Held). hand_out x (b ∷ [])) e ∙ one_handed nothing_held b (record { dispatches = Control b ∷ []; held = nothing_held }) (control_handed b h n) in
     reads_front p held held bytes (b ∷ []) rest (lone_step (lone.Control b)) s (omega arith) refl refl (ap (λ (x : Handed). x.dispatches) (sym k)) (ap (λ (x : Handed). x.held) k ∙ sym e) (subst PrintNone (ap (λ (x : Handed). x.dispatches) (sym k)) tt) (rw e refl)
 
 escape_final_not : (b : ℕ) → is_escape_final b ≡ true → (is_embedded b ≡ false) × (is_intermediate b ≡ false) × (is_cut b ≡ false) × ((b == 0xC2) ≡ false)
-unfolding is_escape_final is_embedded is_intermediate is_cut is_control is_stop
+unfolding is_escape_final is_embedded is_intermediate is_cut is_stop
 escape_final_not b h = (grind (arith, nat_tests), grind (arith, nat_tests), grind (arith, nat_tests), grind (arith, nat_tests))
 
 escape_final_handed : (b : ℕ) → is_escape_final b ≡ true → is_opener b ≡ false → held_step (record { kept = InEscape []; waiting = false }) b ≡ record { dispatches = Escape None b ∷ []; held = nothing_held }
@@ -248,8 +245,8 @@ escape_reads p held bytes b rest e s h o =
 abbrev in_command : List ℕ → Held
 in_command body = record { kept = InCommand body; waiting = false }
 
-body_byte_not : (b : ℕ) → is_body_byte b ≡ true → (is_control b ≡ false) × ((b == 0xC2) ≡ false) × ((b == 0x07) ≡ false) × (is_stop b ≡ false)
-unfolding is_body_byte is_control is_stop
+body_byte_not : (b : ℕ) → is_body_byte b ≡ true → (is_ascii_control b ≡ false) × ((b == 0xC2) ≡ false) × ((b == 0x07) ≡ false) × (is_stop b ≡ false)
+unfolding is_body_byte is_stop
 body_byte_not b h = (grind (arith, nat_tests), grind (arith, nat_tests), grind (arith, nat_tests), grind (arith, nat_tests))
 
 body_step : (body : List ℕ) (b : ℕ) → is_body_byte b ≡ true → held_step (in_command body) b ≡ record { dispatches = []; held = in_command (body ++ b ∷ []) }
@@ -260,7 +257,7 @@ pub body_handed : (body xs : List ℕ) → list_all is_body_byte xs ≡ true →
 unfolding hand_out
 body_handed body [] h = ap (λ (l : List ℕ). record { dispatches = []; held = in_command l }) (sym (append-nil body))
 body_handed body (b ∷ xs) h =
-    let t = both (is_body_byte b) (list_all is_body_byte xs) h in
+    let t = and_parts (is_body_byte b) (list_all is_body_byte xs) h in
     rw (body_step body b t.0) (rw (body_handed (body ++ b ∷ []) xs t.1) (ap (λ (l : List ℕ). record { dispatches = []; held = in_command l }) (append_assoc body (b ∷ []) xs)))
 
 all_body : (xs : List ℕ) → list_all is_body_byte (take (prefix_len is_body_byte xs) xs) ≡ true
@@ -298,7 +295,7 @@ silent_reads p held after bytes n s q l t c d =
     reads_front p held after bytes (take n bytes) (drop n bytes) s (sym (take-append-drop n bytes)) (omega (arith, m)) t (c ∙ sym m) (d ∙ sym q.silent) q.keeps (subst PrintNone (sym q.silent) tt) q.none
 
 bracket_opens : held_step (record { kept = InEscape []; waiting = false }) 0x5D ≡ record { dispatches = []; held = in_command [] }
-unfolding held_step fresh_step escape_step opened is_embedded is_control is_stop is_intermediate is_cut is_opener is_string_opener
+unfolding held_step fresh_step escape_step opened is_embedded is_stop is_intermediate is_cut is_opener is_string_opener
 bracket_opens = refl
 
 command_opening : hand_out nothing_held (0x1B ∷ 0x5D ∷ []) ≡ record { dispatches = []; held = in_command [] }
@@ -316,7 +313,7 @@ within_command body w n e = (λ i. record { kept = InCommand (n i); waiting = e 
 -- ---- how many bytes of a body stand at the front
 
 plain_body : (b : ℕ) → is_printable b ≡ true → is_body_byte b ≡ true
-unfolding is_body_byte is_control
+unfolding is_body_byte
 plain_body b h = grind (arith, nat_tests)
 
 -- the plain ones, and then others

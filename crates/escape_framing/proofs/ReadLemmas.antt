@@ -1,10 +1,10 @@
 -- The plain reading, step by step.
 use Rattle.std.proofs.Common.{◌≡◌, ℕ, Bool, true, List, [], ◌∷◌, ◌++◌, refl, sym, ap, ◌∙◌, append_assoc}
 use Rattle.std.specs.List.{list_all}
+use Rattle.std.proofs.lemmas.Bool.{and_parts}
 use Rattle.escape_framing.specs.Segment.{Tail, Begun, Segment}
 use Rattle.escape_framing.specs.Decode.{Reading, waits, ends, ends_before, first_byte, in_character, next_byte, read_on}
 use Rattle.escape_framing.specs.Existence.Utf8Lemmas.{append_nil}
-use Rattle.escape_framing.specs.Existence.SevenBitLemmas.{both}
 
 -- what is read behind a reading
 abbrev pub behind : Reading → List ℕ → Reading
@@ -40,7 +40,7 @@ pub spans : (test : ℕ → Bool) (open_with : List ℕ → Tail) → ((xs : Lis
     → (xs body rest : List ℕ) → list_all test body ≡ true → read_on (open_with xs) (body ++ rest) ≡ read_on (open_with (xs ++ body)) rest
 spans test open_with stays xs [] rest h = ap (λ l. read_on (open_with l) rest) (sym (append_nil xs))
 spans test open_with stays xs (b ∷ body) rest h =
-    let k = both (test b) (list_all test body) h in
+    let k = and_parts (test b) (list_all test body) h in
     step_waits (open_with xs) (open_with (xs ++ b ∷ [])) b (body ++ rest) (stays xs b k.0)
     ∙ spans test open_with stays (xs ++ b ∷ []) body rest k.1
     ∙ ap (λ l. read_on (open_with l) rest) (append_assoc xs (b ∷ []) body)

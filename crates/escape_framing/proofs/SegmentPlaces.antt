@@ -3,7 +3,8 @@ use Rattle.std.proofs.Common.{◌≡◌, ℕ, zero, suc, ◌+◌, ◌-◌, Bool,
 use Rattle.std.specs.Prelude.{Contains}
 use Rattle.std.specs.List.{flat_map, slice_get}
 use Rattle.std.proofs.lemmas.List.{get_or_at, take_at, drop_at}
-use Rattle.escape_framing.specs.SevenBit.{is_c1, seven_bit}
+use Rattle.text_clusters.specs.Controls.{is_c1}
+use Rattle.escape_framing.specs.SevenBit.{seven_bit}
 use Rattle.escape_framing.specs.Segment.{Tail, Begun, bytes_of_tail, Segment, bytes_of}
 use Rattle.escape_framing.specs.Decode.{Reading, read_on}
 use Rattle.escape_framing.specs.Cut.{the_cut, tail_of}

@@ -2,12 +2,12 @@
 use Rattle.std.proofs.Common.{◌≡◌, ℕ, Bool, true, false, cond, List, [], ◌∷◌, ◌++◌, refl, sym, ap, ◌∙◌, arith, append_assoc}
 use Rattle.std.specs.Prelude.{◌==◌, ◌||◌, not}
 use Rattle.std.specs.List.{list_all, list_any}
+use Rattle.std.proofs.lemmas.Bool.{or_parts, and_parts, not-true}
 use Rattle.std.proofs.lemmas.Bool.Decides.{nat_tests}
-use Rattle.escape_framing.specs.Bytes.{is_control, is_stop, is_embedded, is_intermediate, is_parameter, is_final, is_escape_final, is_string_opener, is_opener, is_cut, in_escape, in_parameters, ends_command}
+use Rattle.escape_framing.specs.Bytes.{is_stop, is_embedded, is_intermediate, is_parameter, is_final, is_escape_final, is_string_opener, is_opener, is_cut, in_escape, in_parameters, ends_command}
 use Rattle.escape_framing.specs.Segment.{Tail, Begun, OpenEscape, OpenControlSequence, OpenCommand, OpenHeader, OpenDevice, OpenString, bytes_of_tail, Escape, ControlSequence, OperatingSystemCommand, DeviceControl, String, CutOff, bytes_of, IsUnfinished, is_before_final, IsSegment, follows}
 use Rattle.escape_framing.specs.Decode.{waits, ends, ends_before, first_byte, in_character, opened_by, behind_escape, next_byte, read_on}
 use Rattle.escape_framing.specs.Existence.Utf8Lemmas.{append_nil}
-use Rattle.escape_framing.specs.Existence.SevenBitLemmas.{both, not_true}
 use Rattle.escape_framing.proofs.ReadLemmas.{after, step_waits, step_ends, step_ends_before, spans}
 
 -- ---- classes of bytes
@@ -18,39 +18,32 @@ record Ends (inside : Bool) (b : ℕ) : Type 0 where
   whole : is_cut b ≡ false
 
 escape_final_ends : (b : ℕ) → is_escape_final b ≡ true → Ends (in_escape b) b
-unfolding is_embedded is_control is_stop is_intermediate is_cut is_escape_final
+unfolding is_embedded is_stop is_intermediate is_cut is_escape_final
 escape_final_ends b h = record { outside = grind (arith, nat_tests); whole = grind (arith, nat_tests) }
 
 final_ends : (b : ℕ) → is_final b ≡ true → Ends (in_parameters b) b
-unfolding is_embedded is_control is_stop is_parameter is_cut is_final
+unfolding is_embedded is_stop is_parameter is_cut is_final
 final_ends b h = record { outside = grind (arith, nat_tests); whole = grind (arith, nat_tests) }
 
 pub cut_is_outside : (b : ℕ) → is_cut b ≡ true → in_escape b ≡ false
-unfolding is_embedded is_control is_stop is_intermediate is_cut
+unfolding is_embedded is_stop is_intermediate is_cut
 cut_is_outside b h = grind (arith, nat_tests)
 
 pub cut_is_no_parameter : (b : ℕ) → is_cut b ≡ true → in_parameters b ≡ false
-unfolding is_embedded is_control is_stop is_parameter is_cut
+unfolding is_embedded is_stop is_parameter is_cut
 cut_is_no_parameter b h = grind (arith, nat_tests)
 
 embedded_is_no_intermediate : (b : ℕ) → is_embedded b ≡ true → is_intermediate b ≡ false
-unfolding is_embedded is_control is_stop is_intermediate
+unfolding is_embedded is_stop is_intermediate
 embedded_is_no_intermediate b h = grind (arith, nat_tests)
-
-either : (u v : Bool) → u ≡ true → (u || v) ≡ true
-either u v h = rw h refl
-
-pub neither : (u v : Bool) → (u || v) ≡ false → (u ≡ false) × (v ≡ false)
-neither true v h = cc
-neither false v h = (refl, h)
 
 pub embedded_inside : (xs : List ℕ) → list_all is_embedded xs ≡ true → list_all in_escape xs ≡ true
 embedded_inside [] h = refl
-embedded_inside (x ∷ xs) h = let k = both (is_embedded x) (list_all is_embedded xs) h in rw (k.0, embedded_inside xs k.1) refl
+embedded_inside (x ∷ xs) h = let k = and_parts (is_embedded x) (list_all is_embedded xs) h in rw (k.0, embedded_inside xs k.1) refl
 
 no_intermediate : (xs : List ℕ) → list_all is_embedded xs ≡ true → list_any is_intermediate xs ≡ false
 no_intermediate [] h = refl
-no_intermediate (x ∷ xs) h = let k = both (is_embedded x) (list_all is_embedded xs) h in rw (embedded_is_no_intermediate x k.0, no_intermediate xs k.1) refl
+no_intermediate (x ∷ xs) h = let k = and_parts (is_embedded x) (list_all is_embedded xs) h in rw (embedded_is_no_intermediate x k.0, no_intermediate xs k.1) refl
 
 -- ---- what stays open
 
@@ -68,15 +61,15 @@ stays_header o xs b h = rw h refl
 
 pub stays_command : (o xs : List ℕ) (b : ℕ) → not (ends_command b) ≡ true → next_byte (OpenCommand o xs) b ≡ waits (OpenCommand o (xs ++ b ∷ []))
 unfolding next_byte
-stays_command o xs b h = let k = neither (b == 0x07) (is_stop b) (not_true (ends_command b) h) in rw (k.0, k.1) refl
+stays_command o xs b h = let k = or_parts (b == 0x07) (is_stop b) (not-true (ends_command b) h) in rw (k.0, k.1) refl
 
 pub stays_device : (o h : List ℕ) (f : ℕ) (xs : List ℕ) (b : ℕ) → not (is_stop b) ≡ true → next_byte (OpenDevice o h f xs) b ≡ waits (OpenDevice o h f (xs ++ b ∷ []))
 unfolding next_byte
-stays_device o h f xs b e = let k = not_true (is_stop b) e in rw k refl
+stays_device o h f xs b e = let k = not-true (is_stop b) e in rw k refl
 
 pub stays_string : (o : List ℕ) (x : ℕ) (xs : List ℕ) (b : ℕ) → not (is_stop b) ≡ true → next_byte (OpenString o x xs) b ≡ waits (OpenString o x (xs ++ b ∷ []))
 unfolding next_byte
-stays_string o x xs b e = let k = not_true (is_stop b) e in rw k refl
+stays_string o x xs b e = let k = not-true (is_stop b) e in rw k refl
 
 -- ---- what opens
 
@@ -95,19 +88,19 @@ unfolding next_byte behind_escape
 opens o b g k = rw (k.outside, k.whole, no_intermediate o g, k.opener) refl
 
 bracket : Opens 0x5B
-unfolding is_embedded is_control is_stop is_intermediate is_cut is_opener
+unfolding is_embedded is_stop is_intermediate is_cut is_opener
 bracket = record { outside = refl; whole = refl; opener = refl }
 
 closing_bracket : Opens 0x5D
-unfolding is_embedded is_control is_stop is_intermediate is_cut is_opener
+unfolding is_embedded is_stop is_intermediate is_cut is_opener
 closing_bracket = record { outside = refl; whole = refl; opener = refl }
 
 letter : Opens 0x50
-unfolding is_embedded is_control is_stop is_intermediate is_cut is_opener
+unfolding is_embedded is_stop is_intermediate is_cut is_opener
 letter = record { outside = refl; whole = refl; opener = refl }
 
 string_opens : (x : ℕ) → is_string_opener x ≡ true → Opens x
-unfolding is_embedded is_control is_stop is_intermediate is_cut is_opener is_string_opener
+unfolding is_embedded is_stop is_intermediate is_cut is_opener is_string_opener
 string_opens x h = record { outside = grind (arith, nat_tests); whole = grind (arith, nat_tests); opener = grind (arith, nat_tests) }
 
 opened_control_sequence : (o : List ℕ) → opened_by o 0x5B ≡ OpenControlSequence o []

@@ -1,7 +1,8 @@
 -- Short numbers at the front of parameter bytes, and control sequences of them.
-use Rattle.std.proofs.Common.{◌≡◌, ℕ, pos, ◌+◌, ◌-◌, ◌*◌, ◌≤◌, Bool, true, false, List, [], ◌∷◌, ◌++◌, length, take, drop, Some, None, refl, sym, ap, subst, ◌∙◌, arith, append_assoc, length-append}
+use Rattle.std.proofs.Common.{◌≡◌, ℕ, pos, ◌+◌, ◌-◌, ◌*◌, ◌≤◌, true, false, List, [], ◌∷◌, ◌++◌, length, take, drop, Some, None, refl, sym, ap, subst, ◌∙◌, arith, append_assoc, length-append}
 use Rattle.std.specs.Prelude.{◌&&◌, fold}
 use Rattle.std.specs.List.{prefix_len, list_all}
+use Rattle.std.proofs.lemmas.Bool.{and_parts}
 use Rattle.std.proofs.lemmas.List.Folds.{list_all-append}
 use Rattle.std.proofs.lemmas.List.Sums.{fold-append}
 use Rattle.std.proofs.Math.Seq.{take-append_seam, drop-append_seam}
@@ -120,14 +121,10 @@ short_none others b h = record {
   read = refl;
 }
 
-both : (x y : Bool) → (x && y) ≡ true → (x ≡ true) × (y ≡ true)
-both true y h = (refl, h)
-both false y h = cc
-
 front_counted : (front rest : List ℕ) (b : ℕ) → list_all is_parameter front ≡ true → is_parameter b ≡ false → length front ≡ prefix_len is_parameter (front ++ b ∷ rest)
 front_counted [] rest b h k = rw k refl
 front_counted (x ∷ front) rest b h k =
-    let t = both (is_parameter x) (list_all is_parameter front) h in
+    let t = and_parts (is_parameter x) (list_all is_parameter front) h in
     let n = front_counted front rest b t.1 k in
     rw t.0 (omega (arith, n))
 

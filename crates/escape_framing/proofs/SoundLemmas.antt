@@ -1,8 +1,9 @@
 -- What a byte of a stream prints behind what is held of it.
 use Rattle.std.proofs.Common.{◌≡◌, ℕ, ◌-◌, inl, inr, Bool, true, false, List, [], ◌∷◌, ◌++◌, refl, sym, ap, subst, ◌∙◌, arith, append-nil}
 use Rattle.std.specs.Prelude.{◌==◌}
+use Rattle.std.proofs.lemmas.Bool.{or_parts}
 use Rattle.std.proofs.lemmas.Bool.Decides.{nat_tests}
-use Rattle.escape_framing.specs.SevenBit.{is_c1}
+use Rattle.text_clusters.specs.Controls.{is_c1}
 use Rattle.escape_framing.specs.Bytes.{is_stop, is_embedded, is_parameter, is_cut}
 use Rattle.escape_framing.specs.Segment.{Tail, Begun, OpenEscape, OpenControlSequence, OpenCommand, OpenHeader, OpenDevice, OpenString, IsUnfinished}
 use Rattle.escape_framing.specs.Decode.{read_on}
@@ -11,7 +12,7 @@ use Rattle.escape_framing.specs.Held.{Kept, InCharacter, InEscape, InControlSequ
 use Rattle.escape_framing.specs.Framed.{begun_bytes, bytes_begun}
 use Rattle.escape_framing.proofs.Begun.{begun_in, is_body}
 use Rattle.escape_framing.proofs.FirstLemmas.{first_escape}
-use Rattle.escape_framing.proofs.SequenceReading.{cut_is_no_parameter, neither}
+use Rattle.escape_framing.proofs.SequenceReading.{cut_is_no_parameter}
 use Rattle.escape_framing.proofs.WaitingLemmas.{escape_cut, control_sequence_cut, escape_cuts, lead_cuts}
 use Rattle.escape_framing.proofs.HeldLemmas.{At, at_rest, at_c2, at_all, unfinished, c2_begins}
 use Rattle.escape_framing.proofs.TextLemmas.{lead_kept}
@@ -59,7 +60,7 @@ stream_sound s = at_sound s (hand_out nothing_held s) (at_all s)
 
 pub header_cut : (header : List ℕ) (b : ℕ) → is_cut b ≡ true → header_step header b ≡ character_step [] b
 unfolding header_step
-header_cut header b h = let n = neither (is_embedded b) (is_parameter b) (cut_is_no_parameter b h) in rw (n.0, n.1, h) refl
+header_cut header b h = let n = or_parts (is_embedded b) (is_parameter b) (cut_is_no_parameter b h) in rw (n.0, n.1, h) refl
 
 command_escape : (body : List ℕ) → (command_step body 0x1B).kept ≡ InEscape []
 unfolding command_step is_stop

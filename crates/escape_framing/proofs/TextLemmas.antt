@@ -4,8 +4,8 @@ use Rattle.std.specs.Prelude.{◌==◌}
 use Rattle.std.specs.List.{flat_map}
 use Rattle.std.specs.Char.{IsScalar}
 use Rattle.std.proofs.lemmas.Bool.Decides.{nat_tests}
+use Rattle.text_clusters.specs.Controls.{is_c1}
 use lib.Utf8.{encode}
-use Rattle.escape_framing.specs.SevenBit.{is_c1}
 use Rattle.escape_framing.specs.Segment.{Segment, Begun, IsBegun, IsUnfinished, IsPrintable}
 use Rattle.escape_framing.specs.Decode.{Reading, ends, in_character, next_byte}
 use Rattle.escape_framing.specs.Dispatch.{Dispatch, Print, dispatches_of}

@@ -3,10 +3,12 @@ use Rattle.std.proofs.Common.{◌≡◌, ◌≢◌, ℕ, ◌-◌, ◌+◌, ◌/�
 use Rattle.std.specs.Prelude.{◌==◌}
 use Rattle.std.specs.Char.{IsScalar}
 use Rattle.std.specs.List.{flat_map}
+use Rattle.std.proofs.lemmas.Bool.{or_parts}
 use Rattle.std.proofs.lemmas.Bool.Decides.{nat_tests}
+use Rattle.text_clusters.specs.Controls.{is_c1}
 use lib.Utf8.{encode, low_scalar}
-use Rattle.escape_framing.specs.SevenBit.{is_c1, seven_bit}
-use Rattle.escape_framing.specs.Bytes.{is_control, is_stop, is_embedded, is_parameter, is_cut}
+use Rattle.escape_framing.specs.SevenBit.{seven_bit}
+use Rattle.escape_framing.specs.Bytes.{is_stop, is_embedded, is_parameter, is_cut}
 use Rattle.escape_framing.specs.Segment.{Tail, Begun, OpenEscape, OpenControlSequence, OpenCommand, OpenHeader, OpenDevice, OpenString, IsBegun, IsUnfinished}
 use Rattle.escape_framing.specs.Decode.{Reading, next_byte, ends, read_on}
 use Rattle.escape_framing.specs.Dispatch.{Dispatch, Print, Control, Data, Exit, dispatches_of}
@@ -16,7 +18,7 @@ use Rattle.escape_framing.specs.Existence.Utf8Lemmas.{order, Spelled, in_one, in
 use Rattle.escape_framing.proofs.CharacterReading.{plain_segment, waits_begun, ends_character}
 use Rattle.escape_framing.proofs.FirstLemmas.{first_control, first_waits}
 use Rattle.escape_framing.proofs.HeldLemmas.{Inner, inner, interrupted_character, c2_begins, At, at_rest, at_c2, unfinished, at_all, newly_handed}
-use Rattle.escape_framing.proofs.SequenceReading.{cut_is_no_parameter, neither}
+use Rattle.escape_framing.proofs.SequenceReading.{cut_is_no_parameter}
 use Rattle.escape_framing.proofs.WaitingLemmas.{escape_cut, control_sequence_cut}
 
 -- how two dispatches differ: CAN and SUB, two characters, two bytes of data, or the end of data and a byte of it
@@ -101,7 +103,7 @@ cut_by_cancel = (refl, refl, refl)
 
 header_cut : (h : List ℕ) (b : ℕ) → is_cut b ≡ true → header_step h b ≡ character_step [] b
 unfolding header_step
-header_cut h b k = let n = neither (is_embedded b) (is_parameter b) (cut_is_no_parameter b k) in rw (n.0, n.1, k) refl
+header_cut h b k = let n = or_parts (is_embedded b) (is_parameter b) (cut_is_no_parameter b k) in rw (n.0, n.1, k) refl
 
 command_cancel : (body : List ℕ) → Cancels (InCommand body)
 unfolding command_step is_stop
@@ -112,7 +114,7 @@ unfolding string_step is_stop
 string_cancel = record { at_cancel = refl; at_substitute = refl }
 
 command_c2 : (body : List ℕ) → kept_step (InCommand body) 0xC2 ≡ steps [] (InCommand (body ++ 0xC2 ∷ []))
-unfolding command_step is_stop is_control
+unfolding command_step is_stop
 command_c2 body = refl
 
 string_c2 : kept_step InString 0xC2 ≡ steps [] InString

@@ -3,15 +3,16 @@ use Rattle.std.proofs.Common.{◌≡◌, ℕ, ◌-◌, Bool, true, false, List, 
 use Rattle.std.specs.Prelude.{◌==◌, is_none}
 use Rattle.std.specs.Str.{is_utf8}
 use Rattle.std.specs.Str.Lossy.{utf8_error_len}
+use Rattle.std.proofs.lemmas.Bool.{or_parts}
 use Rattle.std.proofs.lemmas.List.{append-nil}
-use Rattle.escape_framing.specs.SevenBit.{is_c1}
+use Rattle.text_clusters.specs.Controls.{is_c1}
 use Rattle.escape_framing.specs.Bytes.{is_stop, is_embedded, is_intermediate, is_parameter, is_cut}
 use Rattle.escape_framing.specs.Decode.{first_byte, in_character}
 use Rattle.escape_framing.specs.Parameters.{Parameters}
 use Rattle.escape_framing.specs.Held.{Kept, InCharacter, InEscape, InControlSequence, InCommand, InHeader, InDevice, InString, kept_of, Step, character_step, escape_step, control_sequence_step, device_step, string_step, kept_step, fresh_step, waiting_step}
 use Rattle.escape_framing.specs.Dispatched.{optional, dispatches_in, handed_in, TakesMemory}
 use Rattle.escape_framing.specs.declared.framer.Handed.{Handed}
-use Rattle.escape_framing.proofs.SequenceReading.{cut_is_outside, cut_is_no_parameter, neither}
+use Rattle.escape_framing.proofs.SequenceReading.{cut_is_outside, cut_is_no_parameter}
 
 -- ---- memory
 
@@ -37,11 +38,11 @@ takes_none (x ∷ xs) b m = by_test (is_utf8 (x ∷ xs ++ b ∷ [])) (is_none (u
 
 pub escape_cut : (xs : List ℕ) (b : ℕ) → is_cut b ≡ true → escape_step xs b ≡ character_step [] b
 unfolding escape_step
-escape_cut xs b h = let n = neither (is_embedded b) (is_intermediate b) (cut_is_outside b h) in rw (n.0, n.1, h) refl
+escape_cut xs b h = let n = or_parts (is_embedded b) (is_intermediate b) (cut_is_outside b h) in rw (n.0, n.1, h) refl
 
 pub control_sequence_cut : (p : Parameters) (b : ℕ) → is_cut b ≡ true → control_sequence_step p b ≡ character_step [] b
 unfolding control_sequence_step
-control_sequence_cut p b h = let n = neither (is_embedded b) (is_parameter b) (cut_is_no_parameter b h) in rw (n.0, n.1, h) refl
+control_sequence_cut p b h = let n = or_parts (is_embedded b) (is_parameter b) (cut_is_no_parameter b h) in rw (n.0, n.1, h) refl
 
 device_takes_none : (b : ℕ) → TakesMemory (device_step b).kept → ⊥
 unfolding device_step

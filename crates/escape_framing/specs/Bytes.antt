@@ -1,9 +1,6 @@
 -- The classes of bytes in escape sequences (ECMA-48, 5.2 to 5.6).
-use Rattle.std.specs.Prelude.{ℕ, Bool, not, ◌&&◌, ◌||◌, nat_lt, nat_le, ◌==◌, List, filter}
-
--- a C0 control or DEL
-unfoldable pub is_control : ℕ → Bool
-is_control b = nat_lt b 0x20 || b == 0x7F
+use Rattle.std.specs.Prelude.{ℕ, Bool, not, ◌&&◌, ◌||◌, nat_le, ◌==◌, List, filter}
+use Rattle.std.specs.Char.{is_ascii_control}
 
 -- CAN, SUB and ESC: each ends what is open, and is no part of it
 unfoldable pub is_stop : ℕ → Bool
@@ -11,7 +8,7 @@ is_stop b = b == 0x18 || b == 0x1A || b == 0x1B
 
 -- a control that stands within a sequence and leaves it open
 unfoldable pub is_embedded : ℕ → Bool
-is_embedded b = is_control b && not (is_stop b)
+is_embedded b = is_ascii_control b && not (is_stop b)
 
 -- an intermediate byte (ECMA-48, 5.4)
 unfoldable pub is_intermediate : ℕ → Bool
@@ -55,4 +52,4 @@ ends_command b = b == 0x07 || is_stop b
 
 -- the controls of a list of bytes, and the other bytes
 abbrev pub taken : List ℕ → List ℕ
-taken bytes = filter (λ b. not (is_control b)) bytes
+taken bytes = filter (λ b. not (is_ascii_control b)) bytes

@@ -1,8 +1,10 @@
 -- The plain reading of a seven-bit form, byte by byte: what each byte makes of what is open.
-use Rattle.std.specs.Prelude.{ℕ, not, ◌&&◌, ◌||◌, nat_lt, nat_le, ◌==◌, List, [], ◌∷◌, ◌++◌, slice_index, is_none, if◌then◌else◌}
+use Rattle.std.specs.Prelude.{ℕ, not, ◌||◌, ◌==◌, List, [], ◌∷◌, ◌++◌, slice_index, is_none, if◌then◌else◌}
 use Rattle.std.specs.List.{list_any}
 use Rattle.std.specs.Str.{is_utf8, chars}
 use Rattle.std.specs.Str.Lossy.{utf8_error_len}
+use Rattle.std.specs.Char.{is_ascii_control}
+use Rattle.text_clusters.specs.Controls.{in_c1}
 use Rattle.escape_framing.specs.Bytes.{is_stop, is_intermediate, is_opener, is_cut, in_escape, in_parameters}
 use Rattle.escape_framing.specs.Segment.{Tail, Begun, OpenEscape, OpenControlSequence, OpenCommand, OpenHeader, OpenDevice, OpenString, Segment, Character, IllFormed, Control, Escape, ControlSequence, OperatingSystemCommand, DeviceControl, String, CutOff}
 
@@ -28,8 +30,8 @@ ends_before segment first = record { segments = segment ∷ first.segments; tail
 -- a character by itself; a C1 control stands in no seven-bit form
 abbrev pub segment_of : List ℕ → ℕ → Segment
 segment_of bytes c =
-    if nat_le 0x80 c && nat_le c 0x9F then IllFormed bytes
-    else if nat_lt c 0x20 || (c == 0x7F) then Control c
+    if in_c1 c then IllFormed bytes
+    else if is_ascii_control c then Control c
     else Character c
 
 -- a whole character, the beginning of one, or bytes that are neither, of which the rest is read

@@ -1,8 +1,9 @@
 -- What has to be kept of a stream to go on with it, and what each byte then hands out.
 use Rattle.std.specs.Prelude.{ℕ, ◌-◌, Bool, true, false, ◌==◌, List, [], ◌∷◌, ◌++◌, take, if◌then◌else◌}
 use Rattle.std.specs.List.{flat_map}
-use Rattle.escape_framing.specs.SevenBit.{is_c1}
-use Rattle.escape_framing.specs.Bytes.{is_control, is_stop, is_embedded, is_intermediate, is_parameter, is_opener, is_cut, taken}
+use Rattle.std.specs.Char.{is_ascii_control}
+use Rattle.text_clusters.specs.Controls.{is_c1}
+use Rattle.escape_framing.specs.Bytes.{is_stop, is_embedded, is_intermediate, is_parameter, is_opener, is_cut, taken}
 use Rattle.escape_framing.specs.Segment.{Tail, Begun, OpenEscape, OpenControlSequence, OpenCommand, OpenHeader, OpenDevice, OpenString}
 use Rattle.escape_framing.specs.Decode.{in_character}
 use Rattle.escape_framing.specs.Dispatch.{Dispatch, Print, ControlSequence, OperatingSystemCommand, Enter, Data, Exit, controls_in, escape_dispatch, dispatches_of}
@@ -76,7 +77,7 @@ unfoldable pub command_step : List ℕ → ℕ → Step
 command_step body b =
     if b == 0x07 then steps (OperatingSystemCommand body ∷ []) (InCharacter [])
     else if is_stop b then before (if b == 0x1B then OperatingSystemCommand body ∷ [] else []) (character_step [] b)
-    else if is_control b then steps [] (InCommand body)
+    else if is_ascii_control b then steps [] (InCommand body)
     else steps [] (InCommand (body ++ b ∷ []))
 
 unfoldable pub header_step : List ℕ → ℕ → Step

@@ -48,11 +48,11 @@ abbrev pub number_run : ℕ → List ℕ → ℕ × List ℕ
 number_run n [] = (n, [])
 number_run n (b ∷ bytes) = if is_ascii_digit b then number_run (next_number (Some n) b) bytes else (n, b ∷ bytes)
 
--- some parameter bytes at the front were read, and others may be left
-pub record IsPushed (p : Parameters) (bytes left : List ℕ) (after : Parameters) : Type 0 where
-  pub shorter : length left < length bytes
-  pub counted : length bytes - length left + prefix_len is_parameter left ≡ prefix_len is_parameter bytes
-  pub folded : fold with_byte after (take (prefix_len is_parameter left) left) ≡ fold with_byte p (take (prefix_len is_parameter bytes) bytes)
+-- some parameter bytes at the front were read, and others may be behind them
+pub record IsPushed (p : Parameters) (bytes rest : List ℕ) (after : Parameters) : Type 0 where
+  pub shorter : length rest < length bytes
+  pub counted : length bytes - length rest + prefix_len is_parameter rest ≡ prefix_len is_parameter bytes
+  pub folded : fold with_byte after (take (prefix_len is_parameter rest) rest) ≡ fold with_byte p (take (prefix_len is_parameter bytes) bytes)
 
 -- ---- short numbers
 
@@ -60,13 +60,13 @@ pub record IsPushed (p : Parameters) (bytes left : List ℕ) (after : Parameters
 abbrev pub digit_of : ℕ → Option ℕ
 digit_of b = if is_ascii_digit b then Some (b - 48) else None
 
--- Some parameter bytes at the front were read behind these parameters, and this is left.
-pub record IsFront (p : Parameters) (bytes left : List ℕ) (after : Parameters) : Type 0 where
+-- Some parameter bytes at the front were read behind these parameters, and this is the rest.
+pub record IsFront (p : Parameters) (bytes rest : List ℕ) (after : Parameters) : Type 0 where
   pub front : List ℕ
-  pub parted : bytes ≡ front ++ left
+  pub parted : bytes ≡ front ++ rest
   pub all : list_all is_parameter front ≡ true
   pub folded : fold with_byte p front ≡ after
 
--- The bytes at the front are digits of a number, and this is left: behind any parameters they make this number.
+-- The bytes at the front are digits of a number, and this is the rest: behind any parameters they make this number.
 abbrev pub IsNumberFront : List ℕ → ℕ → List ℕ → Type 0
-IsNumberFront bytes n left = (p : Parameters) → p.number ≡ None → p.truncated ≡ false → IsFront p bytes left (with_token p (Integer (pos n)) (Some n))
+IsNumberFront bytes n rest = (p : Parameters) → p.number ≡ None → p.truncated ≡ false → IsFront p bytes rest (with_token p (Integer (pos n)) (Some n))

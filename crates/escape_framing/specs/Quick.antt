@@ -1,7 +1,8 @@
 -- What a framer reads at once where nothing is unfinished, as a step.
 use Rattle.std.specs.Prelude.{◌≡◌, ◌≢◌, ◌<◌, ◌≤◌, ℕ, ◌+◌, Bool, true, false, not, ◌&&◌, ◌==◌, List, [], ◌∷◌, length, take, drop, Option, Some, None, if◌then◌else◌}
 use Rattle.std.specs.List.{prefix_len}
-use Rattle.escape_framing.specs.Bytes.{is_control, is_final, is_escape_final, is_opener, is_parameter}
+use Rattle.std.specs.Char.{is_ascii_control}
+use Rattle.escape_framing.specs.Bytes.{is_final, is_escape_final, is_opener, is_parameter}
 use Rattle.csi_codec.specs.Short.{short_list}
 use Rattle.csi_codec.specs.declared.short.ShortNumbers.{ShortNumbers}
 use Rattle.csi_codec.specs.declared.short.ShortNumbers.TheVariants.{Nothing, One, Two, Three}
@@ -28,7 +29,7 @@ lone_step (lone.ControlSequence final n) = record { text = 0; dispatches = Some 
 -- the control that stands at the front: C0 but ESC, or DEL
 abbrev pub control_at : List ℕ → Option ℕ
 control_at [] = None
-control_at (b ∷ bytes) = if is_control b && not (b == 0x1B) then Some b else None
+control_at (b ∷ bytes) = if is_ascii_control b && not (b == 0x1B) then Some b else None
 
 -- the final byte of the escape sequence of two bytes that stands there
 abbrev pub pair_at : List ℕ → Option ℕ
@@ -61,7 +62,7 @@ pub record IsShort (others : List ℕ) (numbers : ShortNumbers) (control count :
 
 -- a byte of the body of a command that stands for itself: no control, and no C2, which may be half of one
 unfoldable pub is_body_byte : ℕ → Bool
-is_body_byte b = not (is_control b) && not (b == 0xC2)
+is_body_byte b = not (is_ascii_control b) && not (b == 0xC2)
 
 -- so many bytes hand nothing out, and leave no character begun
 pub record IsSilent (held : Held) (bytes : List ℕ) (n : ℕ) (after : Held) : Type 0 where

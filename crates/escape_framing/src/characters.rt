@@ -1,5 +1,5 @@
 //! The characters of a stream, byte by byte.
-ghost use Rattle.std.specs.Prelude.{◌≡◌, ◌↔◌, IsTrue, ℕ, ◌+◌, ◌≤◌, List, [], ◌∷◌, ◌++◌, take};
+ghost use Rattle.std.specs.Prelude.{◌≡◌, ◌↔◌, IsTrue, ℕ, ◌+◌, ◌≤◌, List, [], ◌∷◌, take};
 ghost use Rattle.escape_framing.specs.Segment.{IsUnfinished, Begun};
 ghost use Rattle.escape_framing.specs.Held.{character_step};
 ghost use Rattle.escape_framing.specs.Characters.{IsBehindBegun, IsKind, own_step, segment_step, step_of};

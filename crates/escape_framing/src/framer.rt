@@ -1,7 +1,6 @@
 //! The framer: from bytes to dispatches.
-ghost use Rattle.std.specs.Prelude.{◌≡◌, ◌≢◌, ◌↔◌, ◌<◌, ◌≤◌, ℕ, length, Bool, true, false, IsTrue, IsErrOf, IfOk, OnErr, List, [], ◌∷◌, ◌++◌, take, is_err};
-ghost use Rattle.escape_framing.specs.Bytes.{is_control as in_controls, is_stop as in_stops, is_embedded as in_embedded, is_intermediate as in_intermediates, is_parameter as in_parameters, is_opener as in_openers, is_cut as in_cuts};
-ghost use Rattle.escape_framing.specs.SevenBit.{is_c1};
+ghost use Rattle.std.specs.Prelude.{◌≡◌, ◌≢◌, ◌↔◌, ◌<◌, ℕ, true, false, IsTrue, IsErrOf, IfOk, OnErr, List, [], ◌∷◌, ◌++◌, take, is_err};
+ghost use Rattle.escape_framing.specs.Bytes.{is_stop as in_stops, is_embedded as in_embedded, is_intermediate as in_intermediates, is_opener as in_openers, is_cut as in_cuts};
 ghost use Rattle.escape_framing.specs.Dispatch.{controls_in, Escape};
 ghost use Rattle.escape_framing.specs.Parameters.{Parameters as Tokens, no_parameters};
 ghost use Rattle.escape_framing.specs.Held.{InCharacter, InEscape, InControlSequence, InCommand, InHeader, InDevice, InString, character_step, escape_step, final_step, opened, control_sequence_step, command_step, header_step, device_step, string_step, kept_step, interrupted, fresh_step, waiting_step, held_step, nothing_held, held_of};
@@ -24,6 +23,7 @@ use csi_codec::CsiParam;
 use std::alloc::{AllocError, Global};
 use std::marker::Model;
 use std::mem;
+use text_clusters::is_c1;
 
 pub(crate) const BEL: u8 = 0x07;
 
@@ -33,10 +33,8 @@ const SUBSTITUTE: u8 = 0x1a;
 
 pub(crate) const ESCAPE: u8 = 0x1b;
 
-const DELETE: u8 = 0x7f;
-
 // The first byte of the UTF-8 of a C1 control.
-const C1_LEAD: u8 = 0xc2;
+pub(crate) const C1_LEAD: u8 = 0xc2;
 
 /// The intermediate bytes of an escape sequence, of more than two the first two.
 #[derive(Clone, Copy)]
@@ -67,13 +65,6 @@ struct Handed {
 
 // ---- Classes of bytes
 
-#[tactic(auto, unfolding(crate::specs::Bytes::is_control))]
-pub(crate) fn is_control(byte: u8) -> bool
-    ensures { result ≡ in_controls byte }
-{
-    byte < 0x20 || byte == DELETE
-}
-
 #[tactic(auto, unfolding(crate::specs::Bytes::is_stop))]
 pub(crate) fn is_stop(byte: u8) -> bool
     ensures { result ≡ in_stops byte }
@@ -85,7 +76,7 @@ pub(crate) fn is_stop(byte: u8) -> bool
 fn is_embedded(byte: u8) -> bool
     ensures { result ≡ in_embedded byte }
 {
-    is_control(byte) && !is_stop(byte)
+    byte.is_ascii_control() && !is_stop(byte)
 }
 
 #[tactic(auto, unfolding(crate::specs::Bytes::is_intermediate))]
@@ -107,15 +98,6 @@ pub(crate) fn is_opener(byte: u8) -> bool
     ensures { result ≡ in_openers byte }
 {
     byte == b'[' || byte == b']' || byte == b'P' || byte == b'X' || byte == b'^' || byte == b'_'
-}
-
-// The second byte of the UTF-8 of a C1 control, whose first is C2.
-#[tactic(auto, unfolding(crate::specs::SevenBit::is_c1))]
-fn ends_c1(byte: u8) -> bool
-    ensures is { result ≡ is_c1 C1_LEAD byte }
-    ensures least { IsTrue result → 0x80 ≤ byte }
-{
-    matches!(byte, 0x80..=0x9f)
 }
 
 // ---- What is handed out
@@ -423,7 +405,7 @@ impl Framer {
                 None
             };
             Ok(Handed { ended, own })
-        } else if is_control(byte) {
+        } else if byte.is_ascii_control() {
             Ok(nothing())
         } else {
             self.text.push(byte)?;
@@ -556,7 +538,7 @@ impl Framer {
         ensures failed { IfOk result (λ ds. self.new.failed ≡ self.old.failed) }
         ensures memory { OnErr result (TakesMemory self.old.held.kept) }
     {
-        if ends_c1(byte) {
+        if is_c1(C1_LEAD, byte) {
             let first = self.step(ESCAPE)?;
             let second = self.step(byte - 0x40)?;
             Ok([first.ended, first.own, second.ended, second.own])

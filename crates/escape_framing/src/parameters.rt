@@ -1,5 +1,5 @@
 //! The tokens of a control sequence, as its bytes come.
-ghost use Rattle.std.specs.Prelude.{◌≡◌, ℕ, ◌<◌, ◌≤◌, ◌∷◌, Some, None, IsSome, IfSome, IsTrue, true, false, fold, take};
+ghost use Rattle.std.specs.Prelude.{◌≡◌, ◌<◌, ◌≤◌, ◌∷◌, Some, None, IsSome, IfSome, true, false, fold, take};
 ghost use Rattle.std.specs.List.{prefix_len};
 ghost use Rattle.escape_framing.specs.Bytes.{is_parameter as in_parameters};
 ghost use Rattle.std.specs.Char.{IsAsciiDigit};

@@ -1,5 +1,5 @@
 //! What a framer reads at once where nothing is unfinished: texts, controls, and sequences whose bytes stand there.
-ghost use Rattle.std.specs.Prelude.{◌≡◌, ◌≢◌, ◌↔◌, ◌<◌, ◌≤◌, ℕ, true, ◌∷◌, List, length, take, drop, None, IfSome, IfOk, OnErr, IsErrOf, is_err};
+ghost use Rattle.std.specs.Prelude.{◌≡◌, ◌≢◌, ◌↔◌, ◌<◌, ◌≤◌, ℕ, true, ◌∷◌, List, length, take, None, IfSome, IfOk, OnErr, IsErrOf, is_err};
 ghost use Rattle.std.specs.List.{prefix_len};
 ghost use Rattle.escape_framing.specs.Bytes.{is_final as in_finals, is_escape_final as in_escape_finals};
 ghost use Rattle.escape_framing.specs.Held.{nothing_held};
@@ -10,10 +10,10 @@ ghost use Rattle.escape_framing.specs.Quick.{text_step, lone_step, control_at, p
 ghost use Rattle.escape_framing.specs.declared.lone.Lone.TheVariants.{Nothing, Control, Escape, ControlSequence};
 
 use crate::error::ParseError;
-use crate::framer::{BEL, ESCAPE, Framer, State, is_control, is_opener};
+use crate::framer::{BEL, C1_LEAD, ESCAPE, Framer, State, is_opener};
 use crate::lone::Lone;
 use crate::short::{ShortSequence, numbers_sequence, short_sequence};
-use crate::texts::text_len;
+use crate::texts::{behind, text_len};
 use std::alloc::AllocError;
 use text_clusters::printable_len;
 
@@ -33,15 +33,6 @@ fn is_escape_final(byte: u8) -> bool
     ensures { result ≡ in_escape_finals byte }
 {
     matches!(byte, 0x30..=0x7e)
-}
-
-// What stands behind so many bytes.
-#[inline(always)]
-fn behind(bytes: &[u8], count: usize) -> &[u8]
-    requires { count ≤ length bytes.now }
-    ensures { result.now ≡ drop count bytes.now }
-{
-    &bytes[count..]
 }
 
 /// The final byte of a control sequence behind so many bytes, if it stands there.
@@ -94,14 +85,11 @@ fn ender_len(byte: u8) -> Option<usize>
 
 // A byte of a command's body that stands for itself.
 #[inline(always)]
-#[tactic(auto, unfolding(crate::specs::Quick::is_body_byte, crate::specs::Bytes::is_control))]
+#[tactic(auto, unfolding(crate::specs::Quick::is_body_byte))]
 fn is_body_byte(byte: u8) -> bool
     ensures { result ≡ in_bodies byte }
 {
-    if byte < 0x20 {
-        return false;
-    }
-    byte != 0x7f && byte != 0xc2
+    !byte.is_ascii_control() && byte != C1_LEAD
 }
 
 // How many such bytes stand at the front, one by one.
@@ -148,7 +136,7 @@ impl Framer {
         ensures unfinished { self.now.held ≢ nothing_held → result ≡ None }
     {
         let (byte, _) = bytes.split_first()?;
-        if !is_control(*byte) {
+        if !byte.is_ascii_control() {
             return None;
         }
         if *byte == ESCAPE {
@@ -372,7 +360,7 @@ impl Framer {
         let Some((byte, others)) = bytes.split_first() else {
             return Lone::Nothing;
         };
-        if !is_control(*byte) {
+        if !byte.is_ascii_control() {
             return Lone::Nothing;
         }
         if self.is_failed() {

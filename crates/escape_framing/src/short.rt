@@ -29,9 +29,9 @@ pub(crate) fn short_sequence(others: &[u8]) -> Option<ShortSequence>
             count: 3,
         });
     }
-    let (number, left) = short_number(others)?;
-    let control = last_at(left, 0)?;
-    Some(ended(others, ShortNumbers::One(number), left, control))
+    let (number, rest) = short_number(others)?;
+    let control = last_at(rest, 0)?;
+    Some(ended(others, ShortNumbers::One(number), rest, control))
 }
 
 /// What stands behind ESC [, where it is such a control sequence of two or three numbers.
@@ -39,35 +39,35 @@ pub(crate) fn short_sequence(others: &[u8]) -> Option<ShortSequence>
 pub(crate) fn numbers_sequence(others: &[u8]) -> Option<ShortSequence>
     ensures { IfSome result (λ s. IsShort others.now s.numbers s.control s.count) }
 {
-    let (first, left) = short_number(others)?;
-    behind_one(others, first, left)
+    let (first, rest) = short_number(others)?;
+    behind_one(others, first, rest)
 }
 
 // The same, where one number was read.
 #[inline(always)]
-fn behind_one(others: &[u8], first: u8, left: &[u8]) -> Option<ShortSequence>
-    requires { IsFront no_parameters others.now left.now (short_parameters (One first)) }
+fn behind_one(others: &[u8], first: u8, rest: &[u8]) -> Option<ShortSequence>
+    requires { IsFront no_parameters others.now rest.now (short_parameters (One first)) }
     ensures { IfSome result (λ s. IsShort others.now s.numbers s.control s.count) }
 {
-    let (second, left) = short_number(behind_semicolon(left)?)?;
-    behind_two(others, first, second, left)
+    let (second, rest) = short_number(behind_semicolon(rest)?)?;
+    behind_two(others, first, second, rest)
 }
 
 // The same, where two numbers were read.
 #[inline(always)]
-fn behind_two(others: &[u8], first: u8, second: u8, left: &[u8]) -> Option<ShortSequence>
-    requires { IsFront no_parameters others.now left.now (short_parameters (Two first second)) }
+fn behind_two(others: &[u8], first: u8, second: u8, rest: &[u8]) -> Option<ShortSequence>
+    requires { IsFront no_parameters others.now rest.now (short_parameters (Two first second)) }
     ensures { IfSome result (λ s. IsShort others.now s.numbers s.control s.count) }
 {
-    if let Some(control) = last_at(left, 0) {
-        return Some(ended(others, ShortNumbers::Two(first, second), left, control));
+    if let Some(control) = last_at(rest, 0) {
+        return Some(ended(others, ShortNumbers::Two(first, second), rest, control));
     }
-    let (third, left) = short_number(behind_semicolon(left)?)?;
-    let control = last_at(left, 0)?;
+    let (third, rest) = short_number(behind_semicolon(rest)?)?;
+    let control = last_at(rest, 0)?;
     Some(ended(
         others,
         ShortNumbers::Three(first, second, third),
-        left,
+        rest,
         control,
     ))
 }
@@ -83,16 +83,16 @@ fn behind_semicolon(bytes: &[u8]) -> Option<&[u8]>
     }
 }
 
-// The sequence of these numbers, with this final byte, which begins what is left.
+// The sequence of these numbers, with this final byte, which begins the rest.
 #[inline(always)]
-fn ended(others: &[u8], numbers: ShortNumbers, left: &[u8], control: u8) -> ShortSequence
-    requires front { IsFront no_parameters others.now left.now (short_parameters numbers) }
-    requires last { IsLastAt left.now 0 (Some control) }
+fn ended(others: &[u8], numbers: ShortNumbers, rest: &[u8], control: u8) -> ShortSequence
+    requires front { IsFront no_parameters others.now rest.now (short_parameters numbers) }
+    requires last { IsLastAt rest.now 0 (Some control) }
     ensures { IsShort others.now result.numbers result.control result.count }
 {
     ShortSequence {
         numbers,
         control,
-        count: others.len() - left.len() + 3,
+        count: others.len() - rest.len() + 3,
     }
 }

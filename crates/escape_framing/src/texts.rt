@@ -1,20 +1,12 @@
 //! Texts: the characters at the front of some bytes that are lent as they stand.
-ghost use Rattle.std.specs.Prelude.{◌≡◌, ◌↔◌, IsTrue, ℕ, ◌≤◌, ◌<◌, ◌∷◌, length, drop};
+ghost use Rattle.std.specs.Prelude.{◌≡◌, ◌↔◌, IsTrue, ◌≤◌, ◌<◌, ◌∷◌, length, drop};
 ghost use Rattle.std.specs.List.{prefix_len};
 ghost use Rattle.escape_framing.specs.Framed.{IsCharacterLen, IsTextLen};
 ghost use Rattle.escape_framing.specs.Wide.{IsRunLen};
 ghost use Rattle.text_clusters.specs.Plain.{is_printable};
 ghost use Rattle.escape_framing.specs.Wide.{least_second as least_behind, most_second as most_behind, is_second as in_second, is_behind as in_behind};
 
-use text_clusters::printable_len;
-
-// A plain character, from space to ~.
-#[inline(always)]
-fn is_plain(byte: u8) -> bool
-    ensures { result ≡ is_printable byte }
-{
-    matches!(byte, 0x20..=0x7e)
-}
+use text_clusters::{is_printable, printable_len};
 
 // The least byte behind the first of a character.
 #[inline(always)]
@@ -160,16 +152,16 @@ fn run_len(bytes: &[u8]) -> usize
     let Some((byte, _)) = bytes.split_first() else {
         return 0;
     };
-    if is_plain(*byte) {
+    if is_printable(*byte) {
         printable_len(bytes)
     } else {
         wide_len(bytes)
     }
 }
 
-// What stands behind so many bytes.
+/// What stands behind so many bytes.
 #[inline(always)]
-fn behind(bytes: &[u8], count: usize) -> &[u8]
+pub(crate) fn behind(bytes: &[u8], count: usize) -> &[u8]
     requires { count ≤ length bytes.now }
     ensures { result.now ≡ drop count bytes.now }
 {
@@ -184,7 +176,7 @@ fn is_lone(byte: u8, others: &[u8]) -> bool
     let Some((next, _)) = others.split_first() else {
         return false;
     };
-    *next < 0x20 && is_plain(byte)
+    *next < 0x20 && is_printable(byte)
 }
 
 /// How many bytes the text at the front has, of as many characters as can be lent.

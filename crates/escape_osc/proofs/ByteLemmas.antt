@@ -1,11 +1,11 @@
 -- What each byte of some texts keeps, each byte of what is read from them and written again keeps.
-use Rattle.std.proofs.Common.{◌≡◌, ℕ, ◌==◌, Bool, true, false, ◌||◌, ◌&&◌, List, [], ◌∷◌, ◌++◌, map, refl, sym, inl, inr, subst}
+use Rattle.std.proofs.Common.{◌≡◌, ℕ, ◌==◌, Bool, true, false, ◌&&◌, List, [], ◌∷◌, ◌++◌, map, refl, sym, inl, inr, subst}
 use Rattle.std.specs.List.{join_with_byte, list_all, list_any, AllByRecursion}
 use Rattle.std.specs.Str.{is_utf8}
 use Rattle.std.specs.Ordering.{nat_cmp}
 use Rattle.std.specs.Cmp.Lexicographic.{slice_cmp}
 use Rattle.std.specs.Prelude.{Option, Some, None, Result, Ok, length}
-use Rattle.std.proofs.lemmas.Bool.{and_parts, cases_Bool}
+use Rattle.std.proofs.lemmas.Bool.{and_parts, cases_Bool, or_parts}
 use Rattle.std.proofs.lemmas.List.Splits.{join_with_byte-slice_split}
 use Rattle.cell_base.specs.Link.{Link, Param}
 use Rattle.cell_base.specs.declared.link_error.LinkError.{LinkError}
@@ -108,10 +108,6 @@ module _ (P : ℕ → Type 0) where
         link_each params (join_with_byte 59 (uri ∷ more)) link is h.1.0 (joined_each 59 (uri ∷ more) semicolon h.1.1)
 
 -- ---- Tests that no byte passes
-
-or_parts : (a b : Bool) → (a || b) ≡ false → (a ≡ false) × (b ≡ false)
-or_parts true b h = cc
-or_parts false b h = (refl, h)
 
 pub each_fails : (test : ℕ → Bool) (text : List ℕ) → list_any test text ≡ false → AllByRecursion (λ b. test b ≡ false) text
 each_fails test [] h = tt

@@ -1,19 +1,20 @@
 -- Where a C1 control stands in joined texts.
-use Rattle.std.proofs.Common.{◌≡◌, ℕ, ◌<◌, ◌==◌, Bool, true, false, ◌||◌, ◌&&◌, List, [], ◌∷◌, ◌++◌, map, refl, ap, sym, ◌∙◌, arith, inl, inr}
+use Rattle.std.proofs.Common.{◌≡◌, ℕ, ◌<◌, ◌==◌, true, false, ◌||◌, ◌&&◌, List, [], ◌∷◌, ◌++◌, map, refl, ap, sym, ◌∙◌, arith, inl, inr}
 use Rattle.std.specs.List.{join_with_byte, list_all, AllByRecursion}
 use Rattle.std.proofs.Math.Bool.{or_assoc, or-false}
-use Rattle.std.proofs.lemmas.Bool.{and_parts, cases_Bool, ne_eqb, lt-leb}
+use Rattle.std.proofs.lemmas.Bool.{and_parts, cases_Bool, ne_eqb, lt-leb, or_parts, or_from}
 use Rattle.std.specs.Str.{is_utf8}
 use Rattle.std.specs.Ordering.{nat_cmp}
 use Rattle.std.specs.Cmp.Lexicographic.{slice_cmp}
 use Rattle.std.specs.Prelude.{Option, Some, None, Result, Ok, length}
 use Rattle.std.proofs.lemmas.List.Splits.{join_with_byte-slice_split}
+use Rattle.text_clusters.specs.Controls.{is_c1, holds_c1}
 use Rattle.cell_base.specs.Link.{Link, Param}
 use Rattle.cell_base.specs.declared.link_error.LinkError.{LinkError}
 use Rattle.cell_base.specs.LinkText.{param_text, params_text, link_text, text_of_link, pieces, is_param, param_of, by_key, param_pieces, params_of, texts_reading, link_reading}
 use Rattle.cell_base.proofs.KeyOrder.{fold_each}
 use Rattle.cell_base.proofs.Pieces.{cut_joined}
-use Rattle.escape_osc.specs.Parts.{is_c1, holds_c1, any_holds_c1}
+use Rattle.escape_osc.specs.Parts.{any_holds_c1}
 
 -- no byte below 80 is part of a C1 control
 is_c1-lead : (b c : ℕ) → b < 128 → is_c1 b c ≡ false
@@ -54,13 +55,6 @@ any_holds_c1-joined c (x ∷ y ∷ ys) h =
 -- a text with no C1 control
 abbrev pub LacksC1 : List ℕ → Type 0
 LacksC1 text = holds_c1 text ≡ false
-
-pub or_parts : (a b : Bool) → (a || b) ≡ false → (a ≡ false) × (b ≡ false)
-or_parts true b h = cc
-or_parts false b h = (refl, h)
-
-or_from : (a b : Bool) → a ≡ false → b ≡ false → (a || b) ≡ false
-or_from a b e f = rw e f
 
 pub each_lacks_c1 : (texts : List (List ℕ)) → any_holds_c1 texts ≡ false → AllByRecursion LacksC1 texts
 each_lacks_c1 [] h = tt

@@ -1,3 +1,4 @@
+pub mod AppendLemmas
 pub mod Base64Lemmas
 pub mod ByteLemmas
 pub mod C1Lemmas

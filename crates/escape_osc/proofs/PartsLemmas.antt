@@ -1,48 +1,12 @@
--- Facts on the parts of a body and on the characters that fit no command.
-use Rattle.std.proofs.Common.{◌≡◌, ℕ, suc, zero, ◌+◌, ◌-◌, ◌<◌, ◌≤◌, true, false, ◌||◌, List, [], ◌∷◌, length, get_or, drop, map, length-drop, refl, ap, sym, ◌∙◌, arith, Bor}
-use Rattle.std.proofs.lemmas.List.{at_drop_more, at_drop_all}
-use Rattle.escape_osc.specs.Parts.{holds_c1, any_holds_c1, is_c1}
+-- The steps of walks over the parts of a body.
+use Rattle.std.proofs.Common.{◌≡◌, ℕ, ◌+◌, ◌<◌, ◌≤◌, false, ◌||◌, List, [], ◌∷◌, ◌++◌, length, get_or, drop, map, ap, sym, ◌∙◌, append_assoc, append-nil, Bor, Vec, Global}
+use Rattle.std.specs.List.{flat_map}
+use Rattle.std.proofs.lemmas.List.{at_drop_more, at_drop_all, map-append}
+use Rattle.text_clusters.specs.Controls.{holds_c1}
+use Rattle.escape_osc.specs.Parts.{any_holds_c1, joined, semicolon}
 
--- one step to the right
-pub holds_c1-drop : (text : List ℕ) (i : ℕ) → suc i < length text
-    → holds_c1 (drop i text) ≡ (is_c1 (get_or text i 0) (get_or text (suc i) 0) || holds_c1 (drop (suc i) text))
-unfolding holds_c1
-holds_c1-drop [] i h = absurd (omega arith)
-holds_c1-drop (b ∷ []) i h = absurd (omega arith)
-holds_c1-drop (b ∷ c ∷ rest) zero h = refl
-holds_c1-drop (b ∷ c ∷ rest) (suc i) h = holds_c1-drop (c ∷ rest) i (omega arith)
+-- ---- a walk that looks for C1, with the part at i next
 
--- one byte is too few
-pub holds_c1-short : (text : List ℕ) → length text ≤ 1 → holds_c1 text ≡ false
-unfolding holds_c1
-holds_c1-short [] h = refl
-holds_c1-short (b ∷ []) h = refl
-holds_c1-short (b ∷ c ∷ rest) h = absurd (omega arith)
-
--- the steps of a walk over neighbouring bytes, of which the right one stands at i
-pub c1_next : (text : List ℕ) (i : ℕ) → 0 < i → i < length text → is_c1 (get_or text (i - 1) 0) (get_or text i 0) ≡ false
-    → holds_c1 (drop (i + 1 - 1) text) ≡ holds_c1 (drop (i - 1) text)
-c1_next text zero above below other = absurd (omega arith)
-c1_next text (suc i) above below other =
-    let e : holds_c1 (drop i text) ≡ (is_c1 (get_or text i 0) (get_or text (suc i) 0) || holds_c1 (drop (suc i) text)) = holds_c1-drop text i below in
-    let a : suc i + 1 - 1 ≡ suc i = omega arith in
-    let b : suc i - 1 ≡ i = omega arith in
-    let n : is_c1 (get_or text i 0) (get_or text (suc i) 0) ≡ false = rw b at other in
-    rw (a, b, e, n) refl
-
-pub c1_found : (text : List ℕ) (i : ℕ) → 0 < i → i < length text → is_c1 (get_or text (i - 1) 0) (get_or text i 0) ≡ true
-    → holds_c1 (drop (i - 1) text) ≡ true
-c1_found text zero above below same = absurd (omega arith)
-c1_found text (suc i) above below same =
-    let e : holds_c1 (drop i text) ≡ (is_c1 (get_or text i 0) (get_or text (suc i) 0) || holds_c1 (drop (suc i) text)) = holds_c1-drop text i below in
-    let b : suc i - 1 ≡ i = omega arith in
-    let y : is_c1 (get_or text i 0) (get_or text (suc i) 0) ≡ true = rw b at same in
-    rw (b, e, y) refl
-
-pub c1_end : (text : List ℕ) (i : ℕ) → length text ≤ i → holds_c1 (drop (i - 1) text) ≡ false
-c1_end text i h = holds_c1-short (drop (i - 1) text) (omega (arith, length-drop (i - 1) text))
-
--- the steps of a walk over parts, of which the one at i is next
 pub any_c1_next : (parts : List (Bor (List ℕ))) (i : ℕ) (part : Bor (List ℕ)) → i < length parts → part ≡ get_or parts i part
     → any_holds_c1 (map (λ p. p.now) (drop i parts)) ≡ (holds_c1 part.now || any_holds_c1 (map (λ p. p.now) (drop (i + 1) parts)))
 any_c1_next parts i part below item =
@@ -51,3 +15,43 @@ any_c1_next parts i part below item =
 
 pub any_c1_end : (parts : List (Bor (List ℕ))) (i : ℕ) → length parts ≤ i → any_holds_c1 (map (λ p. p.now) (drop i parts)) ≡ false
 any_c1_end parts i h = at_drop_all (λ ps. any_holds_c1 (map (λ p. p.now) ps)) parts i h
+
+-- ---- a walk that joins them, with the text so far
+
+-- parts as they stand behind another: each behind a `;`
+abbrev pub behind : List (List ℕ) → List ℕ
+behind parts = flat_map (λ part. semicolon ∷ part) parts
+
+pub joined-cons : (first : List ℕ) (rest : List (List ℕ)) → joined (first ∷ rest) ≡ first ++ behind rest
+joined-cons first [] = sym (append-nil first)
+joined-cons first (part ∷ rest) = ap (λ text. first ++ semicolon ∷ text) (joined-cons part rest)
+
+pub joined_start : {P : Type 0} (text_of : P → List ℕ) (before text dest : List ℕ) (parts : List P) (first : P) (rest : List P) → parts ≡ first ∷ rest
+    → text ≡ text_of first → dest ≡ before ++ text → dest ++ behind (map text_of rest) ≡ before ++ joined (map text_of parts)
+joined_start {P} text_of before text dest parts first rest e same appended =
+    ap (λ d. d ++ behind (map text_of rest)) (appended ∙ ap (λ t. before ++ t) same)
+    ∙ append_assoc before (text_of first) _
+    ∙ ap (λ t. before ++ t) (sym (ap (λ (ps : List P). joined (map text_of ps)) e ∙ joined-cons (text_of first) (map text_of rest)))
+
+pub joined_next : {P : Type 0} (text_of : P → List ℕ) (text : List ℕ) (rest : List P) (i : ℕ) (part : P) → i < length rest → part ≡ get_or rest i part
+    → text ++ behind (map text_of (drop i rest)) ≡ text ++ semicolon ∷ [] ++ text_of part ++ behind (map text_of (drop (i + 1) rest))
+joined_next {P} text_of text rest i part below item =
+    at_drop_more (λ (ps : List P). text ++ behind (map text_of ps)) rest i part below
+    ∙ ap (λ (p : P). text ++ (semicolon ∷ (text_of p ++ behind (map text_of (drop (i + 1) rest))))) (sym item)
+    ∙ simp append_assoc
+
+pub joined_end : {P : Type 0} (text_of : P → List ℕ) (text : List ℕ) (rest : List P) (i : ℕ) → length rest ≤ i → text ++ behind (map text_of (drop i rest)) ≡ text
+joined_end {P} text_of text rest i h = at_drop_all (λ (ps : List P). text ++ behind (map text_of ps)) rest i h ∙ append-nil text
+
+-- ---- a walk that copies them, with the copies so far
+
+pub copied_next : (copies : List (Vec ℕ Global)) (parts : List (Bor (List ℕ))) (i : ℕ) (part : Bor (List ℕ)) (copy : Vec ℕ Global) → i < length parts → part ≡ get_or parts i part → copy.items ≡ part.now
+    → map (λ v. v.items) (copies ++ copy ∷ []) ++ map (λ p. p.now) (drop (i + 1) parts) ≡ map (λ v. v.items) copies ++ map (λ p. p.now) (drop i parts)
+copied_next copies parts i part copy below item same =
+    rw (map-append (λ (v : Vec ℕ Global). v.items) copies (copy ∷ []), append_assoc, same)
+    (sym (at_drop_more (λ ps. map (λ (v : Vec ℕ Global). v.items) copies ++ map (λ p. p.now) ps) parts i part below
+    ∙ ap (λ (p : Bor (List ℕ)). map (λ (v : Vec ℕ Global). v.items) copies ++ p.now ∷ map (λ p. p.now) (drop (i + 1) parts)) (sym item)))
+
+pub copied_end : (copies : List (Vec ℕ Global)) (parts : List (Bor (List ℕ))) (i : ℕ) → length parts ≤ i
+    → map (λ v. v.items) copies ++ map (λ p. p.now) (drop i parts) ≡ map (λ v. v.items) copies
+copied_end copies parts i h = at_drop_all (λ ps. map (λ (v : Vec ℕ Global). v.items) copies ++ map (λ p. p.now) ps) parts i h ∙ append-nil _

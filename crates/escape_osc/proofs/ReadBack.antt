@@ -9,6 +9,7 @@ use Rattle.std.proofs.lemmas.Option.{same_Some}
 use Rattle.std.proofs.lemmas.Slice.Eq.{bytes_eq-Decides}
 use Rattle.std.proofs.lemmas.List.Splits.{join_with_byte-slice_split}
 use Rattle.std.specs.Result.{result_ok}
+use Rattle.text_clusters.specs.Controls.{holds_c1}
 use Rattle.cell_base.specs.Link.{Link}
 use Rattle.cell_base.specs.LinkText.{link_text, text_of_link, link_reading}
 use Rattle.cell_base.specs.declared.link_error.LinkError.{LinkError}
@@ -19,7 +20,7 @@ use Rattle.escape_osc.proofs.Base64Lemmas.{bytes_each, each_byte, base64_exact}
 use Rattle.escape_osc.proofs.SelectionLemmas.{selection_back, letters_piece, letters_ascii}
 use Rattle.escape_osc.specs.Selection.{letters_of, selection_reading}
 use Rattle.escape_osc.specs.Command.{Command, set_icon_name_and_window_title, set_icon_name, set_window_title, current_working_directory, set_hyperlink, set_selection, query_selection, clear_selection, unspecified}
-use Rattle.escape_osc.specs.Parts.{semicolon, parts_of, joined, holds_c1, any_holds_c1}
+use Rattle.escape_osc.specs.Parts.{semicolon, parts_of, joined, any_holds_c1}
 use Rattle.escape_osc.specs.Reading.{utf8_reading, text_reading, base64_reading, data_reading, clear_reading, lettered_reading, selection_command, link_command, coded_reading, osc_reading}
 use Rattle.escape_osc.specs.Text.{base64_of, body_of}
 use Rattle.escape_osc.specs.Writable.{ReadsBack}

@@ -1,23 +1,25 @@
 -- A command that reads back and holds no control can be written; and so can what was read from a body without controls.
-use Rattle.std.proofs.Common.{◌≡◌, ℕ, ◌<◌, ◌==◌, Bool, true, false, ◌||◌, List, [], ◌∷◌, ◌++◌, codes, refl, ap, sym, subst, ◌∙◌, inl, inr, Option, Some, None, option_map, Ok, arith}
+use Rattle.std.proofs.Common.{◌≡◌, ℕ, ◌<◌, ◌==◌, true, false, List, [], ◌∷◌, ◌++◌, codes, refl, ap, sym, subst, ◌∙◌, inl, inr, Option, Some, None, option_map, Ok, arith}
 use Rattle.std.specs.List.{AllByRecursion}
 use Rattle.std.specs.Str.{IsUtf8, bytes_eq, is_utf8}
 use Rattle.std.specs.Option.{option_and_then}
 use Rattle.std.specs.Result.{result_ok}
-use Rattle.std.proofs.lemmas.Bool.{cases_Bool}
+use Rattle.std.specs.Char.{is_ascii_control}
+use Rattle.std.proofs.lemmas.Bool.{cases_Bool, or_from}
 use Rattle.std.proofs.lemmas.Option.{same_Some}
 use Rattle.std.proofs.lemmas.Str.{IsUtf8-from_is_utf8}
 use Rattle.std.proofs.lemmas.List.Splits.{join_with_byte-slice_split}
+use Rattle.text_clusters.specs.Controls.{holds_c1}
 use Rattle.base64.specs.Engines.{standard}
 use Rattle.base64.specs.GeneralPurpose.{IsBytes, decoded_of}
 use Rattle.cell_base.specs.Link.{Link}
 use Rattle.cell_base.specs.LinkText.{text_of_link, link_reading}
 use Rattle.escape_osc.specs.Command.{Command, set_icon_name_and_window_title, set_icon_name, set_window_title, current_working_directory, set_hyperlink, set_selection, query_selection, clear_selection, unspecified}
-use Rattle.escape_osc.specs.Parts.{semicolon, parts_of, joined, holds_c1, any_holds_c1}
+use Rattle.escape_osc.specs.Parts.{semicolon, parts_of, joined, any_holds_c1}
 use Rattle.escape_osc.specs.Reading.{utf8_reading, text_reading, base64_reading, data_reading, clear_reading, lettered_reading, selection_command, link_command, coded_reading, fitting_reading, osc_reading}
 use Rattle.escape_osc.specs.Selection.{letters, letters_of, selection_reading}
 use Rattle.escape_osc.specs.Text.{base64_of, body_of}
-use Rattle.escape_osc.specs.Writable.{ReadsBack, is_control, LacksControls, IsSelection, IsReadableLink, HasSpelling, IsWritable}
+use Rattle.escape_osc.specs.Writable.{ReadsBack, LacksControls, IsSelection, IsReadableLink, HasSpelling, IsWritable}
 use Rattle.escape_osc.proofs.Cases.{option_cases}
 use Rattle.escape_osc.proofs.C1Lemmas.{any_holds_c1-joined, holds_c1-cons, link_parts_lack_c1, ascii_lacks_c1, holds_c1-joint, each_lacks_c1, LacksC1}
 use Rattle.escape_osc.proofs.SplitLemmas.{IsPiece, parts_of-at, parts_of-some, parts_each}
@@ -213,7 +215,7 @@ parts_spelled_by parts (first ∷ rest) some lacks is = elim (meant first rest (
 ]
 
 pub back_writable : (command : Command) → ReadsBack command → LacksControls (body_of command) → IsWritable command
-back_writable command is lacks = record { spelling = spelled command is lacks.no_c1; no_c0 = lacks.no_c0; no_c1 = lacks.no_c1 }
+back_writable command is lacks = record { spelling = spelled command is lacks.no_c1; clean = lacks }
   where
     spelled : (c : Command) → ReadsBack c → holds_c1 (body_of c) ≡ false → HasSpelling c
     spelled (set_icon_name_and_window_title text) r h = text_spelled set_icon_name_and_window_title 48 text refl (λ parts e. cc) (λ x e. cc) zero_is_text h r
@@ -229,13 +231,13 @@ back_writable command is lacks = record { spelling = spelled command is lacks.no
 -- ---- What is read from a body without controls
 
 abbrev IsPlain : ℕ → Type 0
-IsPlain b = is_control b ≡ false
+IsPlain b = is_ascii_control b ≡ false
 
 plain : (text : List ℕ) → AllByRecursion IsPlain text → holds_c1 text ≡ false → LacksControls text
-plain text c0 c1 = record { no_c0 = none_passes is_control text c0; no_c1 = c1 }
+plain text c0 c1 = record { no_c0 = none_passes is_ascii_control text c0; no_c1 = c1 }
 
 each_plain : (text : List ℕ) → LacksControls text → AllByRecursion IsPlain text
-each_plain text h = each_fails is_control text h.no_c0
+each_plain text h = each_fails is_ascii_control text h.no_c0
 
 kept_clean : (command : Command) (body : List ℕ) → body_of command ≡ body → LacksControls body → LacksControls (body_of command)
 kept_clean command body e h = subst LacksControls (sym e) h
@@ -261,15 +263,12 @@ letters_clean bits = plain (codes "52;" ++ letters_of bits)
     (each-append IsPlain (codes "52;") (letters_of bits) (refl, (refl, (refl, tt))) (letters_plain bits))
     (ascii_lacks_c1 (codes "52;" ++ letters_of bits) (each-append (λ b. b < 128) (codes "52;") (letters_of bits) (omega arith, (omega arith, (omega arith, tt))) (letters_ascii bits)))
 
-or_false : (a b : Bool) → a ≡ false → b ≡ false → (a || b) ≡ false
-or_false a b e f = rw e f
-
 lettered_clean : (bits : ℕ) (text : List ℕ) → LacksControls text → LacksControls (codes "52;" ++ (letters_of bits ++ semicolon ∷ text))
 lettered_clean bits text h = plain (codes "52;" ++ (letters_of bits ++ semicolon ∷ text))
     (each-append IsPlain (codes "52;") (letters_of bits ++ semicolon ∷ text) (refl, (refl, (refl, tt))) (each-append IsPlain (letters_of bits) (semicolon ∷ text) (letters_plain bits) (refl, each_plain text h)))
     (holds_c1-cons 53 _ (omega arith) ∙ holds_c1-cons 50 _ (omega arith) ∙ holds_c1-cons 59 _ (omega arith)
     ∙ holds_c1-joint (letters_of bits) 59 text (omega arith)
-    ∙ or_false (holds_c1 (letters_of bits)) (holds_c1 text) (ascii_lacks_c1 (letters_of bits) (letters_ascii bits)) h.no_c1)
+    ∙ or_from (holds_c1 (letters_of bits)) (holds_c1 text) (ascii_lacks_c1 (letters_of bits) (letters_ascii bits)) h.no_c1)
 
 selection_clean : (rest : List (List ℕ)) (command : Command) → AllByRecursion IsBytes rest → AllByRecursion LacksControls rest → selection_command rest ≡ Some command → LacksControls (body_of command)
 unfolding selection_command clear_reading lettered_reading

@@ -13,7 +13,7 @@ use Rattle.std.specs.Int.RustNames.{bit_and}
 use Rattle.escape_osc.specs.declared.selection.Selection.{Selection}
 use Rattle.escape_osc.specs.declared.show.TheConstants.{LETTERS}
 use Rattle.escape_osc.specs.Parts.{semicolon, joined}
-use Rattle.escape_osc.proofs.ReadingLemmas.{behind, joined-cons}
+use Rattle.escape_osc.proofs.PartsLemmas.{behind, joined-cons}
 use Rattle.escape_osc.specs.ShownParts.{replacement_of}
 use Rattle.escape_osc.specs.Selection.{Letter, bits_of, letter_bits, letters, letters_of}
 

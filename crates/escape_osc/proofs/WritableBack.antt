@@ -6,8 +6,9 @@ use Rattle.std.specs.Option.{option_and_then}
 use Rattle.std.proofs.lemmas.Bool.{cases_Bool, false≢true}
 use Rattle.std.proofs.lemmas.Bool.Decides.{nat_tests}
 use Rattle.std.proofs.lemmas.Slice.Eq.{bytes_eq-Decides}
+use Rattle.text_clusters.specs.Controls.{holds_c1}
 use Rattle.escape_osc.specs.Command.{Command, set_icon_name_and_window_title, set_icon_name, set_window_title, current_working_directory, set_hyperlink, set_selection, query_selection, clear_selection, unspecified}
-use Rattle.escape_osc.specs.Parts.{semicolon, holds_c1, any_holds_c1}
+use Rattle.escape_osc.specs.Parts.{semicolon, any_holds_c1}
 use Rattle.escape_osc.specs.Reading.{utf8_reading, base64_reading, data_reading, fitting_reading, osc_reading}
 use Rattle.escape_osc.specs.Selection.{letters_of, selection_reading}
 use Rattle.escape_osc.specs.Text.{base64_of}
@@ -71,11 +72,11 @@ unspecified_back parts false h = ap (λ found. unwrap_or found (unspecified part
 
 pub writable_back : (command : Command) → IsWritable command → ReadsBack command
 writable_back (set_icon_name_and_window_title text) w =
-    code_text_back set_icon_name_and_window_title 48 text refl (lone_lacks_c1 48) w.spelling (text_lacks_c1 48 text (omega arith) w.no_c1) zero_is_text
-writable_back (set_icon_name text) w = code_text_back set_icon_name 49 text refl (lone_lacks_c1 49) w.spelling (text_lacks_c1 49 text (omega arith) w.no_c1) one_is_text
-writable_back (set_window_title text) w = code_text_back set_window_title 50 text refl (lone_lacks_c1 50) w.spelling (text_lacks_c1 50 text (omega arith) w.no_c1) two_is_text
-writable_back (current_working_directory text) w = code_text_back current_working_directory 55 text refl (lone_lacks_c1 55) w.spelling (text_lacks_c1 55 text (omega arith) w.no_c1) seven_is_text
-writable_back (set_hyperlink link) w = link_value link w.spelling w.no_c1
+    code_text_back set_icon_name_and_window_title 48 text refl (lone_lacks_c1 48) w.spelling (text_lacks_c1 48 text (omega arith) w.clean.no_c1) zero_is_text
+writable_back (set_icon_name text) w = code_text_back set_icon_name 49 text refl (lone_lacks_c1 49) w.spelling (text_lacks_c1 49 text (omega arith) w.clean.no_c1) one_is_text
+writable_back (set_window_title text) w = code_text_back set_window_title 50 text refl (lone_lacks_c1 50) w.spelling (text_lacks_c1 50 text (omega arith) w.clean.no_c1) two_is_text
+writable_back (current_working_directory text) w = code_text_back current_working_directory 55 text refl (lone_lacks_c1 55) w.spelling (text_lacks_c1 55 text (omega arith) w.clean.no_c1) seven_is_text
+writable_back (set_hyperlink link) w = link_value link w.spelling w.clean.no_c1
 writable_back (set_selection bits text) w =
     let symbols = base64_each text in
     lettered_back bits (base64_of text) (set_selection bits text) (selection_value bits w.spelling.0)
@@ -94,8 +95,8 @@ code_lacks_c1 code text small h = holds_c1-cons code (59 ∷ text) small ∙ hol
 pub text_writable : (text : List ℕ) → IsUtf8 text → LacksControls text
     → IsWritable (set_icon_name_and_window_title text) × IsWritable (set_icon_name text) × IsWritable (set_window_title text) × IsWritable (current_working_directory text)
 text_writable text u h = (
-  record { spelling = u; no_c0 = h.no_c0; no_c1 = code_lacks_c1 48 text (omega arith) h.no_c1 },
-  record { spelling = u; no_c0 = h.no_c0; no_c1 = code_lacks_c1 49 text (omega arith) h.no_c1 },
-  record { spelling = u; no_c0 = h.no_c0; no_c1 = code_lacks_c1 50 text (omega arith) h.no_c1 },
-  record { spelling = u; no_c0 = h.no_c0; no_c1 = code_lacks_c1 55 text (omega arith) h.no_c1 },
+  record { spelling = u; clean = record { no_c0 = h.no_c0; no_c1 = code_lacks_c1 48 text (omega arith) h.no_c1 } },
+  record { spelling = u; clean = record { no_c0 = h.no_c0; no_c1 = code_lacks_c1 49 text (omega arith) h.no_c1 } },
+  record { spelling = u; clean = record { no_c0 = h.no_c0; no_c1 = code_lacks_c1 50 text (omega arith) h.no_c1 } },
+  record { spelling = u; clean = record { no_c0 = h.no_c0; no_c1 = code_lacks_c1 55 text (omega arith) h.no_c1 } },
 )

@@ -7,11 +7,12 @@ use Rattle.std.specs.Ordering.{nat_cmp}
 use Rattle.std.specs.Cmp.Lexicographic.{slice_cmp}
 use Rattle.std.specs.Int.RustNames.{bit_and}
 use Rattle.std.specs.Str.{IsUtf8}
-pub use Rattle.cell_base.specs.CellContent.{is_control}
+use Rattle.std.specs.Char.{is_ascii_control}
+use Rattle.text_clusters.specs.Controls.{holds_c1}
 use Rattle.cell_base.specs.Link.{Link}
 use Rattle.cell_base.specs.LinkText.{link_reading, text_of_link, is_writable, is_empty_link}
 use Rattle.escape_osc.specs.Command.{Command, set_icon_name_and_window_title, set_icon_name, set_window_title, current_working_directory, set_hyperlink, set_selection, query_selection, clear_selection, unspecified}
-use Rattle.escape_osc.specs.Parts.{parts_of, joined, holds_c1}
+use Rattle.escape_osc.specs.Parts.{parts_of, joined}
 use Rattle.escape_osc.specs.Reading.{fitting_reading, osc_reading}
 use Rattle.escape_osc.specs.Text.{body_of}
 
@@ -21,7 +22,7 @@ ReadsBack command = osc_reading (parts_of (body_of command)) ≡ command
 
 -- a text holds no control of any kind: no C0 control, no DEL, and no U+0080 to U+009F
 pub record LacksControls (text : List ℕ) : Type 0 where
-  pub no_c0 : list_any is_control text ≡ false
+  pub no_c0 : list_any is_ascii_control text ≡ false
   pub no_c1 : holds_c1 text ≡ false
 
 -- a set of selections that letters name: of bits 1 to 13, and not empty
@@ -59,5 +60,4 @@ HasSpelling (unspecified parts) = (parts_of (joined parts) ≡ parts) × (fittin
 -- such a command whose body holds no control
 pub record IsWritable (command : Command) : Type 0 where
   pub spelling : HasSpelling command
-  pub no_c0 : list_any is_control (body_of command) ≡ false
-  pub no_c1 : holds_c1 (body_of command) ≡ false
+  pub clean : LacksControls (body_of command)

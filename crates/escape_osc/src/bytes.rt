@@ -1,58 +1,120 @@
-//! The text of a command as bytes.
+//! The bytes of a command, appended to a list.
 
-ghost use Rattle.std.specs.Prelude.{◌≡◌, ◌∷◌, ◌++◌, map, IfOk, OnOk, OnErr};
+ghost use Rattle.std.specs.Prelude.{◌≡◌, ◌++◌, OnErr, OnOk, length, replicate, take};
+ghost use Rattle.base64.specs.Engines.{standard};
+ghost use Rattle.base64.specs.GeneralPurpose.{encoded_size_of};
+ghost use Rattle.cell_base.specs.Link.{texts_of};
+ghost use Rattle.cell_base.specs.LinkText.{link_text, params_text};
 ghost use Rattle.escape_osc.specs.CommandView.{command_of};
-ghost use Rattle.escape_osc.specs.Parts.{joined};
-ghost use Rattle.escape_osc.specs.Text.{framed, text_of};
+ghost use Rattle.escape_osc.specs.Selection.{bits_of, letters_of};
+ghost use Rattle.escape_osc.specs.Text.{base64_of, text_of};
 
 use crate::command::OperatingSystemCommand;
-use std::alloc::{AllocError, Global};
-
-// All parts joined by `;`.
-#[tactic(auto, using(crate::proofs::CopyLemmas::join_start, crate::proofs::CopyLemmas::join_next, crate::proofs::CopyLemmas::join_end))]
-fn joined_all(alloc: Global, parts: &[Vec<u8>]) -> Result<Vec<u8>, AllocError>
-    ensures { IfOk result (λ v. v.items ≡ joined (map (λ p. p.items) parts.now)) }
-{
-    let Some((first, rest)) = parts.split_first() else {
-        return Ok(Vec::new(alloc));
-    };
-    let mut text = Vec::from_slice(alloc, first)?;
-    for part in rest {
-        text.push(b';')?;
-        text.extend_from_slice(part)?;
-    }
-    Ok(text)
-}
-
-// ESC ], a body and ESC \.
-fn framed(alloc: Global, body: &[u8]) -> Result<Vec<u8>, AllocError>
-    ensures { IfOk result (λ v. v.items ≡ framed body.now) }
-{
-    let mut text = Vec::from_slice(alloc, b"\x1b]")?;
-    text.extend_from_slice(body)?;
-    text.extend_from_slice(b"\x1b\\")?;
-    Ok(text)
-}
+use crate::selection::Selection;
+use crate::show::LETTERS;
+use base64::encoded_len;
+use base64::engine::general_purpose::STANDARD;
+use bitflags::Flags;
+use cell_base::Hyperlink;
+use std::alloc::AllocError;
+use std::collections::BTreeMap;
 
 impl OperatingSystemCommand {
-    // The bytes of the command.
-    #[tactic(auto, using(crate::proofs::CopyLemmas::shown_exact))]
-    fn bytes(&self, alloc: Global) -> Result<Vec<u8>, AllocError>
-        ensures { IfOk result (λ bytes. bytes.items ≡ text_of (command_of self.now)) }
-    {
-        if let OperatingSystemCommand::Unspecified(parts) = self {
-            return framed(alloc, &joined_all(alloc, parts)?);
-        }
-        Ok(self.to_string(alloc)?.into_bytes())
-    }
-
     /// Appends the bytes of the command: its text, also where the parts of an `Unspecified` are no
     /// UTF-8. Where memory is refused, `dest` stays as it was.
     pub fn append_bytes_to(&self, dest: &mut Vec<u8>) -> Result<(), AllocError>
         ensures ok { OnOk result (dest.new.items ≡ dest.old.items ++ text_of (command_of self.now)) }
         ensures err { OnErr result (dest.new.items ≡ dest.old.items) }
     {
-        let bytes = self.bytes(*dest.allocator())?;
-        dest.extend_from_slice(&bytes)
+        let len = dest.len();
+        let result = self.append_text_to(dest);
+        if result.is_err() {
+            dest.truncate(len);
+        }
+        result
     }
+
+    // The same, but that what was appended before a refusal stays.
+    #[tactic(auto, using(crate::proofs::AppendLemmas::kept))]
+    fn append_text_to(&self, dest: &mut Vec<u8>) -> Result<(), AllocError>
+        ensures ok { OnOk result (dest.new.items ≡ dest.old.items ++ text_of (command_of self.now)) }
+        ensures err { take (length dest.old.items) dest.new.items ≡ dest.old.items }
+    {
+        dest.extend_from_slice(b"\x1b]")?;
+        self.body().append_to(dest)?;
+        dest.extend_from_slice(b"\x1b\\")
+    }
+}
+
+// Appends the letters of a selection, in their one order. Those before a refusal stay.
+pub(crate) fn append_letters(selection: Selection, dest: &mut Vec<u8>) -> Result<(), AllocError>
+    ensures ok { OnOk result (dest.new.items ≡ dest.old.items ++ letters_of (bits_of selection)) }
+    ensures err { take (length dest.old.items) dest.new.items ≡ dest.old.items }
+{
+    for (letter, known) in &LETTERS {
+        if selection.contains(*known) {
+            let mut buffer = [0; 4];
+            dest.extend_from_slice(letter.encode_utf8(&mut buffer).as_bytes())?;
+        }
+    }
+    Ok(())
+}
+
+// Appends bytes in base64. Where memory is refused, `dest` stays as it was.
+pub(crate) fn append_base64(bytes: &[u8], dest: &mut Vec<u8>) -> Result<(), AllocError>
+    ensures ok { OnOk result (dest.new.items ≡ dest.old.items ++ base64_of bytes.now) }
+    ensures err { OnErr result (dest.new.items ≡ dest.old.items) }
+{
+    let count = encoded_len(bytes.len(), true).ok_or(AllocError)?;
+    let len = dest.len();
+    append_zeros(count, dest)?;
+    write_base64(bytes, &mut dest[len..]);
+    Ok(())
+}
+
+// Appends zeros. Where memory is refused, `dest` stays as it was.
+fn append_zeros(count: usize, dest: &mut Vec<u8>) -> Result<(), AllocError>
+    ensures ok { OnOk result (dest.new.items ≡ dest.old.items ++ replicate count 0) }
+    ensures err { OnErr result (dest.new.items ≡ dest.old.items) }
+{
+    let len = dest.len().checked_add(count).ok_or(AllocError)?;
+    dest.resize(len, 0)
+}
+
+// Writes bytes in base64 over exactly as many.
+fn write_base64(bytes: &[u8], symbols: &mut [u8])
+    requires { length symbols.old ≡ encoded_size_of standard (length bytes.now) }
+    ensures { symbols.new ≡ base64_of bytes.now }
+{
+    let Ok(_) = STANDARD.encode_slice(bytes, symbols) else {
+        unreachable!();
+    };
+}
+
+// Appends the text of a link. Where memory is refused, what was appended before stays.
+#[tactic(auto, using(crate::proofs::AppendLemmas::kept), unfolding(cell_base::specs::LinkText::link_text))]
+pub(crate) fn append_link(link: &Hyperlink, dest: &mut Vec<u8>) -> Result<(), AllocError>
+    ensures ok { OnOk result (dest.new.items ≡ dest.old.items ++ link_text link.now) }
+    ensures err { take (length dest.old.items) dest.new.items ≡ dest.old.items }
+{
+    dest.extend_from_slice(b"8;")?;
+    append_params(link.params(), dest)?;
+    dest.push(b';')?;
+    dest.extend_from_slice(link.uri().as_bytes())
+}
+
+// Appends the parameters of a link, with `:` between. What was appended before a refusal stays.
+fn append_params(params: &BTreeMap<String, String>, dest: &mut Vec<u8>) -> Result<(), AllocError>
+    ensures ok { OnOk result (dest.new.items ≡ dest.old.items ++ params_text (texts_of params.now.entries)) }
+    ensures err { take (length dest.old.items) dest.new.items ≡ dest.old.items }
+{
+    let mut separator = "";
+    for (key, value) in params {
+        dest.extend_from_slice(separator.as_bytes())?;
+        dest.extend_from_slice(key.as_bytes())?;
+        dest.push(b'=')?;
+        dest.extend_from_slice(value.as_bytes())?;
+        separator = ":";
+    }
+    Ok(())
 }

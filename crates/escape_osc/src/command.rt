@@ -5,7 +5,6 @@ ghost use Rattle.escape_osc.specs.CommandView.{command_of};
 ghost use Rattle.escape_osc.specs.Text.{shown_text};
 
 use crate::selection::Selection;
-use crate::show::{Base64, Letters, LossyParts};
 use cell_base::Hyperlink;
 use std::fmt;
 use std::rc::Rc;
@@ -39,36 +38,7 @@ impl fmt::Display for OperatingSystemCommand {
     ghost output = { λ command. Some (shown_text (command_of command)) };
 
     fn fmt<W: fmt::Write>(&self, f: &mut fmt::Formatter<W>) -> fmt::Result {
-        match self {
-            OperatingSystemCommand::SetIconNameAndWindowTitle(text) => write!(
-                f,
-                "\x1b]0;{text}\x1b\\"
-            ),
-            OperatingSystemCommand::SetIconName(text) => write!(f, "\x1b]1;{text}\x1b\\"),
-            OperatingSystemCommand::SetWindowTitle(text) => write!(f, "\x1b]2;{text}\x1b\\"),
-            OperatingSystemCommand::CurrentWorkingDirectory(text) => write!(
-                f,
-                "\x1b]7;{text}\x1b\\"
-            ),
-            OperatingSystemCommand::SetHyperlink(Some(link)) => write!(f, "\x1b]{link}\x1b\\"),
-            OperatingSystemCommand::SetHyperlink(None) => write!(f, "\x1b]8;;\x1b\\"),
-            OperatingSystemCommand::SetSelection(selection, text) => {
-                let letters = Letters(*selection);
-                let text = Base64(text.as_bytes());
-                write!(f, "\x1b]52;{letters};{text}\x1b\\")
-            }
-            OperatingSystemCommand::QuerySelection(selection) => {
-                let letters = Letters(*selection);
-                write!(f, "\x1b]52;{letters};?\x1b\\")
-            }
-            OperatingSystemCommand::ClearSelection(selection) => {
-                let letters = Letters(*selection);
-                write!(f, "\x1b]52;{letters}\x1b\\")
-            }
-            OperatingSystemCommand::Unspecified(parts) => {
-                let parts = LossyParts(parts.as_slice());
-                write!(f, "\x1b]{parts}\x1b\\")
-            }
-        }
+        let body = self.body();
+        write!(f, "\x1b]{body}\x1b\\")
     }
 }

@@ -1,25 +1,14 @@
 //! Copies of commands.
 
-ghost use Rattle.std.specs.Prelude.{◌≡◌, map, IfOk};
+ghost use Rattle.std.specs.Prelude.{◌≡◌, IfOk};
 ghost use Rattle.escape_osc.specs.CommandView.{command_of};
 
 use crate::command::OperatingSystemCommand;
-use std::alloc::{AllocError, Global};
-
-// A copy of all parts.
-#[tactic(auto, using(crate::proofs::CopyLemmas::copy_next, crate::proofs::CopyLemmas::copy_end))]
-fn copied_all(alloc: Global, parts: &[Vec<u8>]) -> Result<Vec<Vec<u8>>, AllocError>
-    ensures { IfOk result (λ v. map (λ p. p.items) v.items ≡ map (λ p. p.items) parts.now) }
-{
-    let mut copies = Vec::new(alloc);
-    for part in parts {
-        copies.push(Vec::from_slice(alloc, part)?)?;
-    }
-    Ok(copies)
-}
+use std::alloc::AllocError;
 
 impl OperatingSystemCommand {
     /// A copy of the command. A link is shared with it.
+    #[tactic(auto, using(crate::proofs::CopyLemmas::parts_cloned))]
     pub fn try_clone(&self) -> Result<OperatingSystemCommand, AllocError>
         ensures { IfOk result (λ copy. command_of copy ≡ command_of self.now) }
     {
@@ -51,9 +40,9 @@ impl OperatingSystemCommand {
             OperatingSystemCommand::ClearSelection(selection) => {
                 Ok(OperatingSystemCommand::ClearSelection(*selection))
             }
-            OperatingSystemCommand::Unspecified(parts) => Ok(OperatingSystemCommand::Unspecified(
-                copied_all(*parts.allocator(), parts)?,
-            )),
+            OperatingSystemCommand::Unspecified(parts) => {
+                Ok(OperatingSystemCommand::Unspecified(parts.clone()?))
+            }
         }
     }
 }

@@ -1,13 +1,14 @@
 //! Laws of the definitions, as functions that do nothing.
 
 ghost use Rattle.std.specs.Prelude.{◌≡◌, ◌↔◌, IsTrue, false, None, Option, Some, ℕ, List};
+ghost use Rattle.text_clusters.specs.Controls.{holds_c1};
 ghost use Rattle.cell_base.specs.Link.{Link};
 ghost use Rattle.cell_base.specs.LinkText.{text_of_link};
 ghost use Rattle.escape_osc.specs.CommandView.{command_of};
 ghost use Rattle.escape_osc.specs.Command.{Command, set_icon_name_and_window_title, set_icon_name, set_window_title, current_working_directory, set_hyperlink};
-ghost use Rattle.escape_osc.specs.Parts.{parts_of, holds_c1};
+ghost use Rattle.escape_osc.specs.Parts.{parts_of};
 ghost use Rattle.escape_osc.specs.Reading.{osc_reading};
-ghost use Rattle.escape_osc.specs.Sizes.{EndOfLinkTakesSeven, LinksTakeSeven, TextsTakeSix};
+ghost use Rattle.escape_osc.specs.Sizes.{AllSelectionsTakeMost, EndOfLinkTakesSeven, LinksTakeSeven, SelectionsAreShort, TextsTakeSix};
 ghost use Rattle.escape_osc.specs.Text.{body_of};
 ghost use Rattle.escape_osc.specs.Writable.{IsLink, IsReadableLink, IsWritable, LacksControls, ReadsBack};
 
@@ -74,11 +75,14 @@ pub fn text_reads_back(text: &str)
 }
 
 /// The bytes of a command beside what it carries: six beside a title, the name of an icon or a directory, seven beside
-/// the parameters and the URI of a link, and seven of the end of a link.
+/// the parameters and the URI of a link, and seven of the end of a link. What asks for selections takes at most 22, what
+/// clears them 20, and what sets them 21 beside the base64 of its text; so many where all thirteen are named.
 pub fn text_lengths()
     ensures texts { (text : List ℕ) → TextsTakeSix text }
     ensures links { LinksTakeSeven }
     ensures end_of_link { EndOfLinkTakesSeven }
+    ensures selections { (bits : ℕ) → (text : List ℕ) → SelectionsAreShort bits text }
+    ensures all_selections { (text : List ℕ) → AllSelectionsTakeMost text }
 {}
 
 /// Two commands are equal where their values are, whatever pointers and capacities they have.

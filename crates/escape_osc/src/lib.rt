@@ -1,6 +1,7 @@
 //! Operating system commands of terminals, read from and written as their parts.
 #![tactic(auto)]
 
+mod body;
 mod bytes;
 mod command;
 mod copy;

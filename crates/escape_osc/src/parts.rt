@@ -1,31 +1,13 @@
 //! The parts of a command's body: joined and copied, and the characters that fit no command.
 
-ghost use Rattle.std.specs.Prelude.{◌≡◌, ◌∷◌, map, IfOk};
-ghost use Rattle.escape_osc.specs.Parts.{is_c1, holds_c1, any_holds_c1, joined};
+ghost use Rattle.std.specs.Prelude.{◌≡◌, ◌++◌, IfOk, OnOk, length, map, take};
+ghost use Rattle.escape_osc.specs.Parts.{any_holds_c1, joined};
 
 use std::alloc::{AllocError, Global};
+use std::convert::AsSlice;
+use text_clusters::holds_c1;
 
-// Whether two bytes are U+0080 to U+009F: C2 and then 80 to 9F.
-fn is_c1(lead: u8, next: u8) -> bool
-    ensures { result ≡ is_c1 lead next }
-{
-    lead == 0xC2 && next >= 0x80 && next <= 0x9F
-}
-
-// Whether U+0080 to U+009F stands in a text.
-#[tactic(auto, using(crate::proofs::PartsLemmas::c1_next, crate::proofs::PartsLemmas::c1_found, crate::proofs::PartsLemmas::c1_end))]
-pub(crate) fn holds_c1(text: &[u8]) -> bool
-    ensures { result ≡ holds_c1 text.now }
-{
-    for i in 1..text.len() {
-        if is_c1(text[i - 1], text[i]) {
-            return true;
-        }
-    }
-    false
-}
-
-// Whether one stands in some part.
+// Whether a control from U+0080 to U+009F stands in some part.
 #[tactic(auto, using(crate::proofs::PartsLemmas::any_c1_next, crate::proofs::PartsLemmas::any_c1_end))]
 pub(crate) fn any_holds_c1(parts: &[&[u8]]) -> bool
     ensures { result ≡ any_holds_c1 (map (λ p. p.now) parts.now) }
@@ -38,21 +20,28 @@ pub(crate) fn any_holds_c1(parts: &[&[u8]]) -> bool
     false
 }
 
-// The parts joined by `;`.
-#[tactic(auto, using(crate::proofs::ReadingLemmas::joined_start, crate::proofs::ReadingLemmas::joined_next, crate::proofs::ReadingLemmas::joined_end))]
-pub(crate) fn joined(alloc: Global, first: &[u8], rest: &[&[u8]]) -> Result<Vec<u8>, AllocError>
-    ensures { IfOk result (λ v. v.items ≡ joined (first.now ∷ map (λ p. p.now) rest.now)) }
+// Appends the parts, joined by `;`. Where memory is refused, what was appended before stays.
+#[tactic(auto, using(crate::proofs::PartsLemmas::joined_start, crate::proofs::PartsLemmas::joined_next, crate::proofs::PartsLemmas::joined_end, crate::proofs::AppendLemmas::kept))]
+pub(crate) fn append_joined<P: AsSlice<u8>>(
+    parts: &[P],
+    dest: &mut Vec<u8>,
+) -> Result<(), AllocError>
+    ensures ok { OnOk result (dest.new.items ≡ dest.old.items ++ joined (map P.items parts.now)) }
+    ensures err { take (length dest.old.items) dest.new.items ≡ dest.old.items }
 {
-    let mut text = Vec::from_slice(alloc, first)?;
+    let Some((first, rest)) = parts.split_first() else {
+        return Ok(());
+    };
+    dest.extend_from_slice(first.as_slice())?;
     for part in rest {
-        text.push(b';')?;
-        text.extend_from_slice(part)?;
+        dest.push(b';')?;
+        dest.extend_from_slice(part.as_slice())?;
     }
-    Ok(text)
+    Ok(())
 }
 
 // A copy of each part.
-#[tactic(auto, using(crate::proofs::ReadingLemmas::copied_next, crate::proofs::ReadingLemmas::copied_end))]
+#[tactic(auto, using(crate::proofs::PartsLemmas::copied_next, crate::proofs::PartsLemmas::copied_end))]
 pub(crate) fn copied(alloc: Global, parts: &[&[u8]]) -> Result<Vec<Vec<u8>>, AllocError>
     ensures { IfOk result (λ v. map (λ p. p.items) v.items ≡ map (λ p. p.now) parts.now) }
 {

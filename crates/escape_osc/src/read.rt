@@ -9,7 +9,7 @@ ghost use Rattle.escape_osc.specs.Reading.{utf8_reading, text_reading, base64_re
 ghost use Rattle.escape_osc.specs.Selection.{bits_of};
 
 use crate::command::OperatingSystemCommand;
-use crate::parts::{any_holds_c1, copied, joined};
+use crate::parts::{any_holds_c1, append_joined, copied};
 use crate::selection::Selection;
 use base64::DecodeAllocError;
 use base64::engine::general_purpose::STANDARD;
@@ -33,10 +33,12 @@ fn utf8(bytes: Vec<u8>) -> Option<String>
 fn read_text(alloc: Global, rest: &[&[u8]]) -> Result<Option<String>, AllocError>
     ensures { IfOk result (λ o. option_map string_bytes o ≡ text_reading (map (λ p. p.now) rest.now)) }
 {
-    match rest.split_first() {
-        Some((first, rest)) => Ok(utf8(joined(alloc, first, rest)?)),
-        None => Ok(None),
+    if rest.is_empty() {
+        return Ok(None);
     }
+    let mut text = Vec::new(alloc);
+    append_joined(rest, &mut text)?;
+    Ok(utf8(text))
 }
 
 // The bytes that canonical base64 spells.

@@ -2,13 +2,15 @@
 use Rattle.std.proofs.Common.{◌≡◌, ℕ, ◌≤◌, true, false, List, [], ◌∷◌, ◌++◌, map, length, take, refl, sym, ap, ◌∙◌, arith, append_assoc, append-nil}
 use Rattle.std.specs.Prelude.{nat_lt}
 use Rattle.std.specs.List.{list_all}
+use Rattle.std.proofs.lemmas.Bool.{or_parts}
 use Rattle.std.proofs.lemmas.Bool.Decides.{nat_tests}
+use Rattle.text_clusters.specs.Controls.{holds_c1, is_c1}
 use Rattle.csi_codec.specs.Actions.{csi_reading}
 use Rattle.csi_codec.specs.Actions as codec
 use Rattle.csi_codec.specs.Sequences.{csi_text}
 use Rattle.csi_codec.specs.Texts.{tokens_of}
 use Rattle.escape_osc.specs.Command.{Command}
-use Rattle.escape_osc.specs.Parts.{parts_of, holds_c1, is_c1}
+use Rattle.escape_osc.specs.Parts.{parts_of}
 use Rattle.escape_osc.specs.Reading.{osc_reading}
 use Rattle.escape_osc.specs.Text.{body_of, text_of}
 use Rattle.escape_osc.specs.Writable as osc
@@ -17,7 +19,6 @@ use Rattle.escape_framing.specs.Bytes.{is_stop, is_final, taken}
 use Rattle.escape_framing.specs.Segment.{ControlSequence, OperatingSystemCommand}
 use Rattle.escape_framing.specs.Dispatch.{control_sequence_dispatch, command_dispatch, dispatches_of}
 use Rattle.escape_framing.specs.Existence.SevenBitLemmas.{no_pair, no_pair_behind}
-use Rattle.escape_framing.proofs.SequenceReading.{neither}
 use Rattle.escape_stream.specs.StreamAction.{StreamAction, command, csi}
 use Rattle.escape_stream.specs.StreamActions.{actions_of}
 use Rattle.escape_stream.specs.StreamWritable.{IsReadBack}
@@ -73,7 +74,7 @@ unfolding holds_c1
 not_c1 [] h = refl
 not_c1 (b ∷ []) h = refl
 not_c1 (b ∷ c ∷ body) h =
-    let p = neither (is_c1 b c) (holds_c1 (c ∷ body)) h in
+    let p = or_parts (is_c1 b c) (holds_c1 (c ∷ body)) h in
     rw p.0 (not_c1 (c ∷ body) p.1)
 
 command_asks : (body : List ℕ) → list_all is_plain body ≡ true → actions_of (dispatches_of (OperatingSystemCommand [] body 27)) ≡ command (osc_reading (parts_of body)) ∷ []
@@ -98,4 +99,4 @@ says_body body bytes actions p n h =
 pub says_command : (c : Command) (bytes : List ℕ) (actions : List StreamAction) → osc.IsWritable c → Says (27 ∷ 92 ∷ bytes) actions → Says (text_of c ++ bytes) (command c ∷ actions)
 says_command c bytes actions w h =
     says_same (sym (ap (λ x. 27 ∷ 93 ∷ x) (append_assoc (body_of c) (27 ∷ 92 ∷ []) bytes))) (ap (λ x. command x ∷ actions) (writable_back c w))
-    (says_body (body_of c) (92 ∷ bytes) actions (plain_bytes (body_of c) w.no_c0) w.no_c1 h)
+    (says_body (body_of c) (92 ∷ bytes) actions (plain_bytes (body_of c) w.clean.no_c0) w.clean.no_c1 h)

@@ -2,15 +2,15 @@
 use Rattle.std.proofs.Common.{◌≡◌, ℕ, ◌≤◌, inl, inr, Bool, true, false, List, [], ◌∷◌, ◌++◌, refl, sym, ap, ◌∙◌, arith, Option, Some, None}
 use Rattle.std.specs.Prelude.{◌==◌, ◌&&◌, ◌||◌, not, encode_utf8, ◌≢◌}
 use Rattle.std.specs.List.{list_all, list_any}
+use Rattle.std.proofs.lemmas.Bool.{and_parts, or_right}
 use Rattle.std.proofs.lemmas.Bool.Decides.{nat_tests}
 use Rattle.std.proofs.lemmas.Str.{encode_ascii}
 use Rattle.csi_codec.specs.Escapes.{lone_codes, pair_codes, find_lone, find_pair, lone_code, pair_code, code_or_bytes, known_code, esc_reading, esc_code_intermediate, esc_code_control, esc_bytes, esc_text}
 use Rattle.csi_codec.specs.declared.escapes.EscCode.{EscCode}
 use Rattle.csi_codec.specs.declared.escapes.Esc.{Esc}
-use Rattle.escape_framing.specs.Bytes.{is_control, taken, is_intermediate, is_escape_final, is_string_opener, is_opener, in_escape}
+use Rattle.escape_framing.specs.Bytes.{is_embedded, taken, is_intermediate, is_escape_final, is_string_opener, is_opener, in_escape}
 use Rattle.escape_framing.specs.Segment.{Escape}
 use Rattle.escape_framing.specs.Dispatch.{escape_dispatch, dispatches_of}
-use Rattle.escape_framing.specs.Existence.SevenBitLemmas.{both}
 use Rattle.escape_stream.specs.StreamAction.{StreamAction, esc}
 use Rattle.escape_stream.specs.StreamActions.{actions_of}
 use Rattle.csi_codec.specs.Writable.{IsOpener, ArePairBytes}
@@ -50,7 +50,7 @@ record IsWrittenAs (intermediate : Option ℕ) (final : ℕ) (known : EscCode) :
 lone_step : (line : ℕ × EscCode) (lines : List (ℕ × EscCode)) (final : ℕ) (known : EscCode) (u : Bool) → lone_line line ≡ true
     → (find_lone lines final ≡ Some known → IsWrittenAs None final known) → (final == line.0) ≡ u → find_lone (line ∷ lines) final ≡ Some known → IsWrittenAs None final known
 lone_step line lines final known true h others e f =
-    let p = both (is_none_of (esc_code_intermediate line.1)) (esc_code_control line.1 == line.0) h in
+    let p = and_parts (is_none_of (esc_code_intermediate line.1)) (esc_code_control line.1 == line.0) h in
     let g : Some line.1 ≡ Some known = rw e at f in
     let k : known ≡ line.1 = cc in
     record { between = ap esc_code_intermediate k ∙ none_of (esc_code_intermediate line.1) p.0; control = ap esc_code_control k ∙ same_number (esc_code_control line.1) line.0 p.1 ∙ sym (same_number final line.0 e) }
@@ -59,15 +59,15 @@ lone_step line lines final known false h others e f = others (rw e at f)
 lone_found : (lines : List (ℕ × EscCode)) (final : ℕ) (known : EscCode) → list_all lone_line lines ≡ true → find_lone lines final ≡ Some known → IsWrittenAs None final known
 lone_found [] final known h f = cc
 lone_found (line ∷ lines) final known h f =
-    let p = both (lone_line line) (list_all lone_line lines) h in
+    let p = and_parts (lone_line line) (list_all lone_line lines) h in
     lone_step line lines final known (final == line.0) p.0 (lone_found lines final known p.1) refl f
 
 pair_step : (line : ℕ × ℕ × EscCode) (lines : List (ℕ × ℕ × EscCode)) (between final : ℕ) (known : EscCode) (u : Bool) → pair_line line ≡ true
     → (find_pair lines between final ≡ Some known → IsWrittenAs (Some between) final known) → (between == line.0 && final == line.1) ≡ u
     → find_pair (line ∷ lines) between final ≡ Some known → IsWrittenAs (Some between) final known
 pair_step line lines between final known true h others e f =
-    let p = both (is_some_of line.0 (esc_code_intermediate line.2)) (esc_code_control line.2 == line.1) h in
-    let q = both (between == line.0) (final == line.1) e in
+    let p = and_parts (is_some_of line.0 (esc_code_intermediate line.2)) (esc_code_control line.2 == line.1) h in
+    let q = and_parts (between == line.0) (final == line.1) e in
     let g : Some line.2 ≡ Some known = rw e at f in
     let k : known ≡ line.2 = cc in
     record {
@@ -79,7 +79,7 @@ pair_step line lines between final known false h others e f = others (rw e at f)
 pair_found : (lines : List (ℕ × ℕ × EscCode)) (between final : ℕ) (known : EscCode) → list_all pair_line lines ≡ true → find_pair lines between final ≡ Some known → IsWrittenAs (Some between) final known
 pair_found [] between final known h f = cc
 pair_found (line ∷ lines) between final known h f =
-    let p = both (pair_line line) (list_all pair_line lines) h in
+    let p = and_parts (pair_line line) (list_all pair_line lines) h in
     pair_step line lines between final known (between == line.0 && final == line.1) p.0 (pair_found lines between final known p.1) refl f
 
 lone_table : list_all lone_line lone_codes ≡ true
@@ -125,12 +125,7 @@ unfolding is_intermediate
 is_intermediate_byte b l h = grind (arith, nat_tests)
 
 intermediate_is_plain : (b : ℕ) → 32 ≤ b → b ≤ 47 → is_plain b ≡ true
-unfolding is_control
 intermediate_is_plain b l h = grind (arith, nat_tests)
-
-or_true : (u : Bool) → (u || true) ≡ true
-or_true true = refl
-or_true false = refl
 
 says_lone : (final : ℕ) (bytes : List ℕ) (actions : List StreamAction) → ArePairBytes None final → Says bytes actions → Says (27 ∷ final ∷ bytes) (esc (esc_reading None final) ∷ actions)
 unfolding escape_dispatch
@@ -149,7 +144,7 @@ says_between : (between final : ℕ) (bytes : List ℕ) (actions : List StreamAc
     → Says (27 ∷ between ∷ final ∷ bytes) (esc (esc_reading (Some between) final) ∷ actions)
 says_between between final bytes actions b h =
     let i : is_intermediate between ≡ true = is_intermediate_byte between b.0 b.1 in
-    let inside : list_all in_escape (between ∷ []) ≡ true = rw (i, or_true) refl in
+    let inside : list_all in_escape (between ∷ []) ≡ true = rw (i, or_right (is_embedded between) true refl) refl in
     let plain : (list_any is_intermediate (between ∷ []) || not (is_opener final)) ≡ true = rw i refl in
     says_same refl (ap (λ l. l ++ actions) (between_asks between final (intermediate_is_plain between b.0 b.1)))
     (says_segment (Escape (between ∷ []) final) bytes actions (inside, final_byte final b.2 b.3, plain)

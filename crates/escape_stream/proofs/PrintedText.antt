@@ -4,14 +4,15 @@ use Rattle.std.specs.Prelude.{◌==◌, ◌&&◌, ◌⊎◌, ◌≢◌, nat_lt, 
 use Rattle.std.specs.Char.{IsScalar}
 use Rattle.std.specs.Str.{chars}
 use Rattle.std.specs.List.{list_any}
+use Rattle.std.proofs.lemmas.Bool.{and_parts}
 use Rattle.std.proofs.lemmas.Bool.Decides.{nat_tests}
 use Rattle.std.proofs.lemmas.List.Elements.{All-head, All-tail}
 use Rattle.std.proofs.lemmas.Str.{encodes-chars, scalars-chars}
+use Rattle.text_clusters.specs.Controls.{is_c1}
 use lib.Utf8.{scalar, scalars}
-use Rattle.escape_framing.specs.SevenBit.{is_c1}
 use Rattle.escape_framing.specs.Segment.{Character, Control, IsPrintable, IsControl}
 use Rattle.escape_framing.specs.Existence.Utf8Lemmas.{Spelled, in_one, in_two, in_three, in_four, spelled, order}
-use Rattle.escape_framing.specs.Existence.SevenBitLemmas.{no_pair, no_pair_behind, both}
+use Rattle.escape_framing.specs.Existence.SevenBitLemmas.{no_pair, no_pair_behind}
 use Rattle.escape_stream.specs.declared.control.ControlCode.{ControlCode}
 use Rattle.escape_stream.specs.Controls.{control_number, control_codes}
 use Rattle.escape_stream.specs.StreamAction.{StreamAction, print, control}
@@ -76,7 +77,7 @@ says_print c bytes actions s p h = says_segment (Character c) bytes actions (s, 
 says_prints : (cs bytes : List ℕ) (actions : List StreamAction) → scalars cs ≡ true → All IsPrintable cs → Says bytes actions → Says (encode_utf8_all cs ++ bytes) (map print cs ++ actions)
 says_prints [] bytes actions s p h = h
 says_prints (c ∷ cs) bytes actions s p h =
-    let q = both (scalar c) (scalars cs) s in
+    let q = and_parts (scalar c) (scalars cs) s in
     says_same (sym (append_assoc (encode_utf8 c) (encode_utf8_all cs) bytes)) refl
     (says_print c (encode_utf8_all cs ++ bytes) (map print cs ++ actions) q.0 (All-head IsPrintable c cs p) (says_prints cs bytes actions q.1 (All-tail IsPrintable c cs p) h))
 
@@ -93,11 +94,11 @@ all_below test (suc n) = test n && all_below test n
 
 at_below : (test : ℕ → Bool) (count n : ℕ) → all_below test count ≡ true → n < count → test n ≡ true
 at_below test zero n h l = absurd (omega arith)
-at_below test (suc count) n h l = let p = both (test count) (all_below test count) h in by_order (order n count) (λ m. at_below test count n p.1 m)
+at_below test (suc count) n h l = let p = and_parts (test count) (all_below test count) h in by_order (order n count) (λ m. at_below test count n p.1 m)
   where
     by_order : (n < count) ⊎ (count ≤ n) → (n < count → test n ≡ true) → test n ≡ true
     by_order (inl m) below = below m
-    by_order (inr m) below = let e : n ≡ count = omega arith in ap test e ∙ (both (test count) (all_below test count) h).0
+    by_order (inr m) below = let e : n ≡ count = omega arith in ap test e ∙ (and_parts (test count) (all_below test count) h).0
 
 abbrev is_listed : List ControlCode → ℕ → Bool
 is_listed codes n = list_any (λ known. control_number known == n) codes

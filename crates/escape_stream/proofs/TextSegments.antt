@@ -3,14 +3,16 @@ use Rattle.std.proofs.Common.{◌≡◌, ℕ, Bool, true, false, List, [], ◌�
 use Rattle.std.proofs.Math.Seq.{drop-append_seam}
 use Rattle.std.specs.Prelude.{length, drop, ◌-◌, nat_le, ◌==◌, ◌&&◌, not, nat_lt}
 use Rattle.std.specs.List.{flat_map, list_all}
+use Rattle.std.proofs.lemmas.Bool.{and_parts, not-true, and_right}
 use Rattle.std.proofs.lemmas.Grind.{flat_map-append}
 use Rattle.std.proofs.lemmas.Bool.Decides.{nat_tests}
-use Rattle.escape_framing.specs.SevenBit.{is_c1, seven_bit}
+use Rattle.text_clusters.specs.Controls.{is_c1}
+use Rattle.escape_framing.specs.SevenBit.{seven_bit}
 use Rattle.escape_framing.specs.Segment.{Tail, Begun, Segment, bytes_of, IsSegment}
 use Rattle.escape_framing.specs.Dispatch.{Dispatch, dispatches_of, decided_of}
 use Rattle.escape_framing.specs.Decode.{Reading, read_on}
 use Rattle.escape_framing.specs.Cut.{the_cut, tail_of, dispatches, newly_decided}
-use Rattle.escape_framing.specs.Existence.SevenBitLemmas.{no_pair, both, not_true, no_pair_behind}
+use Rattle.escape_framing.specs.Existence.SevenBitLemmas.{no_pair, no_pair_behind}
 use Rattle.escape_framing.proofs.ReadLemmas.{behind, read_append}
 use Rattle.escape_framing.proofs.UniqueLemmas.{reads_segment}
 use Rattle.escape_stream.specs.StreamAction.{StreamAction}
@@ -41,32 +43,28 @@ low_stands b bytes e h = pair_stands 0xC2 b bytes (is_no_second b e) (other_stan
 pub low_text : (text bytes : List ℕ) → list_all (λ b. nat_lt b 128) text ≡ true → no_pair (0xC2 ∷ bytes) ≡ true → no_pair (0xC2 ∷ (text ++ bytes)) ≡ true
 low_text [] bytes h k = k
 low_text (b ∷ text) bytes h k =
-    let p = both (nat_lt b 128) (list_all (λ b. nat_lt b 128) text) h in
+    let p = and_parts (nat_lt b 128) (list_all (λ b. nat_lt b 128) text) h in
     low_stands b (text ++ bytes) p.0 (no_pair_behind (0xC2 ∷ []) (text ++ bytes) (low_text text bytes p.1 k))
 
 -- ESC may stand behind any byte
 pub before_escape : (x : ℕ) → is_c1 x 0x1B ≡ false
-before_escape x = by_test (x == 0xC2)
-  where
-    by_test : (t : Bool) → (t && false) ≡ false
-    by_test true = refl
-    by_test false = refl
+before_escape x = and_right (x == 0xC2) false refl
 
 -- a text without a C1 control, before ESC
 pub escape_behind : (text bytes : List ℕ) → no_pair text ≡ true → no_pair (0x1B ∷ bytes) ≡ true → no_pair (text ++ 0x1B ∷ bytes) ≡ true
 escape_behind [] bytes h k = k
 escape_behind (b ∷ []) bytes h k = pair_stands b 0x1B bytes (before_escape b) k
 escape_behind (b ∷ c ∷ text) bytes h k =
-    let p = both (not (is_c1 b c)) (no_pair (c ∷ text)) h in
-    pair_stands b c (text ++ 0x1B ∷ bytes) (not_true (is_c1 b c) p.0) (escape_behind (c ∷ text) bytes p.1 k)
+    let p = and_parts (not (is_c1 b c)) (no_pair (c ∷ text)) h in
+    pair_stands b c (text ++ 0x1B ∷ bytes) (not-true (is_c1 b c) p.0) (escape_behind (c ∷ text) bytes p.1 k)
 
 -- bytes without a C1 control are their own seven-bit form
 own_form : (bytes : List ℕ) → no_pair bytes ≡ true → seven_bit bytes ≡ bytes
 own_form [] h = refl
 own_form (b ∷ []) h = refl
 own_form (b ∷ c ∷ bytes) h =
-    let p = both (not (is_c1 b c)) (no_pair (c ∷ bytes)) h in
-    let e = not_true (is_c1 b c) p.0 in
+    let p = and_parts (not (is_c1 b c)) (no_pair (c ∷ bytes)) h in
+    let e = not-true (is_c1 b c) p.0 in
     rw e (ap (λ l. b ∷ l) (own_form (c ∷ bytes) p.1))
 
 -- ---- What bytes ask
@@ -106,14 +104,14 @@ says_segment s bytes actions g u h =
 
 -- a C2 at the stream's end makes no pair with the bytes behind it
 no_seam : (x y : ℕ) (u : Bool) → is_c1 0xC2 y ≡ false → is_c1 x y ≡ u → u ≡ false
-no_seam x y true h e = let k = (both (x == 0xC2) (nat_le 0x80 y && nat_le y 0x9F) e).1 in let l : (nat_le 0x80 y && nat_le y 0x9F) ≡ false = h in cc
+no_seam x y true h e = let k = (and_parts (x == 0xC2) (nat_le 0x80 y && nat_le y 0x9F) e).1 in let l : (nat_le 0x80 y && nat_le y 0x9F) ≡ false = h in cc
 no_seam x y false h e = refl
 
 last_form : (b : ℕ) (bytes : List ℕ) → no_pair (0xC2 ∷ bytes) ≡ true → seven_bit (b ∷ bytes) ≡ b ∷ bytes
 last_form b [] h = refl
 last_form b (c ∷ bytes) h =
-    let p = both (not (is_c1 0xC2 c)) (no_pair (c ∷ bytes)) h in
-    let e = no_seam b c (is_c1 b c) (not_true (is_c1 0xC2 c) p.0) refl in
+    let p = and_parts (not (is_c1 0xC2 c)) (no_pair (c ∷ bytes)) h in
+    let e = no_seam b c (is_c1 b c) (not-true (is_c1 0xC2 c) p.0) refl in
     rw e (ap (λ l. b ∷ l) (own_form (c ∷ bytes) p.1))
 
 joined_form : (stream bytes : List ℕ) → no_pair (0xC2 ∷ bytes) ≡ true → seven_bit (stream ++ bytes) ≡ seven_bit stream ++ bytes

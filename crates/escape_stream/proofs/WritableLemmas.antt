@@ -1,6 +1,6 @@
 -- A writable list reads back: at the start of a segment, behind what closed a string, and within a device control string.
 use Rattle.std.proofs.Common.{◌≡◌, arith, Bool, true, false, cond, List, [], ◌∷◌, ◌++◌, map, refl, sym, ap, ◌∙◌, append_assoc, Some, None}
-use Rattle.std.specs.Prelude.{ℕ, ◌≢◌, ◌≤◌, ◌==◌, ◌&&◌, nat_le, not}
+use Rattle.std.specs.Prelude.{ℕ, ◌≢◌, not}
 use Rattle.std.proofs.lemmas.Bool.Decides.{nat_tests}
 use Rattle.std.specs.List.{flat_map, list_all}
 use Rattle.std.proofs.lemmas.Grind.{flat_map-append}
@@ -9,13 +9,12 @@ use Rattle.csi_codec.specs.Escapes.{esc_text}
 use Rattle.csi_codec.specs.declared.escapes.EscCode.TheVariants as code
 use Rattle.csi_codec.specs.declared.escapes.Esc.{Esc}
 use Rattle.csi_codec.specs.declared.escapes.Esc.TheVariants as pair
-use Rattle.escape_framing.specs.SevenBit.{is_c1}
 use Rattle.escape_framing.specs.Bytes.{is_stop, taken}
 use Rattle.escape_framing.specs.Segment.{Begun, OpenDevice, DeviceControl}
 use Rattle.escape_framing.specs.Dispatch.{Data, Exit, dispatches_of}
 use Rattle.escape_framing.specs.Decode.{Reading, ends_before, first_byte, next_byte, read_on}
 use Rattle.escape_framing.specs.Cut.{tail_of}
-use Rattle.escape_framing.specs.Existence.SevenBitLemmas.{no_pair, no_pair_behind, both}
+use Rattle.escape_framing.specs.Existence.SevenBitLemmas.{no_pair, no_pair_behind}
 use Rattle.escape_framing.proofs.ReadLemmas.{after, step_waits, step_ends_before}
 use Rattle.escape_framing.proofs.SequenceReading.{stays_device}
 use Rattle.escape_framing.proofs.UniqueLemmas.{reads_tail}
@@ -71,16 +70,6 @@ no_stop : (b : ℕ) → b ≢ 24 → b ≢ 26 → b ≢ 27 → not (is_stop b) �
 unfolding is_stop
 no_stop b k l m = grind (arith, nat_tests)
 
-no_second : (before b : ℕ) (u : Bool) → (before ≡ 194 → 128 ≤ b → b ≤ 159 → ⊥) → is_c1 before b ≡ u → u ≡ false
-no_second before b true n e =
-    let p = both (before == 0xC2) (nat_le 0x80 b && nat_le b 0x9F) e in
-    let q = both (nat_le 0x80 b) (nat_le b 0x9F) p.1 in
-    let x : before ≡ 194 = let k = p.0 in grind (arith, nat_tests) in
-    let y : 128 ≤ b = let k = q.0 in grind (arith, nat_tests) in
-    let z : b ≤ 159 = let k = q.1 in grind (arith, nat_tests) in
-    absurd (n x y z)
-no_second before b false n e = refl
-
 -- a byte of the data
 feeds_byte : (header : List ℕ) (final : ℕ) (body : List ℕ) (before b : ℕ) (bytes : List ℕ) (actions : List StreamAction) → IsDataByte before b → Feeds header final (body ++ b ∷ []) b bytes actions
     → Feeds header final body before (b ∷ bytes) actions
@@ -90,7 +79,7 @@ feeds_byte header final body before b bytes actions d h =
     record {
       asks = ap (λ (r : Reading). actions_of (flat_map dispatches_of r.segments)) e ∙ h.asks;
       whole = ap (λ (r : Reading). r.tail) e ∙ h.whole;
-      unpaired = pair_stands before b bytes (no_second before b (is_c1 before b) d.not_c1 refl) h.unpaired;
+      unpaired = pair_stands before b bytes d.not_c1 h.unpaired;
     }
 
 -- the opening

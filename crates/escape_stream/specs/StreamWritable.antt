@@ -2,6 +2,7 @@
 use Rattle.std.specs.Prelude.{◌≡◌, ◌≢◌, ℕ, ◌≤◌, ◌<◌, List, [], ◌∷◌, ◌++◌, All, map, Option, None, Some, Bool, true, false, not, length, ◌&&◌, if◌then◌else◌}
 use Rattle.std.specs.Str.{IsUtf8, chars}
 use Rattle.std.specs.Char.{IsScalar}
+use Rattle.text_clusters.specs.Controls.{is_c1, holds_c1}
 use Rattle.csi_codec.specs.Actions.{csi_reading}
 use Rattle.csi_codec.specs.Actions as codec
 use Rattle.csi_codec.specs.Sequences.{csi_text}
@@ -14,7 +15,10 @@ use Rattle.csi_codec.specs.Escapes.{esc_reading}
 use Rattle.csi_codec.specs.declared.escapes.EscCode.TheVariants as code
 use Rattle.csi_codec.specs.declared.escapes.Esc.{Esc}
 use Rattle.csi_codec.specs.declared.escapes.Esc.TheVariants as pair
+use Rattle.escape_osc.specs.Parts.{parts_of}
+use Rattle.escape_osc.specs.Reading.{osc_reading}
 use Rattle.escape_osc.specs.Writable as osc
+use Rattle.escape_framing.specs.Bytes.{taken}
 use Rattle.escape_framing.specs.Segment.{IsPrintable, IsControl, Begun}
 use Rattle.escape_framing.specs.Cut.{tail_of}
 use Rattle.escape_stream.specs.StreamAction.{StreamAction, print, print_string, control, enter, data_byte, exit, command, csi, esc}
@@ -65,7 +69,7 @@ pub record IsDataByte (before byte : ℕ) : Type 0 where
   pub not_cancel : byte ≢ 24
   pub not_substitute : byte ≢ 26
   pub not_escape : byte ≢ 27
-  pub not_c1 : before ≡ 194 → 128 ≤ byte → byte ≤ 159 → ⊥
+  pub not_c1 : is_c1 before byte ≡ false
 
 -- actions behind the data byte of a device control string, or outside of one: each device control string stands as its
 -- opening, its data and its end
@@ -147,3 +151,9 @@ EachIsReadBack ts final (a ∷ others) = (is_exempt ts final a ≡ false → IsR
 -- the actions of a spellable list of no more tokens than are kept, with a final byte from @ to ~, can be written
 abbrev pub ReadSequencesAreWritable : Type 0
 ReadSequencesAreWritable = (ts : List CsiParam) (final : ℕ) → is_spellable ts ≡ true → length ts ≤ most_tokens → 64 ≤ final → final ≤ 126 → EachIsReadBack ts final (csi_reading ts false final)
+
+-- ---- Commands that were read
+
+-- what is read from a command's body, of which controls are no part, can be written, unless such a control stood within one of C1
+abbrev pub ReadCommandsAreWritable : Type 0
+ReadCommandsAreWritable = (body : List ℕ) → All (λ b. b < 256) body → holds_c1 (taken body) ≡ false → osc.IsWritable (osc_reading (parts_of (taken body)))

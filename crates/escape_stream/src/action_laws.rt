@@ -1,5 +1,5 @@
 //! Laws of the actions of a stream: each function ensures one or more. Most have an empty body.
-ghost use Rattle.std.specs.Prelude.{◌≡◌, ◌↔◌, IsTrue, ℕ, ◌<◌, List, ◌++◌, Some, length, map, filter, nat_lt};
+ghost use Rattle.std.specs.Prelude.{◌≡◌, ◌↔◌, IsTrue, ℕ, List, ◌++◌, Some, length, map, filter, nat_lt};
 ghost use Rattle.std.specs.List.{slice_get};
 ghost use Rattle.escape_stream.specs.StreamAction.{StreamAction};
 ghost use Rattle.escape_stream.specs.StreamActionView.{value_of};

@@ -1,7 +1,7 @@
 //! The bytes of actions.
 ghost use Rattle.std.specs.Prelude.{◌≡◌, ◌++◌, IfOk, OnOk, map};
 ghost use Rattle.escape_stream.specs.StreamActionView.{device_value, value_of};
-ghost use Rattle.escape_stream.specs.StreamText.{action_text, closes_string, is_string_terminator, is_terminator_pair, stream_text, text_behind};
+ghost use Rattle.escape_stream.specs.StreamText.{action_text, closes_string, is_string_terminator, stream_text, text_behind};
 
 use crate::action::Action;
 use crate::device::DeviceControlMode;

@@ -1,6 +1,6 @@
 //! Laws of the texts of actions: functions that do nothing, each ensuring one.
 ghost use Rattle.escape_stream.specs.StreamText.{TextsJoin};
-ghost use Rattle.escape_stream.specs.StreamWritable.{ReadFormsEncodeAlike, WritableListsEndWhole, WritableListsReadBack, WritableListsEndOn, WritableListsReadOn, ReadSequencesAreWritable};
+ghost use Rattle.escape_stream.specs.StreamWritable.{ReadFormsEncodeAlike, WritableListsEndWhole, WritableListsReadBack, WritableListsEndOn, WritableListsReadOn, ReadSequencesAreWritable, ReadCommandsAreWritable};
 
 /// The bytes of two joined lists of actions are those of the one and then those of the other, unless the first ends in
 /// an operating system command or the end of a device control string, and the second begins with a `StringTerminator`.
@@ -40,3 +40,9 @@ pub fn read_sequences_are_writable()
     csi_codec::laws::actions_read_back();
     csi_codec::laws::texts_are_fronts();
 }
+
+/// The operating system command that is read from a body of a stream can be written. C0 controls and DEL in a body are
+/// dropped; only where one stands within the two bytes of a control of C1 do these come together.
+pub fn read_commands_are_writable()
+    ensures { ReadCommandsAreWritable }
+{}

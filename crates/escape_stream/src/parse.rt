@@ -1,5 +1,5 @@
 //! The actions of bytes, called at one by one, or as a list.
-ghost use Rattle.std.specs.Prelude.{◌≡◌, ◌↔◌, ℕ, true, false, None, IsErrOf, IfOk, IfSome, OnOk, List, [], ◌∷◌, ◌++◌, map, fold, is_err};
+ghost use Rattle.std.specs.Prelude.{◌≡◌, ◌↔◌, ℕ, true, None, IsErrOf, IfOk, IfSome, OnOk, List, [], ◌∷◌, ◌++◌, map, fold, is_err};
 ghost use Rattle.std.specs.Str.{chars};
 ghost use Rattle.escape_framing.specs.Held.{held_of};
 ghost use Rattle.escape_stream.specs.StreamAction.{appended, print};

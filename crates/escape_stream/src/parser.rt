@@ -1,13 +1,12 @@
 //! The parser: from bytes to actions.
-ghost use Rattle.std.specs.Prelude.{◌≡◌, ◌≢◌, ◌↔◌, IsTrue, ℕ, ◌≤◌, ◌<◌, Bool, true, false, IsErrOf, IfOk, OnOk, Option, Some, None, IfSome, List, [], ◌∷◌, ◌++◌, map, fold, take, drop, length, is_err};
+ghost use Rattle.std.specs.Prelude.{◌≡◌, ◌≢◌, ◌↔◌, IsTrue, ℕ, ◌<◌, true, false, IsErrOf, IfOk, Option, Some, None, IfSome, List, [], ◌++◌, map, length, is_err};
 ghost use Rattle.escape_framing.specs.Decides.{Decides};
 ghost use Rattle.escape_framing.specs.Dispatched.{optional, dispatches_in};
-ghost use Rattle.escape_framing.specs.Held.{Held, held_step, hand_out, held_of, nothing_held};
+ghost use Rattle.escape_framing.specs.Held.{held_step, held_of, nothing_held};
 ghost use Rattle.escape_framing.specs.Parameters.{Parameters};
-ghost use Rattle.escape_stream.specs.StreamAction.{appended};
 ghost use Rattle.escape_stream.specs.StreamActionView.{value_of};
-ghost use Rattle.escape_stream.specs.StreamActions.{actions_of, newly_decided_actions};
-ghost use Rattle.escape_stream.specs.Parsing.{IsCalledAt, IsFirst, IsFirstSettled, bytes_read};
+ghost use Rattle.escape_stream.specs.StreamActions.{actions_of};
+ghost use Rattle.escape_stream.specs.Parsing.{IsFirst, IsFirstSettled, bytes_read};
 ghost use Rattle.escape_stream.specs.Pending.{Begins, Gives};
 ghost use Rattle.escape_framing.specs.Framed.{IsReached};
 ghost use Rattle.escape_framing.specs.Stepped.{Reads};
@@ -20,7 +19,7 @@ ghost use Rattle.std.specs.Option.{option_map};
 
 use crate::action::Action;
 use crate::pending::{Pending, push_each};
-use crate::pieces::{Pieces, Stage};
+use crate::pieces::{Pieces, Stage, behind};
 use crate::queue::Queue;
 use escape_framing::{Dispatch, Framer, Lone, ParseError, ShortSequence, Step};
 use std::alloc::{AllocError, Global};
@@ -55,14 +54,6 @@ fn is_nothing(dispatches: &[Option<Dispatch>; 4]) -> bool
     ensures { IsTrue result → (p : Parameters) → dispatches_in p dispatches.now ≡ [] }
 {
     matches!(dispatches, [None, None, None, None])
-}
-
-// The bytes behind so many.
-fn behind(bytes: &[u8], count: usize) -> &[u8]
-    requires { count ≤ length bytes.now }
-    ensures { result.now ≡ drop count bytes.now }
-{
-    &bytes[count..]
 }
 
 impl Parser {

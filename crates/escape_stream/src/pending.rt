@@ -1,5 +1,5 @@
 //! The actions of one dispatch, one by one.
-ghost use Rattle.std.specs.Prelude.{◌≡◌, IfOk, IfSome, None, [], ◌∷◌, ◌++◌, map, fold};
+ghost use Rattle.std.specs.Prelude.{◌≡◌, IfOk, IfSome, None, [], ◌∷◌, ◌++◌, map};
 ghost use Rattle.escape_osc.specs.CommandView.{command_of};
 ghost use Rattle.escape_osc.specs.Parts.{parts_of};
 ghost use Rattle.escape_osc.specs.Reading.{osc_reading};
@@ -9,12 +9,11 @@ ghost use Rattle.escape_framing.specs.Parameters.{Parameters};
 ghost use Rattle.escape_stream.specs.StreamActionView.{value_of};
 ghost use Rattle.escape_stream.specs.StreamActions.{actions_of_dispatch, actions_of, named_control};
 ghost use Rattle.escape_stream.specs.Controls.{control_named};
-ghost use Rattle.escape_stream.specs.StreamAction.{appended, command, enter};
+ghost use Rattle.escape_stream.specs.StreamAction.{command, enter};
 ghost use Rattle.escape_stream.specs.Pending.{Gives, pending_values, is_in_part};
 ghost use Rattle.escape_stream.specs.Queue.{lone_actions, later_actions};
 ghost use Rattle.escape_framing.specs.declared.dispatch.Dispatch.TheVariants as code;
 ghost use Rattle.std.specs.List.{prefix_len};
-ghost use Rattle.escape_stream.specs.Parsing.{IsCalledAt};
 
 use crate::action::Action;
 use crate::control::ControlCode;

@@ -1,5 +1,5 @@
 //! The pieces of a stream: texts, which are lent from the bytes that are fed, and actions.
-ghost use Rattle.std.specs.Prelude.{◌≡◌, ◌≢◌, ◌↔◌, ◌+◌, ◌<◌, ◌≤◌, ℕ, [], ◌∷◌, Some, true, None, Ok, IsTrue, IfOk, IfSome, length, drop, take};
+ghost use Rattle.std.specs.Prelude.{◌≡◌, ◌≢◌, ◌↔◌, ◌+◌, ◌<◌, ◌≤◌, [], ◌∷◌, Some, true, None, Ok, IsTrue, IfOk, IfSome, length, drop, take};
 ghost use Rattle.escape_framing.specs.Framed.{IsText};
 ghost use Rattle.escape_framing.specs.Stepped.{Reads};
 ghost use Rattle.escape_framing.specs.Quick.{text_step, short_parameters};
@@ -88,9 +88,9 @@ fn part(bytes: &[u8], from: usize, count: usize) -> &[u8]
     &bytes[from..from + count]
 }
 
-// The bytes behind so many.
+/// The bytes behind so many.
 #[inline(always)]
-fn behind(bytes: &[u8], count: usize) -> &[u8]
+pub(crate) fn behind(bytes: &[u8], count: usize) -> &[u8]
     requires { count ≤ length bytes.now }
     ensures { result.now ≡ drop count bytes.now }
 {

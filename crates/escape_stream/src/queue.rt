@@ -2,7 +2,7 @@
 ghost use Rattle.std.specs.Prelude.{◌≡◌, ◌++◌, [], ◌∷◌, IfOk, IfSome, None, Some, false};
 ghost use Rattle.escape_framing.specs.Quick.{short_parameters};
 ghost use Rattle.escape_stream.specs.StreamActionView.{value_of};
-ghost use Rattle.escape_framing.specs.Dispatched.{optional, dispatch_of, dispatches_in};
+ghost use Rattle.escape_framing.specs.Dispatched.{optional, dispatches_in};
 ghost use Rattle.escape_stream.specs.StreamActions.{actions_of, actions_of_dispatch};
 ghost use Rattle.escape_framing.specs.Parameters.{Parameters};
 ghost use Rattle.escape_stream.specs.Pending.{Gives, pending_values};

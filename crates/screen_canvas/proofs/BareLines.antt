@@ -1,5 +1,5 @@
 -- Lines over which can be written with nothing dropped, behind what is set in them.
-use Rattle.std.proofs.Common.{◌≡◌, ℕ, ◌+◌, ◌-◌, ◌≤◌, true, false, List, [], ◌∷◌, ◌++◌, length, take, drop, map, replicate, refl, sym, ap, subst, ◌∙◌, Bool, arith}
+use Rattle.std.proofs.Common.{◌≡◌, ℕ, ◌+◌, ◌-◌, ◌≤◌, true, false, List, [], ◌∷◌, ◌++◌, length, drop, map, replicate, refl, sym, ap, subst, ◌∙◌, Bool, arith}
 use Rattle.std.specs.Prelude.{◌||◌, ◌==◌, None}
 use Rattle.std.specs.List.{list_all}
 use Rattle.std.proofs.lemmas.List.{append-nil, drop_all, length-replicate}
@@ -10,10 +10,10 @@ use Rattle.text_clusters.proofs.PlainLemmas.{graphemes-nil, whole_run}
 use Rattle.cell_base.specs.Attributes.{Attributes, plain}
 use Rattle.cell_base.specs.CellContent.{CellContent, cell_of}
 use Rattle.cell_base.specs.Cluster.{read_cluster}
-use Rattle.cell_base.specs.Row.{Row, blank, closed_start, set_columns}
+use Rattle.cell_base.specs.Row.{Row, blank, closed_start}
 use Rattle.cell_edits.specs.Bare.{IsBareRow}
 use Rattle.cell_edits.specs.CellList.{text_cells}
-use Rattle.cell_edits.specs.RowEdits.{overlaid, with_cell}
+use Rattle.cell_edits.specs.RowEdits.{overlaid}
 use Rattle.cell_edits.specs.TextRuns.{fitting, plain_cells}
 use Rattle.cell_edits.proofs.BareLemmas.{bare_blanks, bare_fitting, bare_plain, bare_set, bare_short, bare_with_cell}
 use Rattle.cell_edits.proofs.RunLemmas.{cells_front}

@@ -6,19 +6,18 @@ use Rattle.std.proofs.lemmas.Bool.{and_parts}
 use Rattle.std.proofs.lemmas.Bool.Decides.{leb_tells, nat_tests}
 use Rattle.std.proofs.lemmas.List.{append-nil, drop_all, set-get_or, get_or-set_same}
 use Rattle.unicode_segmentation.specs.Grapheme.{graphemes}
-use Rattle.text_clusters.specs.Plain.{each, is_printable}
-use Rattle.text_clusters.proofs.PlainLemmas.{graphemes-nil, whole_run}
-use Rattle.cell_base.specs.Cluster.{clusters, read_cluster}
+use Rattle.text_clusters.specs.Plain.{is_printable}
+use Rattle.cell_base.specs.Cluster.{clusters}
 use Rattle.cell_base.proofs.PlainClusters.{plain_alone}
 use Rattle.cell_base.specs.Attributes.{Attributes}
 use Rattle.cell_base.specs.CellContent.{CellContent, cell_of, shows_as_space}
 use Rattle.cell_base.specs.Row.{Row, space, columns_of}
 use Rattle.cell_line.specs.LineContent.{LineContent, line_of}
-use Rattle.cell_edits.specs.CellList.{cell_columns, text_cells}
+use Rattle.cell_edits.specs.CellList.{cell_columns}
 use Rattle.cell_edits.specs.RowEdits.{overlaid}
 use Rattle.cell_edits.specs.TextRuns.{fitting, plain_cells}
 use Rattle.cell_edits.proofs.RowLaws.{overlaid_next}
-use Rattle.cell_edits.proofs.RunLemmas.{cells_front, each_length, fitting_cell, fitting_front, fitting_stops, plain_count, plain_length}
+use Rattle.cell_edits.proofs.RunLemmas.{each_length, fitting_cell, fitting_front, fitting_stops, plain_count, plain_length}
 use Rattle.cell_line.specs.LineCalls.{set_plain as plain_set}
 use Rattle.screen_canvas.specs.Canvas.{Canvas, IsDrawn, Shows, LeadsOn, clusters_done, stand, canvas_with, display_of, line_at, line_with}
 use Rattle.screen_canvas.proofs.BareLines.{cells_of_plain}

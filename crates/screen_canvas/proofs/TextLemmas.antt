@@ -1,7 +1,8 @@
 -- Texts cut at their controls.
 use Rattle.std.proofs.Common.{◌≡◌, ℕ, suc, ◌+◌, ◌<◌, Bool, true, false, List, [], ◌∷◌, ◌++◌, length, get_or, take, drop, map, refl, sym, ap, subst, ◌∙◌, arith}
-use Rattle.std.specs.Prelude.{IsUtf8, ◌==◌, ◌&&◌, ◌||◌, not, cond, nat_lt, if◌then◌else◌, IsCharBoundary}
+use Rattle.std.specs.Prelude.{IsUtf8, ◌==◌, ◌&&◌, not, cond, nat_lt, if◌then◌else◌, IsCharBoundary}
 use Rattle.std.specs.List.{concat, list_all, prefix_len}
+use Rattle.std.specs.Char.{is_ascii_control}
 use Rattle.std.proofs.lemmas.Bool.{and_parts, and_from, eqb-true, ltb-true, ltb-false, false≢true}
 use Rattle.std.proofs.lemmas.List.Folds.{list_all-append}
 use Rattle.std.proofs.lemmas.List.Sums.{prefix_len-le-length, prefix_len_stops}
@@ -11,14 +12,14 @@ use Rattle.std.proofs.lemmas.List.{drop_all, take_all}
 use Rattle.unicode_segmentation.specs.Grapheme.{graphemes}
 use Rattle.text_clusters.specs.Plain.{is_printable}
 use Rattle.text_clusters.proofs.PlainLemmas.{graphemes-nil, printable_front}
-use Rattle.cell_base.specs.CellContent.{is_control, shows_as_space}
+use Rattle.cell_base.specs.CellContent.{shows_as_space}
 use Rattle.cell_base.specs.Cluster.{clusters, is_cluster, read_cluster}
 use Rattle.screen_canvas.specs.Canvas.{stand}
 use Rattle.screen_canvas.specs.Parts.{IsAtControl, plain_part}
 use Rattle.screen_effects.specs.Strokes.{TextPart, Control, Plain, text_parts, with_byte}
 
 pub is_plain : ℕ → Bool
-is_plain byte = not (is_control byte)
+is_plain byte = not (is_ascii_control byte)
 
 by_test : {P : Type 0} (b : Bool) → (b ≡ true → P) → (b ≡ false → P) → P
 by_test true p q = p refl
@@ -28,19 +29,19 @@ by_test false p q = q refl
 
 front : List ℕ → List ℕ
 front [] = []
-front (b ∷ text) = if is_control b then [] else b ∷ front text
+front (b ∷ text) = if is_ascii_control b then [] else b ∷ front text
 
 behind : List ℕ → List ℕ
 behind [] = []
-behind (b ∷ text) = if is_control b then b ∷ text else behind text
+behind (b ∷ text) = if is_ascii_control b then b ∷ text else behind text
 
 abbrev plain_len : List ℕ → ℕ
-plain_len text = prefix_len (λ byte. not (is_control byte)) text
+plain_len text = prefix_len (λ byte. not (is_ascii_control byte)) text
 
 front_is : (text : List ℕ) → take (plain_len text) text ≡ front text
 unfolding front
 front_is [] = refl
-front_is (b ∷ text) = elim (is_control b) as (λ x. take (cond (not x) (1 + plain_len text) 0) (b ∷ text) ≡ (if x then [] else b ∷ front text)) [
+front_is (b ∷ text) = elim (is_ascii_control b) as (λ x. take (cond (not x) (1 + plain_len text) 0) (b ∷ text) ≡ (if x then [] else b ∷ front text)) [
   | true ↦ refl
   | false ↦ let e : 1 + plain_len text ≡ suc (plain_len text) = omega arith in ap (λ n. take n (b ∷ text)) e ∙ ap (λ (t : List ℕ). b ∷ t) (front_is text)
 ]
@@ -48,7 +49,7 @@ front_is (b ∷ text) = elim (is_control b) as (λ x. take (cond (not x) (1 + pl
 behind_is : (text : List ℕ) → drop (plain_len text) text ≡ behind text
 unfolding behind
 behind_is [] = refl
-behind_is (b ∷ text) = elim (is_control b) as (λ x. drop (cond (not x) (1 + plain_len text) 0) (b ∷ text) ≡ (if x then b ∷ text else behind text)) [
+behind_is (b ∷ text) = elim (is_ascii_control b) as (λ x. drop (cond (not x) (1 + plain_len text) 0) (b ∷ text) ≡ (if x then b ∷ text else behind text)) [
   | true ↦ refl
   | false ↦ let e : 1 + plain_len text ≡ suc (plain_len text) = omega arith in ap (λ n. drop n (b ∷ text)) e ∙ behind_is text
 ]
@@ -56,46 +57,46 @@ behind_is (b ∷ text) = elim (is_control b) as (λ x. drop (cond (not x) (1 + p
 at_control : (text : List ℕ) → IsAtControl (behind text)
 unfolding behind
 at_control [] = tt
-at_control (b ∷ text) = by_test (is_control b) (λ e. rw e e) (λ e. rw e (at_control text))
+at_control (b ∷ text) = by_test (is_ascii_control b) (λ e. rw e e) (λ e. rw e (at_control text))
 
 -- a byte before parts that begin with a control, or with none
-single : (b : ℕ) (x : ℕ) (text : List ℕ) → is_control x ≡ true → with_byte b (text_parts (x ∷ text)) ≡ Plain (b ∷ []) ∷ text_parts (x ∷ text)
+single : (b : ℕ) (x : ℕ) (text : List ℕ) → is_ascii_control x ≡ true → with_byte b (text_parts (x ∷ text)) ≡ Plain (b ∷ []) ∷ text_parts (x ∷ text)
 single b x text e = ap (λ (t : Bool). with_byte b (if t then Control x ∷ text_parts text else with_byte x (text_parts text))) e ∙ ap (λ (ps : List TextPart). Plain (b ∷ []) ∷ ps) (sym (ap (λ (t : Bool). if t then Control x ∷ text_parts text else with_byte x (text_parts text)) e))
 
 module _ (b : ℕ) (text : List ℕ) where
   parts_with : Bool → List TextPart
   parts_with x = if x then Control b ∷ text_parts text else with_byte b (text_parts text)
 
-  front_with : is_control b ≡ true → front (b ∷ text) ≡ []
+  front_with : is_ascii_control b ≡ true → front (b ∷ text) ≡ []
   unfolding front
   front_with e = ap (λ x. if x then [] else b ∷ front text) e
 
-  behind_with : is_control b ≡ true → behind (b ∷ text) ≡ b ∷ text
+  behind_with : is_ascii_control b ≡ true → behind (b ∷ text) ≡ b ∷ text
   unfolding behind
   behind_with e = ap (λ x. if x then b ∷ text else behind text) e
 
-  front_on : is_control b ≡ false → front (b ∷ text) ≡ b ∷ front text
+  front_on : is_ascii_control b ≡ false → front (b ∷ text) ≡ b ∷ front text
   unfolding front
   front_on e = ap (λ x. if x then [] else b ∷ front text) e
 
-  behind_on : is_control b ≡ false → behind (b ∷ text) ≡ behind text
+  behind_on : is_ascii_control b ≡ false → behind (b ∷ text) ≡ behind text
   unfolding behind
   behind_on e = ap (λ x. if x then b ∷ text else behind text) e
 
-  parts_on : is_control b ≡ false → text_parts (b ∷ text) ≡ with_byte b (text_parts text)
+  parts_on : is_ascii_control b ≡ false → text_parts (b ∷ text) ≡ with_byte b (text_parts text)
   unfolding parts_with
   parts_on e = ap parts_with e
 
-  at_first : is_control b ≡ true → text_parts (b ∷ text) ≡ plain_part (front (b ∷ text)) ++ text_parts (behind (b ∷ text))
+  at_first : is_ascii_control b ≡ true → text_parts (b ∷ text) ≡ plain_part (front (b ∷ text)) ++ text_parts (behind (b ∷ text))
   at_first e = sym (λ i. plain_part (front_with e i) ++ text_parts (behind_with e i))
 
 parts_are : (text : List ℕ) → text_parts text ≡ plain_part (front text) ++ text_parts (behind text)
 unfolding front behind
 parts_are [] = refl
-parts_are (b ∷ []) = by_test (is_control b) (at_first b []) (λ e. parts_on b [] e ∙ sym (λ i. plain_part (front_on b [] e i) ++ text_parts (behind_on b [] e i)))
-parts_are (b ∷ x ∷ text) = by_test (is_control b) (at_first b (x ∷ text))
+parts_are (b ∷ []) = by_test (is_ascii_control b) (at_first b []) (λ e. parts_on b [] e ∙ sym (λ i. plain_part (front_on b [] e i) ++ text_parts (behind_on b [] e i)))
+parts_are (b ∷ x ∷ text) = by_test (is_ascii_control b) (at_first b (x ∷ text))
     (λ e. parts_on b (x ∷ text) e
-    ∙ by_test (is_control x)
+    ∙ by_test (is_ascii_control x)
     (λ k. single b x text k ∙ sym (λ i. plain_part (b ∷ front_with x text k i) ++ text_parts (behind_with x text k i)))
     (λ k. ap (with_byte b) (parts_are (x ∷ text)) ∙ ap (λ f. with_byte b (plain_part f ++ text_parts (behind (x ∷ text)))) (front_on x text k) ∙ ap (λ f. plain_part (b ∷ f) ++ text_parts (behind (x ∷ text))) (sym (front_on x text k)))
     ∙ sym (λ i. plain_part (front_on b (x ∷ text) e i) ++ text_parts (behind_on b (x ∷ text) e i)))
@@ -109,15 +110,15 @@ control_next text = subst IsAtControl (sym (behind_is text)) (at_control text)
 front_plain : (text : List ℕ) → list_all is_plain (front text) ≡ true
 unfolding front is_plain
 front_plain [] = refl
-front_plain (b ∷ text) = by_test (is_control b) (λ e. ap (list_all is_plain) (front_with b text e)) (λ e. ap (list_all is_plain) (front_on b text e) ∙ and_from (is_plain b) (list_all is_plain (front text)) (ap not e) (front_plain text))
+front_plain (b ∷ text) = by_test (is_ascii_control b) (λ e. ap (list_all is_plain) (front_with b text e)) (λ e. ap (list_all is_plain) (front_on b text e) ∙ and_from (is_plain b) (list_all is_plain (front text)) (ap not e) (front_plain text))
 
 -- ---- each cluster of a text without controls can stand
 
 alone : (g : List ℕ) → list_all is_plain g ≡ true → is_cluster g ≡ true → shows_as_space g ≡ false
 unfolding is_plain
 alone [] p c = absurd (false≢true (sym (ap (λ (gs : List (List ℕ)). length gs == 1) graphemes-nil) ∙ c))
-alone (a ∷ []) p c = by_test (is_control a) (λ e. absurd (false≢true (sym (ap (λ b. not b && true) e) ∙ p))) (λ e. e)
-alone (a ∷ b ∷ []) p c = by_test (a == 13) (λ e. absurd (false≢true (sym (ap (λ c. not c && (is_plain b && true)) (ap is_control (eqb-true a 13 e))) ∙ p))) (λ e. rw e refl)
+alone (a ∷ []) p c = by_test (is_ascii_control a) (λ e. absurd (false≢true (sym (ap (λ b. not b && true) e) ∙ p))) (λ e. e)
+alone (a ∷ b ∷ []) p c = by_test (a == 13) (λ e. absurd (false≢true (sym (ap (λ c. not c && (is_plain b && true)) (ap is_ascii_control (eqb-true a 13 e))) ∙ p))) (λ e. rw e refl)
 alone (a ∷ b ∷ d ∷ rest) p c = refl
 
 each_stands : (gs : List (List ℕ)) → list_all is_plain (concat gs) ≡ true → stand (map read_cluster gs) ≡ true
@@ -133,17 +134,17 @@ front_stands text shown e whole = each_stands (graphemes true shown) (ap (list_a
 
 -- ---- where a text may be cut
 
-below_space : (b : ℕ) → is_control b ≡ true → b < 128
-below_space b e = by_test (nat_lt b 32) (λ k. let h = ltb-true b 32 k in omega arith) (λ k. let h = eqb-true b 127 (sym (ap (λ x. x || b == 127) k) ∙ e) in omega arith)
+below_space : (b : ℕ) → is_ascii_control b ≡ true → b < 128
+below_space b e = grind (arith, nat_tests)
 
 pub cut_boundary : (text : List ℕ) → IsCharBoundary text (plain_len text)
 cut_boundary text = by_test (nat_lt (plain_len text) (length text))
     (λ t.
     let less = ltb-true (plain_len text) (length text) t in
-    let stops : not (is_control (get_or text (plain_len text) 0)) ≡ false = prefix_len_stops (λ byte. not (is_control byte)) text 0 less in
-    IsCharBoundary-before_ascii text (plain_len text) less (below_space _ (not_false (is_control (get_or text (plain_len text) 0)) stops)))
+    let stops : not (is_ascii_control (get_or text (plain_len text) 0)) ≡ false = prefix_len_stops (λ byte. not (is_ascii_control byte)) text 0 less in
+    IsCharBoundary-before_ascii text (plain_len text) less (below_space _ (not_false (is_ascii_control (get_or text (plain_len text) 0)) stops)))
     (λ t.
-    let le = prefix_len-le-length (λ byte. not (is_control byte)) text in
+    let le = prefix_len-le-length (λ byte. not (is_ascii_control byte)) text in
     let ge = ltb-false (plain_len text) (length text) t in
     let is : length text ≡ plain_len text = omega arith in
     subst (IsCharBoundary text) is (IsCharBoundary-end text))
@@ -168,7 +169,7 @@ printable_all (b ∷ text) p =
     let rest = printable_all text parts.1 in
     ap (λ x. cond x (1 + prefix_len is_printable text) 0) parts.0 ∙ omega arith
 
-printable_is_plain : (b : ℕ) → is_printable b ≡ true → is_control b ≡ false
+printable_is_plain : (b : ℕ) → is_printable b ≡ true → is_ascii_control b ≡ false
 printable_is_plain b e = grind (arith, nat_tests)
 
 no_control : (text : List ℕ) → list_all is_printable text ≡ true → plain_len text ≡ length text

@@ -1,7 +1,7 @@
 -- The parts of a text, from its front on.
 use Rattle.std.specs.Prelude.{◌≡◌, ℕ, true, ⊤, List, [], ◌∷◌, fold}
 use Rattle.std.specs.List.{flat_map}
-use Rattle.cell_base.specs.CellContent.{is_control}
+use Rattle.std.specs.Char.{is_ascii_control}
 use Rattle.screen_canvas.specs.Canvas.{Canvas, IsDrawn, display_of}
 use Rattle.screen_effects.specs.Display.{Display}
 use Rattle.screen_effects.specs.Strokes.{TextPart, Plain, part_strokes, stroke_done, text_parts}
@@ -14,7 +14,7 @@ plain_part (byte ∷ text) = Plain (byte ∷ text) ∷ []
 -- nothing is left, or a control comes first
 abbrev pub IsAtControl : List ℕ → Type 0
 IsAtControl [] = ⊤
-IsAtControl (byte ∷ text) = is_control byte ≡ true
+IsAtControl (byte ∷ text) = is_ascii_control byte ≡ true
 
 -- the parts in turn
 abbrev pub parts_done : (List ℕ → ℕ) → Display → List TextPart → Display

@@ -1,8 +1,8 @@
 -- What a text does on a screen: moves, and clusters that are put.
 use Rattle.std.specs.Prelude.{ℕ, ◌+◌, Bool, true, false, ◌&&◌, ◌==◌, nat_lt, List, [], ◌∷◌, ◌++◌, length, map, drop, fold, if◌then◌else◌}
 use Rattle.std.specs.List.{flat_map}
+use Rattle.std.specs.Char.{is_ascii_control}
 use Rattle.cell_base.specs.declared.attributes.LineAttribute.TheVariants.{SingleWidthLine}
-use Rattle.cell_base.specs.CellContent.{is_control}
 use Rattle.cell_base.specs.Cluster.{clusters}
 use Rattle.cell_base.specs.Row.{space}
 use Rattle.cell_base.specs.Screen.{Screen, height, line_feed, carriage_return, cluster_columns, put}
@@ -21,7 +21,7 @@ with_byte byte parts = Plain (byte ∷ []) ∷ parts
 -- a text cut at its controls: each by itself, and between them texts as long as may be
 abbrev pub text_parts : List ℕ → List TextPart
 text_parts [] = []
-text_parts (byte ∷ text) = if is_control byte then Control byte ∷ text_parts text else with_byte byte (text_parts text)
+text_parts (byte ∷ text) = if is_ascii_control byte then Control byte ∷ text_parts text else with_byte byte (text_parts text)
 
 -- a move of the cursor, or a cluster that is put
 pub data Stroke : Type 0 where

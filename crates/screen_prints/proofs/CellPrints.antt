@@ -3,13 +3,14 @@ use Rattle.std.proofs.Common.{◌≡◌, ℕ, ◌+◌, ◌≤◌, ◌∙◌, Boo
 use Rattle.std.specs.Prelude.{◌==◌, ◌&&◌, ◌||◌, nat_lt, nat_le, fold, if◌then◌else◌}
 use Rattle.std.specs.List.{concat, flat_map, list_any}
 use Rattle.std.specs.Str.Lossy.{replacement_bytes}
+use Rattle.std.specs.Char.{is_ascii_control}
 use Rattle.std.proofs.lemmas.Bool.{or_parts}
 use Rattle.std.proofs.lemmas.Bool.Decides.{nat_tests}
 use Rattle.std.proofs.lemmas.List.Folds.{list_any-append}
 use Rattle.unicode_segmentation.specs.Grapheme.{graphemes}
 use Rattle.text_clusters.proofs.PlainLemmas.{graphemes-nil}
 use Rattle.cell_base.specs.Attributes.{Attributes}
-use Rattle.cell_base.specs.CellContent.{CellContent, is_control}
+use Rattle.cell_base.specs.CellContent.{CellContent}
 use Rattle.cell_base.specs.Cluster.{clusters, is_cluster, read_cluster}
 use Rattle.cell_base.specs.Row.{Row, space, columns_of, set_columns}
 use Rattle.cell_base.specs.SameAttributes.{same_attributes, same_attributes_decides}
@@ -140,10 +141,10 @@ module _ (width_of : List ℕ → ℕ) where
       let quiet = cluster_still s t room in
       record { prints = λ i. first i ∷ rest.prints i; still = λ i. quiet i || rest.still i; leaves = rest.leaves }
 
-plain_parts : (byte : ℕ) (text : List ℕ) → list_any is_control (byte ∷ text) ≡ false → text_parts (byte ∷ text) ≡ Plain (byte ∷ text) ∷ []
-plain_parts byte [] e = ap (λ b. if b then Control byte ∷ [] else with_byte byte []) (or_parts (is_control byte) false e).0
+plain_parts : (byte : ℕ) (text : List ℕ) → list_any is_ascii_control (byte ∷ text) ≡ false → text_parts (byte ∷ text) ≡ Plain (byte ∷ text) ∷ []
+plain_parts byte [] e = ap (λ b. if b then Control byte ∷ [] else with_byte byte []) (or_parts (is_ascii_control byte) false e).0
 plain_parts byte (next ∷ text) e =
-    let parts = or_parts (is_control byte) (list_any is_control (next ∷ text)) e in
+    let parts = or_parts (is_ascii_control byte) (list_any is_ascii_control (next ∷ text)) e in
     ap (λ b. if b then Control byte ∷ text_parts (next ∷ text) else with_byte byte (text_parts (next ∷ text))) parts.0
     ∙ ap (with_byte byte) (plain_parts next text parts.1)
 
@@ -153,12 +154,12 @@ read_again (t ∷ ts) p =
     let one : is_cluster t ≡ true = ap (λ (g : List (List ℕ)). length g == 1) p.0.alone in
     (λ i. (if one i then t else replacement_bytes) ∷ read_again ts p.1 i)
 
-none_joined : (ts : List (List ℕ)) → AreTexts ts → list_any is_control (concat ts) ≡ false
+none_joined : (ts : List (List ℕ)) → AreTexts ts → list_any is_ascii_control (concat ts) ≡ false
 none_joined [] p = refl
-none_joined (t ∷ ts) p = list_any-append is_control t (concat ts) ∙ (λ i. p.0.printed i || none_joined ts p.1 i)
+none_joined (t ∷ ts) p = list_any-append is_ascii_control t (concat ts) ∙ (λ i. p.0.printed i || none_joined ts p.1 i)
 
 -- a text without controls puts its clusters
-strokes_are : (text : List ℕ) (ts : List (List ℕ)) → graphemes true text ≡ ts → AreTexts ts → list_any is_control text ≡ false → strokes text ≡ map Cluster ts
+strokes_are : (text : List ℕ) (ts : List (List ℕ)) → graphemes true text ≡ ts → AreTexts ts → list_any is_ascii_control text ≡ false → strokes text ≡ map Cluster ts
 strokes_are [] ts e p n = ap (λ (cs : List (List ℕ)). map Cluster cs) (sym graphemes-nil ∙ e)
 strokes_are (byte ∷ text) ts e p n =
     ap (λ (parts : List TextPart). flat_map part_strokes parts) (plain_parts byte text n)

@@ -2,7 +2,7 @@
 use Rattle.std.proofs.Common.{◌≡◌, ℕ, ◌+◌, ◌/◌, ◌<◌, ◌≤◌, inl, inr, true, false, List, [], ◌∷◌, ◌++◌, length, map, refl, sym, ap, subst, ◌∙◌, arith}
 use Rattle.std.specs.Prelude.{⊤, ◌||◌, ◌⊎◌, ◌==◌, encode_utf8_all, if◌then◌else◌}
 use Rattle.std.specs.List.{list_any, concat, flat_map}
-use Rattle.std.specs.Char.{IsScalar}
+use Rattle.std.specs.Char.{IsScalar, is_ascii_control}
 use Rattle.std.specs.Str.{IsUtf8, chars}
 use Rattle.std.specs.Str.Lossy.{replacement_bytes}
 use Rattle.std.proofs.lemmas.Bool.{and_parts, cases_lt, or_parts}
@@ -12,7 +12,6 @@ use Rattle.std.proofs.lemmas.Str.{encode_ascii, IsUtf8-encode, IsUtf8-append}
 use lib.Utf8.{encode, scalar, scalars, next}
 use Rattle.unicode_segmentation.specs.Grapheme.{graphemes}
 use Rattle.unicode_segmentation.proofs.Computing.{unicode_segmentation}
-use Rattle.cell_base.specs.CellContent.{is_control}
 use Rattle.cell_base.specs.Cluster.{clusters, is_cluster, read_cluster}
 use Rattle.cell_base.specs.Row.{space}
 use Rattle.text_clusters.proofs.TextLemmas.{same_at_clusters, joined_clusters}
@@ -23,7 +22,7 @@ use Rattle.screen_replay.proofs.WrittenLemmas.{AreTexts}
 
 -- ---- the bytes of a character above ASCII are no controls
 
-high_byte : (x : ℕ) → 128 ≤ x → is_control x ≡ false
+high_byte : (x : ℕ) → 128 ≤ x → is_ascii_control x ≡ false
 high_byte x h = grind (arith, nat_tests)
 
 two : (c : ℕ) → 128 ≤ c → c < 2048 → encode c ≡ (192 + c / 64) ∷ next c ∷ []
@@ -38,31 +37,31 @@ four : (c : ℕ) → 65536 ≤ c → encode c ≡ (240 + c / 262144) ∷ next (c
 unfolding encode
 four c l = grind (arith, nat_tests)
 
-none_two : (x y : ℕ) → 128 ≤ x → 128 ≤ y → list_any is_control (x ∷ y ∷ []) ≡ false
+none_two : (x y : ℕ) → 128 ≤ x → 128 ≤ y → list_any is_ascii_control (x ∷ y ∷ []) ≡ false
 none_two x y p q = λ i. high_byte x p i || (high_byte y q i || false)
 
-none_three : (x y z : ℕ) → 128 ≤ x → 128 ≤ y → 128 ≤ z → list_any is_control (x ∷ y ∷ z ∷ []) ≡ false
+none_three : (x y z : ℕ) → 128 ≤ x → 128 ≤ y → 128 ≤ z → list_any is_ascii_control (x ∷ y ∷ z ∷ []) ≡ false
 none_three x y z p q r = λ i. high_byte x p i || (high_byte y q i || (high_byte z r i || false))
 
-none_four : (x y z w : ℕ) → 128 ≤ x → 128 ≤ y → 128 ≤ z → 128 ≤ w → list_any is_control (x ∷ y ∷ z ∷ w ∷ []) ≡ false
+none_four : (x y z w : ℕ) → 128 ≤ x → 128 ≤ y → 128 ≤ z → 128 ≤ w → list_any is_ascii_control (x ∷ y ∷ z ∷ w ∷ []) ≡ false
 none_four x y z w p q r s = λ i. high_byte x p i || (high_byte y q i || (high_byte z r i || (high_byte w s i || false)))
 
-high_bytes : (c : ℕ) → 128 ≤ c → list_any is_control (encode c) ≡ false
+high_bytes : (c : ℕ) → 128 ≤ c → list_any is_ascii_control (encode c) ≡ false
 high_bytes c h = by_two (cases_lt c 2048)
   where
-    by_three : 2048 ≤ c → (c < 65536) ⊎ (65536 ≤ c) → list_any is_control (encode c) ≡ false
-    by_three g (inl l) = ap (list_any is_control) (three c g l) ∙ none_three (224 + c / 4096) (next (c / 64)) (next c) (omega arith) (omega arith) (omega arith)
-    by_three g (inr l) = ap (list_any is_control) (four c l) ∙ none_four (240 + c / 262144) (next (c / 4096)) (next (c / 64)) (next c) (omega arith) (omega arith) (omega arith) (omega arith)
+    by_three : 2048 ≤ c → (c < 65536) ⊎ (65536 ≤ c) → list_any is_ascii_control (encode c) ≡ false
+    by_three g (inl l) = ap (list_any is_ascii_control) (three c g l) ∙ none_three (224 + c / 4096) (next (c / 64)) (next c) (omega arith) (omega arith) (omega arith)
+    by_three g (inr l) = ap (list_any is_ascii_control) (four c l) ∙ none_four (240 + c / 262144) (next (c / 4096)) (next (c / 64)) (next c) (omega arith) (omega arith) (omega arith) (omega arith)
 
-    by_two : (c < 2048) ⊎ (2048 ≤ c) → list_any is_control (encode c) ≡ false
-    by_two (inl l) = ap (list_any is_control) (two c h l) ∙ none_two (192 + c / 64) (next c) (omega arith) (omega arith)
+    by_two : (c < 2048) ⊎ (2048 ≤ c) → list_any is_ascii_control (encode c) ≡ false
+    by_two (inl l) = ap (list_any is_ascii_control) (two c h l) ∙ none_two (192 + c / 64) (next c) (omega arith) (omega arith)
     by_two (inr g) = by_three g (cases_lt c 65536)
 
 -- ---- parts of a text
 
 abbrev IsGood : TextPart → Type 0
 IsGood (Control byte) = ⊤
-IsGood (Plain text) = IsUtf8 text × (list_any is_control text ≡ false)
+IsGood (Plain text) = IsUtf8 text × (list_any is_ascii_control text ≡ false)
 
 abbrev AreGood : List TextPart → Type 0
 AreGood [] = ⊤
@@ -72,10 +71,10 @@ abbrev put_front : List ℕ → List TextPart → List TextPart
 put_front [] parts = parts
 put_front (byte ∷ bytes) parts = with_byte byte (put_front bytes parts)
 
-parts_behind : (bytes rest : List ℕ) → list_any is_control bytes ≡ false → text_parts (bytes ++ rest) ≡ put_front bytes (text_parts rest)
+parts_behind : (bytes rest : List ℕ) → list_any is_ascii_control bytes ≡ false → text_parts (bytes ++ rest) ≡ put_front bytes (text_parts rest)
 parts_behind [] rest e = refl
 parts_behind (byte ∷ bytes) rest e =
-    let p = or_parts (is_control byte) (list_any is_control bytes) e in
+    let p = or_parts (is_ascii_control byte) (list_any is_ascii_control bytes) e in
     ap (λ b. if b then Control byte ∷ text_parts (bytes ++ rest) else with_byte byte (text_parts (bytes ++ rest))) p.0
     ∙ ap (with_byte byte) (parts_behind bytes rest p.1)
 
@@ -91,17 +90,17 @@ before_control : (byte : ℕ) (bytes : List ℕ) (control : ℕ) (parts : List T
 before_control byte [] control parts = refl
 before_control byte (second ∷ bytes) control parts = ap (with_byte byte) (before_control second bytes control parts)
 
-good_behind : (bytes : List ℕ) (parts : List TextPart) → IsUtf8 bytes → list_any is_control bytes ≡ false → AreGood parts → AreGood (put_front bytes parts)
+good_behind : (bytes : List ℕ) (parts : List TextPart) → IsUtf8 bytes → list_any is_ascii_control bytes ≡ false → AreGood parts → AreGood (put_front bytes parts)
 good_behind [] parts u n g = g
 good_behind (byte ∷ bytes) [] u n g = subst AreGood (sym (before_none byte bytes)) ((u, n), tt)
 good_behind (byte ∷ bytes) (Control control ∷ parts) u n g = subst AreGood (sym (before_control byte bytes control parts)) ((u, n), g)
 good_behind (byte ∷ bytes) (Plain text ∷ parts) u n g =
     subst AreGood (sym (before_plain (byte ∷ bytes) text parts))
-    ((IsUtf8-append (byte ∷ bytes) text u g.0.0, list_any-append is_control (byte ∷ bytes) text ∙ (λ i. n i || g.0.1 i)), g.1)
+    ((IsUtf8-append (byte ∷ bytes) text u g.0.0, list_any-append is_ascii_control (byte ∷ bytes) text ∙ (λ i. n i || g.0.1 i)), g.1)
 
 lone_byte : (c : ℕ) (parts : List TextPart) (rest : List ℕ) → text_parts rest ≡ parts → c < 128 → AreGood parts → AreGood (text_parts (c ∷ rest))
 lone_byte c parts rest e h g =
-    by_test (is_control c)
+    by_test (is_ascii_control c)
     (λ t. subst AreGood (sym (λ i. if t i then Control c ∷ e i else with_byte c (e i))) (tt, g))
     (λ t.
     subst AreGood (sym (λ i. if t i then Control c ∷ e i else with_byte c (e i)))
@@ -142,18 +141,18 @@ heads x y xs ys e = cc
 tails : (x y : List (List ℕ)) (xs ys : List (List (List ℕ))) → x ∷ xs ≡ y ∷ ys → xs ≡ ys
 tails x y xs ys e = cc
 
-each_stands : (gs : List (List ℕ)) → map (graphemes true) gs ≡ map (λ g. g ∷ []) gs → list_any is_control (concat gs) ≡ false → AreTexts gs
+each_stands : (gs : List (List ℕ)) → map (graphemes true) gs ≡ map (λ g. g ∷ []) gs → list_any is_ascii_control (concat gs) ≡ false → AreTexts gs
 each_stands [] e n = tt
 each_stands (g ∷ gs) e n =
-    let p = or_parts (list_any is_control g) (list_any is_control (concat gs)) (sym (list_any-append is_control g (concat gs)) ∙ n) in (
+    let p = or_parts (list_any is_ascii_control g) (list_any is_ascii_control (concat gs)) (sym (list_any-append is_ascii_control g (concat gs)) ∙ n) in (
       record { alone = heads (graphemes true g) (g ∷ []) (map (graphemes true) gs) (map (λ x. x ∷ []) gs) e; printed = p.0 },
       each_stands gs (tails (graphemes true g) (g ∷ []) (map (graphemes true) gs) (map (λ x. x ∷ []) gs) e) p.1,
     )
 
-pub clusters_stand : (text : List ℕ) → IsUtf8 text → list_any is_control text ≡ false → AreTexts (clusters text)
+pub clusters_stand : (text : List ℕ) → IsUtf8 text → list_any is_ascii_control text ≡ false → AreTexts (clusters text)
 clusters_stand text u n =
     subst AreTexts (sym (same_at_clusters read_cluster (λ p. p) read_alone text u ∙ map_same (graphemes true text)))
-    (each_stands (graphemes true text) (same_at_clusters (graphemes true) (λ p. p ∷ []) (λ p e. e) text u) (ap (list_any is_control) (joined_clusters text u) ∙ n))
+    (each_stands (graphemes true text) (same_at_clusters (graphemes true) (λ p. p ∷ []) (λ p e. e) text u) (ap (list_any is_ascii_control) (joined_clusters text u) ∙ n))
 
 space_alone : graphemes true (32 ∷ []) ≡ (32 ∷ []) ∷ []
 unfolding unicode_segmentation chars

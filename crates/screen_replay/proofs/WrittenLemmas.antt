@@ -6,13 +6,14 @@ use Rattle.std.proofs.lemmas.Bool.{or_parts}
 use Rattle.std.proofs.lemmas.List.{get_or-set_same}
 use Rattle.std.proofs.lemmas.List.Folds.{list_any-append}
 use Rattle.std.specs.Str.Lossy.{replacement_bytes}
+use Rattle.std.specs.Char.{is_ascii_control}
 use Rattle.text_clusters.proofs.PlainLemmas.{graphemes-nil}
 use Rattle.std.proofs.lemmas.List.Sums.{fold-append}
 use Rattle.std.proofs.lemmas.Bool.Decides.{nat_tests}
 use Rattle.unicode_segmentation.specs.Grapheme.{graphemes}
 use Rattle.cell_base.specs.declared.attributes.LineAttribute.TheVariants.{SingleWidthLine}
 use Rattle.cell_base.specs.Attributes.{Attributes}
-use Rattle.cell_base.specs.CellContent.{CellContent, is_control}
+use Rattle.cell_base.specs.CellContent.{CellContent}
 use Rattle.cell_base.specs.Cluster.{clusters, is_cluster, read_cluster}
 use Rattle.cell_base.specs.Row.{Row, space, columns_of, set_columns}
 use Rattle.cell_base.specs.Screen.{Screen, IsScreen, height, line_feed, carriage_return, cluster_columns, write_columns, put}
@@ -100,10 +101,10 @@ abbrev pub AreTexts : List (List ℕ) → Type 0
 AreTexts [] = ⊤
 AreTexts (text ∷ texts) = IsCellText text × AreTexts texts
 
-plain_parts : (byte : ℕ) (text : List ℕ) → list_any is_control (byte ∷ text) ≡ false → text_parts (byte ∷ text) ≡ Plain (byte ∷ text) ∷ []
-plain_parts byte [] e = ap (λ b. if b then Control byte ∷ [] else with_byte byte []) (or_parts (is_control byte) false e).0
+plain_parts : (byte : ℕ) (text : List ℕ) → list_any is_ascii_control (byte ∷ text) ≡ false → text_parts (byte ∷ text) ≡ Plain (byte ∷ text) ∷ []
+plain_parts byte [] e = ap (λ b. if b then Control byte ∷ [] else with_byte byte []) (or_parts (is_ascii_control byte) false e).0
 plain_parts byte (next ∷ text) e =
-    let parts = or_parts (is_control byte) (list_any is_control (next ∷ text)) e in
+    let parts = or_parts (is_ascii_control byte) (list_any is_ascii_control (next ∷ text)) e in
     ap (λ b. if b then Control byte ∷ text_parts (next ∷ text) else with_byte byte (text_parts (next ∷ text))) parts.0
     ∙ ap (with_byte byte) (plain_parts next text parts.1)
 
@@ -154,7 +155,7 @@ module _ (width_of : List ℕ → ℕ) where
       ∙ clusters_are u ts (on_screen (write_columns first) d) lawful (omega (arith, fits, count))
       ∙ ap (λ (s : Screen). record d { screen = s }) (write_again d.screen first rest h.lawful (whole_columns t (nat_le 2 (width_of t)) d.screen.pen) (omega (arith, fits, count)))
 
-  text_is : (t : List ℕ) (ts : List (List ℕ)) (d : Display) → graphemes true t ≡ ts → AreTexts ts → list_any is_control t ≡ false → text_done width_of d t ≡ fold (stroke_done width_of) d (map Cluster ts)
+  text_is : (t : List ℕ) (ts : List (List ℕ)) (d : Display) → graphemes true t ≡ ts → AreTexts ts → list_any is_ascii_control t ≡ false → text_done width_of d t ≡ fold (stroke_done width_of) d (map Cluster ts)
   text_is [] ts d e p n = ap (λ (cs : List (List ℕ)). fold (stroke_done width_of) d (map Cluster cs)) (sym graphemes-nil ∙ e)
   text_is (byte ∷ t) ts d e p n =
       ap (λ (parts : List TextPart). fold (stroke_done width_of) d (flat_map part_strokes parts)) (plain_parts byte t n)
@@ -168,9 +169,9 @@ module _ (width_of : List ℕ → ℕ) where
       ap (λ (e : Display). replay width_of e (map Text ts)) (text_is t (t ∷ []) d p.0.alone (p.0, tt) p.0.printed)
       ∙ each_is ts (stroke_done width_of d (Cluster t)) p.1
 
-  none_joined : (ts : List (List ℕ)) → AreTexts ts → list_any is_control (concat ts) ≡ false
+  none_joined : (ts : List (List ℕ)) → AreTexts ts → list_any is_ascii_control (concat ts) ≡ false
   none_joined [] p = refl
-  none_joined (t ∷ ts) p = list_any-append is_control t (concat ts) ∙ (λ i. p.0.printed i || none_joined ts p.1 i)
+  none_joined (t ∷ ts) p = list_any-append is_ascii_control t (concat ts) ∙ (λ i. p.0.printed i || none_joined ts p.1 i)
 
   pub texts_replayed : (t : List ℕ) (ts : List (List ℕ)) (d : Display) → AreTexts (t ∷ ts) → replay width_of d (map Text (texts (t ∷ ts))) ≡ fold (stroke_done width_of) d (map Cluster (t ∷ ts))
   texts_replayed t ts d p =

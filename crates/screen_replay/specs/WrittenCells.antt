@@ -2,19 +2,20 @@
 use Rattle.std.specs.Prelude.{◌≡◌, ⊤, ℕ, Bool, true, false, All, nat_le, List, [], ◌∷◌}
 use Rattle.std.specs.List.{flat_map, list_any}
 use Rattle.unicode_segmentation.specs.Grapheme.{graphemes}
-use Rattle.cell_base.specs.CellContent.{CellContent, is_control}
+use Rattle.cell_base.specs.CellContent.{CellContent}
 use Rattle.cell_base.specs.Row.{Row, Narrow, LeftHalf, RightHalf, columns_of}
 use Rattle.cell_base.specs.Screen.{write_columns}
 use Rattle.cell_change.specs.CellChanges.{pen_behind}
 use Rattle.cell_change.specs.ChangeValue.{ChangeValue, Text}
 use Rattle.std.specs.Str.{IsUtf8}
+use Rattle.std.specs.Char.{is_ascii_control}
 use Rattle.screen_effects.specs.Display.{Display}
 use Rattle.screen_effects.specs.Effect.{on_screen, with_pen}
 
 -- the text is by itself one cluster (UAX 29), and holds no C0 control or DEL
 pub record IsCellText (text : List ℕ) : Type 0 where
   pub alone : graphemes true text ≡ text ∷ []
-  pub printed : list_any is_control text ≡ false
+  pub printed : list_any is_ascii_control text ≡ false
 
 -- such a text, in as many columns as it takes
 pub record IsSoundText (width_of : List ℕ → ℕ) (text : List ℕ) (wide : Bool) : Type 0 where

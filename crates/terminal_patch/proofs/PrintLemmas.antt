@@ -3,6 +3,7 @@ use Rattle.std.proofs.Common.{◌≡◌, ℕ, ◌+◌, ◌-◌, ◌<◌, ◌^◌
 use Rattle.std.specs.Prelude.{⊤, ◌==◌, ◌||◌, min, nat_le, Option, Some, None, IfSome, option_map, if◌then◌else◌}
 use Rattle.std.specs.List.{AllByRecursion, flat_map}
 use Rattle.std.specs.Str.{IsUtf8}
+use Rattle.text_clusters.specs.Controls.{holds_c1}
 use Rattle.cell_base.specs.declared.attributes.CursorVisibility.{CursorVisibility as Visibility}
 use Rattle.cell_base.specs.declared.attributes.CursorVisibility.TheVariants.{Hidden, Visible}
 use Rattle.cell_base.specs.declared.attributes.Position.TheVariants.{Absolute}
@@ -20,7 +21,6 @@ use Rattle.csi_codec.specs.declared.cursors.Cursor.TheVariants as cursor
 use Rattle.csi_codec.specs.declared.rendition.Sgr.{Sgr}
 use Rattle.cell_base.specs.Link.{Link}
 use Rattle.escape_osc.specs.Command.{set_window_title}
-use Rattle.escape_osc.specs.Parts.{holds_c1}
 use Rattle.escape_stream.specs.StreamAction.{StreamAction, command}
 use Rattle.screen_difference.specs.Difference.{difference, position}
 use Rattle.screen_difference.specs.DrawnCells.{HavePlaces}

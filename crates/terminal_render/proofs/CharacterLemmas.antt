@@ -1,20 +1,18 @@
 -- The parts of a text without U+0080 to U+009F: controls, and texts of printable characters.
 use Rattle.std.proofs.Common.{◌≡◌, ◌≢◌, ℕ, ◌+◌, ◌/◌, ◌%◌, ◌<◌, ◌≤◌, inl, inr, Bool, true, false, List, [], ◌∷◌, ◌++◌, length, refl, sym, ap, subst, ◌∙◌, arith}
 use Rattle.std.specs.Prelude.{⊤, ◌⊎◌, not, All, encode_utf8, encode_utf8_all, if◌then◌else◌}
-use Rattle.std.specs.Char.{IsScalar}
+use Rattle.std.specs.Char.{IsScalar, is_ascii_control}
 use Rattle.std.specs.List.{list_all}
 use Rattle.std.specs.Str.{IsUtf8, chars}
-use Rattle.std.proofs.lemmas.Bool.{or_parts}
+use Rattle.std.proofs.lemmas.Bool.{or_parts, and_parts}
 use Rattle.std.proofs.lemmas.Bool.Decides.{nat_tests}
 use Rattle.std.proofs.lemmas.List.Elements.{All-cons, All-nil}
 use Rattle.std.proofs.lemmas.Str.{chars-encodes}
+use Rattle.text_clusters.specs.Controls.{is_c1, holds_c1}
 use lib.Utf8.{scalar, scalars}
-use Rattle.cell_base.specs.CellContent.{is_control}
 use Rattle.escape_framing.specs.Segment.{IsPrintable}
 use Rattle.escape_framing.specs.Existence.Utf8Lemmas.{Spelled, in_one, in_two, in_three, in_four, spelled, order}
-use Rattle.escape_framing.specs.Existence.SevenBitLemmas.{both}
 use Rattle.escape_framing.specs.Existence.Utf8Lemmas.{append_nil}
-use Rattle.escape_osc.specs.Parts.{is_c1, holds_c1}
 use Rattle.escape_stream.specs.StreamWritable.{IsPrintableText}
 use Rattle.screen_effects.specs.Strokes.{TextPart, Control, Plain, with_byte, text_parts}
 use Rattle.terminal_table.specs.Turns.{IsPrinted}
@@ -37,15 +35,15 @@ more_before b c front [] = refl
 more_before b c front (Plain text ∷ parts) = refl
 more_before b c front (Control byte ∷ parts) = refl
 
-plain_byte : (b : ℕ) → not (is_control b) ≡ true → is_control b ≡ false
+plain_byte : (b : ℕ) → not (is_ascii_control b) ≡ true → is_ascii_control b ≡ false
 plain_byte b h = grind (arith, nat_tests)
 
 pub parts_behind : (b : ℕ) (front rest : List ℕ) → IsPrinted (b ∷ front) → text_parts ((b ∷ front) ++ rest) ≡ before_parts (b ∷ front) (text_parts rest)
 parts_behind b [] rest h =
-    let p = both (not (is_control b)) true h in
+    let p = and_parts (not (is_ascii_control b)) true h in
     ap (λ t. if t then Control b ∷ text_parts rest else with_byte b (text_parts rest)) (plain_byte b p.0) ∙ one_before b (text_parts rest)
 parts_behind b (c ∷ front) rest h =
-    let p = both (not (is_control b)) (list_all (λ x. not (is_control x)) (c ∷ front)) h in
+    let p = and_parts (not (is_ascii_control b)) (list_all (λ x. not (is_ascii_control x)) (c ∷ front)) h in
     ap (λ t. if t then Control b ∷ text_parts ((c ∷ front) ++ rest) else with_byte b (text_parts ((c ∷ front) ++ rest))) (plain_byte b p.0)
     ∙ ap (with_byte b) (parts_behind c front rest p.1) ∙ more_before b c front (text_parts rest)
 
@@ -138,14 +136,14 @@ above c rest s l h = by_order (order c 160)
 
 -- ---- a text
 
-low_printable : (c : ℕ) → c < 128 → is_control c ≡ false → (0x20 ≤ c) × (c ≤ 0x7E)
+low_printable : (c : ℕ) → c < 128 → is_ascii_control c ≡ false → (0x20 ≤ c) × (c ≤ 0x7E)
 low_printable c l e = (grind (arith, nat_tests), grind (arith, nat_tests))
 
 character_good : (c : ℕ) (rest : List ℕ) → IsScalar c → IsPrintable c → AreGood (text_parts rest) → AreGood (text_parts (encode_utf8 c ++ rest))
 character_good c rest s p g =
     subst AreGood (sym (parts_of_front (encode_utf8 c) rest (long c s) (character_printed c s p))) (good_behind c (text_parts rest) s p (long c s) g)
 
-control_good : (c : ℕ) (rest : List ℕ) → c < 128 → is_control c ≡ true → Spelled c → AreGood (text_parts rest) → AreGood (text_parts (encode_utf8 c ++ rest))
+control_good : (c : ℕ) (rest : List ℕ) → c < 128 → is_ascii_control c ≡ true → Spelled c → AreGood (text_parts rest) → AreGood (text_parts (encode_utf8 c ++ rest))
 control_good c rest l e (in_one m k) g =
     subst (λ (bytes : List ℕ). AreGood (text_parts (bytes ++ rest))) (sym k) (subst AreGood (sym (ap (λ t. if t then Control c ∷ text_parts rest else with_byte c (text_parts rest)) e)) (tt, g))
 control_good c rest l e (in_two h m k) g = absurd (omega arith)
@@ -155,18 +153,18 @@ control_good c rest l e (in_four h m k) g = absurd (omega arith)
 one_good : (c : ℕ) (rest : List ℕ) → IsScalar c → holds_c1 (encode_utf8 c ++ rest) ≡ false → AreGood (text_parts rest) → AreGood (text_parts (encode_utf8 c ++ rest))
 one_good c rest s h g = by_order (order c 128)
   where
-    by_test : (b : Bool) → is_control c ≡ b → c < 128 → AreGood (text_parts (encode_utf8 c ++ rest))
+    by_test : (b : Bool) → is_ascii_control c ≡ b → c < 128 → AreGood (text_parts (encode_utf8 c ++ rest))
     by_test true e l = control_good c rest l e (spelled c s) g
     by_test false e l = character_good c rest s (inl (low_printable c l e)) g
 
     by_order : (c < 128) ⊎ (128 ≤ c) → AreGood (text_parts (encode_utf8 c ++ rest))
-    by_order (inl l) = by_test (is_control c) refl l
+    by_order (inl l) = by_test (is_ascii_control c) refl l
     by_order (inr l) = character_good c rest s (inr (above c rest s l h)) g
 
 all_good : (cs : List ℕ) → scalars cs ≡ true → holds_c1 (encode_utf8_all cs) ≡ false → AreGood (text_parts (encode_utf8_all cs))
 all_good [] s h = tt
 all_good (c ∷ cs) s h =
-    let p = both (scalar c) (scalars cs) s in
+    let p = and_parts (scalar c) (scalars cs) s in
     one_good c (encode_utf8_all cs) p.0 h (all_good cs p.1 (no_c1_behind (encode_utf8 c) (encode_utf8_all cs) h))
 
 -- the parts of a text are controls and printable texts

@@ -2,12 +2,12 @@
 use Rattle.std.specs.Str.{chars, is_utf8}
 use Rattle.std.specs.Char.{encode_utf8}
 use Rattle.std.specs.Fmt.{digits}
+use Rattle.text_clusters.specs.Controls.{holds_c1}
 use Rattle.cell_base.specs.LinkText.{link_text, texts_reading, link_reading}
 use Rattle.csi_codec.specs.Cursors.{cursor_spelling}
 use Rattle.csi_codec.specs.Edits.{edit_spelling}
 use Rattle.csi_codec.specs.Modes.{mode_spelling}
 use Rattle.csi_codec.specs.Rendition.{sgr_spelling}
-use Rattle.escape_osc.specs.Parts.{holds_c1}
 use Rattle.terminal_render.specs.Links.{is_carried}
 use Rattle.terminal_render.specs.Pen.{attribute_action, pen_rendering, clear_rendering}
 use Rattle.terminal_render.specs.Places.{moves, position_moves}

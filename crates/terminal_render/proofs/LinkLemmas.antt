@@ -1,14 +1,12 @@
 -- Links that read back from their texts.
-use Rattle.std.proofs.Common.{◌≡◌, ℕ, Bool, true, false, List, [], ◌∷◌, ◌++◌, length, refl, sym, ap, ◌∙◌, arith}
-use Rattle.std.specs.Prelude.{◌&&◌, ◌↔◌, IsTrue, not, Option, Some, None, Result, Ok, Err, String}
+use Rattle.std.proofs.Common.{◌≡◌, ℕ, Bool, true, false, List, [], ◌∷◌, refl, sym, ap, ◌∙◌}
+use Rattle.std.specs.Prelude.{◌&&◌, ◌↔◌, IsTrue, not, Option, Some, None, Result, Ok, Err}
 use Rattle.std.specs.Str.{bytes_eq}
-use Rattle.std.proofs.lemmas.Bool.{and_parts, and_from, false≢true}
+use Rattle.std.proofs.lemmas.Bool.{and_parts, and_from, false≢true, not-true}
 use Rattle.std.proofs.lemmas.Slice.Eq.{bytes_eq-Decides}
 use Rattle.cell_base.specs.declared.link_error.LinkError.{LinkError}
-use Rattle.cell_base.specs.Link.{Link, Param, texts_of}
-use Rattle.cell_base.specs.LinkText.{link_text, link_reading, params_text, pieces, IsReadBack}
-use Rattle.escape_osc.specs.Command.{set_hyperlink}
-use Rattle.escape_osc.specs.Text.{framed, text_of}
+use Rattle.cell_base.specs.Link.{Link, Param}
+use Rattle.cell_base.specs.LinkText.{link_text, link_reading, pieces, IsReadBack}
 use Rattle.cell_base.proofs.LinkLaws.{back_is_given}
 use Rattle.terminal_render.specs.Links.{same_params, is_reading_of, reads_back}
 
@@ -31,17 +29,13 @@ are_params : (ps : List Param) → same_params ps ps ≡ true
 are_params [] = refl
 are_params (p ∷ ps) = and_from (bytes_eq p.0 p.0 && bytes_eq p.1 p.1) (same_params ps ps) (and_from (bytes_eq p.0 p.0) (bytes_eq p.1 p.1) (texts_same p.0) (texts_same p.1)) (are_params ps)
 
-is_off : (b : Bool) → not b ≡ true → b ≡ false
-is_off true e = absurd (false≢true e)
-is_off false e = refl
-
 -- what was read is the link
 reading_is : (link : Link) (reading : Result (Option Link) LinkError) → is_reading_of link reading ≡ true → reading ≡ Ok (Some link)
 reading_is link (Ok (Some read)) e =
     let both = and_parts (not read.implicit && not link.implicit) (same_params read.params link.params && bytes_eq read.uri link.uri) e in
     let given = and_parts (not read.implicit) (not link.implicit) both.0 in
     let texts = and_parts (same_params read.params link.params) (bytes_eq read.uri link.uri) both.1 in
-    let implicit = is_off read.implicit given.0 ∙ sym (is_off link.implicit given.1) in
+    let implicit = not-true read.implicit given.0 ∙ sym (not-true link.implicit given.1) in
     let params = params_are read.params link.params texts.0 in
     let uri = same_texts read.uri link.uri texts.1 in
     λ i. Ok (Some (record { params = params i; uri = uri i; implicit = implicit i }))
@@ -68,13 +62,3 @@ same_answer false false f g = refl
 -- an answer that tells it
 pub told : (answer : Bool) (link : Link) → IsTrue answer ↔ IsReadBack link → answer ≡ reads_back link
 told answer link tells = same_answer answer (reads_back link) (λ e. is_read_back link (tells.0 e)) (λ e. tells.1 (reads_back_is link e))
-
--- ---- links without parameters
-
-pub no_params : {Z : Type 0} (entries : List (String Z × String Z)) (params : List Param) → length entries ≡ 0 → texts_of entries ≡ params → params ≡ []
-no_params [] params none e = sym e
-no_params (entry ∷ entries) params none e = absurd (omega (arith, none))
-
-pub bare_text : (link : Link) → link.params ≡ [] → text_of (set_hyperlink (Some link)) ≡ framed (56 ∷ 59 ∷ 59 ∷ link.uri)
-unfolding link_text
-bare_text link e = ap (λ (params : List Param). framed (56 ∷ 59 ∷ (params_text params ++ 59 ∷ link.uri))) e

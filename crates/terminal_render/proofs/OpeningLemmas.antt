@@ -1,7 +1,9 @@
 -- No list of actions that is sent begins with a string terminator, so its bytes stand behind any others as they are.
 use Rattle.std.proofs.Common.{◌≡◌, ℕ, Bool, true, false, List, [], ◌∷◌, ◌++◌, map, refl, subst}
-use Rattle.std.specs.Prelude.{◌&&◌, ◌==◌, ◌||◌, Option, None, Some, IfSome, option_map}
+use Rattle.std.specs.Prelude.{◌==◌, ◌||◌, Option, None, Some, IfSome, option_map}
 use Rattle.std.specs.List.{flat_map}
+use Rattle.std.proofs.lemmas.Bool.{and_right}
+use Rattle.text_clusters.specs.Controls.{holds_c1}
 use Rattle.cell_base.specs.declared.color.ColorAttribute.{ColorAttribute}
 use Rattle.cell_base.specs.declared.color.ColorSpec.{ColorSpec}
 use Rattle.cell_base.specs.Attributes.{Attributes}
@@ -13,7 +15,6 @@ use Rattle.csi_codec.specs.declared.cursors.Cursor.{Cursor}
 use Rattle.csi_codec.specs.declared.edits.Edit.{Edit}
 use Rattle.csi_codec.specs.declared.edits.Edit.TheVariants as edit
 use Rattle.csi_codec.specs.declared.rendition.Sgr.{Sgr}
-use Rattle.escape_osc.specs.Parts.{holds_c1}
 use Rattle.escape_stream.specs.StreamAction.{StreamAction}
 use Rattle.escape_stream.specs.StreamText.{begins_terminated, ends_closed, stream_text, TextsJoin}
 use Rattle.screen_effects.specs.Strokes.{TextPart, Control, Plain, text_parts}
@@ -144,9 +145,5 @@ pub joined_open : (xs ys : List StreamAction) → Opens xs → Opens ys → Open
 joined_open [] ys h k = k
 joined_open (x ∷ xs) ys h k = h
 
-not_closed : (b : Bool) (a : Bool) → a ≡ false → (b && a) ≡ false
-not_closed true a e = e
-not_closed false a e = refl
-
 pub bytes_behind : TextsJoin → (xs ys : List StreamAction) → Opens ys → stream_text (xs ++ ys) ≡ stream_text xs ++ stream_text ys
-bytes_behind join xs ys h = join xs ys (not_closed (ends_closed false xs) (begins_terminated ys) h)
+bytes_behind join xs ys h = join xs ys (and_right (ends_closed false xs) (begins_terminated ys) h)

@@ -1,7 +1,7 @@
 -- Bytes that are appended change by change.
 use Rattle.std.proofs.Common.{◌≡◌, ℕ, zero, suc, ◌+◌, ◌<◌, ◌≤◌, Bool, true, false, List, [], ◌∷◌, ◌++◌, length, take, drop, get_or, map, refl, sym, ap, ◌∙◌, append_assoc, append-nil, arith}
 use Rattle.std.specs.Prelude.{Option, Some, None, option_map, option_and_then}
-use Rattle.std.proofs.lemmas.List.{at_drop_more, at_drop_all, map_more}
+use Rattle.std.proofs.lemmas.List.{at_drop_more, at_drop_all, map_more, length-take, take-take}
 use Rattle.cell_change.specs.declared.change.Change.{Change}
 use Rattle.cell_change.specs.ChangeValue.{ChangeValue}
 use Rattle.cell_change.specs.ValueOf.{value_of}
@@ -14,6 +14,15 @@ use Rattle.terminal_render.specs.Rendering.{behind, rendering}
 use Rattle.terminal_render.specs.SentView.{sent_value, sent_values}
 use Rattle.terminal_render.proofs.ListLemmas.{renderings_join}
 use Rattle.terminal_render.proofs.OpeningLemmas.{bytes_behind, one_opens, rendering_opens}
+
+-- ---- what was there
+
+-- it stands in front still where it stood there, and what stood there then does
+pub still_front : (start bytes after : List ℕ) → take (length start) bytes ≡ start → take (length bytes) after ≡ bytes → take (length start) after ≡ start
+still_front start bytes after e f =
+    let l = sym (length-take (length start) bytes) ∙ ap length e in
+    let le : length start ≤ length bytes = omega (arith, l) in
+    sym (take-take (length start) (length bytes) after le) ∙ ap (λ xs. take (length start) xs) f ∙ e
 
 -- ---- a list that is lent
 

@@ -3,6 +3,8 @@ use Rattle.std.proofs.Common.{◌≡◌, ℕ, ◌+◌, ◌*◌, ◌^◌, ◌<◌
 use Rattle.std.proofs.lemmas.Bool.Decides.{nat_tests}
 use Rattle.std.specs.Prelude.{◌==◌, ◌&&◌, ◌||◌, min, Option, None, Some, IfSome, option_map, option_and_then}
 use Rattle.std.specs.List.{flat_map}
+use Rattle.std.specs.Char.{is_ascii_control}
+use Rattle.text_clusters.specs.Controls.{holds_c1}
 use Rattle.cell_base.specs.declared.attributes.CursorVisibility.{CursorVisibility as Visibility}
 use Rattle.cell_base.specs.declared.attributes.CursorVisibility.TheVariants.{Hidden, Visible}
 use Rattle.cell_base.specs.declared.attributes.Position.{Position}
@@ -11,7 +13,6 @@ use Rattle.cell_base.specs.declared.color.ColorSpec.{ColorSpec}
 use Rattle.cell_base.specs.Attributes.{Attributes}
 use Rattle.cell_base.specs.AttributeValue as one
 use Rattle.cell_base.specs.AttributeValue.{AttributeValue}
-use Rattle.cell_base.specs.CellContent.{is_control}
 use Rattle.cell_base.specs.Link.{Link}
 use Rattle.cell_change.specs.ChangeValue.{ChangeValue, Attribute, AllAttributes, Text, ClearScreen, ClearToEndOfLine, ClearToEndOfScreen, CursorPosition, CursorColor, CursorShape, CursorVisibility, LineAttribute, ScrollRegionUp, ScrollRegionDown, Title, is_text}
 use Rattle.csi_codec.specs.Actions as codec
@@ -26,7 +27,6 @@ use Rattle.csi_codec.specs.declared.edits.EraseInDisplay.TheVariants as display
 use Rattle.csi_codec.specs.declared.edits.EraseInLine.TheVariants as line
 use Rattle.csi_codec.specs.declared.rendition.Sgr.{Sgr}
 use Rattle.csi_codec.specs.declared.rendition.Sgr.TheVariants as sgr
-use Rattle.escape_osc.specs.Parts.{holds_c1}
 use Rattle.escape_osc.specs.Sizes.{EndOfLinkTakesSeven, LinksTakeSeven, TextsTakeSix}
 use Rattle.escape_stream.specs.StreamAction.{StreamAction, csi}
 use Rattle.escape_stream.specs.StreamText.{action_text, is_string_terminator, closes_string, text_behind, texts_behind, stream_text}
@@ -79,9 +79,9 @@ control_short byte = by_test (byte == 13 || byte == 10) refl
 
 parts_short : (text : List ℕ) → total (flat_map part_actions (text_parts text)) ≤ 2 * length text
 parts_short [] = omega arith
-parts_short (b ∷ text) = by_test (is_control b) refl (parts_short text)
+parts_short (b ∷ text) = by_test (is_ascii_control b) refl (parts_short text)
   where
-    by_test : (t : Bool) → is_control b ≡ t → total (flat_map part_actions (text_parts text)) ≤ 2 * length text → total (flat_map part_actions (text_parts (b ∷ text))) ≤ 2 * length (b ∷ text)
+    by_test : (t : Bool) → is_ascii_control b ≡ t → total (flat_map part_actions (text_parts text)) ≤ 2 * length text → total (flat_map part_actions (text_parts (b ∷ text))) ≤ 2 * length (b ∷ text)
     by_test true e h = rw e (omega (arith, total_append (part_actions (Control b)) (flat_map part_actions (text_parts text)), control_short b))
     by_test false e h = rw e (omega (arith, part_short b (text_parts text)))
 

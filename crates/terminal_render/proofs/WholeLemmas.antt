@@ -1,6 +1,7 @@
 -- What is sent for a change has its effect.
 use Rattle.std.proofs.Common.{◌≡◌, ℕ, ◌^◌, ◌<◌, Bool, true, false, List, [], ◌∷◌, refl, sym, ap, subst, ◌∙◌}
 use Rattle.std.specs.Prelude.{All, Option, None, Some, IfSome, option_map, option_and_then}
+use Rattle.text_clusters.specs.Controls.{holds_c1}
 use Rattle.cell_base.specs.declared.attributes.CursorVisibility.{CursorVisibility as Visibility}
 use Rattle.cell_base.specs.declared.attributes.CursorVisibility.TheVariants.{Hidden, Visible}
 use Rattle.cell_base.specs.declared.color.ColorAttribute.{ColorAttribute}
@@ -15,7 +16,6 @@ use Rattle.cell_base.specs.Link.{Link}
 use Rattle.cell_base.specs.Screen.{Screen, IsScreen, height}
 use Rattle.cell_change.specs.ChangeValue.{ChangeValue, Attribute, AllAttributes, Text, ClearScreen, ClearToEndOfLine, ClearToEndOfScreen, CursorPosition, CursorColor, CursorShape, CursorVisibility, LineAttribute, ScrollRegionUp, ScrollRegionDown, Title}
 use Rattle.cell_rows.specs.WholeRow.{IsWhole}
-use Rattle.escape_osc.specs.Parts.{holds_c1}
 use Rattle.escape_stream.specs.StreamAction.{StreamAction}
 use Rattle.screen_effects.specs.Display.{Display}
 use Rattle.screen_effects.specs.Effect.{effect, with_pen}

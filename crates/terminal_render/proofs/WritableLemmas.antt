@@ -3,10 +3,12 @@ use Rattle.std.proofs.Common.{◌≡◌, ℕ, ◌^◌, ◌<◌, inl, Bool, true,
 use Rattle.std.specs.Prelude.{⊤, ◌==◌, ◌||◌, not, min, Option, None, Some, IfSome, option_map, option_and_then}
 use Rattle.std.specs.List.{flat_map, list_all, list_any}
 use Rattle.std.specs.Str.{IsUtf8}
-use Rattle.std.proofs.lemmas.Bool.{and_parts, or_parts, false≢true}
+use Rattle.std.specs.Char.{is_ascii_control}
+use Rattle.std.proofs.lemmas.Bool.{and_parts, or_parts, or_from, not-true}
 use Rattle.std.proofs.lemmas.Bool.Decides.{nat_tests}
 use Rattle.std.proofs.lemmas.List.Elements.{All-cons, All-nil}
 use Rattle.std.proofs.lemmas.List.Folds.{list_any-append}
+use Rattle.text_clusters.specs.Controls.{holds_c1}
 use lib.Utf8.{encode}
 use Rattle.cell_base.specs.declared.attributes.CursorVisibility.{CursorVisibility as Visibility}
 use Rattle.cell_base.specs.declared.attributes.CursorVisibility.TheVariants.{Hidden, Visible}
@@ -34,9 +36,8 @@ use Rattle.csi_codec.specs.declared.rendition.Sgr.TheVariants as sgr
 use Rattle.escape_framing.specs.Segment.{IsPrintable}
 use Rattle.escape_osc.proofs.C1Lemmas.{holds_c1-cons, holds_c1-joint}
 use Rattle.escape_osc.specs.Command.{set_hyperlink, set_window_title}
-use Rattle.escape_osc.specs.Parts.{holds_c1}
 use Rattle.escape_osc.specs.Writable as osc
-use Rattle.escape_osc.specs.Writable.{is_control, IsReadableLink}
+use Rattle.escape_osc.specs.Writable.{IsReadableLink, LacksControls}
 use Rattle.escape_stream.specs.StreamAction.{StreamAction, print, print_string, control, enter, data_byte, exit, command, csi, esc}
 use Rattle.escape_stream.specs.StreamWritable.{IsReadBack, IsPrintableText, IsWritableAction, IsWritable}
 use Rattle.screen_effects.specs.Strokes.{TextPart, Control, Plain, text_parts}
@@ -111,22 +112,16 @@ text_is text u = by_test (holds_c1 text) refl
     by_test true e = rw e tt
     by_test false e = rw e (parts_alone (text_parts text) (parts_good text u e))
 
-is_off : (b : Bool) → not b ≡ true → b ≡ false
-is_off true e = absurd (false≢true e)
-is_off false e = refl
+plain_text : (text : List ℕ) → is_plain_text text ≡ true → LacksControls text
+plain_text text e = let both = and_parts (not (list_any is_ascii_control text)) (not (holds_c1 text)) e in record { no_c0 = not-true (list_any is_ascii_control text) both.0; no_c1 = not-true (holds_c1 text) both.1 }
 
-record IsPlain (text : List ℕ) : Type 0 where
-  no_c0 : list_any is_control text ≡ false
-  no_c1 : holds_c1 text ≡ false
-
-plain_text : (text : List ℕ) → is_plain_text text ≡ true → IsPlain text
-plain_text text e = let both = and_parts (not (list_any is_control text)) (not (holds_c1 text)) e in record { no_c0 = is_off (list_any is_control text) both.0; no_c1 = is_off (holds_c1 text) both.1 }
-
-title_writable : (text : List ℕ) → IsUtf8 text → IsPlain text → osc.IsWritable (set_window_title text)
+title_writable : (text : List ℕ) → IsUtf8 text → LacksControls text → osc.IsWritable (set_window_title text)
 title_writable text u h = record {
   spelling = u;
-  no_c0 = h.no_c0;
-  no_c1 = holds_c1-cons 50 (59 ∷ text) (omega arith) ∙ holds_c1-cons 59 text (omega arith) ∙ h.no_c1;
+  clean = record {
+    no_c0 = h.no_c0;
+    no_c1 = holds_c1-cons 50 (59 ∷ text) (omega arith) ∙ holds_c1-cons 59 text (omega arith) ∙ h.no_c1;
+  };
 }
 
 title_is : (text : List ℕ) → IsUtf8 text → Alone (title_rendering text)
@@ -139,35 +134,32 @@ title_is text u = by_test (is_plain_text text) refl
 
 -- ---- links
 
-or_from : (a b : Bool) → a ≡ false → b ≡ false → (a || b) ≡ false
-or_from a b e f = rw e f
-
 -- plain texts round a byte below 80h that is no control
-joint_plain : (xs : List ℕ) (c : ℕ) (ys : List ℕ) → c < 128 → is_control c ≡ false → IsPlain xs → IsPlain ys → IsPlain (xs ++ c ∷ ys)
+joint_plain : (xs : List ℕ) (c : ℕ) (ys : List ℕ) → c < 128 → is_ascii_control c ≡ false → LacksControls xs → LacksControls ys → LacksControls (xs ++ c ∷ ys)
 joint_plain xs c ys l e h k = record {
-  no_c0 = list_any-append is_control xs (c ∷ ys) ∙ or_from (list_any is_control xs) (list_any is_control (c ∷ ys)) h.no_c0 (or_from (is_control c) (list_any is_control ys) e k.no_c0);
+  no_c0 = list_any-append is_ascii_control xs (c ∷ ys) ∙ or_from (list_any is_ascii_control xs) (list_any is_ascii_control (c ∷ ys)) h.no_c0 (or_from (is_ascii_control c) (list_any is_ascii_control ys) e k.no_c0);
   no_c1 = holds_c1-joint xs c ys l ∙ or_from (holds_c1 xs) (holds_c1 ys) h.no_c1 k.no_c1;
 }
 
-nothing_plain : IsPlain []
+nothing_plain : LacksControls []
 unfolding holds_c1
 nothing_plain = record { no_c0 = refl; no_c1 = refl }
 
-joined_plain : (p : Param) (ps : List Param) → list_all is_plain_param (p ∷ ps) ≡ true → IsPlain (params_text (p ∷ ps))
+joined_plain : (p : Param) (ps : List Param) → list_all is_plain_param (p ∷ ps) ≡ true → LacksControls (params_text (p ∷ ps))
 joined_plain p [] e = param_plain p (and_parts (is_plain_param p) true e).0
   where
-    param_plain : (p : Param) → is_plain_param p ≡ true → IsPlain (param_text p)
+    param_plain : (p : Param) → is_plain_param p ≡ true → LacksControls (param_text p)
     param_plain p e = let both = and_parts (is_plain_text p.0) (is_plain_text p.1) e in joint_plain p.0 61 p.1 (omega arith) refl (plain_text p.0 both.0) (plain_text p.1 both.1)
 joined_plain p (q ∷ ps) e =
     let all = and_parts (is_plain_param p) (list_all is_plain_param (q ∷ ps)) e in
     let both = and_parts (is_plain_text p.0) (is_plain_text p.1) all.0 in
     joint_plain (param_text p) 58 (params_text (q ∷ ps)) (omega arith) refl (joint_plain p.0 61 p.1 (omega arith) refl (plain_text p.0 both.0) (plain_text p.1 both.1)) (joined_plain q ps all.1)
 
-params_plain : (ps : List Param) → list_all is_plain_param ps ≡ true → IsPlain (params_text ps)
+params_plain : (ps : List Param) → list_all is_plain_param ps ≡ true → LacksControls (params_text ps)
 params_plain [] e = nothing_plain
 params_plain (p ∷ ps) e = joined_plain p ps e
 
-link_plain : (link : Link) → has_plain_texts link ≡ true → IsPlain (text_of_link (Some link))
+link_plain : (link : Link) → has_plain_texts link ≡ true → LacksControls (text_of_link (Some link))
 unfolding link_text
 link_plain link e =
     let both = and_parts (list_all is_plain_param link.params) (is_plain_text link.uri) e in
@@ -176,11 +168,10 @@ link_plain link e =
 
 pub link_writable : (link : Option Link) → is_carried link ≡ true → osc.IsWritable (set_hyperlink link)
 unfolding is_carried link_reading texts_reading holds_c1
-link_writable None e = record { spelling = refl; no_c0 = refl; no_c1 = refl }
+link_writable None e = record { spelling = refl; clean = record { no_c0 = refl; no_c1 = refl } }
 link_writable (Some link) e =
     let both = and_parts (reads_back link) (has_plain_texts link) e in
-    let texts = link_plain link both.1 in
-    record { spelling = reads_back_is link both.0; no_c0 = texts.no_c0; no_c1 = texts.no_c1 }
+    record { spelling = reads_back_is link both.0; clean = link_plain link both.1 }
 
 no_link : is_carried None ≡ true
 unfolding is_carried

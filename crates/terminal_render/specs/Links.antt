@@ -2,15 +2,15 @@
 use Rattle.std.specs.Prelude.{ℕ, Bool, true, false, not, ◌&&◌, List, [], ◌∷◌, Option, Some, None, Result, Ok, Err}
 use Rattle.std.specs.List.{list_all, list_any}
 use Rattle.std.specs.Str.{bytes_eq}
+use Rattle.std.specs.Char.{is_ascii_control}
+use Rattle.text_clusters.specs.Controls.{holds_c1}
 use Rattle.cell_base.specs.declared.link_error.LinkError.{LinkError}
 use Rattle.cell_base.specs.Link.{Link, Param}
 use Rattle.cell_base.specs.LinkText.{link_text, link_reading, pieces}
-use Rattle.escape_osc.specs.Parts.{holds_c1}
-use Rattle.escape_osc.specs.Writable.{is_control}
 
 -- no C0 control, no DEL, and no U+0080 to U+009F
 abbrev pub is_plain_text : List ℕ → Bool
-is_plain_text text = not (list_any is_control text) && not (holds_c1 text)
+is_plain_text text = not (list_any is_ascii_control text) && not (holds_c1 text)
 
 -- the same keys and values, in the same order
 abbrev pub same_params : List Param → List Param → Bool

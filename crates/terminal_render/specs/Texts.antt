@@ -1,9 +1,9 @@
 -- Texts and titles as actions.
 use Rattle.std.specs.Prelude.{ℕ, List, [], ◌∷◌, Option, Some, None, ◌==◌, ◌||◌, if◌then◌else◌}
 use Rattle.std.specs.List.{flat_map}
+use Rattle.text_clusters.specs.Controls.{holds_c1}
 use Rattle.cell_base.specs.Row.{space}
 use Rattle.escape_osc.specs.Command.{set_window_title}
-use Rattle.escape_osc.specs.Parts.{holds_c1}
 use Rattle.escape_stream.specs.StreamAction.{StreamAction, print_string, control, command}
 use Rattle.screen_effects.specs.Strokes.{TextPart, Plain, Control, text_parts}
 use Rattle.terminal_render.specs.Links.{is_plain_text}

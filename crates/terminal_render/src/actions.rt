@@ -1,5 +1,5 @@
 //! Lists of actions that are being made.
-ghost use Rattle.std.specs.Prelude.{◌≡◌, ◌++◌, ◌∷◌, [], map, IfOk, OnOk, option_map};
+ghost use Rattle.std.specs.Prelude.{◌≡◌, ◌++◌, ◌∷◌, [], length, map, take, IfOk, OnOk, option_map};
 ghost use Rattle.csi_codec.specs.Actions as codec;
 ghost use Rattle.escape_osc.specs.Command.{set_window_title};
 ghost use Rattle.escape_stream.specs.Controls.{control_number};
@@ -133,10 +133,11 @@ impl<'a> Actions<'a> {
         Ok(actions)
     }
 
-    /// Appends the bytes of the actions.
+    /// Appends the bytes of the actions. Where memory is refused, some of them may have been appended.
     #[tactic(auto, using(crate::proofs::SentLemmas::text_next, crate::proofs::SentLemmas::text_end))]
     pub(crate) fn append_to(&self, bytes: &mut Vec<u8>) -> Result<(), AllocError>
-        ensures { OnOk result (bytes.new.items ≡ bytes.old.items ++ stream_text self.now) }
+        ensures ok { OnOk result (bytes.new.items ≡ bytes.old.items ++ stream_text self.now) }
+        ensures front { take (length bytes.old.items) bytes.new.items ≡ bytes.old.items }
     {
         for sent in &self.list {
             sent.append_to(bytes)?;

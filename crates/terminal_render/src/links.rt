@@ -1,50 +1,27 @@
 //! Texts that a stream carries as they are, and links that OSC 8 carries.
 ghost use Rattle.std.specs.Prelude.{◌≡◌, option_map};
 ghost use Rattle.std.specs.List.{list_all, list_any};
+ghost use Rattle.std.specs.Char.{is_ascii_control};
 ghost use Rattle.cell_base.specs.Link.{texts_of};
-ghost use Rattle.escape_osc.specs.Parts.{holds_c1, is_c1};
-ghost use Rattle.escape_osc.specs.Writable.{is_control};
 ghost use Rattle.terminal_render.specs.Links.{has_plain_texts, is_carried, is_plain_param, is_plain_text, reads_back};
 
 use cell_base::Hyperlink;
 use std::collections::BTreeMap;
 use std::rc::Rc;
-
-// Whether two bytes are U+0080 to U+009F: C2 and then 80 to 9F.
-fn is_c1(lead: u8, next: u8) -> bool
-    ensures { result ≡ is_c1 lead next }
-{
-    lead == 0xC2 && next >= 0x80 && next <= 0x9F
-}
-
-/// Whether U+0080 to U+009F stands in a text.
-#[tactic(auto, using(escape_osc::proofs::PartsLemmas::c1_next, escape_osc::proofs::PartsLemmas::c1_found, escape_osc::proofs::PartsLemmas::c1_end))]
-pub(crate) fn holds_c1(text: &str) -> bool
-    ensures { result ≡ holds_c1 text.now }
-{
-    let bytes = text.as_bytes();
-    for i in 1..bytes.len() {
-        if is_c1(bytes[i - 1], bytes[i]) {
-            return true;
-        }
-    }
-    false
-}
+use text_clusters::holds_c1;
 
 // Whether a text holds a C0 control or DEL.
 fn holds_control(text: &str) -> bool
-    ensures { result ≡ list_any is_control text.now }
+    ensures { result ≡ list_any is_ascii_control text.now }
 {
-    text.as_bytes()
-        .iter()
-        .any(|byte| *byte < 0x20 || *byte == 0x7F)
+    text.as_bytes().iter().any(u8::is_ascii_control)
 }
 
 /// Whether a text holds no control of any kind.
 pub(crate) fn is_plain_text(text: &str) -> bool
     ensures { result ≡ is_plain_text text.now }
 {
-    !holds_control(text) && !holds_c1(text)
+    !holds_control(text) && !holds_c1(text.as_bytes())
 }
 
 // Whether keys and values hold none.

@@ -1,6 +1,5 @@
 //! Attributes, pens and clears.
-ghost use Rattle.std.specs.Prelude.{◌≡◌, ◌++◌, ◌∷◌, [], not, OnOk, None, Some, true, if◌then◌else◌, ◌||◌, option_map};
-ghost use Rattle.std.specs.List.{flat_map};
+ghost use Rattle.std.specs.Prelude.{◌≡◌, ◌++◌, ◌∷◌, [], OnOk, None, Some, true, if◌then◌else◌, ◌||◌, option_map};
 ghost use Rattle.cell_base.specs.AttributeValueOf.{attribute_value};
 ghost use Rattle.csi_codec.specs.Actions as codec;
 ghost use Rattle.csi_codec.specs.declared.cursors.Cursor.TheVariants as cursor;
@@ -8,7 +7,7 @@ ghost use Rattle.csi_codec.specs.declared.edits.Edit.TheVariants as edit;
 ghost use Rattle.csi_codec.specs.declared.edits.EraseInDisplay.TheVariants as display;
 ghost use Rattle.csi_codec.specs.declared.rendition.Sgr.TheVariants as sgr;
 ghost use Rattle.escape_stream.specs.StreamAction.{csi};
-ghost use Rattle.terminal_render.specs.Pen.{attribute_setting, colour_setting, is_unsaid, link_action, pen_actions, pen_settings, plain_pen, rendition, set, settings, unless_base_line, unless_default, unless_none, unless_normal, unless_off, unless_steady};
+ghost use Rattle.terminal_render.specs.Pen.{attribute_setting, colour_setting, is_unsaid, pen_actions, pen_settings, plain_pen, settings, unless_base_line, unless_default, unless_none, unless_normal, unless_steady};
 
 use crate::actions::Actions;
 use crate::links::is_carried;

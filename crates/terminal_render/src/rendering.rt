@@ -1,5 +1,5 @@
 //! What is sent for a change.
-ghost use Rattle.std.specs.Prelude.{◌≡◌, ◌↔◌, ◌<◌, ◌^◌, ◌++◌, ◌∷◌, [], map, min, IfOk, OnOk, IsErrOf, Ok, None, Some, option_map};
+ghost use Rattle.std.specs.Prelude.{◌≡◌, ◌↔◌, ◌<◌, ◌^◌, ◌++◌, ◌∷◌, [], length, map, min, take, IfOk, OnErr, OnOk, IsErrOf, Ok, None, Some, option_map};
 ghost use Rattle.cell_base.specs.AttributeValueOf.{attribute_value};
 ghost use Rattle.cell_change.specs.ValueOf.{value_of as change_value};
 ghost use Rattle.csi_codec.specs.declared.cursors.Cursor.TheVariants as cursor;
@@ -17,7 +17,7 @@ ghost use Rattle.terminal_render.specs.Texts.{text_rendering, title_rendering};
 use crate::actions::Actions;
 use crate::error::RenderError;
 use crate::laws::renderings_are_writable;
-use crate::links::{holds_c1, is_carried, is_plain_text};
+use crate::links::{is_carried, is_plain_text};
 use crate::pen::{
     attribute_setting, color_setting, is_unsaid, pen_settings, push_clear, push_clear_screen,
     push_pen,
@@ -34,6 +34,7 @@ use escape_stream::Action;
 use escape_stream::encoding_laws::encoded_lists_join;
 use std::alloc::{AllocError, Global};
 use std::rc::Rc;
+use text_clusters::holds_c1;
 
 // What was done, unless there was no memory.
 fn unless_memory(done: Result<(), AllocError>) -> Result<(), RenderError>
@@ -52,7 +53,7 @@ fn render_text<'a>(actions: &mut Actions<'a>, text: &'a str) -> Result<(), Rende
     ensures some { OnOk result (behind actions.old (text_rendering text.now) ≡ Some actions.new) }
     ensures none { IsErrOf result RenderError.NoSpelling ↔ (text_rendering text.now ≡ None) }
 {
-    if holds_c1(text) {
+    if holds_c1(text.as_bytes()) {
         return Err(RenderError::NoSpelling);
     }
     unless_memory(push_text(actions, text))
@@ -334,7 +335,7 @@ pub fn render(
 
 /// Appends the bytes of what is sent for changes in turn: those that `encode` writes of the actions that
 /// `render` answers for each. They take no list of their own. Where a change has no spelling, or memory is
-/// refused, the bytes of those before it may have been appended.
+/// refused, `bytes` stay as they were.
 pub fn append_renderings(
     alloc: Global,
     changes: &[Change],
@@ -348,6 +349,31 @@ pub fn append_renderings(
     requires height { height < 2 ^ 32 }
     ensures some { OnOk result (option_map (λ actions. bytes.old.items ++ stream_text actions) (all_rendered (map change_value changes.now) width height) ≡ Some bytes.new.items) }
     ensures none { IsErrOf result RenderError.NoSpelling → all_rendered (map change_value changes.now) width height ≡ None }
+    ensures refused { OnErr result (bytes.new.items ≡ bytes.old.items) }
+{
+    let len = bytes.len();
+    let result = append_each(alloc, changes, width, height, bytes);
+    if result.is_err() {
+        bytes.truncate(len);
+    }
+    result
+}
+
+// The same, where what was appended before a refusal stays.
+fn append_each(
+    alloc: Global,
+    changes: &[Change],
+    width: usize,
+    height: usize,
+    bytes: &mut Vec<u8>,
+) -> Result<(), RenderError>
+    requires columns { 0 < width }
+    requires width { width < 2 ^ 32 }
+    requires rows { 0 < height }
+    requires height { height < 2 ^ 32 }
+    ensures some { OnOk result (option_map (λ actions. bytes.old.items ++ stream_text actions) (all_rendered (map change_value changes.now) width height) ≡ Some bytes.new.items) }
+    ensures none { IsErrOf result RenderError.NoSpelling → all_rendered (map change_value changes.now) width height ≡ None }
+    ensures front { take (length bytes.old.items) bytes.new.items ≡ bytes.old.items }
 {
     encoded_lists_join();
     let mut actions = Actions::new(alloc);

@@ -1,8 +1,8 @@
 //! Actions that are sent for a change, lent from it.
-ghost use Rattle.std.specs.Prelude.{◌≡◌, ◌++◌, [], Some, codes, IfOk, IsTrue, OnOk, option_map};
+ghost use Rattle.std.specs.Prelude.{◌≡◌, ◌++◌, Some, length, take, IfOk, OnOk, option_map};
 ghost use Rattle.escape_osc.specs.Command.{set_hyperlink, set_window_title};
 ghost use Rattle.escape_osc.specs.CommandView.{command_of};
-ghost use Rattle.escape_osc.specs.Text.{framed, text_of};
+ghost use Rattle.escape_osc.specs.Text.{text_of};
 ghost use Rattle.escape_stream.specs.StreamAction.{command as stream_command};
 ghost use Rattle.escape_stream.specs.StreamActionView.{value_of};
 ghost use Rattle.escape_stream.specs.StreamText.{action_text};
@@ -65,44 +65,28 @@ fn command_action(alloc: Global, command: OperatingSystemCommand) -> Result<Acti
 
 // The bytes of OSC 2.
 fn append_title(title: &str, bytes: &mut Vec<u8>) -> Result<(), AllocError>
-    ensures { OnOk result (bytes.new.items ≡ bytes.old.items ++ text_of (set_window_title title.now)) }
+    ensures ok { OnOk result (bytes.new.items ≡ bytes.old.items ++ text_of (set_window_title title.now)) }
+    ensures front { take (length bytes.old.items) bytes.new.items ≡ bytes.old.items }
 {
     bytes.extend_from_slice(b"\x1b]2;")?;
     bytes.extend_from_slice(title.as_bytes())?;
     bytes.extend_from_slice(b"\x1b\\")
 }
 
-// Whether a link has no parameters.
-#[tactic(auto, using(crate::proofs::LinkLemmas::no_params))]
-fn is_bare(link: &Hyperlink) -> bool
-    ensures { IsTrue result → link.now.params ≡ [] }
-{
-    link.params().is_empty()
-}
-
-// The bytes of OSC 8 with a URI alone.
-fn append_uri(uri: &str, bytes: &mut Vec<u8>) -> Result<(), AllocError>
-    ensures { OnOk result (bytes.new.items ≡ bytes.old.items ++ framed (codes "8;;" ++ uri.now)) }
-{
-    bytes.extend_from_slice(b"\x1b]8;;")?;
-    bytes.extend_from_slice(uri.as_bytes())?;
-    bytes.extend_from_slice(b"\x1b\\")
-}
-
 // The bytes of OSC 8 with a link.
+#[inline(never)]
 fn append_linked(link: &Rc<Hyperlink>, bytes: &mut Vec<u8>) -> Result<(), AllocError>
-    ensures { OnOk result (bytes.new.items ≡ bytes.old.items ++ text_of (set_hyperlink (Some link.now.value))) }
+    ensures ok { OnOk result (bytes.new.items ≡ bytes.old.items ++ text_of (set_hyperlink (Some link.now.value))) }
+    ensures front { take (length bytes.old.items) bytes.new.items ≡ bytes.old.items }
 {
-    if is_bare(link) {
-        return append_uri(link.uri(), bytes);
-    }
     let command = OperatingSystemCommand::SetHyperlink(Some(link.clone()?));
     command.append_bytes_to(bytes)
 }
 
-// The bytes of OSC 8.
+// The bytes of OSC 8. The end of a link, which each pen without one sends, is appended at once.
 fn append_link(link: Option<&Rc<Hyperlink>>, bytes: &mut Vec<u8>) -> Result<(), AllocError>
-    ensures { OnOk result (bytes.new.items ≡ bytes.old.items ++ text_of (set_hyperlink (option_map (λ l. l.now.value) link.entry))) }
+    ensures ok { OnOk result (bytes.new.items ≡ bytes.old.items ++ text_of (set_hyperlink (option_map (λ l. l.now.value) link.entry))) }
+    ensures front { take (length bytes.old.items) bytes.new.items ≡ bytes.old.items }
 {
     match link {
         Some(link) => append_linked(link, bytes),
@@ -127,9 +111,10 @@ impl<'a> Sent<'a> {
         }
     }
 
-    /// Appends the bytes of the action.
+    /// Appends the bytes of the action. Where memory is refused, some of them may have been appended.
     pub(crate) fn append_to(self, bytes: &mut Vec<u8>) -> Result<(), AllocError>
-        ensures { OnOk result (bytes.new.items ≡ bytes.old.items ++ action_text (sent_value self.entry)) }
+        ensures ok { OnOk result (bytes.new.items ≡ bytes.old.items ++ action_text (sent_value self.entry)) }
+        ensures front { take (length bytes.old.items) bytes.new.items ≡ bytes.old.items }
     {
         match self {
             Sent::Setting(value) => CSI::Sgr(value).append_bytes_to(bytes),

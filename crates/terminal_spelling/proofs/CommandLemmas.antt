@@ -4,22 +4,22 @@ use Rattle.std.specs.Prelude.{⊤, not, unwrap_or, IfSome, Result, Err, option_a
 use Rattle.std.specs.List.{AllByRecursion, list_all}
 use Rattle.std.specs.Str.{bytes_eq, is_utf8}
 use Rattle.std.specs.Result.{result_ok}
-use Rattle.std.proofs.lemmas.Bool.{cond_both}
+use Rattle.std.specs.Char.{is_ascii_control}
+use Rattle.std.proofs.lemmas.Bool.{cond_both, or_parts}
 use Rattle.std.proofs.lemmas.Bool.Decides.{nat_tests}
 use Rattle.std.proofs.lemmas.Str.{IsUtf8-from_is_utf8}
+use Rattle.text_clusters.specs.Controls.{holds_c1}
 use Rattle.cell_base.specs.declared.link_error.LinkError.{LinkError}
 use Rattle.cell_base.specs.Link.{Link, Param}
 use Rattle.cell_base.specs.LinkText.{param_text, params_text, link_text, link_reading, IsReadBack}
 use Rattle.cell_base.proofs.LinkLaws.{body_back}
-use Rattle.escape_framing.specs.Bytes as framing
 use Rattle.escape_framing.specs.Bytes.{taken}
 use Rattle.escape_osc.specs.Command.{Command, set_icon_name_and_window_title, set_icon_name, set_window_title, current_working_directory, set_hyperlink, set_selection, clear_selection, unspecified}
-use Rattle.escape_osc.specs.Parts.{parts_of, joined, holds_c1, any_holds_c1}
+use Rattle.escape_osc.specs.Parts.{parts_of, joined, any_holds_c1}
 use Rattle.escape_osc.specs.Reading.{text_reading, utf8_reading, base64_reading, data_reading, clear_reading, lettered_reading, selection_command, link_command, coded_reading, fitting_reading, osc_reading}
 use Rattle.escape_osc.specs.Selection.{selection_reading}
-use Rattle.escape_osc.specs.Writable.{is_control}
 use Rattle.escape_osc.proofs.ByteLemmas.{each-front, each-back, each_joined, joined_each, none_passes, link_parts_each}
-use Rattle.escape_osc.proofs.C1Lemmas.{LacksC1, or_parts, holds_c1-cons, holds_c1-joint, any_holds_c1-joined, each_lacks_c1, link_parts_lack_c1}
+use Rattle.escape_osc.proofs.C1Lemmas.{LacksC1, holds_c1-cons, holds_c1-joint, any_holds_c1-joined, each_lacks_c1, link_parts_lack_c1}
 use Rattle.escape_osc.proofs.SplitLemmas.{parts_each}
 use Rattle.terminal_render.specs.Links.{is_plain_text, is_plain_param, has_plain_texts, is_carried}
 use Rattle.terminal_render.proofs.LinkLemmas.{is_read_back}
@@ -30,13 +30,13 @@ use Rattle.terminal_spelling.specs.Spelling.{IsSpelledTitle, IsSpelledRequest}
 
 -- no C0 control and no DEL
 abbrev pub IsPlain : ℕ → Type 0
-IsPlain b = is_control b ≡ false
+IsPlain b = is_ascii_control b ≡ false
 
 abbrev pub ArePlain : List ℕ → Type 0
 ArePlain bytes = AllByRecursion IsPlain bytes
 
 plain_text : (text : List ℕ) → ArePlain text → holds_c1 text ≡ false → is_plain_text text ≡ true
-plain_text text c0 c1 = λ i. not (none_passes is_control text c0 i) && not (c1 i)
+plain_text text c0 c1 = λ i. not (none_passes is_ascii_control text c0 i) && not (c1 i)
 
 joined_plain : (parts : List (List ℕ)) → AllByRecursion ArePlain parts → any_holds_c1 parts ≡ false → is_plain_text (joined parts) ≡ true
 joined_plain parts c0 c1 = plain_text (joined parts) (joined_each IsPlain 59 parts refl c0) (sym (any_holds_c1-joined 59 parts (omega arith)) ∙ c1)
@@ -157,11 +157,10 @@ read_spelled body h =
 
 -- ---- bodies
 
-plain_byte : (b : ℕ) → not (framing.is_control b) ≡ true → IsPlain b
-unfolding framing.is_control
+plain_byte : (b : ℕ) → not (is_ascii_control b) ≡ true → IsPlain b
 plain_byte b e = grind (arith, nat_tests)
 
 -- the bytes of a body that are taken are no controls
 pub taken_plain : (body : List ℕ) → ArePlain (taken body)
 taken_plain [] = tt
-taken_plain (b ∷ body) = cond_both (not (framing.is_control b)) _ _ ArePlain (λ e. (plain_byte b e, taken_plain body)) (λ e. taken_plain body)
+taken_plain (b ∷ body) = cond_both (not (is_ascii_control b)) _ _ ArePlain (λ e. (plain_byte b e, taken_plain body)) (λ e. taken_plain body)

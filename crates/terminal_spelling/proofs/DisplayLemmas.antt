@@ -4,6 +4,7 @@ use Rattle.std.specs.Prelude.{All, None, ◌==◌, ◌&&◌, min, nat_lt, nat_le
 use Rattle.std.specs.List.{AllByRecursion}
 use Rattle.std.proofs.lemmas.Bool.{cond_both}
 use Rattle.std.proofs.lemmas.List.Elements.{All-append, All-cons, All-nil, All-drop, All-take, All-map, All-set, All-replicate}
+use Rattle.text_clusters.specs.Controls.{holds_c1}
 use Rattle.cell_base.specs.declared.color.ColorAttribute.{ColorAttribute}
 use Rattle.cell_base.specs.Attributes.{Attributes, plain, blank_of}
 use Rattle.cell_base.specs.AttributeValue as one
@@ -20,7 +21,6 @@ use Rattle.screen_effects.specs.Resize.{resized, resized_screen, resized_row}
 use Rattle.screen_effects.specs.Strokes.{Stroke, CarriageReturn, LineFeed, Cluster, stroke_done, strokes}
 use Rattle.screen_effects.proofs.EffectLaws.{effect_is}
 use Rattle.screen_effects.proofs.StrokeLaws.{stroke_is}
-use Rattle.escape_osc.specs.Parts.{holds_c1}
 use Rattle.terminal_render.specs.Links.{is_carried}
 use Rattle.terminal_spelling.specs.Spelling.{IsToldColor, IsSpelledPen, IsSpelledRun, IsSpelledTitle, IsSpelledRow, IsSpelledScreen, IsSpelledValue, IsSpelledChange}
 use Rattle.terminal_spelling.proofs.TextLemmas.{AreSpelledStrokes, spelled_space, strokes_spelled}

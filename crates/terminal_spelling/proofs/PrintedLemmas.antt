@@ -1,11 +1,12 @@
 -- What is sent for changes prints their texts.
 use Rattle.std.proofs.Common.{◌≡◌, ℕ, Bool, true, false, List, [], ◌∷◌, ◌++◌, map, refl, sym, ap, subst, ◌∙◌}
 use Rattle.std.specs.Prelude.{◌==◌, ◌||◌, flat_map, Option, Some, None, IfSome, option_map, if◌then◌else◌}
+use Rattle.std.specs.Char.{is_ascii_control}
 use Rattle.std.proofs.lemmas.Bool.{cond_both}
 use Rattle.std.proofs.lemmas.Grind.{flat_map-append}
+use Rattle.text_clusters.specs.Controls.{holds_c1}
 use Rattle.cell_base.specs.AttributeValue as one
 use Rattle.cell_base.specs.AttributeValue.{AttributeValue}
-use Rattle.cell_base.specs.CellContent.{is_control}
 use Rattle.cell_base.specs.Row.{space}
 use Rattle.cell_base.specs.declared.color.ColorAttribute.{ColorAttribute}
 use Rattle.cell_change.specs.ChangeValue.{ChangeValue, Attribute, AllAttributes, Text, ClearScreen, ClearToEndOfLine, ClearToEndOfScreen, CursorPosition, CursorColor, CursorShape, CursorVisibility, LineAttribute, ScrollRegionUp, ScrollRegionDown, Title}
@@ -14,7 +15,6 @@ use Rattle.csi_codec.specs.declared.edits.Edit.{Edit}
 use Rattle.csi_codec.specs.declared.edits.Edit.TheVariants as edit
 use Rattle.csi_codec.specs.declared.rendition.Sgr.{Sgr}
 use Rattle.csi_codec.specs.declared.rendition.Sgr.TheVariants as sgr
-use Rattle.escape_osc.specs.Parts.{holds_c1}
 use Rattle.escape_stream.specs.StreamAction.{StreamAction, control, printed}
 use Rattle.screen_effects.specs.Strokes.{TextPart, Control, Plain, with_byte, text_parts}
 use Rattle.terminal_render.specs.Links.{is_carried, is_plain_text}
@@ -39,7 +39,7 @@ control_prints false byte = refl
 
 text_prints : (text : List ℕ) → prints_in (flat_map part_actions (text_parts text)) ≡ flat_map byte_printed text
 text_prints [] = refl
-text_prints (b ∷ text) = by_test (is_control b) (text_prints text)
+text_prints (b ∷ text) = by_test (is_ascii_control b) (text_prints text)
   where
     by_test : (t : Bool) → prints_in (flat_map part_actions (text_parts text)) ≡ flat_map byte_printed text
         → prints_in (flat_map part_actions (if t then Control b ∷ text_parts text else with_byte b (text_parts text))) ≡ (if t then (if b == 13 || b == 10 then [] else space) else b ∷ []) ++ flat_map byte_printed text

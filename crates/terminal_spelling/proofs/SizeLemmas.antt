@@ -2,9 +2,9 @@
 use Rattle.std.proofs.Common.{◌≡◌, ℕ, ◌+◌, ◌*◌, ◌^◌, ◌<◌, ◌≤◌, inl, inr, Bool, false, List, [], ◌∷◌, ◌++◌, length, refl, sym, ap, subst, arith, length-append}
 use Rattle.std.specs.Prelude.{not, IfSome, Option, None, Some}
 use Rattle.std.specs.List.{list_all}
+use Rattle.std.specs.Char.{is_ascii_control}
 use Rattle.std.proofs.lemmas.Bool.{cond_both}
 use Rattle.std.proofs.lemmas.List.Sums.{sum_by-cons}
-use Rattle.cell_base.specs.CellContent.{is_control}
 use Rattle.cell_change.specs.ChangeValue.{ChangeValue, Text}
 use Rattle.escape_stream.specs.StreamAction.{StreamAction}
 use Rattle.escape_stream.specs.StreamText.{closes_string, text_behind, texts_behind, stream_text}
@@ -34,7 +34,7 @@ joined_short closed (x ∷ xs) ys =
 module _ (others : RenderingsAreShort) (texts : TextsAreShort) (runs : RunsAreShort) where
   change_short : (change : ChangeValue) (width height : ℕ) (actions : List StreamAction) → IsChange change → 0 < width → width < 2 ^ 32 → 0 < height → height < 2 ^ 32 → rendering change width height ≡ Some actions → length (stream_text actions) ≤ sent_size change
   change_short (Text text) width height actions k w wide h tall e =
-      cond_both (list_all (λ b. not (is_control b)) text) (length text + 1) (2 * length text) (λ most. length (stream_text actions) ≤ most) (λ t. runs text width height actions t e) (λ t. texts text width height actions e)
+      cond_both (list_all (λ b. not (is_ascii_control b)) text) (length text + 1) (2 * length text) (λ most. length (stream_text actions) ≤ most) (λ t. runs text width height actions t e) (λ t. texts text width height actions e)
   change_short change width height actions k w wide h tall e = others change width height actions k w wide h tall refl e
 
   pub lists_short : (width height : ℕ) (changes : List ChangeValue) (actions : List StreamAction) → 0 < width → width < 2 ^ 32 → 0 < height → height < 2 ^ 32 → HaveSpellings width height changes

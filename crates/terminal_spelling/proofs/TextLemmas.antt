@@ -1,25 +1,23 @@
 -- Texts without U+0080 to U+009F: what is joined of them is one, and so is each cluster of those without C0 controls and DEL.
 use Rattle.std.proofs.Common.{◌≡◌, ℕ, zero, suc, ◌+◌, ◌/◌, ◌%◌, ◌<◌, ◌≤◌, inl, inr, Bool, true, false, List, [], ◌∷◌, ◌++◌, length, map, refl, sym, ap, subst, ◌∙◌, arith, append_assoc, append-nil, length-append}
 use Rattle.std.specs.Prelude.{⊤, ◌⊎◌, ◌==◌, ◌&&◌, ◌||◌, not, nat_le, All, encode_utf8, encode_utf8_all, if◌then◌else◌}
-use Rattle.std.specs.Char.{IsScalar}
+use Rattle.std.specs.Char.{IsScalar, is_ascii_control}
 use Rattle.std.specs.List.{AllByRecursion, flat_map, list_all}
-use Rattle.std.proofs.lemmas.Bool.{or_parts}
+use Rattle.std.proofs.lemmas.Bool.{or_parts, and_parts}
 use Rattle.std.proofs.lemmas.Bool.Decides.{nat_tests}
 use Rattle.std.proofs.lemmas.List.Elements.{All-cons, All-head, All-nil, All-tail}
 use Rattle.std.proofs.lemmas.List.Folds.{list_all-append}
 use Rattle.std.proofs.lemmas.Str.{IsUtf8-append, IsUtf8-from_ascii, IsUtf8-nil, encodes-append}
 use Rattle.std.proofs.lemmas.Str.Ascii.{IsAscii-cons, IsAscii-nil}
+use Rattle.text_clusters.specs.Controls.{is_c1, holds_c1}
 use lib.Utf8.{encode, scalar, scalars}
 use Rattle.unicode_segmentation.specs.Grapheme.{graphemes}
-use Rattle.cell_base.specs.CellContent.{is_control}
 use Rattle.cell_base.specs.Cluster.{clusters}
 use Rattle.cell_base.specs.Row.{space}
 use Rattle.cell_base.proofs.Pieces.{all_joined}
 use Rattle.cell_base.proofs.PlainClusters.{clusters_are}
 use Rattle.escape_framing.specs.Segment.{IsPrintable}
 use Rattle.escape_framing.specs.Existence.Utf8Lemmas.{Spelled, in_one, in_two, in_three, in_four, spelled, order}
-use Rattle.escape_framing.specs.Existence.SevenBitLemmas.{both}
-use Rattle.escape_osc.specs.Parts.{is_c1, holds_c1}
 use Rattle.escape_osc.proofs.C1Lemmas.{holds_c1-cons}
 use Rattle.screen_effects.specs.Strokes.{Stroke, CarriageReturn, LineFeed, Cluster, TextPart, Control, Plain, text_parts, part_strokes, strokes}
 use Rattle.terminal_render.proofs.CharacterLemmas.{IsGood, AreGood, above, no_c1_behind, parts_good}
@@ -95,7 +93,7 @@ printable_told c (inr high) = inr high
 characters_free : (cs rest : List ℕ) → scalars cs ≡ true → holds_c1 (encode_utf8_all cs) ≡ false → holds_c1 (encode_utf8_all cs ++ rest) ≡ holds_c1 rest
 characters_free [] rest s h = refl
 characters_free (c ∷ cs) rest s h =
-    let p = both (scalar c) (scalars cs) s in
+    let p = and_parts (scalar c) (scalars cs) s in
     ap holds_c1 (append_assoc (encode_utf8 c) (encode_utf8_all cs) rest) ∙ character_free c (encode_utf8_all cs ++ rest) p.0 (character_told c (encode_utf8_all cs) p.0 h)
     ∙ characters_free cs rest p.1 (no_c1_behind (encode_utf8 c) (encode_utf8_all cs) h)
 
@@ -103,7 +101,7 @@ printable_free : (cs : List ℕ) → scalars cs ≡ true → All IsPrintable cs 
 unfolding holds_c1
 printable_free [] s h = refl
 printable_free (c ∷ cs) s h =
-    let p = both (scalar c) (scalars cs) s in
+    let p = and_parts (scalar c) (scalars cs) s in
     character_free c (encode_utf8_all cs) p.0 (printable_told c (All-head IsPrintable c cs h)) ∙ printable_free cs p.1 (All-tail IsPrintable c cs h)
 
 front_free : (front rest : List ℕ) → holds_c1 (front ++ rest) ≡ false → holds_c1 front ≡ false
@@ -145,7 +143,7 @@ printable_spelled cs s h = record { utf8 = (cs, (s, refl)); no_c1 = printable_fr
 printable_printed : (cs : List ℕ) → scalars cs ≡ true → All IsPrintable cs → IsPrinted (encode_utf8_all cs)
 printable_printed [] s h = refl
 printable_printed (c ∷ cs) s h =
-    let p = both (scalar c) (scalars cs) s in
+    let p = and_parts (scalar c) (scalars cs) s in
     printed_append (encode_utf8 c) (encode_utf8_all cs) (character_printed c p.0 (All-head IsPrintable c cs h)) (printable_printed cs p.1 (All-tail IsPrintable c cs h))
 
 printable_run : (cs : List ℕ) → scalars cs ≡ true → All IsPrintable cs → IsSpelledRun (encode_utf8_all cs)
@@ -160,12 +158,12 @@ abbrev pub AreSpelledRuns : List (List ℕ) → Type 0
 AreSpelledRuns = AllByRecursion IsSpelledRun
 
 printed_parts : (front rest : List ℕ) → IsPrinted (front ++ rest) → IsPrinted front × IsPrinted rest
-printed_parts front rest h = both (list_all (λ b. not (is_control b)) front) (list_all (λ b. not (is_control b)) rest) (sym (list_all-append (λ b. not (is_control b)) front rest) ∙ h)
+printed_parts front rest h = and_parts (list_all (λ b. not (is_ascii_control b)) front) (list_all (λ b. not (is_ascii_control b)) rest) (sym (list_all-append (λ b. not (is_ascii_control b)) front rest) ∙ h)
 
 scalars_parts : (xs ys : List ℕ) → scalars (xs ++ ys) ≡ true → (scalars xs ≡ true) × (scalars ys ≡ true)
 scalars_parts [] ys h = (refl, h)
 scalars_parts (c ∷ xs) ys h =
-    let p = both (scalar c) (scalars (xs ++ ys)) h in
+    let p = and_parts (scalar c) (scalars (xs ++ ys)) h in
     let rest = scalars_parts xs ys p.1 in
     ((λ i. p.0 i && rest.0 i), rest.1)
 

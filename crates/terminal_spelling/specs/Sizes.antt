@@ -1,7 +1,7 @@
 -- How many bytes are sent for changes at most, and what they print.
 use Rattle.std.specs.Prelude.{ℕ, ◌+◌, ◌*◌, ◌≤◌, not, ◌==◌, ◌||◌, IfSome, List, [], ◌∷◌, length, flat_map, sum_by, if◌then◌else◌}
 use Rattle.std.specs.List.{AllByRecursion, list_all}
-use Rattle.cell_base.specs.CellContent.{is_control}
+use Rattle.std.specs.Char.{is_ascii_control}
 use Rattle.cell_base.specs.Row.{space}
 use Rattle.cell_change.specs.ChangeValue.{ChangeValue, Text}
 use Rattle.escape_stream.specs.StreamAction.{StreamAction, printed}
@@ -12,7 +12,7 @@ use Rattle.terminal_render.specs.Sizes.{carried_size}
 -- at most so many bytes are sent for a change: for a text twice its bytes, or one more than it has where it holds no C0 control
 -- and no DEL; for any other change 320 beside its title, or its link's parameters and URI
 abbrev pub sent_size : ChangeValue → ℕ
-sent_size (Text text) = if list_all (λ b. not (is_control b)) text then length text + 1 else 2 * length text
+sent_size (Text text) = if list_all (λ b. not (is_ascii_control b)) text then length text + 1 else 2 * length text
 sent_size change = carried_size change + 320
 
 abbrev pub all_sent_size : List ChangeValue → ℕ
@@ -33,7 +33,7 @@ AreShort width height = AllByRecursion (IsShort width height)
 -- what a byte of a text prints: itself; a C0 control or DEL a space, but for CR and LF, which print nothing
 abbrev pub byte_printed : ℕ → List ℕ
 byte_printed byte =
-    if is_control byte then (if byte == 13 || byte == 10 then [] else space)
+    if is_ascii_control byte then (if byte == 13 || byte == 10 then [] else space)
     else byte ∷ []
 
 -- what a change prints: its text, and any other change nothing

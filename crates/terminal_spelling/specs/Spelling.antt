@@ -1,6 +1,7 @@
 -- What a terminal keeps so that each of its changes has a spelling.
 use Rattle.std.specs.Prelude.{◌≡◌, ◌≢◌, ◌≤◌, ◌⊎◌, ⊤, ℕ, All, true, false, List, [], ◌∷◌, Option, Some, None}
 use Rattle.std.specs.Str.{IsUtf8}
+use Rattle.text_clusters.specs.Controls.{holds_c1}
 use Rattle.cell_base.specs.declared.attributes.CursorShape.{CursorShape as Shape}
 use Rattle.cell_base.specs.declared.attributes.Position.TheVariants.{Absolute}
 use Rattle.cell_base.specs.declared.attributes.SemanticType.TheVariants.{Output}
@@ -13,7 +14,6 @@ use Rattle.cell_base.specs.Row.{Row, Narrow, LeftHalf, RightHalf}
 use Rattle.cell_base.specs.Screen.{Screen, height}
 use Rattle.cell_change.specs.ChangeValue.{ChangeValue, Attribute, AllAttributes, Text, ClearScreen, ClearToEndOfLine, ClearToEndOfScreen, CursorPosition, CursorShape, Title}
 use Rattle.csi_codec.specs.Writable.{IsWritableSgr}
-use Rattle.escape_osc.specs.Parts.{holds_c1}
 use Rattle.escape_stream.specs.StreamAction.{printed}
 use Rattle.terminal_render.specs.Carried.{IsChange}
 use Rattle.terminal_render.specs.Links.{is_carried, is_plain_text}

@@ -2,12 +2,12 @@
 use Rattle.std.proofs.Common.{◌≡◌, ℕ, ◌+◌, ◌≤◌, ◌/◌, ◌%◌, inl, inr, Bool, true, false, List, [], ◌∷◌, ◌++◌, map, fold, refl, sym, ap, subst, ◌∙◌, arith}
 use Rattle.std.specs.Prelude.{◌&&◌, not, encode_utf8}
 use Rattle.std.specs.List.{flat_map, list_all}
-use Rattle.std.specs.Char.{IsScalar}
+use Rattle.std.specs.Char.{IsScalar, is_ascii_control}
+use Rattle.std.proofs.lemmas.Bool.{and_parts}
 use Rattle.std.proofs.lemmas.Bool.Decides.{nat_tests}
 use Rattle.std.proofs.lemmas.List.Folds.{list_all-append}
 use Rattle.std.specs.Str.{chars}
 use Rattle.unicode_segmentation.proofs.Computing.{unicode_segmentation}
-use Rattle.cell_base.specs.CellContent.{is_control}
 use Rattle.cell_base.specs.Cluster.{clusters}
 use Rattle.cell_base.specs.Screen.{put, put_run}
 use Rattle.escape_framing.specs.Segment.{IsPrintable}
@@ -23,25 +23,21 @@ use Rattle.terminal_table.proofs.ListLemmas.{append_nil}
 use Rattle.terminal_table.proofs.TurnLemmas.{stroke_single}
 
 abbrev is_plain : ℕ → Bool
-is_plain b = not (is_control b)
-
-pub both : (a b : Bool) → (a && b) ≡ true → (a ≡ true) × (b ≡ true)
-both true b e = (refl, e)
-both false b e = absurd (grind (arith, nat_tests))
+is_plain b = not (is_ascii_control b)
 
 -- ---- a text without controls is one part
 
-no_control : (b : ℕ) → is_plain b ≡ true → is_control b ≡ false
-no_control b h = by_test (is_control b) refl
+no_control : (b : ℕ) → is_plain b ≡ true → is_ascii_control b ≡ false
+no_control b h = by_test (is_ascii_control b) refl
   where
-    by_test : (x : Bool) → is_control b ≡ x → is_control b ≡ false
+    by_test : (x : Bool) → is_ascii_control b ≡ x → is_ascii_control b ≡ false
     by_test false e = e
     by_test true e = absurd (grind (arith, nat_tests, h, e))
 
 pub one_part : (b : ℕ) (text : List ℕ) → IsPrinted (b ∷ text) → text_parts (b ∷ text) ≡ Plain (b ∷ text) ∷ []
-one_part b [] h = rw (no_control b (both (is_plain b) true h).0) refl
+one_part b [] h = rw (no_control b (and_parts (is_plain b) true h).0) refl
 one_part b (x ∷ text) h =
-    let p = both (is_plain b) (list_all is_plain (x ∷ text)) h in
+    let p = and_parts (is_plain b) (list_all is_plain (x ∷ text)) h in
     rw (no_control b p.0) (ap (with_byte b) (one_part x text p.1))
 
 pub no_clusters : clusters [] ≡ []

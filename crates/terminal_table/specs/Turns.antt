@@ -1,9 +1,9 @@
 -- What the laws say of displays: that one turns into another, and what is replayed for an event.
 use Rattle.std.specs.Prelude.{◌≡◌, ℕ, ◌<◌, ⊤, List, [], ◌∷◌, All, IsTrue, not}
 use Rattle.std.specs.List.{list_all}
+use Rattle.std.specs.Char.{is_ascii_control}
 use Rattle.cell_base.specs.declared.attributes.LineAttribute.{LineAttribute}
 use Rattle.cell_base.specs.declared.attributes.LineAttribute.TheVariants.{SingleWidthLine}
-use Rattle.cell_base.specs.CellContent.{is_control}
 use Rattle.cell_base.specs.Screen.{Screen}
 use Rattle.cell_change.specs.ChangeValue.{ChangeValue}
 use Rattle.change_log.specs.LogSteps as log
@@ -30,7 +30,7 @@ pub record Turns (before after : Display) (shown : Screen) : Type 0 where
 
 -- no C0 control and no DEL
 abbrev pub IsPrinted : List ℕ → Type 0
-IsPrinted text = IsTrue (list_all (λ b. not (is_control b)) text)
+IsPrinted text = IsTrue (list_all (λ b. not (is_ascii_control b)) text)
 
 -- what each view keeps: a lawful state, and a run without controls
 pub record IsView (view : View) : Type 0 where

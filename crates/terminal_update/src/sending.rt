@@ -1,5 +1,5 @@
 //! The update.
-ghost use Rattle.std.specs.Prelude.{◌≡◌, ◌<◌, ◌^◌, ◌++◌, false, map, IfOk, OnOk};
+ghost use Rattle.std.specs.Prelude.{◌≡◌, ◌<◌, ◌^◌, ◌++◌, false, length, map, take, IfOk, OnErr, OnOk};
 ghost use Rattle.std.specs.List.{flat_map};
 ghost use Rattle.std.specs.Option.{option_map};
 ghost use Rattle.cell_base.specs.declared.attributes.Position.TheVariants as place;
@@ -79,8 +79,8 @@ fn due_changes<W: Widths + Drop>(
 }
 
 /// A terminal of so many columns and rows, to which changes are sent: the bytes of what is sent for them are
-/// appended, by ECMA-48 and xterm's control sequences. Want of memory is the only refusal; the bytes of some of
-/// them may have been appended then.
+/// appended, by ECMA-48 and xterm's control sequences. Want of memory is the only refusal; the bytes stay as they
+/// were then.
 #[derive(Clone, Copy)]
 pub struct Receiver {
     alloc: Global,
@@ -113,7 +113,8 @@ impl Receiver {
     /// Sends changes in turn, each of which has a spelling.
     pub fn send_all(&self, bytes: &mut Vec<u8>, changes: &[Change]) -> Result<(), AllocError>
         requires { HaveSpellings self.now.width self.now.height (map value_of changes.now) }
-        ensures { OnOk result (bytes.new.items ≡ bytes.old.items ++ texts_sent self.now.width self.now.height (map value_of changes.now)) }
+        ensures ok { OnOk result (bytes.new.items ≡ bytes.old.items ++ texts_sent self.now.width self.now.height (map value_of changes.now)) }
+        ensures refused { OnErr result (bytes.new.items ≡ bytes.old.items) }
     {
         encoded_lists_join();
         match append_renderings(self.alloc, changes, self.width, self.height, bytes) {
@@ -126,7 +127,8 @@ impl Receiver {
     /// Sends a change.
     pub fn send(&self, bytes: &mut Vec<u8>, change: &Change) -> Result<(), AllocError>
         requires { HasSpelling self.now.width self.now.height (value_of change.now) }
-        ensures { OnOk result (bytes.new.items ≡ bytes.old.items ++ text_for self.now.width self.now.height (value_of change.now)) }
+        ensures ok { OnOk result (bytes.new.items ≡ bytes.old.items ++ text_for self.now.width self.now.height (value_of change.now)) }
+        ensures refused { OnErr result (bytes.new.items ≡ bytes.old.items) }
     {
         self.send_all(bytes, slice::from_ref(change))
     }
@@ -134,7 +136,8 @@ impl Receiver {
     /// Sends a title.
     pub fn send_title(&self, bytes: &mut Vec<u8>, title: &str) -> Result<(), AllocError>
         requires { HasSpelling self.now.width self.now.height (Title title.now) }
-        ensures { OnOk result (bytes.new.items ≡ bytes.old.items ++ text_for self.now.width self.now.height (Title title.now)) }
+        ensures ok { OnOk result (bytes.new.items ≡ bytes.old.items ++ text_for self.now.width self.now.height (Title title.now)) }
+        ensures refused { OnErr result (bytes.new.items ≡ bytes.old.items) }
     {
         let title = String::from_str(self.alloc, title)?;
         self.send(bytes, &Change::Title(title))
@@ -143,7 +146,8 @@ impl Receiver {
     // Sends a text.
     fn send_text(&self, bytes: &mut Vec<u8>, text: &str) -> Result<(), AllocError>
         requires { HasSpelling self.now.width self.now.height (Text text.now) }
-        ensures { OnOk result (bytes.new.items ≡ bytes.old.items ++ text_for self.now.width self.now.height (Text text.now)) }
+        ensures ok { OnOk result (bytes.new.items ≡ bytes.old.items ++ text_for self.now.width self.now.height (Text text.now)) }
+        ensures refused { OnErr result (bytes.new.items ≡ bytes.old.items) }
     {
         let text = String::from_str(self.alloc, text)?;
         self.send(bytes, &Change::Text(text))
@@ -152,7 +156,8 @@ impl Receiver {
     /// Sends attributes.
     pub fn send_pen(&self, bytes: &mut Vec<u8>, pen: &CellAttributes) -> Result<(), AllocError>
         requires { HasSpelling self.now.width self.now.height (AllAttributes pen.now) }
-        ensures { OnOk result (bytes.new.items ≡ bytes.old.items ++ text_for self.now.width self.now.height (AllAttributes pen.now)) }
+        ensures ok { OnOk result (bytes.new.items ≡ bytes.old.items ++ text_for self.now.width self.now.height (AllAttributes pen.now)) }
+        ensures refused { OnErr result (bytes.new.items ≡ bytes.old.items) }
     {
         let pen = pen.try_clone()?;
         self.send(bytes, &Change::AllAttributes(pen))
@@ -166,7 +171,8 @@ impl Receiver {
         row: usize,
     ) -> Result<(), AllocError>
         requires { HasSpelling self.now.width self.now.height (CursorPosition (place.Absolute column) (place.Absolute row)) }
-        ensures { OnOk result (bytes.new.items ≡ bytes.old.items ++ text_for self.now.width self.now.height (CursorPosition (place.Absolute column) (place.Absolute row))) }
+        ensures ok { OnOk result (bytes.new.items ≡ bytes.old.items ++ text_for self.now.width self.now.height (CursorPosition (place.Absolute column) (place.Absolute row))) }
+        ensures refused { OnErr result (bytes.new.items ≡ bytes.old.items) }
     {
         let place = Change::CursorPosition {
             x: Position::Absolute(column),
@@ -184,7 +190,27 @@ impl Receiver {
     ) -> Result<(), AllocError>
         requires stays { surface.now.is_failed ≡ false }
         requires spelled { HaveSpellings self.now.width self.now.height (written_again (shown_by surface.now).screen (last_cell (cursor_row (shown_by surface.now).screen))) }
-        ensures { OnOk result (bytes.new.items ≡ bytes.old.items ++ texts_sent self.now.width self.now.height (written_again (shown_by surface.now).screen (last_cell (cursor_row (shown_by surface.now).screen)))) }
+        ensures ok { OnOk result (bytes.new.items ≡ bytes.old.items ++ texts_sent self.now.width self.now.height (written_again (shown_by surface.now).screen (last_cell (cursor_row (shown_by surface.now).screen)))) }
+        ensures refused { OnErr result (bytes.new.items ≡ bytes.old.items) }
+    {
+        let len = bytes.len();
+        let result = self.append_again(bytes, surface);
+        if result.is_err() {
+            bytes.truncate(len);
+        }
+        result
+    }
+
+    // The same, where what was appended before a refusal stays.
+    fn append_again<W: Widths + Drop>(
+        &self,
+        bytes: &mut Vec<u8>,
+        surface: &Surface<W>,
+    ) -> Result<(), AllocError>
+        requires stays { surface.now.is_failed ≡ false }
+        requires spelled { HaveSpellings self.now.width self.now.height (written_again (shown_by surface.now).screen (last_cell (cursor_row (shown_by surface.now).screen))) }
+        ensures ok { OnOk result (bytes.new.items ≡ bytes.old.items ++ texts_sent self.now.width self.now.height (written_again (shown_by surface.now).screen (last_cell (cursor_row (shown_by surface.now).screen)))) }
+        ensures front { take (length bytes.old.items) bytes.new.items ≡ bytes.old.items }
     {
         let Some(cell) = last_cell(cursor_line(surface)) else {
             return Ok(());

@@ -5,6 +5,8 @@
 #[cfg(test)]
 mod attributes;
 #[cfg(test)]
+mod by_value;
+#[cfg(test)]
 mod canvases;
 #[cfg(test)]
 mod changes;

@@ -27,7 +27,7 @@ use Rattle.unicode_segmentation.specs.Grapheme.{graphemes, break_by_pair, ends_i
 use Rattle.unicode_segmentation.specs.Segments.{segments}
 use Rattle.text_clusters.specs.Apart.{is_early, is_sign, is_eastern, is_later, is_late, stands_apart, is_flag_half, is_apart_first, begins_apart, BeginsWith, BeginsPrintable, IsFirst, apart_len}
 use Rattle.text_clusters.specs.Plain.{is_printable, each}
-use Rattle.text_clusters.proofs.CharacterFacts.{is_conjunct_mark}
+use Rattle.text_clusters.proofs.CharacterFacts.{is_conjunct_mark, implies_from}
 use Rattle.text_clusters.proofs.CutLemmas.{by_test, breaks, pieces, forgets, cut_behind, cut_here, last_alone, pieces-nil}
 use Rattle.text_clusters.proofs.PlainLemmas.{chars-ascii, front_printable, front_len, prefix_taken, printable_below, printable_front}
 
@@ -46,10 +46,6 @@ is_free_character c = is_free (grapheme_cluster_break c) && not (is_conjunct_mar
 abbrev free_stepped : Stepped is_free_character
 free_stepped =
     zip_stepped (λ g i. is_free g && not (is_conjunct_mark i)) grapheme_cluster_break indic_conjunct_break grapheme_cluster_break_stepped indic_conjunct_break_stepped
-
-implies_from : (a b : Bool) → (not a || b) ≡ true → a ≡ true → b ≡ true
-implies_from true b e h = e
-implies_from false b e h = absurd (false≢true h)
 
 abbrev early_ranges : List Range
 early_ranges = (0x20, 0x7E) ∷ (0xA0, 0xAC) ∷ (0xAE, 0x2FF) ∷ (0x370, 0x482) ∷ (0x48A, 0x590) ∷ []

@@ -41,7 +41,7 @@ is_conjunct_mark InCb.Extend = true
 is_conjunct_mark InCb.Linker = true
 is_conjunct_mark _ = false
 
-implies_from : (a b : Bool) → (not a || b) ≡ true → a ≡ true → b ≡ true
+pub implies_from : (a b : Bool) → (not a || b) ≡ true → a ≡ true → b ≡ true
 implies_from true b e h = e
 implies_from false b e h = absurd (cc)
 

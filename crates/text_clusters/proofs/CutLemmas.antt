@@ -1,7 +1,7 @@
 -- The clusters of a text, cut one by one: where a boundary stands the rules see nothing of what is before it.
 use Rattle.std.proofs.Common.{◌≡◌, ℕ, Bool, true, false, not, ◌&&◌, ◌||◌, List, [], ◌∷◌, ◌++◌, map, unwrap_or, refl, sym, ap, ◌∙◌, append-nil}
 use Rattle.std.specs.Prelude.{if◌then◌else◌}
-use Rattle.std.proofs.lemmas.Bool.{false≢true}
+use Rattle.std.proofs.lemmas.Bool.{false≢true, not-true, or_from}
 use Rattle.ucd_breaks.specs.GraphemeClusterBreak.{grapheme_cluster_break}
 use Rattle.ucd_breaks.specs.declared.GraphemeClusterBreak.{GraphemeClusterBreak}
 use Rattle.ucd_breaks.specs.declared.GraphemeClusterBreak.TheVariants.{Control, Cr, Extend, L, Lf, Lv, Lvt, Prepend, RegionalIndicator, SpacingMark, T, V, Other, Zwj}
@@ -227,13 +227,6 @@ behind_flag g V a m r e = absurd (false≢true r)
 behind_flag g Other a m r e = absurd (false≢true r)
 behind_flag g Zwj a m r e = absurd (false≢true r)
 
-not_true : (b : Bool) → not b ≡ true → b ≡ false
-not_true true e = sym e
-not_true false e = refl
-
-or_none : (a b : Bool) → a ≡ false → b ≡ false → (a || b) ≡ false
-or_none a b e f = λ i. e i || f i
-
 module _ (d b : ℕ) (bs cs : List ℕ) (boundary : breaks (b ∷ bs) (d ∷ cs) ≡ true) where
   control_before : joins_left (grapheme_cluster_break d) ≡ true → is_control (grapheme_cluster_break b) ≡ true
   unfolding is_grapheme_break
@@ -251,7 +244,7 @@ module _ (d b : ℕ) (bs cs : List ℕ) (boundary : breaks (b ∷ bs) (d ∷ cs)
 
   no_pictograph : is_control (grapheme_cluster_break b) ≡ true → ends_in_pictograph (b ∷ bs) ≡ false
   unfolding ends_in_pictograph
-  no_pictograph c = or_none (is_extended_pictographic b) _ (not_true _ (control_is_no_pictograph b c)) (ap (λ t. t && ends_in_pictograph bs) (control_is_no_extend (grapheme_cluster_break b) c))
+  no_pictograph c = or_from (is_extended_pictographic b) _ (not-true _ (control_is_no_pictograph b c)) (ap (λ t. t && ends_in_pictograph bs) (control_is_no_extend (grapheme_cluster_break b) c))
 
   pictograph_case : ends_in_pictograph (d ∷ b ∷ bs) ≡ ends_in_pictograph (d ∷ [])
   unfolding ends_in_pictograph

@@ -1,5 +1,6 @@
 pub mod ApartLemmas
 pub mod CharacterFacts
+pub mod ControlLemmas
 pub mod CutLemmas
 pub mod LaneLemmas
 pub mod PlainLemmas

@@ -1,3 +1,4 @@
 pub mod Apart
+pub mod Controls
 pub mod Lanes
 pub mod Plain

@@ -1,5 +1,5 @@
 //! The front of a text, cut off so that the clusters of the text are those of both parts.
-ghost use Rattle.std.specs.Prelude.{◌≡◌, ◌↔◌, ◌++◌, ◌∷◌, ◌&&◌, ◌==◌, [], true, not, nat_lt, min, length, map, take, drop, slice_index, IfSome, IsNone, IsTrue};
+ghost use Rattle.std.specs.Prelude.{◌≡◌, ◌↔◌, ◌++◌, ◌∷◌, ◌&&◌, ◌==◌, [], true, not, nat_lt, min, length, take, drop, slice_index, IfSome, IsNone, IsTrue};
 ghost use Rattle.std.specs.List.{list_all, prefix_len};
 ghost use Rattle.unicode_segmentation.specs.Grapheme.{graphemes};
 ghost use Rattle.text_clusters.specs.Apart.{apart_len, BeginsPrintable};

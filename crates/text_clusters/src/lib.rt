@@ -1,14 +1,17 @@
 //! The cut of a text into extended grapheme clusters (UAX 29): its laws, and the front of a text cut
-//! off by them.
+//! off by them. Beside it, tests for printable characters and for controls.
 #![tactic(auto)]
 
 mod apart;
+mod controls;
 mod front;
+mod lanes;
 pub mod laws;
 mod printable;
 
 pub use apart::{begins_apart, first_character, stands_apart};
+pub use controls::{holds_c1, is_c1, len_before_ascii_control};
 pub use front::{
     begins_plainly, begins_printable, split_first_cluster, split_plain, split_printable,
 };
-pub use printable::{are_printable, printable_len};
+pub use printable::{are_printable, is_printable, printable_len};

@@ -1,32 +1,17 @@
 //! Printable characters at the front of some bytes, sixteen bytes at a time, or eight or four of fewer.
-ghost use Rattle.std.specs.Prelude.{◌≡◌, ◌≤◌, length, take, drop};
+ghost use Rattle.std.specs.Prelude.{◌≡◌, ◌≤◌, length, take};
 ghost use Rattle.std.specs.List.{list_all, prefix_len};
-ghost use Rattle.text_clusters.specs.Lanes.{first_set as place_of};
 ghost use Rattle.text_clusters.specs.Plain.{is_printable};
 
+use crate::lanes::{LANES, behind, first_set};
 use std::simd::prelude::*;
 
-// How many bytes are looked at at once.
-const LANES: usize = 16;
-
-/// A printable ASCII character (20h to 7Eh).
+/// Whether a byte is a printable ASCII character (20h to 7Eh).
 #[inline(always)]
-pub(crate) fn is_printable(byte: u8) -> bool
+pub fn is_printable(byte: u8) -> bool
     ensures { result ≡ is_printable byte }
 {
     32 <= byte && byte < 127
-}
-
-// The place of the lowest bit that is set, or so many.
-#[inline(always)]
-fn first_set(mask: u64, lanes: usize) -> usize
-    ensures { result ≡ place_of mask lanes }
-{
-    if mask == 0 {
-        lanes
-    } else {
-        mask.trailing_zeros() as usize
-    }
 }
 
 // How many of the first sixteen bytes are printable, up to one that isn't.
@@ -38,15 +23,6 @@ fn block_len(bytes: &[u8]) -> usize
     let from_space = u8x16::from_slice(bytes) - u8x16::splat(0x20);
     let stops = from_space.simd_ge(u8x16::splat(0x5f));
     first_set(stops.to_bitmask(), LANES)
-}
-
-// What stands behind so many bytes.
-#[inline(always)]
-fn behind(bytes: &[u8], count: usize) -> &[u8]
-    requires { count ≤ length bytes.now }
-    ensures { result.now ≡ drop count bytes.now }
-{
-    &bytes[count..]
 }
 
 // How many of the first eight bytes are printable, up to one that isn't.

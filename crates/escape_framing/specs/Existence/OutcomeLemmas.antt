@@ -1,9 +1,10 @@
 -- What one byte more makes of an unfinished tail: a whole character, the beginning of one, or neither.
 use Rattle.std.proofs.Common.{◌≡◌, ◌≢◌, ℕ, ◌≤◌, inl, inr, ⊎_elim, Bool, true, false, List, [], ◌∷◌, ◌++◌, length, refl, sym, ap, ◌∙◌, arith, Option, Some, None, length-append}
-use Rattle.std.specs.Prelude.{is_none, ◌&&◌}
+use Rattle.std.specs.Prelude.{is_none}
 use Rattle.std.specs.Char.{IsScalar}
 use Rattle.std.specs.Str.{IsUtf8, is_utf8}
 use Rattle.std.specs.Str.Lossy.{utf8_error_len}
+use Rattle.std.proofs.lemmas.Bool.{and_parts}
 use Rattle.std.proofs.lemmas.Str.{IsUtf8-from_is_utf8, length-encode, len_utf8_bounds}
 use lib.Utf8.{encode, encodes, scalar, scalars}
 use Rattle.escape_framing.specs.Segment.{Begun, BeginsCharacter, IsBegun, IsUnfinished}
@@ -14,10 +15,6 @@ pub data Outcome (t : List ℕ) (b : ℕ) : Type 0 where
   begun : IsBegun (t ++ b ∷ []) → is_utf8 (t ++ b ∷ []) ≡ false → is_none (utf8_error_len (t ++ b ∷ [])) ≡ true → Outcome t b
   broken : (BeginsCharacter (t ++ b ∷ []) → ⊥) → is_utf8 (t ++ b ∷ []) ≡ false → is_none (utf8_error_len (t ++ b ∷ [])) ≡ false → Outcome t b
 
-pub both : (x y : Bool) → (x && y) ≡ true → (x ≡ true) × (y ≡ true)
-both true y h = (refl, h)
-both false y h = cc
-
 -- some bytes stand for each character
 pub some_bytes : (c : ℕ) (rest : List ℕ) → encode c ++ rest ≡ [] → ⊥
 some_bytes c rest e = let n = len_utf8_bounds c in omega (arith, ap length e, length-append (encode c) rest, length-encode c)
@@ -25,7 +22,7 @@ some_bytes c rest e = let n = len_utf8_bounds c in omega (arith, ap length e, le
 -- a text begins with a character
 pub first_of_text : (bs : List ℕ) → IsUtf8 bs → bs ≢ [] → (c : ℕ) × (rest : List ℕ) × IsScalar c × (encode c ++ rest ≡ bs)
 first_of_text bs ([], u) n = absurd (n (sym u.1))
-first_of_text bs (c ∷ cs, u) n = (c, encodes cs, (both (scalar c) (scalars cs) u.0).0, u.1)
+first_of_text bs (c ∷ cs, u) n = (c, encodes cs, (and_parts (scalar c) (scalars cs) u.0).0, u.1)
 
 begun_is_no_text : (t : List ℕ) → IsBegun t → IsUtf8 t → ⊥
 begun_is_no_text t (d, more, s, e, n, m) u =

@@ -2,19 +2,19 @@
 use Rattle.std.proofs.Common.{◌≡◌, ℕ, Bool, true, false, List, [], ◌∷◌, ◌++◌, refl, sym, ap, arith, append_assoc}
 use Rattle.std.specs.Prelude.{◌==◌, not}
 use Rattle.std.specs.List.{list_all, list_any}
+use Rattle.std.proofs.lemmas.Bool.{and_parts}
 use Rattle.std.proofs.lemmas.Bool.Decides.{nat_tests}
-use Rattle.escape_framing.specs.Bytes.{is_control, is_stop, is_embedded, is_intermediate, is_parameter, is_final, is_escape_final, is_string_opener, is_opener, is_cut, in_escape, in_parameters, ends_command}
+use Rattle.escape_framing.specs.Bytes.{is_stop, is_embedded, is_intermediate, is_parameter, is_final, is_escape_final, is_string_opener, is_opener, is_cut, in_escape, in_parameters, ends_command}
 use Rattle.escape_framing.specs.Segment.{Tail, Begun, OpenEscape, OpenControlSequence, OpenCommand, OpenHeader, OpenDevice, OpenString, bytes_of_tail, Escape, ControlSequence, OperatingSystemCommand, DeviceControl, String, CutOff, IsUnfinished}
 use Rattle.escape_framing.specs.Decode.{waits, opened_by, behind_escape, next_byte}
 use Rattle.escape_framing.specs.Existence.Utf8Lemmas.{append_nil}
-use Rattle.escape_framing.specs.Existence.SevenBitLemmas.{both}
 use Rattle.escape_framing.specs.Existence.StepLemmas.{Adds, adds_open, adds_end, adds_before, adds_first, adds_in_character}
 
 -- ---- lists of which each byte passes a test
 
 pub all_push : (p : ℕ → Bool) (xs : List ℕ) (b : ℕ) → list_all p xs ≡ true → p b ≡ true → list_all p (xs ++ b ∷ []) ≡ true
 all_push p [] b h k = rw k refl
-all_push p (x ∷ xs) b h k = let f = both (p x) (list_all p xs) h in rw (f.0, all_push p xs b f.1 k) refl
+all_push p (x ∷ xs) b h k = let f = and_parts (p x) (list_all p xs) h in rw (f.0, all_push p xs b f.1 k) refl
 
 pub embedded_only : (xs : List ℕ) → list_all in_escape xs ≡ true → list_any is_intermediate xs ≡ false → list_all is_embedded xs ≡ true
 embedded_only [] h k = refl
@@ -28,11 +28,11 @@ embedded_only (x ∷ xs) h k = by_test (λ l m. embedded_only xs l m) (is_embedd
 -- ---- classes of bytes
 
 pub escape_final : (b : ℕ) → in_escape b ≡ false → is_cut b ≡ false → is_escape_final b ≡ true
-unfolding is_embedded is_control is_stop is_intermediate is_cut is_escape_final
+unfolding is_embedded is_stop is_intermediate is_cut is_escape_final
 escape_final b h k = grind (arith, nat_tests)
 
 pub parameters_final : (b : ℕ) → in_parameters b ≡ false → is_cut b ≡ false → is_final b ≡ true
-unfolding is_embedded is_control is_stop is_parameter is_cut is_final
+unfolding is_embedded is_stop is_parameter is_cut is_final
 parameters_final b h k = grind (arith, nat_tests)
 
 pub string_opener : (b : ℕ) → is_opener b ≡ true → (b == 0x5B) ≡ false → (b == 0x5D) ≡ false → (b == 0x50) ≡ false → is_string_opener b ≡ true

@@ -1,9 +1,11 @@
 -- No C1 control stands in a seven-bit form, and what one byte more makes of it.
 use Rattle.std.proofs.Common.{◌≡◌, ℕ, ◌-◌, Bool, true, false, List, [], ◌∷◌, ◌++◌, refl, ap}
 use Rattle.std.proofs.Common.{arith}
+use Rattle.std.proofs.lemmas.Bool.{and_parts, and_right}
 use Rattle.std.proofs.lemmas.Bool.Decides.{nat_tests}
 use Rattle.std.specs.Prelude.{◌==◌, ◌&&◌, not, if◌then◌else◌}
-use Rattle.escape_framing.specs.SevenBit.{is_c1, seven_bit}
+use Rattle.text_clusters.specs.Controls.{is_c1}
+use Rattle.escape_framing.specs.SevenBit.{seven_bit}
 
 -- no two neighbours are a C1 control
 abbrev pub no_pair : List ℕ → Bool
@@ -11,35 +13,23 @@ no_pair [] = true
 no_pair (b ∷ []) = true
 no_pair (b ∷ c ∷ bytes) = not (is_c1 b c) && no_pair (c ∷ bytes)
 
-pub both : (x y : Bool) → (x && y) ≡ true → (x ≡ true) × (y ≡ true)
-both true y h = (refl, h)
-both false y h = cc
-
-pub not_true : (x : Bool) → not x ≡ true → x ≡ false
-not_true true h = cc
-not_true false h = refl
-
 pub no_pair_behind : (xs ys : List ℕ) → no_pair (xs ++ ys) ≡ true → no_pair ys ≡ true
 no_pair_behind [] ys h = h
 no_pair_behind (x ∷ []) [] h = refl
-no_pair_behind (x ∷ []) (y ∷ ys) h = (both (not (is_c1 x y)) _ h).1
-no_pair_behind (x ∷ z ∷ xs) ys h = no_pair_behind (z ∷ xs) ys (both (not (is_c1 x z)) _ h).1
+no_pair_behind (x ∷ []) (y ∷ ys) h = (and_parts (not (is_c1 x y)) _ h).1
+no_pair_behind (x ∷ z ∷ xs) ys h = no_pair_behind (z ∷ xs) ys (and_parts (not (is_c1 x z)) _ h).1
 
 pub no_pair_front : (xs ys : List ℕ) → no_pair (xs ++ ys) ≡ true → no_pair xs ≡ true
 no_pair_front [] ys h = refl
 no_pair_front (x ∷ []) ys h = refl
 no_pair_front (x ∷ z ∷ xs) ys h =
-    let k = both (not (is_c1 x z)) _ h in rw (k.0, no_pair_front (z ∷ xs) ys k.1) refl
+    let k = and_parts (not (is_c1 x z)) _ h in rw (k.0, no_pair_front (z ∷ xs) ys k.1) refl
 
 low_opens_none : (x y : ℕ) → (x == 0xC2) ≡ false → is_c1 x y ≡ false
 low_opens_none x y h = rw h refl
 
 stop_is_no_second : (x : ℕ) → is_c1 x 0x1B ≡ false
-stop_is_no_second x = by_test (x == 0xC2)
-  where
-    by_test : (t : Bool) → (t && false) ≡ false
-    by_test true = refl
-    by_test false = refl
+stop_is_no_second x = and_right (x == 0xC2) false refl
 
 cons_low : (x : ℕ) (l : List ℕ) → (x == 0xC2) ≡ false → no_pair l ≡ true → no_pair (x ∷ l) ≡ true
 cons_low x [] e h = refl

@@ -1,12 +1,13 @@
 -- What one byte adds behind what is open.
 use Rattle.std.proofs.Common.{◌≡◌, ◌≢◌, ℕ, ◌/◌, ◌%◌, ◌+◌, ◌<◌, ◌≤◌, inl, inr, ⊎_elim, Bool, true, false, List, [], ◌∷◌, ◌++◌, refl, sym, ap, subst, ◌∙◌, arith, append_assoc}
-use Rattle.std.specs.Prelude.{◌==◌, ◌&&◌, ◌||◌, nat_le, nat_lt, slice_index}
-use Rattle.std.specs.Char.{IsScalar}
+use Rattle.std.specs.Prelude.{◌==◌, slice_index}
+use Rattle.std.specs.Char.{IsScalar, is_ascii_control}
 use Rattle.std.specs.List.{flat_map}
 use Rattle.std.specs.Str.{chars}
 use Rattle.std.proofs.lemmas.Bool.Decides.{nat_tests}
 use Rattle.std.proofs.lemmas.Str.{chars-encodes}
 use lib.Utf8.{encode}
+use Rattle.text_clusters.specs.Controls.{in_c1}
 use Rattle.escape_framing.specs.Segment.{Tail, Begun, OpenEscape, bytes_of_tail, Segment, Character, IllFormed, Control, bytes_of, IsPrintable, IsControl, IsBegun, IsUnfinished, IsSegment, StandInRow}
 use Rattle.escape_framing.specs.Decode.{Reading, waits, ends, ends_before, segment_of, first_byte, in_character}
 use Rattle.escape_framing.specs.Existence.Utf8Lemmas.{order, Spelled, in_one, in_two, in_three, in_four, spelled, append_nil}
@@ -35,12 +36,6 @@ adds_before front s b e h f = record {
 
 -- ---- a character
 
-abbrev in_c1 : ℕ → Bool
-in_c1 c = nat_le 0x80 c && nat_le c 0x9F
-
-abbrev in_c0 : ℕ → Bool
-in_c0 c = nat_lt c 0x20 || (c == 0x7F)
-
 c1_bounds : (c : ℕ) → in_c1 c ≡ true → (0x80 ≤ c) × (c ≤ 0x9F)
 c1_bounds c h = (grind (arith, nat_tests), grind (arith, nat_tests))
 
@@ -67,23 +62,23 @@ ascii_bytes c s l = by_kind (spelled c s)
     by_kind (in_four g l' e) = absurd (omega arith)
 
 adds_character : (bytes : List ℕ) (c : ℕ) → IsScalar c → encode c ≡ bytes → c ≢ 0x1B → Adds bytes (ends (segment_of bytes c))
-adds_character bytes c s e n = by_test (in_c1 c) (in_c0 c) refl refl
+adds_character bytes c s e n = by_test (in_c1 c) (is_ascii_control c) refl refl
   where
     no_c1 : in_c1 c ≡ true → no_pair bytes ≡ true → ⊥
     no_c1 h p =
         let k : no_pair (0xC2 ∷ c ∷ []) ≡ true = ap no_pair (sym (c1_bytes c h s) ∙ e) ∙ p in
         let l : no_pair (0xC2 ∷ c ∷ []) ≡ false = rw h refl in cc
 
-    control : in_c0 c ≡ true → IsControl c
+    control : is_ascii_control c ≡ true → IsControl c
     control h = ⊎_elim (λ l. inl (l, n)) (λ g. inr (let k : c ≡ 0x7F = grind (arith, nat_tests) in k)) (order c 0x20)
 
-    small : in_c0 c ≡ true → c < 128
+    small : is_ascii_control c ≡ true → c < 128
     small h = grind (arith, nat_tests)
 
-    printable : in_c1 c ≡ false → in_c0 c ≡ false → IsPrintable c
+    printable : in_c1 c ≡ false → is_ascii_control c ≡ false → IsPrintable c
     printable k h = ⊎_elim (λ l. inl (grind (arith, nat_tests), grind (arith, nat_tests))) (λ g. inr (grind (arith, nat_tests))) (order c 0x80)
 
-    by_test : (x y : Bool) → in_c1 c ≡ x → in_c0 c ≡ y → Adds bytes (ends (segment_of bytes c))
+    by_test : (x y : Bool) → in_c1 c ≡ x → is_ascii_control c ≡ y → Adds bytes (ends (segment_of bytes c))
     by_test true y h k = rw h (adds_end bytes (IllFormed bytes) refl (λ p f. absurd (no_c1 h p)))
     by_test false true h k = rw (h, k) (adds_end bytes (Control c) (sym (ascii_bytes c s (small k)) ∙ e) (λ p f. control k))
     by_test false false h k = rw (h, k) (adds_end bytes (Character c) e (λ p f. (s, printable h k)))

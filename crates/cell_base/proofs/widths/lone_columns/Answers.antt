@@ -1,4 +1,4 @@
-use Rattle.std.proofs.Common.{◌∙◌, ap, sym, false, [], ◌∷◌}
+use Rattle.std.proofs.Common.{◌∙◌, ap, sym, false}
 use Rattle.std.specs.Prelude.{min}
 use Rattle.std.proofs.lemmas.Str.{IsUtf8-encode}
 use Rattle.unicode_segmentation.proofs.TextLemmas.{chars-encode_utf8}

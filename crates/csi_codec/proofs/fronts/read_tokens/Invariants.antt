@@ -1,4 +1,4 @@
--- What was taken, with the bytes that are left, is the whole.
+-- What was taken, with the bytes behind it, is the whole.
 use Rattle.std.proofs.Common.{◌≡◌, drop}
 use Rattle.csi_codec.specs.FrontView.{taken_of}
 use Rattle.csi_codec.specs.Keeping.{kept_with}

@@ -1,4 +1,4 @@
--- What is left decides for the whole.
+-- What is still to come decides for the whole.
 use Rattle.std.proofs.Common.{◌≡◌, drop}
 use Rattle.csi_codec.specs.Actions.{all_sgr_tokens}
 use Rattle.csi_codec.proofs.pieces.all_tokens.Given as goal

@@ -5,4 +5,4 @@ pub returns-in-Some : goal.returns-in-Some
 returns-in-Some c = short_none c.args.others.now c.in-Some.control c.in-Some.ensures
 
 pub ended-requires-clause-front : goal.ended-requires-clause-front
-ended-requires-clause-front c = first_short c.args.others.now c.in_ok-number.left.now c.in_ok-number.number c.in_ok-number.ensures
+ended-requires-clause-front c = first_short c.args.others.now c.in_ok-number.rest.now c.in_ok-number.number c.in_ok-number.ensures

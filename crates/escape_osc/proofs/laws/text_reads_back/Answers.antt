@@ -1,6 +1,6 @@
 use Rattle.std.proofs.Common.{refl}
+use Rattle.text_clusters.specs.Controls.{holds_c1}
 use Rattle.escape_osc.specs.Command.{set_icon_name_and_window_title, set_icon_name, set_window_title, current_working_directory}
-use Rattle.escape_osc.specs.Parts.{holds_c1}
 use Rattle.escape_osc.proofs.ReadBack.{code_text_back, zero_is_text, one_is_text, two_is_text, seven_is_text}
 use Rattle.escape_osc.proofs.laws.text_reads_back.Goals as goal
 

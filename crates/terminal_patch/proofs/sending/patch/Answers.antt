@@ -59,6 +59,6 @@ returns g c =
     (length-map c.args.shown.now.canvas.lines (λ l. l.columns) ∙ c.requires.height ∙ sym (length-map c.args.surface.now.canvas.lines (λ l. l.columns))) c.requires.sendable.spelled in
     patch_sent old new width tall c.of-receiver.ensures.width c.of-receiver.ensures.height has c.encoded_lists_join.ensures c.new-bytes.result.items c.send_title.new.bytes.items c.send_all.new.bytes.items c.send_place_and_pen.new.bytes.items c.send_visibility.new.bytes.items
     c.new-bytes.ensures.items
-    (c.in_ok-send_title.ensures ∙ ap (λ title. c.new-bytes.result.items ++ text_for width tall (Title title)) c.title.ensures)
-    (c.in_ok-send_all.ensures ∙ ap (λ changes. c.send_title.new.bytes.items ++ texts_sent width tall changes) (ap (map value_of) c.deref.ensures.value ∙ c.in_ok-changes.ensures))
+    (c.in_ok-send_title.ensures.ok ∙ ap (λ title. c.new-bytes.result.items ++ text_for width tall (Title title)) c.title.ensures)
+    (c.in_ok-send_all.ensures.ok ∙ ap (λ changes. c.send_title.new.bytes.items ++ texts_sent width tall changes) (ap (map value_of) c.deref.ensures.value ∙ c.in_ok-changes.ensures))
     c.in_ok-send_place_and_pen.ensures c.in_ok-send_visibility.ensures

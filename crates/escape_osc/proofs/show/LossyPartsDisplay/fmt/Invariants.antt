@@ -2,7 +2,7 @@ use Rattle.std.proofs.Common.{◌≡◌, ℕ, List, ◌++◌, map, drop}
 use Rattle.std.specs.Fmt.{HasWritten, IsPlainFormatter}
 use Rattle.std.specs.Str.Lossy.{utf8_lossy}
 use Rattle.escape_osc.specs.ShownParts.{shown_parts}
-use Rattle.escape_osc.proofs.ReadingLemmas.{behind}
+use Rattle.escape_osc.proofs.PartsLemmas.{behind}
 use Rattle.escape_osc.proofs.show.LossyPartsDisplay.fmt.Given as goal
 
 abbrev pub invariant-loop-part : goal.invariant-loop-part

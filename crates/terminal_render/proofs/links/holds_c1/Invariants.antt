@@ -1,7 +1,0 @@
--- what is left holds one where the whole does
-use Rattle.std.proofs.Common.{◌≡◌, ◌-◌, drop}
-use Rattle.escape_osc.specs.Parts.{holds_c1}
-use Rattle.terminal_render.proofs.links.holds_c1.Given as goal
-
-abbrev pub invariant-loop-i : goal.invariant-loop-i
-invariant-loop-i l = holds_c1 (drop (l.i - 1) l.bytes) ≡ holds_c1 l.bytes

@@ -1,0 +1,27 @@
+//! Blocks of bytes that are looked at at once.
+ghost use Rattle.std.specs.Prelude.{◌≡◌, ◌≤◌, length, drop};
+ghost use Rattle.text_clusters.specs.Lanes.{first_set};
+
+/// How many bytes the largest block has.
+pub(crate) const LANES: usize = 16;
+
+/// The place of the lowest bit that is set, or `lanes` where none is.
+#[inline(always)]
+pub(crate) fn first_set(mask: u64, lanes: usize) -> usize
+    ensures { result ≡ first_set mask lanes }
+{
+    if mask == 0 {
+        lanes
+    } else {
+        mask.trailing_zeros() as usize
+    }
+}
+
+/// What stands behind so many bytes.
+#[inline(always)]
+pub(crate) fn behind(bytes: &[u8], count: usize) -> &[u8]
+    requires { count ≤ length bytes.now }
+    ensures { result.now ≡ drop count bytes.now }
+{
+    &bytes[count..]
+}
