@@ -1,3 +1,4 @@
 pub mod DueLemmas
 pub mod LogLemmas
+pub mod SpareLemmas
 pub mod StoredLemmas

@@ -2,19 +2,13 @@
 use Rattle.std.proofs.Common.{◌≡◌, ℕ, ◌+◌, ◌-◌, ◌<◌, ◌≤◌, false, List, [], ◌∷◌, ◌++◌, length, drop, map, refl, take, sym, ap, ◌∙◌, arith, length-append, length-drop}
 use Rattle.std.specs.Prelude.{◌||◌, ◌==◌, nat_lt, max, Some, None, if◌then◌else◌}
 use Rattle.std.proofs.lemmas.Bool.Decides.{nat_tests}
-use Rattle.std.proofs.lemmas.List.{append-nil, append_assoc, drop-drop, drop-append-le, drop-map, drop-take, drop_all, drop_at, length-take-le, map-append, length-map, take-append-drop, take_at}
+use Rattle.std.proofs.lemmas.List.{append-nil, append_assoc, drop-drop, drop-append-le, drop-map, drop_all, drop_at, length-take-le, map-append, length-map, take-append-drop, take_at}
 use Rattle.std.proofs.lemmas.Slice.{between_to_end}
 use borrow.Rule.Slice.PartMut.{mid_of, post_of, put_mid}
 use Rattle.cell_change.specs.ChangeValue.{ChangeValue}
 use Rattle.cell_change.specs.ValueOf.{value_of}
 use Rattle.cell_change.specs.declared.change.Change.{Change}
 use Rattle.change_log.specs.Log.{Log, due, first_number, forgotten, resized_log}
-
--- what stands from one place to another
-pub between : (changes : List Change) (start «end» : ℕ) → start ≤ «end» → take («end» - start) (drop start changes) ≡ drop start (take «end» changes)
-between changes start «end» h =
-    let on : start + («end» - start) ≡ «end» = omega arith in
-    sym (drop-take start («end» - start) changes) ∙ ap (λ n. drop start (take n changes)) on
 
 -- what is in front of a place, and what is behind it, where the front has two parts
 take_front : (a b c d : List Change) (n : ℕ) → length (a ++ b) ≡ n → take n (a ++ ((b ++ c) ++ d)) ≡ a ++ b

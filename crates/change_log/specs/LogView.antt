@@ -1,18 +1,24 @@
 -- What a `ChangeLog` holds.
-use Rattle.std.specs.Prelude.{◌≤◌, ◌+◌, length, map, drop, take}
+use Rattle.std.specs.Prelude.{◌≡◌, ◌≤◌, ◌+◌, length, map, drop, take, replicate}
+use Rattle.cell_base.specs.declared.attributes.CursorShape.TheVariants.{Default}
 use Rattle.cell_change.specs.ValueOf.{value_of}
+use Rattle.cell_change.specs.declared.change.Change.{Change}
+use Rattle.cell_change.specs.declared.change.Change.TheVariants.{CursorShape}
 use Rattle.change_log.specs.LogSteps.{Sized}
 use Rattle.change_log.specs.declared.change_log.ChangeLog.TheInside.{Inside}
 
--- the changes behind those that are gone, up to those that only make room
-abbrev pub log_of : Inside → Sized
-log_of a = record { most = a.most; log = record { number = a.number; entries = map value_of (drop a.start (take a.end a.changes.items)) } }
+-- the change that stands in the place of a dropped one: it holds no memory
+abbrev pub nothing : Change
+nothing = CursorShape Default
 
--- Of the stored changes at most as many are gone before the kept ones as may be due, and at most so many are kept; at most twice as many are stored. Each that is kept has a number.
+-- the changes behind the places of those that were dropped
+abbrev pub log_of : Inside → Sized
+log_of a = record { most = a.most; log = record { number = a.number; entries = map value_of (drop a.start a.changes.items) } }
+
+-- At most as many changes are kept as may be due, each of them has a number, and at most as many places stand before them. What isn't kept holds no memory, but for 64 KB of texts' memory at most, for texts to come.
 pub record IsBounded (a : Inside) : Type 0 where
-  pub gone : a.start ≤ a.most
-  pub ordered : a.start ≤ a.end
-  pub stored : a.end ≤ length a.changes.items
-  pub kept : a.end ≤ a.start + a.most
-  pub numbered : a.end ≤ a.start + a.number
-  pub twice : length a.changes.items ≤ a.most + a.most
+  pub gone : a.start + a.start ≤ length a.changes.items
+  pub kept : length a.changes.items ≤ a.start + a.most
+  pub numbered : length a.changes.items ≤ a.start + a.number
+  pub dropped : take a.start a.changes.items ≡ replicate a.start nothing
+  pub spare : a.spare ≤ 65536

@@ -1,27 +1,27 @@
 //! The log.
-ghost use Rattle.std.specs.Prelude.{IfOk, ◌≡◌, ◌⊎◌, ◌+◌, ◌-◌, ◌<◌, ◌≤◌, ◌^◌, ◌↔◌, ◌++◌, ◌∷◌, IsTrue, [], drop, length, map, max, take, vec_len, OnOk, OnErr};
+ghost use Rattle.std.specs.Prelude.{IfOk, ◌≡◌, ◌⊎◌, ◌+◌, ◌-◌, ◌<◌, ◌≤◌, ◌^◌, ◌↔◌, ◌++◌, ◌∷◌, IsTrue, [], drop, length, map, replicate, take, vec_len, OnOk, OnErr};
 ghost use Rattle.std.specs.Option.{option_map};
 ghost use Rattle.std.specs.String.{string_bytes};
 ghost use Rattle.cell_change.specs.ValueOf.{value_of};
 ghost use Rattle.change_log.specs.Log.{due, new_log};
 ghost use Rattle.change_log.specs.LogSteps.{Forgotten, Logged, Resized, step_of_kept};
+ghost use Rattle.change_log.specs.LogView.{nothing};
 
-use crate::spare_texts::SpareTexts;
-use cell_base::SequenceNo;
+use crate::spare_texts::{MOST_SPARE, SpareTexts};
+use cell_base::{CursorShape, SequenceNo};
 use cell_change::{Change, cloned_changes};
 use std::alloc::{AllocError, Global};
 use std::marker::Model;
 use std::mem;
 
-/// Numbered changes, of which the last ones that may be due are kept. At most twice as many are
-/// stored.
+/// Numbered changes, of which the last ones that may be due are kept. At most twice as many have a place, and a change that
+/// isn't kept any more is dropped at once: beside the changes that are kept a log has at most 64 KB of texts' memory, for
+/// texts to come.
 #[derive(Drop)]
 pub struct ChangeLog {
-    // Those from `start` to `end` are kept. The others are gone, and make room for those to come: memory that is given back
-    // as other memory is asked for is cheaper than much of it at once.
+    // Those from `start` on are kept. Before it stand changes that hold nothing.
     changes: Vec<Change>,
     start: usize,
-    end: usize,
     most: usize,
     number: SequenceNo,
     spare: SpareTexts,
@@ -70,87 +70,92 @@ fn swap_changes(front: &mut [Change], behind: &mut [Change])
     front[at..].swap_with_slice(&mut behind[at..]);
 }
 
-// The changes from `start` to `end` change places with the first ones.
+// The changes from `start` on change places with the first ones.
 #[cold]
 #[inline(never)]
-fn bring_to_front(changes: &mut [Change], start: usize, end: usize)
-    requires order { start ≤ end }
-    requires within { end ≤ length changes.old }
-    requires few { end ≤ start + start }
+fn bring_to_front(changes: &mut [Change], start: usize)
+    requires within { start ≤ length changes.old }
+    requires few { length changes.old ≤ start + start }
     ensures len { length changes.new ≡ length changes.old }
-    ensures front { take (end - start) changes.new ≡ drop start (take end changes.old) }
+    ensures front { take (length changes.old - start) changes.new ≡ drop start changes.old }
 {
     let (front, behind) = changes.split_at_mut(start);
-    let count = end - start;
-    swap_changes(&mut front[..count], &mut behind[..count]);
+    let count = behind.len();
+    swap_changes(&mut front[..count], behind);
 }
 
-// Keeps the memory of a change's text, where it is a text.
+// What stands in the place of a dropped change: it holds nothing.
 #[inline(always)]
-fn save_memory(spare: &mut SpareTexts, change: Change) {
+fn nothing() -> Change
+    ensures { result ≡ nothing }
+{
+    Change::CursorShape(CursorShape::Default)
+}
+
+// Drops a change, and keeps the memory of a text.
+#[inline(always)]
+fn drop_change(change: Change, spare: &mut SpareTexts)
+    requires { spare.old ≤ MOST_SPARE }
+    ensures { spare.new ≤ MOST_SPARE }
+{
     if let Change::Text(text) = change {
         spare.put(text);
     }
 }
 
-// A change in the place of one that is gone, the memory of whose text is saved.
+// Drops the changes from one place to another where they stand.
 #[inline(always)]
-fn replace(place: &mut Change, spare: &mut SpareTexts, change: Change)
-    ensures { place.new ≡ change }
+fn drop_in_place(changes: &mut [Change], from: usize, to: usize, spare: &mut SpareTexts)
+    requires order { from ≤ to }
+    requires within { to ≤ length changes.old }
+    requires dropped { take from changes.old ≡ replicate from nothing }
+    requires spare { spare.old ≤ MOST_SPARE }
+    ensures len { length changes.new ≡ length changes.old }
+    ensures dropped { take to changes.new ≡ replicate to nothing }
+    ensures rest { drop to changes.new ≡ drop to changes.old }
+    ensures spare { spare.new ≤ MOST_SPARE }
 {
-    let Change::Text(gone) = place else {
-        *place = change;
-        return;
-    };
-    if let Change::Text(text) = change {
-        spare.put(mem::replace(gone, text));
-        return;
+    for at in from..to {
+        drop_change(mem::replace(&mut changes[at], nothing()), spare);
     }
-    save_memory(spare, mem::replace(place, change));
 }
 
-// A change comes behind the first ones that are stored, so many: in the place of one that is gone, or as one more.
-#[inline(always)]
-fn store(
-    changes: &mut Vec<Change>,
-    spare: &mut SpareTexts,
-    at: usize,
-    change: Change,
-) -> Result<(), AllocError>
-    requires { at ≤ vec_len changes.old }
-    ensures stored { OnOk result (take (at + 1) changes.new.items ≡ take at changes.old.items ++ change ∷ []) }
-    ensures len { OnOk result (at + 1 ≤ vec_len changes.new) }
-    ensures most { OnOk result (vec_len changes.new ≤ max (vec_len changes.old) (at + 1)) }
-    ensures refused { OnErr result (changes.new.items ≡ changes.old.items) }
+// Drops the last changes, so that so many are left.
+fn drop_last(changes: &mut Vec<Change>, left: usize, spare: &mut SpareTexts)
+    requires within { left ≤ vec_len changes.old }
+    requires spare { spare.old ≤ MOST_SPARE }
+    ensures left { changes.new.items ≡ take left changes.old.items }
+    ensures spare { spare.new ≤ MOST_SPARE }
 {
-    if at < changes.len() {
-        replace(&mut changes[at], spare, change);
-        return Ok(());
+    while left < changes.len() {
+        if let Some(change) = changes.pop() {
+            drop_change(change, spare);
+        }
     }
-    changes.reserve(1)?;
-    changes.push_reserved(change);
-    Ok(())
 }
 
-// Brings the changes that are kept, from `start` to `end`, to the front where more are gone than may be due.
+// Drops the changes before a place, of which those before `start` are dropped: where they stand, or, where no more are left,
+// by bringing these to the front. So each change that is dropped moves at most one other.
 #[inline(always)]
-fn make_room(changes: &mut Vec<Change>, start: &mut usize, end: &mut usize, most: usize)
-    requires order { start.old ≤ end.old }
-    requires within { end.old ≤ vec_len changes.old }
-    requires kept { end.old ≤ start.old + most }
-    requires few { vec_len changes.old ≤ max (most + most) end.old }
-    ensures same { drop start.new (take end.new changes.new.items) ≡ drop start.old (take end.old changes.old.items) }
-    ensures len { end.new + start.old ≡ start.new + end.old }
-    ensures gone { start.new ≤ most }
-    ensures stored { end.new ≤ vec_len changes.new }
-    ensures twice { vec_len changes.new ≤ most + most }
+fn drop_before(changes: &mut Vec<Change>, start: &mut usize, place: usize, spare: &mut SpareTexts)
+    requires order { start.old ≤ place }
+    requires within { place ≤ vec_len changes.old }
+    requires dropped { take start.old changes.old.items ≡ replicate start.old nothing }
+    requires spare { spare.old ≤ MOST_SPARE }
+    ensures left { drop start.new changes.new.items ≡ drop place changes.old.items }
+    ensures len { vec_len changes.new + place ≡ start.new + vec_len changes.old }
+    ensures few { start.new + start.new ≤ vec_len changes.new }
+    ensures dropped { take start.new changes.new.items ≡ replicate start.new nothing }
+    ensures spare { spare.new ≤ MOST_SPARE }
 {
-    if *start <= most {
+    let left = changes.len() - place;
+    if place < left {
+        drop_in_place(changes, *start, place, spare);
+        *start = place;
         return;
     }
-    bring_to_front(changes, *start, *end);
-    changes.truncate(most.saturating_add(most));
-    *end -= *start;
+    bring_to_front(changes, place);
+    drop_last(changes, left, spare);
     *start = 0;
 }
 
@@ -163,7 +168,6 @@ impl ChangeLog {
         ChangeLog {
             changes: Vec::new(alloc),
             start: 0,
-            end: 0,
             most,
             number: 0,
             spare: SpareTexts::new(alloc),
@@ -181,7 +185,7 @@ impl ChangeLog {
     pub fn is_empty(&self) -> bool
         ensures { IsTrue result ↔ (self.now.log.entries ≡ []) }
     {
-        self.start == self.end
+        self.start == self.changes.len()
     }
 
     /// Logs a change, which raises the number by one. Where memory is refused nothing is changed, and
@@ -192,12 +196,12 @@ impl ChangeLog {
         ensures done { OnOk result (self.new ≡ step_of_kept self.old (Logged (value_of change))) }
         ensures refused { OnErr result (self.new ≡ self.old) }
     {
-        store(&mut self.changes, &mut self.spare, self.end, change)?;
+        self.changes.reserve(1)?;
+        self.changes.push_reserved(change);
         self.number += 1;
-        self.end += 1;
-        if self.most < self.end - self.start {
-            self.start += 1;
-            make_room(&mut self.changes, &mut self.start, &mut self.end, self.most);
+        if self.most < self.changes.len() - self.start {
+            let second = self.start + 1;
+            drop_before(&mut self.changes, &mut self.start, second, &mut self.spare);
         }
         Ok(())
     }
@@ -215,9 +219,9 @@ impl ChangeLog {
         ensures { self.new ≡ step_of_kept self.old (Forgotten number) }
     {
         if number <= self.number {
-            let before = self.number - (self.end - self.start);
-            self.start += number.saturating_sub(before);
-            make_room(&mut self.changes, &mut self.start, &mut self.end, self.most);
+            let before = self.number - (self.changes.len() - self.start);
+            let first = self.start + number.saturating_sub(before);
+            drop_before(&mut self.changes, &mut self.start, first, &mut self.spare);
         }
     }
 
@@ -227,12 +231,11 @@ impl ChangeLog {
         requires { (self.old.log.entries ≡ []) ⊎ (self.old.log.number + 1 < 2 ^ 64) }
         ensures { self.new ≡ step_of_kept self.old (Resized most) }
     {
-        if self.start < self.end {
+        if self.start < self.changes.len() {
             self.number += 1;
         }
         self.changes.clear();
         self.start = 0;
-        self.end = 0;
         self.most = most;
     }
 
@@ -248,12 +251,9 @@ impl ChangeLog {
     pub fn try_clone(&self, alloc: Global) -> Result<ChangeLog, AllocError>
         ensures { IfOk result (λ log. log ≡ self.now) }
     {
-        let changes = cloned_changes(alloc, &self.changes[self.start..self.end])?;
-        let end = changes.len();
         Ok(ChangeLog {
-            changes,
+            changes: cloned_changes(alloc, &self.changes[self.start..])?,
             start: 0,
-            end,
             most: self.most,
             number: self.number,
             spare: SpareTexts::new(alloc),
@@ -265,7 +265,7 @@ impl ChangeLog {
     pub fn due(&self, number: SequenceNo) -> Option<&[Change]>
         ensures { option_map (λ changes. map value_of changes.now) result ≡ due self.now.most self.now.log number }
     {
-        let first = self.number - (self.end - self.start);
+        let first = self.number - (self.changes.len() - self.start);
         if number == 0
             || number < first
             || self.number < number
@@ -273,6 +273,6 @@ impl ChangeLog {
         {
             return None;
         }
-        Some(&self.changes[self.start + (number - first)..self.end])
+        Some(&self.changes[self.start + (number - first)..])
     }
 }

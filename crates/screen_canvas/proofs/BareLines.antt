@@ -1,8 +1,9 @@
 -- Lines over which can be written with nothing dropped, behind what is set in them.
-use Rattle.std.proofs.Common.{◌≡◌, ℕ, ◌+◌, ◌-◌, ◌≤◌, true, false, List, [], ◌∷◌, ◌++◌, length, drop, map, replicate, refl, sym, ap, subst, ◌∙◌, Bool, arith}
+use Rattle.std.proofs.Common.{◌≡◌, ℕ, ◌+◌, ◌-◌, ◌≤◌, true, false, List, [], ◌∷◌, ◌++◌, length, drop, take, map, replicate, refl, sym, ap, subst, ◌∙◌, Bool, arith, inl, inr}
 use Rattle.std.specs.Prelude.{◌||◌, ◌==◌, None}
 use Rattle.std.specs.List.{list_all}
-use Rattle.std.proofs.lemmas.List.{append-nil, drop_all, length-replicate}
+use Rattle.std.proofs.lemmas.List.{append-nil, drop_all, length-replicate, length-take}
+use Rattle.std.proofs.lemmas.Bool.Decides.{leb_tells}
 use Rattle.std.proofs.lemmas.Bool.{eqb-true}
 use Rattle.unicode_segmentation.specs.Grapheme.{graphemes}
 use Rattle.text_clusters.specs.Plain.{each, is_printable}
@@ -15,18 +16,22 @@ use Rattle.cell_edits.specs.Bare.{IsBareRow}
 use Rattle.cell_edits.specs.CellList.{text_cells}
 use Rattle.cell_edits.specs.RowEdits.{overlaid}
 use Rattle.cell_edits.specs.TextRuns.{fitting, plain_cells}
-use Rattle.cell_edits.proofs.BareLemmas.{bare_blanks, bare_fitting, bare_plain, bare_set, bare_short, bare_with_cell}
-use Rattle.cell_edits.proofs.RunLemmas.{cells_front}
+use Rattle.cell_edits.proofs.BareLemmas.{bare_blanks, bare_plain, bare_set, bare_short, bare_with_cell}
+use Rattle.cell_edits.proofs.RunLemmas.{cells_front, fitting_front, fitting_none}
 use Rattle.cell_line.specs.LineCalls.{set_blanks as blanks_set, set_cell_grapheme as grapheme_set, set_plain as plain_set, set_text as text_set}
 use Rattle.cell_line.specs.LineContent.{LineContent}
 use Rattle.screen_canvas.specs.Written.{IsWrittenTo}
 use Rattle.screen_canvas.proofs.TextLemmas.{printable_all}
 use Rattle.screen_canvas.proofs.WrittenLemmas.{plain_changed}
 
+-- the cells of no text
+cells_of_nil : (width_of : List ℕ → ℕ) (a : Attributes) → text_cells width_of [] a ≡ []
+cells_of_nil width_of a = ap (λ xs. map (λ cluster. cell_of cluster (width_of cluster) a) (map read_cluster xs)) graphemes-nil
+
 -- the cells of printable characters of one column each
 pub cells_of_plain : (width_of : List ℕ → ℕ) (text : List ℕ) (a : Attributes) → list_all is_printable text ≡ true → ((byte : ℕ) → is_printable byte ≡ true → width_of (byte ∷ []) ≡ 1) → text_cells width_of text a ≡ plain_cells text a
 cells_of_plain width_of text a p narrow =
-    let none : text_cells width_of [] a ≡ [] = ap (λ xs. map (λ cluster. cell_of cluster (width_of cluster) a) (map read_cluster xs)) graphemes-nil in
+    let none = cells_of_nil width_of a in
     let each_one : graphemes true text ≡ each text ++ graphemes true [] = whole_run text (printable_all text p) ∙ sym (append-nil (each text)) ∙ ap (λ (xs : List (List ℕ)). each text ++ xs) (sym graphemes-nil) in
     cells_front width_of a text text [] each_one p narrow ∙ ap (λ (xs : List CellContent). plain_cells text a ++ xs) none ∙ append-nil (plain_cells text a)
 
@@ -46,12 +51,28 @@ all_bare x new m a u w e =
 pub plain_bare : (x new : LineContent) (at : ℕ) (text : List ℕ) (a : Attributes) → a.hyperlink ≡ None → IsBareRow x.columns → new ≡ plain_set x at text a → IsBareRow new.columns
 plain_bare x new at text a u h e = subst (λ (l : LineContent). IsBareRow l.columns) (sym e) (bare_plain x.columns at text a u h)
 
--- a text of such characters, as far as it fits
-pub text_bare : (x new : LineContent) (at w : ℕ) (text : List ℕ) (a : Attributes) (width_of : List ℕ → ℕ) → a.hyperlink ≡ None → list_all is_printable text ≡ true → ((byte : ℕ) → is_printable byte ≡ true → width_of (byte ∷ []) ≡ 1)
+-- the cells of a text that fit, where printable characters of one column each fill the columns, or are the whole text
+plain_fitting : (width_of : List ℕ → ℕ) (room : ℕ) (text : List ℕ) (a : Attributes) → list_all is_printable (take room text) ≡ true → graphemes true text ≡ each (take room text) ++ graphemes true (drop room text)
+    → ((byte : ℕ) → is_printable byte ≡ true → width_of (byte ∷ []) ≡ 1) → fitting room (text_cells width_of text a) ≡ plain_cells (take room text) a
+plain_fitting width_of room text a p e narrow =
+    let front = take room text in
+    let cells = text_cells width_of (drop room text) a in
+    let taken = length-take room text in
+    ap (fitting room) (cells_front width_of a text front (drop room text) e p narrow)
+    ∙ fitting_front room front a cells (omega arith)
+    ∙ ap (λ (xs : List CellContent). plain_cells front a ++ xs) (elim (leb_tells room (length text)) [
+      | inl long ↦ (let l = long.1 in ap (λ n. fitting n cells) (let none : room - length front ≡ 0 = omega arith in none) ∙ fitting_none cells)
+      | inr short ↦ (let s = short.1 in ap (λ (rest : List ℕ). fitting (room - length front) (text_cells width_of rest a)) (drop_all room text (omega arith)) ∙ ap (fitting (room - length front)) (cells_of_nil width_of a))
+    ])
+    ∙ append-nil (plain_cells front a)
+
+-- a text that so fills its columns
+pub text_bare : (x new : LineContent) (at w : ℕ) (text : List ℕ) (a : Attributes) (width_of : List ℕ → ℕ) → a.hyperlink ≡ None → list_all is_printable (take (w - at) text) ≡ true
+    → graphemes true text ≡ each (take (w - at) text) ++ graphemes true (drop (w - at) text) → ((byte : ℕ) → is_printable byte ≡ true → width_of (byte ∷ []) ≡ 1)
     → IsBareRow x.columns → new ≡ text_set x at w text a width_of → IsBareRow new.columns
-text_bare x new at w text a width_of u p narrow h e =
-    let cells = ap (λ cs. overlaid x.columns at (fitting (w - at) cs)) (cells_of_plain width_of text a p narrow) in
-    subst (λ (l : LineContent). IsBareRow l.columns) (sym e) (subst IsBareRow (sym cells) (bare_fitting x.columns at (w - at) text a u h))
+text_bare x new at w text a width_of u p c narrow h e =
+    let cells = ap (overlaid x.columns at) (plain_fitting width_of (w - at) text a p c narrow) in
+    subst (λ (l : LineContent). IsBareRow l.columns) (sym e) (subst IsBareRow (sym cells) (bare_plain x.columns at (take (w - at) text) a u h))
 
 -- a cell of at most one column, with few bytes
 pub cell_bare : (x new : LineContent) (at width : ℕ) (text : List ℕ) (a : Attributes) → length text ≤ 4 → width ≤ 1 → a.hyperlink ≡ None → IsBareRow x.columns → new ≡ grapheme_set x at text width a 0 → IsBareRow new.columns

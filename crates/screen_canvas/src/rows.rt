@@ -1,7 +1,7 @@
 //! Rows of lines that are cleared, written and moved.
 ghost use Rattle.std.specs.Prelude.{◌≡◌, ℕ, true, None, ◌↔◌, ◌+◌, ◌-◌, ◌^◌, ◌<◌, ◌≤◌, ◌++◌, ◌∷◌, [], IsTrue, length, drop, take, map, max, slice_set, slice_index_or, replicate, IfOk, OnOk};
 ghost use Rattle.std.specs.List.{list_all};
-ghost use Rattle.text_clusters.specs.Plain.{is_printable};
+ghost use Rattle.text_clusters.specs.Plain.{each, is_printable};
 ghost use Rattle.cell_base.specs.Attributes.{blank_of, plain};
 ghost use Rattle.cell_base.specs.Cluster.{clusters};
 ghost use Rattle.cell_base.specs.Row.{plain_row, blank};
@@ -11,6 +11,7 @@ ghost use Rattle.cell_line.specs.LineContent.{line_of, with_bits};
 ghost use Rattle.screen_canvas.specs.Canvas.{line_at};
 ghost use Rattle.screen_canvas.specs.Rows.{blanked, cleared, rows_down, rows_up, widened};
 ghost use Rattle.screen_canvas.specs.Written.{IsWrittenTo};
+ghost use Rattle.unicode_segmentation.specs.Grapheme.{graphemes};
 
 use crate::known::Known;
 use crate::turning::Turning;
@@ -18,7 +19,7 @@ use cell_base::{CellAttributes, ColorAttribute, LineAttribute, SEQ_ZERO, Widths}
 use cell_line::Line;
 use std::alloc::{AllocError, Global};
 use std::marker::Model;
-use text_clusters::are_printable;
+use text_clusters::split_printable;
 
 /// Lines, and what is known of each of them: what clears a line passes over the plain blanks at its
 /// end, and what is written where nothing has to be dropped isn't looked at.
@@ -257,14 +258,24 @@ pub(crate) fn scroll(rows: &mut Rows) -> Result<(), AllocError>
     Ok(())
 }
 
-// Whether each cluster of a text takes one column and few bytes, and there is no link: of printable ASCII characters that is
-// known.
-fn stays_bare<W: Widths>(text: &str, attrs: &CellAttributes, w: &W) -> bool
+// Whether the clusters that fill so many columns, or all clusters of a text, are printable ASCII characters of one column
+// each. No more of the text is looked at than these columns hold.
+fn fills_plainly(text: &str, room: usize) -> bool
+    ensures printable { IsTrue result → list_all is_printable (take room text.now) ≡ true }
+    ensures clusters { IsTrue result → graphemes true text.now ≡ each (take room text.now) ++ graphemes true (drop room text.now) }
+{
+    let (front, rest) = split_printable(text, room);
+    front.len() == room || rest.is_empty()
+}
+
+// Whether each cluster that so many columns take of a text has one column, few bytes and no link.
+fn stays_bare<W: Widths>(text: &str, room: usize, attrs: &CellAttributes, w: &W) -> bool
     ensures unlinked { IsTrue result → attrs.now.hyperlink ≡ None }
-    ensures printable { IsTrue result → list_all is_printable text.now ≡ true }
+    ensures printable { IsTrue result → list_all is_printable (take room text.now) ≡ true }
+    ensures clusters { IsTrue result → graphemes true text.now ≡ each (take room text.now) ++ graphemes true (drop room text.now) }
     ensures narrow { IsTrue result → (byte : ℕ) → is_printable byte ≡ true → W.width_of w.now (byte ∷ []) ≡ 1 }
 {
-    attrs.hyperlink().is_none() && w.has_narrow_ascii() && are_printable(text.as_bytes())
+    attrs.hyperlink().is_none() && w.has_narrow_ascii() && fills_plainly(text, room)
 }
 
 // Sets the clusters of a text from a column of a row on, as far as they fit; answers the column
@@ -285,10 +296,10 @@ pub(crate) fn set_text<'a, W: Widths>(
     ensures rest { IfOk result (λ r. clusters r.1.now ≡ drop (set_clusters at (length (line_at rows.old row).columns) text.now attrs.now (W.width_of w.now)) (clusters text.now)) }
 {
     let written = rows.written_to(row);
-    let is_bare = rows.is_bare(row) & stays_bare(text, attrs, w);
+    let width = rows.lines[row].len();
+    let is_bare = rows.is_bare(row) && stays_bare(text, width - at, attrs, w);
     rows.known[row] = Known::nothing();
     let line = &mut rows.lines[row];
-    let width = line.len();
     let (column, left) = line.set_text(at..width, text, attrs, w)?;
     rows.known[row] = Known::written_to(written.max(column), is_bare);
     Ok((column, left))

@@ -39,7 +39,7 @@ invariant_of-rows-2 g c =
     (known_written c.written_to.result new.columns c.max.result (c.is_bare.result && c.stays_bare.result) c.written_to.ensures
     (text_written x new c.written_to-written.result c.args.at c.len-width.result c.in_ok-column.column c.max.result c.args.text.now c.args.attrs.now width_of h c.in_ok-column.ensures.done c.in_ok-column.ensures.behind c.max.ensures (omega arith) w)
     (λ both. let parts = and_parts c.is_bare.result c.stays_bare.result both in
-    text_bare x new c.args.at c.len-width.result c.args.text.now c.args.attrs.now width_of (c.stays_bare.ensures.unlinked parts.1) (c.stays_bare.ensures.printable parts.1) (c.stays_bare.ensures.narrow parts.1)
+    text_bare x new c.args.at c.len-width.result c.args.text.now c.args.attrs.now width_of (c.stays_bare.ensures.unlinked parts.1) (c.stays_bare.ensures.printable parts.1) (c.stays_bare.ensures.clusters parts.1) (c.stays_bare.ensures.narrow parts.1)
     (subst (λ (l : LineContent). IsBareRow l.columns) (sym there) (c.is_bare.ensures parts.0)) c.in_ok-column.ensures.done))
 
 pub returns-clause-lines : goal.returns-clause-lines

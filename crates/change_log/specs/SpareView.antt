@@ -1,0 +1,14 @@
+-- The memory that is kept of dropped texts.
+use Rattle.std.specs.Prelude.{◌≡◌, ℕ, ◌≤◌, List, String, length, sum_by}
+use Rattle.std.specs.String.{string_capacity}
+use Rattle.std.specs.declared.alloc.Global.{Global}
+
+-- how many bytes texts have room for together
+abbrev pub spare_bytes : List (String Global) → ℕ
+spare_bytes texts = sum_by string_capacity texts
+
+-- so many bytes, at most 64 KB, in at most 1024 texts
+pub record AreCounted (texts : List (String Global)) (bytes : ℕ) : Type 0 where
+  pub counted : spare_bytes texts ≡ bytes
+  pub bounded : bytes ≤ 65536
+  pub few : length texts ≤ 1024
