@@ -55,14 +55,24 @@ fn flag_option<'a>(alloc: Global, name: &'a str, help: &'a str) -> Arg<'a>
         .help(help)
 }
 
-fn named_command<'a>(alloc: Global) -> Command<'a>
-    ensures { app_of result ≡ named }
+// What standard input and output are, and a command line that one can run.
+const STREAMS: &str = "\
+Standard input: the bytes that an application writes to its terminal.
+Standard output: updates, each the bytes that bring a viewer's terminal of the
+same size up to date; or, with --show, the rows of the last screen as UTF-8
+text, a line each.
+
+Example:
+  printf 'w00tfoobaarbaz' | relay --width 4 --height 3 --show";
+
+fn named_command<'a>(alloc: Global) -> Result<Command<'a>, AllocError>
+    ensures { IfOk result (λ c. app_of c ≡ named) }
 {
     Command::new(alloc, "relay")
-        .about(
-            "Keeps the screen of an application from the bytes on standard input, and writes what a viewer has to be sent so that it shows that screen",
-        )
+        .about("Keeps the screen of an application, and writes what a viewer needs to show it")
+        .after_help(STREAMS)
         .version("0.1.0")
+        .bin_name("relay")
 }
 
 fn command<'a>(alloc: Global) -> Result<Command<'a>, AllocError>
@@ -81,14 +91,14 @@ fn command<'a>(alloc: Global) -> Result<Command<'a>, AllocError>
         "every",
         "4096",
         u32::MAX,
-        "Bytes between two updates, 1 to 4294967295",
+        "Bytes of input between two updates, 1 to 4294967295",
     );
     let show = flag_option(
         alloc,
         "show",
         "Write the rows of the screen once, at the end of the input",
     );
-    named_command(alloc)
+    named_command(alloc)?
         .arg(width)?
         .arg(height)?
         .arg(every)?

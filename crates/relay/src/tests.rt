@@ -238,37 +238,109 @@ fn drops_a_fault_while_faults_are_written(rt: HostRuntime) {
     assert!(rt; faults.text.is_empty());
 }
 
-/// The words are refused, and nothing is shown.
-fn assert_refused<R: Abort + AllocGlobal>(rt: &R, words: &[&str]) {
-    let run = run_of(rt, words, input_in(INPUT, 100, 100), (100, 100));
-    assert_eq!(rt; run.status, 2);
-    assert!(rt; run.text.is_empty());
-    assert!(rt; run.told.starts_with(b"error: ".as_slice()));
+/// The words are refused with that text, and nothing is shown.
+fn assert_refused<R: Abort + AllocGlobal>(rt: &R, words: &[&str], text: &str) {
+    let input = input_in(INPUT, 100, 100);
+    assert_run(rt, words, input, (100, 100), (2, NOTHING, text.as_bytes()));
 }
+
+const NO_WIDTH: &str = "\
+error: invalid value '0' for '--width <N>': 0 is not in 1..=4096
+
+For more information, try '--help'.
+";
+
+const TOO_WIDE: &str = "\
+error: invalid value '4097' for '--width <N>': 4097 is not in 1..=4096
+
+For more information, try '--help'.
+";
+
+const NO_HEIGHT: &str = "\
+error: invalid value '0' for '--height <N>': 0 is not in 1..=4096
+
+For more information, try '--help'.
+";
+
+const NO_NUMBER: &str = "\
+error: invalid value 'x' for '--height <N>': invalid digit found in string
+
+For more information, try '--help'.
+";
+
+const TOO_SELDOM: &str = "\
+error: invalid value '4294967296' for '--every <N>': 4294967296 is not in 1..=4294967295
+
+For more information, try '--help'.
+";
+
+const UNKNOWN: &str = "\
+error: unexpected argument '--depth' found
+
+Usage: relay [OPTIONS]
+
+For more information, try '--help'.
+";
+
+const TWICE: &str = "\
+error: the argument '--show' cannot be used multiple times
+
+Usage: relay [OPTIONS]
+
+For more information, try '--help'.
+";
 
 #[test]
 fn refuses_bad_command_lines(rt: HostRuntime) {
-    assert_refused(&rt, &["relay", "--width", "0"]);
-    assert_refused(&rt, &["relay", "--width", "4097"]);
-    assert_refused(&rt, &["relay", "--height", "0"]);
-    assert_refused(&rt, &["relay", "--height", "x"]);
-    assert_refused(&rt, &["relay", "--every", "0"]);
-    assert_refused(&rt, &["relay", "--every", "4294967296"]);
-    assert_refused(&rt, &["relay", "--depth", "3"]);
-    assert_refused(&rt, &["relay", "file"]);
+    assert_refused(&rt, &["relay", "--width", "0"], NO_WIDTH);
+    assert_refused(&rt, &["relay", "--width", "4097"], TOO_WIDE);
+    assert_refused(&rt, &["relay", "--height", "0"], NO_HEIGHT);
+    assert_refused(&rt, &["relay", "--height", "x"], NO_NUMBER);
+    assert_refused(&rt, &["relay", "--every", "4294967296"], TOO_SELDOM);
+    assert_refused(&rt, &["relay", "--depth", "3"], UNKNOWN);
+    assert_refused(&rt, &["relay", "--show", "--show"], TWICE);
 }
 
+const HELP: &str = "\
+Keeps the screen of an application, and writes what a viewer needs to show it
+
+Usage: relay [OPTIONS]
+
+Options:
+      --width <N>   Columns of the screen, 1 to 4096 [default: 80]
+      --height <N>  Rows of the screen, 1 to 4096 [default: 24]
+      --every <N>   Bytes of input between two updates, 1 to 4294967295 [default: 4096]
+      --show        Write the rows of the screen once, at the end of the input
+  -h, --help        Print help
+  -V, --version     Print version
+
+Standard input: the bytes that an application writes to its terminal.
+Standard output: updates, each the bytes that bring a viewer's terminal of the
+same size up to date; or, with --show, the rows of the last screen as UTF-8
+text, a line each.
+
+Example:
+  printf 'w00tfoobaarbaz' | relay --width 4 --height 3 --show
+";
+
 #[test]
-fn help_goes_to_the_writer(rt: HostRuntime) {
-    let run = run_of(
+fn help_and_version_go_to_the_writer(rt: HostRuntime) {
+    let expected = (0, HELP.as_bytes(), NOTHING);
+    assert_run(
         &rt,
-        &["relay", "--help"],
+        &["bin/relay", "--help"],
         input_in(INPUT, 100, 100),
         (7, 1000),
+        expected,
     );
-    assert_eq!(rt; run.status, 0);
-    assert!(rt; run.text.starts_with(b"Keeps the screen".as_slice()));
-    assert!(rt; run.told.is_empty());
+    let expected = (0, b"relay 0.1.0\n".as_slice(), NOTHING);
+    assert_run(
+        &rt,
+        &["relay", "--version"],
+        input_in(INPUT, 100, 100),
+        (7, 1000),
+        expected,
+    );
 }
 
 #[test]
