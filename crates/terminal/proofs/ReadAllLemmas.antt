@@ -125,19 +125,20 @@ module _ {W : Type 0} (width_of : W → List ℕ → ℕ) where
   -- ---- a new terminal that is fed all of an input, and settles
 
   module _ (w : W) (width height : ℕ) (new : Terminal W) (at : IsAt new (new_standing width height)) (e : new.surface.canvas.widths ≡ w) where
-    -- behind the look at the end it shows what one that keeps all does
-    shows : (input : List ℕ) (fed now : Terminal W) → IsFed width_of input new fed → GoesBy width_of fed now (Look ∷ []) → (state_in now).screen ≡ (meaning (width_of w) width height (Piece input ∷ Look ∷ [])).state.screen
-    shows input fed now h g =
+    -- after the look at the end, with the changes forgotten, it shows what one that keeps all does
+    shows : (input : List ℕ) (fed looked now : Terminal W) (number : ℕ) → IsFed width_of input new fed → GoesBy width_of fed looked (Look ∷ []) → GoesBy width_of looked now (Forget number ∷ [])
+        → (state_in now).screen ≡ (meaning (width_of w) width height (Piece input ∷ Look ∷ [])).state.screen
+    shows input fed looked now number h g forget =
         let start = new_standing width height in
         let whole = standing_behind (of new) start (Piece input ∷ []) in
-        let a = goes_on width_of new.surface.canvas.widths fed now whole (Look ∷ []) tt h.widths (h.answers start at (omega arith)) g in
-        ap (λ s. s.screen) a.at.stands.state ∙ a.answers.views.screen ∙ ap (λ (x : Standing). x.view.state.screen) (sym (standings_join (of new) start (Piece input ∷ []) (Look ∷ [])))
+        let a = goes_on width_of new.surface.canvas.widths fed looked whole (Look ∷ []) tt h.widths (h.answers start at (omega arith)) g in
+        ap (λ s. s.screen) (forget.stands a.kept.view a.at.stands).state ∙ a.answers.views.screen ∙ ap (λ (x : Standing). x.view.state.screen) (sym (standings_join (of new) start (Piece input ∷ []) (Look ∷ [])))
         ∙ ap (λ v. (meaning (width_of v) width height (Piece input ∷ Look ∷ [])).state.screen) e
 
-    pub shows_input : (input : Option (List ℕ)) (fed now : Terminal W) → Feeds width_of input new fed → GoesBy width_of fed now (Look ∷ [])
+    pub shows_input : (input : Option (List ℕ)) (fed looked now : Terminal W) (number : ℕ) → Feeds width_of input new fed → GoesBy width_of fed looked (Look ∷ []) → GoesBy width_of looked now (Forget number ∷ [])
         → IfSome input (λ x. (state_in now).screen ≡ (meaning (width_of w) width height (Piece x ∷ Look ∷ [])).state.screen)
-    shows_input None fed now h g = tt
-    shows_input (Some x) fed now h g = shows x fed now h g
+    shows_input None fed looked now number h g forget = tt
+    shows_input (Some x) fed looked now number h g forget = shows x fed looked now number h g forget
 
     -- ---- what refused a number
 

@@ -74,7 +74,8 @@ fn feed_all<R: Read, W: Widths + Drop>(
     Err(RunError::TooLong)
 }
 
-// A new terminal that was fed the whole input, and settled.
+// A new terminal that was fed the whole input, and settled. Its log keeps nothing, so that no text is held twice while the
+// rows are made.
 fn read_all<R: Read, W: Widths + Drop>(
     alloc: Global,
     reader: &mut Watched<R>,
@@ -98,6 +99,7 @@ fn read_all<R: Read, W: Widths + Drop>(
     let mut terminal = Terminal::new(alloc, width, height, widths)?;
     feed_all(reader, &mut terminal)?;
     terminal.settle()?;
+    terminal.forget_before(terminal.current_number());
     Ok(terminal)
 }
 

@@ -10,7 +10,8 @@ use Rattle.terminal.proofs.driver.read_all.Goals as goal
 pub returns-clause-ok : goal.returns-clause-ok
 returns-clause-ok g c = shows_input (λ w. g.W.Widths.width_of w) c.args.widths c.args.width c.args.height c.in_ok-terminal.terminal
     (record { stands = c.in_ok-terminal.ensures.stands; log = c.in_ok-terminal.ensures.log }) c.in_ok-terminal.ensures.widths
-    (g.R.Read.remaining c.args.reader.now.inner) c.feed_all.new.terminal c.settle.new.self c.in_ok-feed_all.ensures.ok c.in_ok-settle.ensures.done
+    (g.R.Read.remaining c.args.reader.now.inner) c.feed_all.new.terminal c.settle.new.self c.forget_before.new.self c.current_number.result
+    c.in_ok-feed_all.ensures.ok c.in_ok-settle.ensures.done (c.forget_before.ensures.done c.in_ok-settle.ensures.done.sound)
 
 pub returns-in_err-feed_all-clause-number : goal.returns-in_err-feed_all-clause-number
 returns-in_err-feed_all-clause-number g c =

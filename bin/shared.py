@@ -1,0 +1,36 @@
+"""What the scripts share: how many checks run side by side, and runs of a program from its sources, unproved."""
+import os
+import re
+import subprocess
+import sys
+import tempfile
+from pathlib import Path
+
+ROOT = Path(__file__).resolve().parent.parent
+# Memory for each check side by side, in KiB: more than any crate here has taken.
+ROOM = 5 * 1024 * 1024
+
+
+def lanes():
+    """Returns how many checks run side by side: one a processor, as far as memory holds them, or RT_JOBS."""
+    free = int(re.search(r"MemAvailable:\s+(\d+)", Path("/proc/meminfo").read_text())[1])
+    return int(os.environ.get("RT_JOBS") or max(min(len(os.sched_getaffinity(0)), free // ROOM), 1))
+
+
+def outputs(crate, cases):
+    """Returns what the program of a crate writes for each case, by name, with a line feed at the end where it wrote none.
+
+    The sources run unproved, by `rt try`: one compile for all cases.
+    A case is the program's words and its standard input. A case that does not end has no output; where nothing ran the
+    kit's lines are printed and the process ends.
+    """
+    with tempfile.TemporaryDirectory() as folder:
+        for name, (words, given) in cases.items():
+            Path(folder, name).write_bytes(given)
+            Path(folder, name + ".args").write_text("".join(word + "\n" for word in words))
+        ran = subprocess.run(["rt", "try", "--cases", folder], cwd=ROOT / "crates" / crate, capture_output=True)
+    parts = re.split(rb"^== (\S+)\n", ran.stdout, flags=re.M)
+    found = {name.decode(): output for name, output in zip(parts[1::2], parts[2::2])}
+    if not found:
+        sys.exit(f"{crate}: rt try ran nothing\n{ran.stderr.decode(errors='replace')}")
+    return found
