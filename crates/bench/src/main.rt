@@ -3,6 +3,7 @@
 
 mod lists;
 mod parts;
+mod resizes;
 mod surfaces;
 
 use parts::{NAMES, Part};

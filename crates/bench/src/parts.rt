@@ -1,12 +1,12 @@
 //! The parts of the stack that can be measured.
-use crate::{lists, surfaces};
+use crate::{lists, resizes, surfaces};
 use escape_framing::Framer;
 use escape_stream::{Parser, encode};
 use std::alloc::Global;
 use terminal::{ProgramWidth, Terminal};
 
 pub const NAMES: &str =
-    "bench frame | parse | pieces | collect | encode | show | read_list | write_list | lines | words | due | due_large | large, and how often";
+    "bench frame | parse | pieces | collect | encode | show | read_list | write_list | lines | words | due | due_large | large | resizes, and how often";
 
 /// A part of the stack.
 #[derive(Clone, Copy)]
@@ -37,6 +37,8 @@ pub enum Part {
     DueLarge,
     /// A surface of 2000 columns and 500 rows, its difference and its repaint.
     Large,
+    /// A terminal that is fed and resized in turn.
+    Resizes,
 }
 
 impl Part {
@@ -55,7 +57,7 @@ impl Part {
         }
     }
 
-    // The part of that name that changes surfaces.
+    // The part of that name that changes surfaces or sizes.
     fn of_surfaces(name: &str) -> Option<Part> {
         match name {
             "lines" => Some(Part::Lines),
@@ -63,6 +65,7 @@ impl Part {
             "due" => Some(Part::Due),
             "due_large" => Some(Part::DueLarge),
             "large" => Some(Part::Large),
+            "resizes" => Some(Part::Resizes),
             _ => None,
         }
     }
@@ -76,6 +79,7 @@ impl Part {
             Part::Words => surfaces::words(alloc, input, count),
             Part::Due => surfaces::due(alloc, input, 80, 24, count),
             Part::DueLarge => surfaces::due(alloc, input, 1600, 480, count),
+            Part::Resizes => resizes::resizes(alloc, input, count),
             _ => self.run_on_stream(alloc, input, count),
         }
     }
