@@ -3,11 +3,12 @@
 bench/measure hostile [--check] [WORD ..]    all streams, or those with one of the words in their names
 
 Each stream is run at three sizes under valgrind's callgrind. The three numbers are the instructions for a byte up to the
-first size, from there to the second, and from there to the third, so the third shows a cost that grows with the stream.
-Then the stream is run at three larger sizes without valgrind. The numbers are the peaks of resident memory in MB, and
-`kept` is their growth in bytes for each byte from the first size to the third.
+first size, from there to the second, and from there to the third, so the third shows a cost that grows with the stream:
+first those of `relay`, which reads 4096 bytes at a time, then those of a terminal that is fed the stream in one call, where
+a step that looks at all the rest costs most. Then `relay` is run at three larger sizes without valgrind. The numbers are
+the peaks of resident memory in MB, and `kept` is their growth in bytes for each byte from the first size to the third.
 
-grows, falls    the third number of instructions is more than a tenth above the second, or more than a tenth below
+grows, falls    a third number of instructions is more than a tenth above the second, or more than a tenth below
 memory          a peak is above 8 MB (20 MB on 4096 columns) and twice the largest single text
 keeps           memory grows by more than 0.5 MB and a tenth of a byte for each byte; where the stream is one text, by 2.2
                 bytes for each byte of it
@@ -15,8 +16,9 @@ keeps           memory grows by more than 0.5 MB and a tenth of a byte for each 
 
 At the end come screens of four sizes: instructions and memory of the first update, after 80 letters.
 
---check runs three small sizes at equal distances, and two for memory. A stream fails if it grows, keeps or takes memory as
-above. The last line is 'N passed, M failed'; the status is 1 if anything failed. Without valgrind it says so and passes.
+--check counts the instructions of three small sizes at equal distances, in one call, and looks at memory at two. A stream
+fails if it grows, keeps or takes memory as above. The last line is 'N passed, M failed'; the status is 1 if anything failed.
+Without valgrind it says so and passes.
 """
 import os
 import re
@@ -156,45 +158,53 @@ def tried(run, *given):
 
 class Result(NamedTuple):
     length: int
-    costs: list
+    reads: list
+    call: list
     peaks: list
     kept: float | None
     marks: list
 
 
-def at_sizes(run, stream, counts):
+def at_sizes(run, command, stream, counts):
     """Returns what a run takes at each size; `None` for a size that took too long, and for larger ones."""
     taken = []
     for count in counts:
-        taken.append(tried(run, stream.command(count), stream.bytes(count)) if None not in taken else None)
+        taken.append(tried(run, command(count), stream.bytes(count)) if None not in taken else None)
     return taken
 
 
-def differences(taken, lengths):
-    """Returns the instructions a byte from each size to the next."""
+def costs_of(command, stream, counts):
+    """Returns the instructions a byte from each size to the next; none without a command."""
+    if command(1) is None:
+        return []
+    taken, lengths = at_sizes(instructions, command, stream, counts), [stream.length(it) for it in counts]
     pairs = zip(zip(taken, lengths), zip(taken[1:], lengths[1:]))
     return [None if b is None else (b - a) / (m - n) for (a, n), (b, m) in pairs]
 
 
-def marks_of(stream, costs, peaks, texts, kept):
+def marks_of_costs(costs):
     if None in costs[-2:] or costs[-1] > costs[-2] * FLAT:
         yield "grows"
     elif costs[-1] * FLAT < costs[-2]:
         yield "falls"
+
+
+def marks_of_memory(stream, peaks, texts, kept):
     if any(it is None or it > stream.room + 2 * text for it, text in zip(peaks, texts)):
         yield "memory"
     if kept is None or peaks[-1] - peaks[0] > NOISE and kept >= max(KEPT, KEPT_TEXT * stream.grows):
         yield "keeps"
 
 
-def measure(stream, counts, larger):
-    """Runs a stream at sizes for instructions and at sizes for memory, and marks what grows."""
-    lengths, longer = ([stream.length(it) for it in them] for them in (counts, larger))
-    costs = differences(at_sizes(instructions, stream, counts), lengths)
-    peaks = at_sizes(peak, stream, larger)
-    kept = None if peaks[-1] is None else (peaks[-1] - peaks[0]) / (longer[-1] - longer[0])
-    texts = [stream.largest_text(it) for it in larger]
-    return Result(lengths[-1], costs, peaks, kept, [*marks_of(stream, costs, peaks, texts, kept)])
+def measure(stream, counts, larger, has_both=True):
+    """Runs a stream at sizes for instructions, in reads and in one call or in one of these, and at sizes for memory."""
+    call = costs_of(stream.in_one_call, stream, counts)
+    reads = costs_of(stream.command, stream, counts) if has_both or not call else []
+    peaks, lengths = at_sizes(peak, stream.command, stream, larger), [stream.length(it) for it in larger]
+    kept = None if peaks[-1] is None else (peaks[-1] - peaks[0]) / (lengths[-1] - lengths[0])
+    marks = [mark for costs in (reads, call) if costs for mark in marks_of_costs(costs)]
+    marks += marks_of_memory(stream, peaks, [stream.largest_text(it) for it in larger], kept)
+    return Result(stream.length(counts[-1]), reads, call, peaks, kept, [*dict.fromkeys(marks)])
 
 
 def shown(number, form, of=1):
@@ -202,8 +212,9 @@ def shown(number, form, of=1):
 
 
 def row(name, result):
-    numbers = [f"{shown(it, '.1f'):>9}" for it in result.costs] + [f"{shown(it, '.1f', MB):>8}" for it in result.peaks]
-    return f"{name:32}{result.length / 1000:7.0f}{''.join(numbers)}{shown(result.kept, '.2f'):>7}  {' '.join(result.marks)}"
+    numbers = [f"{shown(it, '.1f'):>8}" for it in (*result.reads, *(result.call or [None] * 3))]
+    numbers += [f"{shown(it, '.1f', MB):>7}" for it in result.peaks]
+    return f"{name:31}{result.length / 1000:6.0f}{''.join(numbers)}{shown(result.kept, '.2f'):>7}  {' '.join(result.marks)}"
 
 
 def first_update(width, height):
@@ -218,9 +229,9 @@ def pool():
 
 def table(streams, screens):
     """Prints a row for each stream, and one for each screen; as many run at a time as there are processors."""
-    print(f"{'':39}{'instructions a byte':>27}{'MB, larger sizes':>24}{'bytes':>7}")
-    heads = [f"{it:>9}" for it in ("to 1st", "to 2nd", "to 3rd")] + [f"{it:>8}" for it in ("1st", "2nd", "3rd")]
-    print(f"{'hostile':32}{'KB':>7}{''.join(heads)}{'kept':>7}  marks", flush=True)
+    print(f"{'':37}{'instructions a byte, reads':>27}{'in one call':>21}{'MB, larger sizes':>21}{'bytes':>7}")
+    heads = [f"{it:>8}" for it in ("to 1st", "to 2nd", "to 3rd") * 2] + [f"{it:>7}" for it in ("1st", "2nd", "3rd")]
+    print(f"{'hostile':31}{'KB':>6}{''.join(heads)}{'kept':>7}  marks", flush=True)
     with pool() as runs:
         # the largest screen takes longest and comes first
         updates = {it: runs.submit(first_update, *it) for it in reversed(screens)}
@@ -236,9 +247,9 @@ def table(streams, screens):
 
 
 def check_of(stream):
-    """Measures a stream at small sizes; a cost that falls is no fault."""
+    """Measures a stream at small sizes, in one call where it can be; a cost that falls is no fault."""
     count = max(stream.counts[0] * 2 // 5, 1)
-    result = measure(stream, (count, 2 * count, 3 * count), stream.larger[:2])
+    result = measure(stream, (count, 2 * count, 3 * count), stream.larger[:2], has_both=False)
     return result._replace(marks=[it for it in result.marks if it != "falls"])
 
 
@@ -249,7 +260,7 @@ def check(streams):
         results = [(it.name, runs.submit(check_of, it)) for it in streams]
         for name, result in results:
             result = result.result()
-            costs = " and ".join(shown(it, ".1f") for it in result.costs)
+            costs = " and ".join(shown(it, ".1f") for it in result.call or result.reads)
             peaks = " and ".join(shown(it, ".1f", MB) for it in result.peaks)
             said = ", ".join(result.marks) or "flat"
             failed += bool(result.marks)
@@ -269,7 +280,7 @@ def main(words):
         print("bench/measure hostile: valgrind is not installed, so nothing is counted")
         print("0 passed, 0 failed")
         return 0
-    for program in {it.command(1)[0] for it in streams}:
+    for program in {command[0] for it in streams for command in (it.command(1), it.in_one_call(1)) if command}:
         if not program.is_file():
             sys.exit(f"bench/measure: {program.relative_to(ROOT)} is not there; bin/build {program.name} builds it")
     if flags:

@@ -41,6 +41,10 @@ class Stream(NamedTuple):
     def command(self, count):
         return [RELAY, *self.words]
 
+    def in_one_call(self, count):
+        """Returns the command that feeds a terminal in one call and not in reads of 4096 bytes, if there is one."""
+        return [BENCH, "show"] if self.words == ("--show",) else None
+
 
 class Repeated(Stream):
     """A part of the program `bench` that runs over one piece, `count` times."""

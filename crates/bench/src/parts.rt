@@ -33,7 +33,7 @@ pub enum Part {
     Words,
     /// Lines that are added to a surface, and the changes behind each.
     Due,
-    /// The same on a surface of 1600 columns and 480 rows.
+    /// Lines that are added to a surface of 1600 columns and 480 rows, and the changes behind each.
     DueLarge,
     /// A surface of 2000 columns and 500 rows, its difference and its repaint.
     Large,
