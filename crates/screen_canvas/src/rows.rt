@@ -296,10 +296,11 @@ pub(crate) fn set_text<'a, W: Widths>(
     ensures rest { IfOk result (λ r. clusters r.1.now ≡ drop (set_clusters at (length (line_at rows.old row).columns) text.now attrs.now (W.width_of w.now)) (clusters text.now)) }
 {
     let written = rows.written_to(row);
-    let width = rows.lines[row].len();
-    let is_bare = rows.is_bare(row) && stays_bare(text, width - at, attrs, w);
+    let room = rows.lines[row].len() - at;
+    let is_bare = rows.is_bare(row) & stays_bare(text, room, attrs, w);
     rows.known[row] = Known::nothing();
     let line = &mut rows.lines[row];
+    let width = line.len();
     let (column, left) = line.set_text(at..width, text, attrs, w)?;
     rows.known[row] = Known::written_to(written.max(column), is_bare);
     Ok((column, left))

@@ -1,4 +1,7 @@
-use Rattle.std.proofs.Common.{length, ap, subst, sym, ◌∙◌, drop, arith, length-set}
+use Rattle.std.proofs.Common.{◌≡◌, ℕ, ◌-◌, ◌++◌, true, length, ap, subst, sym, ◌∙◌, take, drop, arith, length-set}
+use Rattle.std.specs.List.{list_all}
+use Rattle.unicode_segmentation.specs.Grapheme.{graphemes}
+use Rattle.text_clusters.specs.Plain.{each, is_printable}
 use Rattle.cell_base.specs.Cluster.{clusters}
 use Rattle.cell_line.specs.LineCalls.{set_text as text_set, set_text_end, set_clusters}
 use Rattle.screen_canvas.proofs.WrittenLemmas.{text_written}
@@ -35,11 +38,17 @@ invariant_of-rows-2 g c =
     let r = c.requires.within in
     let new = c.set_text.new.self in
     let width_of = g.W.Widths.width_of c.args.w.now in
+    let text = c.args.text.now in
+    let seen = line_is c.rows.inside.lines c.args.rows.now c.args.row c.index.result.now c.rows.view_is c.requires.row_in c.index.ensures in
+    let room = ap (λ n. n - c.args.at) (c.len.ensures ∙ ap (λ (l : LineContent). length l.columns) (seen ∙ sym there) ∙ sym w) in
     known-reset c.args.row c.rows.inside.lines c.rows.inside.known new c.nothing.result c.written_to.result c.rows.invariant
     (known_written c.written_to.result new.columns c.max.result (c.is_bare.result && c.stays_bare.result) c.written_to.ensures
     (text_written x new c.written_to-written.result c.args.at c.len-width.result c.in_ok-column.column c.max.result c.args.text.now c.args.attrs.now width_of h c.in_ok-column.ensures.done c.in_ok-column.ensures.behind c.max.ensures (omega arith) w)
     (λ both. let parts = and_parts c.is_bare.result c.stays_bare.result both in
-    text_bare x new c.args.at c.len-width.result c.args.text.now c.args.attrs.now width_of (c.stays_bare.ensures.unlinked parts.1) (c.stays_bare.ensures.printable parts.1) (c.stays_bare.ensures.clusters parts.1) (c.stays_bare.ensures.narrow parts.1)
+    text_bare x new c.args.at c.len-width.result c.args.text.now c.args.attrs.now width_of (c.stays_bare.ensures.unlinked parts.1)
+    (subst (λ (n : ℕ). list_all is_printable (take n text) ≡ true) room (c.stays_bare.ensures.printable parts.1))
+    (subst (λ (n : ℕ). graphemes true text ≡ each (take n text) ++ graphemes true (drop n text)) room (c.stays_bare.ensures.clusters parts.1))
+    (c.stays_bare.ensures.narrow parts.1)
     (subst (λ (l : LineContent). IsBareRow l.columns) (sym there) (c.is_bare.ensures parts.0)) c.in_ok-column.ensures.done))
 
 pub returns-clause-lines : goal.returns-clause-lines
