@@ -8,7 +8,7 @@ first those of `relay`, which reads 4096 bytes at a time, then those of a termin
 a step that looks at all the rest costs most. Then `relay` is run at three larger sizes without valgrind. The numbers are
 the peaks of resident memory in MB, and `kept` is their growth in bytes for each byte from the first size to the third.
 
-grows, falls    a third number of instructions is more than a tenth above the second, or more than a tenth below
+grows, falls    a third number of instructions is above the second by more than a tenth and 2, or below it by as much
 memory          a peak is above 8 MB (20 MB on 4096 columns) and twice the largest single text
 keeps           memory grows by more than 0.5 MB and a tenth of a byte for each byte; where the stream is one text, by 2.2
                 bytes for each byte of it
@@ -38,8 +38,8 @@ from streams import MB, RELAY, ROOT, SCREENS, STREAMS, letters
 LIMIT, SCREEN_LIMIT = 120, 900
 # How much more a byte may take, and how many bytes of memory may be kept for a byte of a stream and of a single text.
 FLAT, KEPT, KEPT_TEXT = 1.1, 0.1, 2.2
-# What peaks of equal runs may differ by.
-NOISE = MB // 2
+# What is no growth: instructions a byte, as for reading the input, and a difference of peaks.
+FEW, LITTLE = 2, MB // 2
 
 
 class TooLong(Exception):
@@ -183,16 +183,16 @@ def costs_of(command, stream, counts):
 
 
 def marks_of_costs(costs):
-    if None in costs[-2:] or costs[-1] > costs[-2] * FLAT:
+    if None in costs[-2:] or costs[-1] > costs[-2] * FLAT + FEW:
         yield "grows"
-    elif costs[-1] * FLAT < costs[-2]:
+    elif costs[-1] * FLAT + FEW < costs[-2]:
         yield "falls"
 
 
 def marks_of_memory(stream, peaks, texts, kept):
     if any(it is None or it > stream.room + 2 * text for it, text in zip(peaks, texts)):
         yield "memory"
-    if kept is None or peaks[-1] - peaks[0] > NOISE and kept >= max(KEPT, KEPT_TEXT * stream.grows):
+    if kept is None or peaks[-1] - peaks[0] > LITTLE and kept >= max(KEPT, KEPT_TEXT * stream.grows):
         yield "keeps"
 
 
