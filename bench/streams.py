@@ -135,6 +135,7 @@ LARGEST = {"counts": (1, 2, 4), "larger": (60, 200, 600), "text": MB}
 LARGE = {"counts": (3, 6, 12), "larger": (300, 1000, 3000), "text": MB // 10}
 LONG = {"counts": (3, 6, 12), "larger": (100, 200, 400)}
 WIDE = {"counts": (40, 80, 160), "larger": (500, 1000, 2000), "room": 20 * MB, "words": ("--width", "4096", "--show")}
+TALL = {"counts": (5, 10, 20), "larger": (50, 100, 200), "room": 40 * MB, "words": ("--height", "4096", "--show")}
 STREAMS = [
     Stream("one run of ASCII", one_text, counts=(100, 1000, 10_000), larger=(2000, 4000, 10_000), grows=1),
     Stream("one run of wide characters", again("日本語の文字"), grows=1),
@@ -182,6 +183,10 @@ STREAMS = [
     Stream("wide characters that are split", again("\x1b[1;1H日\x1b[1;2H日\x1b[1;3Hx")),
     Stream("insertions and deletions", in_turn(EDITS)),
     Stream("rows of 4096 columns", lambda number: FULL_ROW, **WIDE),
+    Stream("ED 2 on 4096 rows", lambda number: b"\x1b[2J" * 20, **TALL),
+    Stream("RIS on 4096 rows", lambda number: b"\x1bc" * 20, **TALL),
+    Stream("SU on 4096 rows", lambda number: b"\x1b[S" * 20, **TALL),
+    Stream("RI on 4096 rows", lambda number: b"\x1bM" * 20, **TALL),
     Stream("ED 2, updates each 64 bytes", again("\x1b[2Jx"), words=("--every", "64")),
     Stream("SU, updates each 64 bytes", again("\x1b[Sx"), words=("--every", "64")),
     Repeated("resizes", one_text, counts=(20, 40, 80), larger=(200, 400, 800), words=("resizes",)),
