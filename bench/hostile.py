@@ -32,7 +32,7 @@ from concurrent.futures import ThreadPoolExecutor
 from pathlib import Path
 from typing import NamedTuple
 
-from streams import MB, RELAY, ROOT, SCREENS, STREAMS, letters
+from streams import BENCH, MB, RELAY, ROOT, SCREENS, STREAMS, letters
 
 # How many seconds a run may take, and the first update of a large screen.
 LIMIT, SCREEN_LIMIT = 120, 900
@@ -281,9 +281,10 @@ def main(words):
         print("bench/measure hostile: valgrind is not installed, so nothing is counted")
         print("0 passed, 0 failed")
         return 0
-    for program in {command[0] for it in streams for command in (it.command(1), it.in_one_call(1)) if command}:
+    # (each is built with words with which it does nothing but end)
+    for program, built in ((RELAY, "relay --help"), (BENCH, "bench parse")):
         if not program.is_file():
-            sys.exit(f"bench/measure: {program.relative_to(ROOT)} is not there; bin/build {program.name} builds it")
+            sys.exit(f"bench/measure: {program.relative_to(ROOT)} is not there; bin/build {built} builds it")
     if flags:
         return check(streams)
     table(streams, () if names else SCREENS)
