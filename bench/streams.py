@@ -156,7 +156,8 @@ STREAMS = [
     Stream("a link of 1 KB in each cell", links(1000)),
     Stream("a link for each letter", small_links),
     Stream("OSC without an end", one_text, b"\x1b]2;", grows=1),
-    Stream("OSC of many parts", again(";"), b"\x1b]8", b"\x07", grows=1),
+    # (a slice and a vector for each part while the command is read: 18 bytes for each byte where all parts are empty)
+    Stream("OSC of many parts", again(";"), b"\x1b]8", b"\x07", grows=9),
     Stream("DCS body", one_text, b"\x1bP1$r"),
     Stream("sixel", again(SIXEL), counts=(12, 24, 48), larger=(500, 1000, 2000)),
     Stream("APC body", one_text, b"\x1b_"),
