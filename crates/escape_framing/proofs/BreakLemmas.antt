@@ -55,7 +55,7 @@ lead_of c b rest more l e = by_kind (spelled c l.0)
 -- ---- a character that has begun is broken
 
 -- what a byte does, and U+FFFD first
-abbrev broken_step : Handed → Handed
+abbrev pub broken_step : Handed → Handed
 broken_step h = record { dispatches = Print 0xFFFD ∷ h.dispatches; held = h.held }
 
 is_it : (a b : ℕ) → (a == b) ≡ true → a ≡ b
@@ -64,7 +64,7 @@ is_it a b h = grind (arith, nat_tests)
 differs : (a b : ℕ) → (a == b) ≡ false → a ≢ b
 differs a b h n = grind (arith, nat_tests)
 
-bytes_break : (x : ℕ) (p : List ℕ) (b : ℕ) → IsBegun (x ∷ p) → (Inner b → ⊥) → held_step (first_bytes (x ∷ p)) b ≡ broken_step (held_step nothing_held b)
+pub bytes_break : (x : ℕ) (p : List ℕ) (b : ℕ) → IsBegun (x ∷ p) → (Inner b → ⊥) → held_step (first_bytes (x ∷ p)) b ≡ broken_step (held_step nothing_held b)
 bytes_break x p b g n = by_test (b == 0xC2) refl
   where
     lead : held_step (first_bytes (x ∷ p)) 0xC2 ≡ broken_step (held_step nothing_held 0xC2)
@@ -95,7 +95,7 @@ fresh_at : (k : Kept) (b : ℕ) → held_step (record { kept = k; waiting = fals
 unfolding held_step
 fresh_at k b = refl
 
-lead_breaks : (k : Kept) (b : ℕ) → IsSoundIn k true → is_body k ≡ false → (Inner b → ⊥) → held_step (record { kept = k; waiting = true }) b ≡ broken_step (held_step nothing_held b)
+pub lead_breaks : (k : Kept) (b : ℕ) → IsSoundIn k true → is_body k ≡ false → (Inner b → ⊥) → held_step (record { kept = k; waiting = true }) b ≡ broken_step (held_step nothing_held b)
 lead_breaks k b s h n =
     waiting_at k b ∙ other_waiting k b s h (outer_c1 b n) ∙ sym (fresh_at (InCharacter (0xC2 ∷ [])) b) ∙ bytes_break 0xC2 [] b c2_begins n
 
@@ -119,7 +119,7 @@ pub record GoesOn (h : Held) (bytes : List ℕ) (ds : List Framed) (h' : Held) :
   pub lends : (start count : ℕ) → framed_behind start count h bytes ≡ ds ++ framed_behind start count h' bytes
   pub keeps : (hand_out h bytes).held ≡ (hand_out h' bytes).held
 
-broken_goes : (h : Held) (b : ℕ) (rest : List ℕ) → held_step h b ≡ broken_step (held_step nothing_held b) → GoesOn h (b ∷ rest) (Lone (Print 0xFFFD) ∷ []) nothing_held
+pub broken_goes : (h : Held) (b : ℕ) (rest : List ℕ) → held_step h b ≡ broken_step (held_step nothing_held b) → GoesOn h (b ∷ rest) (Lone (Print 0xFFFD) ∷ []) nothing_held
 unfolding placed_behind hand_out
 broken_goes h b rest e = record {
   lends = λ start count. ap (λ (x : Handed). framed start (at_place (count + 1) x.dispatches ++ placed_behind (count + 1) x.held rest)) e ∙ rw (never_lent start (count + 1) 0xFFFD refl) refl;

@@ -34,3 +34,4 @@ mod NumberLemmas
 mod RunLemmas
 mod SkipLemmas
 mod ShortLemmas
+mod AloneLemmas

@@ -130,7 +130,7 @@ final_handed : (p : Parameters) (b : ℕ) → is_final b ≡ true → held_step 
 unfolding held_step fresh_step control_sequence_step
 final_handed p b h = let e = final_not b h in rw (e.3, e.0, e.1, e.2) refl
 
-one_handed : (h : Held) (b : ℕ) (r : Handed) → held_step h b ≡ r → hand_out h (b ∷ []) ≡ record { dispatches = r.dispatches ++ []; held = r.held }
+pub one_handed : (h : Held) (b : ℕ) (r : Handed) → held_step h b ≡ r → hand_out h (b ∷ []) ≡ record { dispatches = r.dispatches ++ []; held = r.held }
 unfolding hand_out
 one_handed h b r e = rw e refl
 

@@ -9,7 +9,7 @@ use Rattle.escape_framing.specs.Quick.{is_body_byte, IsSkipped}
 use Rattle.escape_framing.proofs.QuickLemmas.{body_handed, parameters_handed}
 
 module _ (test : ℕ → Bool) where
-  all_before : (k : ℕ) (xs : List ℕ) → k ≤ prefix_len test xs → list_all test (take k xs) ≡ true
+  pub all_before : (k : ℕ) (xs : List ℕ) → k ≤ prefix_len test xs → list_all test (take k xs) ≡ true
   all_before zero xs l = refl
   all_before (suc k) [] l = refl
   all_before (suc k) (b ∷ xs) l = by_test (test b) refl l (all_before k xs)
@@ -18,11 +18,11 @@ module _ (test : ℕ → Bool) where
       by_test true e l h = let m : suc k ≤ 1 + prefix_len test xs = rw e at l in rw e (h (omega arith))
       by_test false e l h = let m : suc k ≤ 0 = rw e at l in absurd (omega arith)
 
-abbrev with_kept : (List ℕ → Kept) → List ℕ → Held
+abbrev pub with_kept : (List ℕ → Kept) → List ℕ → Held
 with_kept kept front = record { kept = kept front; waiting = false }
 
 -- where each front hands nothing out and is kept so
-skipped : (held after : Held) (bytes : List ℕ) (n : ℕ) (kept : List ℕ → Kept) → n ≤ length bytes → ((k : ℕ) → k ≤ n → hand_out held (take k bytes) ≡ record { dispatches = []; held = with_kept kept (take k bytes) }) → with_kept kept (take n bytes) ≡ after
+pub skipped : (held after : Held) (bytes : List ℕ) (n : ℕ) (kept : List ℕ → Kept) → n ≤ length bytes → ((k : ℕ) → k ≤ n → hand_out held (take k bytes) ≡ record { dispatches = []; held = with_kept kept (take k bytes) }) → with_kept kept (take n bytes) ≡ after
     → ((front : List ℕ) → with_kept kept front ≢ nothing_held) → IsSkipped held bytes n after
 skipped held after bytes n kept l each a differs = record {
   within = l;

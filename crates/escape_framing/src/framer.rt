@@ -16,7 +16,7 @@ use crate::characters::{Characters, Own};
 use crate::dispatch::Dispatch;
 use crate::error::ParseError;
 use crate::parameters::{Parameters, is_parameter};
-use crate::quick::body_of;
+use crate::quick::{body_of, string_len};
 use crate::step::Step;
 use crate::texts::text_len;
 use csi_codec::CsiParam;
@@ -638,7 +638,8 @@ impl Framer {
         }
     }
 
-    // Reads the bytes of a command's body at the front, up to one that may end it or stand for no byte of it.
+    // Reads the bytes of a command's body, or of a string that does nothing, at the front, up to one that may end it or stand
+    // for no byte of it.
     fn read_body(&mut self, bytes: &[u8]) -> Result<usize, AllocError>
         ensures reads { IfOk result (λ n. 0 < n → IsSilent self.old.held bytes.now n self.new.held) }
         ensures none { IfOk result (λ n. n ≡ 0 → self.new ≡ self.old) }
@@ -651,12 +652,13 @@ impl Framer {
                 self.text.extend_from_slice(body)?;
                 Ok(body.len())
             }
+            State::String if !self.waiting => Ok(string_len(bytes)),
             _ => Ok(0),
         }
     }
 
-    // Reads the text at the front, the bytes of a command's body there, or one byte; a text that breaks a character hands
-    // out U+FFFD first, and isn't read yet.
+    // Reads the text at the front, the bytes of a body there that hand nothing out, or one byte; a text that breaks a
+    // character hands out U+FFFD first, and isn't read yet.
     fn read(&mut self, bytes: &[u8]) -> Result<Step, AllocError>
         ensures reads { IfOk result (λ s. Reads self.new.parameters self.old.held bytes.now s self.new.held) }
         ensures failed { IfOk result (λ s. self.new.failed ≡ self.old.failed) }
@@ -684,10 +686,10 @@ impl Framer {
         }
     }
 
-    /// Reads a text at the front of some bytes of one call, the bytes of a command's body there, or one byte, and answers
-    /// what that hands out and how many bytes were read: none where `bytes` is empty, or where a text is to follow behind a
-    /// character that it breaks. A text is made of printable characters, U+0020 to U+007E and from U+00A0, but U+FFFD.
-    /// Refusals are those of `feed`.
+    /// Reads a text at the front of some bytes of one call, the bytes of a body there that hand nothing out, or one byte, and
+    /// answers what that hands out and how many bytes were read: none where `bytes` is empty, or where a text is to follow
+    /// behind a character that it breaks. A text is made of printable characters, U+0020 to U+007E and from U+00A0, but
+    /// U+FFFD. Refusals are those of `feed`.
     pub fn next(&mut self, bytes: &[u8]) -> Result<Step, ParseError>
         ensures reads { IfOk result (λ s. Reads self.new.parameters self.old.held bytes.now s self.new.held) }
         // A call fails where an earlier one was refused memory, and only then is that its error.

@@ -1,16 +1,17 @@
 //! What a framer reads at once where nothing is unfinished: texts, controls, and sequences whose bytes stand there.
-ghost use Rattle.std.specs.Prelude.{◌≡◌, ◌≢◌, ◌↔◌, ◌<◌, ◌≤◌, ℕ, true, ◌∷◌, List, length, take, None, IfSome, IfOk, OnErr, IsErrOf, is_err};
+ghost use Rattle.std.specs.Prelude.{◌≡◌, ◌≢◌, ◌↔◌, ◌<◌, ◌≤◌, ◌⊎◌, ◌==◌, ◌&&◌, not, ℕ, true, IsTrue, [], ◌∷◌, List, length, take, Some, None, IfSome, IfOk, OnErr, IsErrOf, is_err};
 ghost use Rattle.std.specs.List.{prefix_len};
-ghost use Rattle.escape_framing.specs.Bytes.{is_final as in_finals, is_escape_final as in_escape_finals};
+ghost use Rattle.escape_framing.specs.Bytes.{is_stop as in_stops, is_final as in_finals, is_escape_final as in_escape_finals};
 ghost use Rattle.escape_framing.specs.Held.{nothing_held};
 ghost use Rattle.escape_framing.specs.Dispatched.{TakesMemory};
 ghost use Rattle.escape_framing.specs.Framed.{IsTextLen};
 ghost use Rattle.escape_framing.specs.Stepped.{Reads};
 ghost use Rattle.escape_framing.specs.Quick.{text_step, lone_step, control_at, pair_at, IsLastAt, short_parameters, is_body_byte as in_bodies, ender_len as ender_read, ReadsCommand, IsSkipped};
 ghost use Rattle.escape_framing.specs.declared.lone.Lone.TheVariants.{Nothing, Control, Escape, ControlSequence};
+ghost use Rattle.escape_framing.specs.declared.dispatch.Dispatch.TheVariants.{Print, Data};
 
 use crate::error::ParseError;
-use crate::framer::{BEL, C1_LEAD, ESCAPE, Framer, State, is_opener};
+use crate::framer::{BEL, C1_LEAD, ESCAPE, Framer, State, is_opener, is_stop};
 use crate::lone::Lone;
 use crate::short::{ShortSequence, numbers_sequence, short_sequence};
 use crate::texts::{behind, text_len};
@@ -81,6 +82,49 @@ fn ender_len(byte: u8) -> Option<usize>
     } else {
         None
     }
+}
+
+// A byte of a string that stands for itself, also of the data of a device control string: none that ends it, and no C2, which
+// may be half of one that does.
+#[inline(always)]
+fn is_string_byte(byte: u8) -> bool
+    ensures { result ≡ (not (in_stops byte) && not (byte == 0xC2)) }
+{
+    !is_stop(byte) && byte != C1_LEAD
+}
+
+/// How many such bytes stand at the front.
+pub(crate) fn string_len(bytes: &[u8]) -> usize
+    ensures { result ≡ prefix_len (λ b. not (in_stops b) && not (b == 0xC2)) bytes.now }
+{
+    bytes
+        .iter()
+        .take_while(|byte| is_string_byte(**byte))
+        .count()
+}
+
+// A byte that neither begins a character nor goes on one.
+#[inline(always)]
+fn is_stray(byte: u8) -> bool
+    ensures { IsTrue result → (128 ≤ byte) × ((byte < 0xC2) ⊎ (0xF4 < byte)) }
+{
+    matches!(byte, 0x80..=0xc1 | 0xf5..=0xff)
+}
+
+// The first byte of a character of two bytes or more.
+#[inline(always)]
+fn begins_character(byte: u8) -> bool
+    ensures { IsTrue result → (0xC2 ≤ byte) × (byte ≤ 0xF4) }
+{
+    matches!(byte, 0xc2..=0xf4)
+}
+
+// A byte that goes on no character.
+#[inline(always)]
+fn breaks_character(byte: u8) -> bool
+    ensures { IsTrue result → (byte < 128) ⊎ (191 < byte) }
+{
+    !matches!(byte, 0x80..=0xbf)
 }
 
 // A byte of a command's body that stands for itself.
@@ -248,7 +292,58 @@ impl Framer {
         Some((body, body.len() + 2 + more))
     }
 
-    // Reads the bytes at the front that hand nothing out, where they are parameter bytes or bytes of a command's body.
+    /// The byte at the front of some bytes of one call, where it is one of the data of a device control string that is open,
+    /// and no C2 comes before it or is it. The framer needs no change for it: the caller goes on behind this byte. For
+    /// anything else, which it leaves to `next`, it answers `None`, which is never wrong.
+    #[inline(always)]
+    pub fn next_data(&self, bytes: &[u8]) -> Option<u8>
+        ensures { IfSome result (λ byte. Reads self.now.parameters self.now.held bytes.now (record { text = 0; dispatches = Some (Data byte) ∷ []; count = 1 }) self.now.held) }
+    {
+        let (byte, _) = bytes.split_first()?;
+        if !is_string_byte(*byte) {
+            return None;
+        }
+        match self.state {
+            State::Device if !self.waiting => Some(*byte),
+            _ => None,
+        }
+    }
+
+    /// U+FFFD, which the byte at the front of some bytes of one call prints by itself: nothing is unfinished, and it is part
+    /// of no character, or begins one that the byte behind it breaks. The framer needs no change for it: the caller goes on
+    /// behind this byte. For anything else, which it leaves to `next`, it answers `None`, which is never wrong.
+    #[inline(always)]
+    pub fn next_replacement(&self, bytes: &[u8]) -> Option<char>
+        ensures { IfSome result (λ c. Reads self.now.parameters self.now.held bytes.now (record { text = 0; dispatches = Some (Print c) ∷ []; count = 1 }) self.now.held) }
+    {
+        let (byte, others) = bytes.split_first()?;
+        if is_stray(*byte) {
+            return self.replacement();
+        }
+        if !begins_character(*byte) {
+            return None;
+        }
+        let (second, _) = others.split_first()?;
+        if !breaks_character(*second) {
+            return None;
+        }
+        self.replacement()
+    }
+
+    // U+FFFD, where nothing is unfinished.
+    #[inline(always)]
+    fn replacement(&self) -> Option<char>
+        ensures { IfSome result (λ c. (c ≡ 0xFFFD) × (self.now.held ≡ nothing_held)) }
+    {
+        if self.is_idle() {
+            Some('\u{fffd}')
+        } else {
+            None
+        }
+    }
+
+    // Reads the bytes at the front that hand nothing out, where they are parameter bytes, or bytes of a command's body or of a
+    // string that does nothing.
     fn skip_run(&mut self, bytes: &[u8]) -> Result<usize, AllocError>
         ensures reads { IfOk result (λ n. IsSkipped self.old.held bytes.now n self.new.held) }
         ensures failed { IfOk result (λ n. self.new.failed ≡ self.old.failed) }
@@ -261,12 +356,14 @@ impl Framer {
                 self.text.extend_from_slice(body)?;
                 Ok(body.len())
             }
+            State::String if !self.waiting => Ok(string_len(bytes)),
             _ => Ok(0),
         }
     }
 
     /// Reads the bytes at the front that hand nothing out, as many as are read at once, and answers how many: parameter
-    /// bytes of a control sequence that has begun, bytes of the body of a command. Refusals are those of `feed`.
+    /// bytes of a control sequence that has begun, bytes of the body of a command, or of a string that does nothing.
+    /// Refusals are those of `feed`.
     pub fn skip(&mut self, bytes: &[u8]) -> Result<usize, ParseError>
         ensures reads { IfOk result (λ n. IsSkipped self.old.held bytes.now n self.new.held) }
         // A call fails where an earlier one was refused memory, and only then is that its error.

@@ -6,6 +6,8 @@ use Rattle.escape_framing.specs.Parameters.{Parameters}
 use Rattle.escape_framing.specs.Framing.{Framing}
 use Rattle.escape_framing.specs.Stepped.{Reads}
 use Rattle.escape_framing.specs.Quick.{text_step, lone_step, short_parameters}
+use Rattle.escape_framing.specs.Dispatched.{dispatches_in}
+use Rattle.escape_framing.specs.declared.dispatch.Dispatch.{Dispatch}
 use Rattle.escape_framing.specs.declared.short.ShortSequence.{ShortSequence}
 use Rattle.escape_stream.proofs.LoneReading.{lone_read, queue_of, queued, sequence_queued}
 use Rattle.escape_framing.specs.Framed.{framed, framed_behind, placed_behind, begun_bytes, IsText}
@@ -24,6 +26,7 @@ use Rattle.std.specs.Iterator.{MakesProgress, at_most}
 use Rattle.escape_osc.specs.Parts.{parts_of}
 use Rattle.escape_osc.specs.Reading.{osc_reading}
 use Rattle.escape_stream.specs.StreamAction.{StreamAction, command}
+use Rattle.escape_stream.specs.StreamActions.{actions_of}
 use Rattle.escape_stream.specs.StreamActionView.{value_of}
 use Rattle.escape_stream.specs.Pending.{Gives}
 use Rattle.escape_stream.specs.Queue.{queue_actions, sequence_values}
@@ -295,6 +298,32 @@ gives_pair old new a control u q r v p b n w =
     lone_gives old old old new [] (lone.Escape control) a (stays old u) (nothing_changes old) (q old.parser.now.parameters)
     (lone_read old new (drop old.count old.bytes.now) (lone.Escape control) refl (rw p r) n (λ x. rw w (q x)))
     b v
+
+-- ---- a byte at once
+
+-- a queue that holds its dispatch
+byte_queue : Dispatch → Queue
+byte_queue d = record { sequence = None; waiting = Some (record { first = Some d; second = None; third = None; fourth = None }) }
+
+byte_queued : (p : Parameters) (d : Dispatch) → queue_actions p (byte_queue d) ≡ actions_of (dispatches_in p (Some d ∷ []))
+unfolding byte_queue
+byte_queued p d = refl
+
+pub gives_byte : (old new : Pieces) (bytes : List ℕ) (a : Action) (d : Dispatch) → IsUnderWay old → ((p : Parameters) → queue_actions p old.queue ≡ []) → bytes ≡ drop old.count old.bytes.now → Reads old.parser.now.parameters old.parser.now.held bytes (record { text = 0; dispatches = Some d ∷ []; count = 1 }) old.parser.now.held
+    → ((p : Parameters) → actions_of (dispatches_in p (Some d ∷ [])) ≡ value_of a ∷ []) → new.parser.now ≡ old.parser.now → new.bytes ≡ old.bytes → new.count ≡ old.count + 1 → new.queue ≡ old.queue → HasGiven old (Some (code.Action a)) new
+gives_byte old new bytes a d u q e r v p b n w =
+    let x = new.parser.now.parameters in
+    let h : HasRead old 0 (loaded new (byte_queue d)) = record {
+      step = record { text = 0; dispatches = Some d ∷ []; count = 1 };
+      reads = rw p (subst (λ (l : List ℕ). Reads old.parser.now.parameters old.parser.now.held l (record { text = 0; dispatches = Some d ∷ []; count = 1 }) old.parser.now.held) e r);
+      is_text = refl;
+      count = n;
+      queued = λ z. byte_queued x d;
+      emptied = λ z. absurd (z refl);
+    } in
+    gives_action old (loaded new (byte_queue d)) new a (goes_on old old old (loaded new (byte_queue d)) [] 0 (stays old u) (nothing_changes old) (q old.parser.now.parameters) h b refl)
+    (record { parser = refl; bytes = refl; count = refl })
+    (byte_queued x d ∙ v x ∙ ap (λ (l : List StreamAction). value_of a ∷ l) (sym (rw w (q x))))
 
 -- ---- a command at once
 

@@ -1,5 +1,5 @@
 //! The parser: from bytes to actions.
-ghost use Rattle.std.specs.Prelude.{◌≡◌, ◌≢◌, ◌↔◌, IsTrue, ℕ, ◌<◌, true, false, IsErrOf, IfOk, Option, Some, None, IfSome, List, [], ◌++◌, map, length, is_err};
+ghost use Rattle.std.specs.Prelude.{◌≡◌, ◌≢◌, ◌↔◌, IsTrue, ℕ, ◌<◌, true, false, IsErrOf, IfOk, Option, Some, None, IfSome, List, [], ◌∷◌, ◌++◌, map, length, is_err};
 ghost use Rattle.escape_framing.specs.Decides.{Decides};
 ghost use Rattle.escape_framing.specs.Dispatched.{optional, dispatches_in};
 ghost use Rattle.escape_framing.specs.Held.{held_step, held_of, nothing_held};
@@ -12,6 +12,7 @@ ghost use Rattle.escape_framing.specs.Framed.{IsReached};
 ghost use Rattle.escape_framing.specs.Stepped.{Reads};
 ghost use Rattle.escape_framing.specs.Quick.{text_step, lone_step, short_parameters, ReadsCommand, IsSkipped};
 ghost use Rattle.escape_framing.specs.declared.lone.Lone.TheVariants.{Nothing, Control, Escape, ControlSequence};
+ghost use Rattle.escape_framing.specs.declared.dispatch.Dispatch.TheVariants.{Print, Data};
 ghost use Rattle.escape_stream.specs.PiecesView.{lender_of, parser_of, open_pieces, held_at_end, IsUnderWay, IsOpen, HadFailed, IsReady};
 ghost use Rattle.escape_stream.specs.Pieces.{pieces};
 ghost use Rattle.escape_stream.specs.Queue.{queue_actions, sequence_values, IsEmpty};
@@ -169,6 +170,22 @@ impl Parser {
         ensures { IfSome result (λ byte. Reads self.now.parameters self.now.held bytes.now (lone_step (Escape byte)) self.now.held) }
     {
         self.framer.next_pair(bytes)
+    }
+
+    // The byte at the front, where it is one of the data of a device control string.
+    #[inline(always)]
+    pub(crate) fn read_data(&self, bytes: &[u8]) -> Option<u8>
+        ensures { IfSome result (λ byte. Reads self.now.parameters self.now.held bytes.now (record { text = 0; dispatches = Some (Data byte) ∷ []; count = 1 }) self.now.held) }
+    {
+        self.framer.next_data(bytes)
+    }
+
+    // U+FFFD, where the byte at the front prints it by itself.
+    #[inline(always)]
+    pub(crate) fn read_replacement(&self, bytes: &[u8]) -> Option<char>
+        ensures { IfSome result (λ c. Reads self.now.parameters self.now.held bytes.now (record { text = 0; dispatches = Some (Print c) ∷ []; count = 1 }) self.now.held) }
+    {
+        self.framer.next_replacement(bytes)
     }
 
     // The body of the command at the front, where nothing is unfinished and the bytes decide it, and how many bytes are read.

@@ -8,9 +8,11 @@ ghost use Rattle.escape_stream.specs.Pending.{Gives, pending_values};
 ghost use Rattle.escape_stream.specs.StreamActionView.{value_of};
 ghost use Rattle.escape_stream.specs.Queue.{queue_actions, sequence_values, IsEmpty};
 ghost use Rattle.escape_framing.specs.declared.lone.Lone.TheVariants.{Nothing};
+ghost use Rattle.escape_stream.specs.declared.pieces.Piece.TheVariants as piece;
 
 use crate::action::Action;
 use crate::control::ControlCode;
+use crate::device::DeviceControlMode;
 use crate::parser::Parser;
 use crate::pending::{command_action, control_action};
 use crate::queue::{Queue, numbers_action, short_action};
@@ -616,7 +618,45 @@ impl<'a> Pieces<'a> {
         if let Some(control) = self.control() {
             return Some(Ok(self.take_control(control)));
         }
+        self.next_by_byte()
+    }
+
+    // The action of the byte at the front of the bytes that are left, where it has one by itself: a byte of the data of a
+    // device control string, or one that is ill-formed.
+    #[inline(always)]
+    fn byte_action(&self) -> Option<Action>
+        requires within { self.now.count ≤ length self.now.bytes.now }
+        requires empty { IsEmpty self.now.queue }
+        ensures { IfSome result (λ action. HandsOutAtOnce self.now (Ok (piece.Action action)) (record self.now { count = self.now.count + 1 })) }
+    {
+        let bytes = behind(self.bytes, self.count);
+        if let Some(byte) = self.parser.read_data(bytes) {
+            return Some(Action::DeviceControl(DeviceControlMode::Data(byte)));
+        }
+        let replacement = self.parser.read_replacement(bytes)?;
+        Some(Action::Print(replacement))
+    }
+
+    // The next item of pieces that are open, where nothing waits: of a byte that has an action by itself at once.
+    #[inline(never)]
+    fn next_of_byte(&mut self) -> Option<Result<Piece<'a>, ParseError>>
+        requires { IsIdle self.old }
+        ensures { PiecesGo self.old result self.new }
+    {
+        if let Some(action) = self.byte_action() {
+            self.count += 1;
+            return Some(Ok(Piece::Action(action)));
+        }
         self.next_by_loop()
+    }
+
+    // `next_of_byte`, called where it is wanted, as `next_by_loop` is.
+    #[inline(always)]
+    fn next_by_byte(&mut self) -> Option<Result<Piece<'a>, ParseError>>
+        requires { IsIdle self.old }
+        ensures { PiecesGo self.old result self.new }
+    {
+        self.next_of_byte()
     }
 
     // The next item of pieces that are open: a text, a sequence or a control at once.
@@ -633,7 +673,7 @@ impl<'a> Pieces<'a> {
         }
         let len = self.text_len();
         if len == 0 {
-            return self.next_by_loop();
+            return self.next_by_byte();
         }
         Some(Ok(self.take_text(len)))
     }

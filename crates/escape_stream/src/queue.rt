@@ -1,5 +1,5 @@
 //! The actions of a step's dispatches, one by one.
-ghost use Rattle.std.specs.Prelude.{◌≡◌, ◌++◌, [], ◌∷◌, IfOk, IfSome, None, Some, false};
+ghost use Rattle.std.specs.Prelude.{◌≡◌, ◌++◌, [], ◌∷◌, IfOk, IfSome, IsTrue, None, Some, false};
 ghost use Rattle.escape_framing.specs.Quick.{short_parameters};
 ghost use Rattle.escape_stream.specs.StreamActionView.{value_of};
 ghost use Rattle.escape_framing.specs.Dispatched.{optional, dispatches_in};
@@ -57,6 +57,21 @@ impl Waiting {
             return third;
         }
         self.fourth.take()
+    }
+
+    // Whether there is none.
+    fn is_over(&self) -> bool
+        ensures { IsTrue result → (p : Parameters) → waiting_dispatches p (Some self.now) ≡ [] }
+    {
+        matches!(
+            self,
+            Waiting {
+                first: None,
+                second: None,
+                third: None,
+                fourth: None,
+            }
+        )
     }
 }
 
@@ -241,7 +256,7 @@ impl Queue {
     {
         let waiting = self.waiting.as_mut()?;
         let first = waiting.pop();
-        if first.is_none() {
+        if first.is_none() || waiting.is_over() {
             forget(&mut self.waiting);
         }
         first
