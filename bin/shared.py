@@ -1,6 +1,9 @@
-"""What the scripts share: how many checks run side by side, and runs of a program from its sources, unproved."""
+"""What the scripts share: the kit's module, how many checks run side by side, and runs of the sources, unproved."""
+import importlib.machinery
+import importlib.util
 import os
 import re
+import shutil
 import subprocess
 import sys
 import tempfile
@@ -9,6 +12,18 @@ from pathlib import Path
 ROOT = Path(__file__).resolve().parent.parent
 # Memory for each check side by side, in KiB: more than any crate here has taken.
 ROOM = 5 * 1024 * 1024
+
+
+def load_kit():
+    """Returns the kit's own module on crates, which knows how a crate is checked over the libraries below it."""
+    rt = shutil.which("rt")
+    if not rt:
+        sys.exit("the Rattle kit's command rt is not on the path")
+    loader = importlib.machinery.SourceFileLoader("rtlib", str(Path(rt).resolve().parent / "rtlib.py"))
+    kit = importlib.util.module_from_spec(importlib.util.spec_from_loader("rtlib", loader))
+    sys.modules["rtlib"] = kit
+    loader.exec_module(kit)
+    return kit
 
 
 def lanes():
