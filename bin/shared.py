@@ -1,4 +1,5 @@
 """What the scripts share: the kit's module, how many checks run side by side, and runs of the sources, unproved."""
+import functools
 import importlib.machinery
 import importlib.util
 import os
@@ -23,6 +24,8 @@ def load_kit():
     kit = importlib.util.module_from_spec(importlib.util.spec_from_loader("rtlib", loader))
     sys.modules["rtlib"] = kit
     loader.exec_module(kit)
+    # (a library's sum is asked for once for each way up to it, of which there are many, and sources stay as they are)
+    kit.Crate.stamp = functools.cache(kit.Crate.stamp)
     return kit
 
 
