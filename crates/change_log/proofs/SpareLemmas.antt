@@ -9,29 +9,6 @@ use Rattle.cell_change.specs.declared.change.Change.{Change}
 use Rattle.change_log.specs.LogView.{nothing}
 use Rattle.change_log.specs.SpareView.{AreCounted, spare_bytes}
 
--- at most 64 KB
-pub bounded : (texts : List (String Global)) (bytes : ℕ) → AreCounted texts bytes → spare_bytes texts ≤ 65536
-bounded texts bytes h = let c = h.counted in let b = h.bounded in omega arith
-
--- one text more
-pub one_more : (texts new : List (String Global)) (text : String Global) (bytes : ℕ) → new ≡ texts ++ text ∷ [] → AreCounted texts bytes → bytes + string_capacity text ≤ 65536 → length texts < 1024 → AreCounted new (bytes + string_capacity text)
-one_more texts new text bytes e h b l =
-    subst (λ (ts : List (String Global)). AreCounted ts (bytes + string_capacity text)) (sym e) (record {
-      counted = sum_by-append string_capacity texts (text ∷ []) ∙ (let c = h.counted in omega arith);
-      bounded = b;
-      few = let n = length-append texts (text ∷ []) in omega arith;
-    })
-
--- one text less
-pub one_less : (texts new : List (String Global)) (text : String Global) (bytes left : ℕ) → texts ≡ new ++ text ∷ [] → left + string_capacity text ≡ bytes → AreCounted texts bytes → AreCounted new left
-one_less texts new text bytes left e l h =
-    let n = ap length e ∙ length-append new (text ∷ []) in
-    let f = h.few in
-    let b = h.bounded in
-    let c = h.counted in
-    let s = ap (sum_by string_capacity) e ∙ sum_by-append string_capacity new (text ∷ []) in
-    record { counted = omega arith; bounded = omega arith; few = omega arith }
-
 -- one place more holds nothing
 pub one_dropped : (changes : List Change) (at : ℕ) → at < length changes → take at changes ≡ replicate at nothing → take (at + 1) (slice_set changes at nothing) ≡ replicate (at + 1) nothing
 one_dropped changes at h e =

@@ -1,5 +1,5 @@
 -- The memory that is kept of dropped texts.
-use Rattle.std.specs.Prelude.{◌≡◌, ℕ, ◌≤◌, List, String, length, sum_by}
+use Rattle.std.specs.Prelude.{◌≡◌, ℕ, ◌≤◌, List, String, All, length, sum_by}
 use Rattle.std.specs.String.{string_capacity}
 use Rattle.std.specs.declared.alloc.Global.{Global}
 
@@ -7,8 +7,9 @@ use Rattle.std.specs.declared.alloc.Global.{Global}
 abbrev pub spare_bytes : List (String Global) → ℕ
 spare_bytes texts = sum_by string_capacity texts
 
--- so many bytes, at most 64 KB, in at most 1024 texts
+-- so many bytes, at most 64 KB, in at most 1024 texts of at most 1 KB each
 pub record AreCounted (texts : List (String Global)) (bytes : ℕ) : Type 0 where
   pub counted : spare_bytes texts ≡ bytes
   pub bounded : bytes ≤ 65536
   pub few : length texts ≤ 1024
+  pub small : All (λ t. string_capacity t ≤ 1024) texts

@@ -206,7 +206,7 @@ impl ChangeLog {
         Ok(())
     }
 
-    /// An empty text, with the memory of one that was logged and is gone, where there is some.
+    /// An empty text, with the memory of one that was logged and dropped, where there is some.
     pub fn spare_text(&mut self) -> String
         ensures empty { string_bytes result ≡ [] }
         ensures same { self.new ≡ self.old }
@@ -234,7 +234,7 @@ impl ChangeLog {
         if self.start < self.changes.len() {
             self.number += 1;
         }
-        self.changes.clear();
+        self.changes = Vec::new(*self.changes.allocator());
         self.start = 0;
         self.most = most;
     }

@@ -5,8 +5,10 @@ ghost use Rattle.std.specs.String.{string_bytes};
 use std::alloc::Global;
 use std::marker::Model;
 
-// How many texts leave their memory at most.
+// How many texts leave their memory at most, and how many bytes of it each of them.
 const MOST_TEXTS: usize = 1024;
+
+const MOST_BYTES: usize = 1024;
 
 /// How many bytes of memory are kept at most.
 pub(crate) const MOST_SPARE: usize = 65536;
@@ -40,13 +42,13 @@ impl SpareTexts {
         }
     }
 
-    /// Keeps the memory of a text, unless enough is kept, or room for one more is refused.
+    /// Keeps the memory of a text, unless it is much or enough is kept, or room for one more is refused.
     #[inline(always)]
     pub(crate) fn put(&mut self, text: String)
         ensures { self.new ≤ MOST_SPARE }
     {
         let bytes = text.capacity();
-        if MOST_SPARE - self.bytes < bytes || MOST_TEXTS <= self.texts.len() {
+        if MOST_BYTES < bytes || MOST_SPARE - self.bytes < bytes || MOST_TEXTS <= self.texts.len() {
             return;
         }
         if self.texts.push(text).is_ok() {
