@@ -9,7 +9,8 @@ a step that looks at all the rest costs most. Then `relay` is run at three large
 the peaks of resident memory in MB, and `kept` is their growth in bytes for each byte from the first size to the third.
 
 grows, falls    a third number of instructions is above the second by more than a tenth and 2, or below it by as much
-memory          a peak is above 8 MB (20 MB on 4096 columns) and twice the largest single text
+dear            a byte takes more than the bound that is named for the stream
+memory          a peak is above 8 MB (20 MB on 4096 columns, 40 MB on 4096 rows) and twice the largest single text
 keeps           memory grows by more than 0.5 MB and a tenth of a byte for each byte; where the stream is one text, by 2.2
                 bytes for each byte of it
 -               the run was not over after two minutes; larger sizes were left out
@@ -30,7 +31,7 @@ import threading
 import time
 from concurrent.futures import ThreadPoolExecutor
 from pathlib import Path
-from typing import NamedTuple
+from typing import NamedTuple, Optional
 
 from streams import BENCH, MB, RELAY, ROOT, SCREENS, STREAMS, letters
 
@@ -161,7 +162,7 @@ class Result(NamedTuple):
     reads: list
     call: list
     peaks: list
-    kept: float | None
+    kept: Optional[float]
     marks: list
 
 
@@ -182,7 +183,9 @@ def costs_of(command, stream, counts):
     return [None if b is None else (b - a) / (m - n) for (a, n), (b, m) in pairs]
 
 
-def marks_of_costs(costs):
+def marks_of_costs(costs, most):
+    if most and not (costs[-1] and costs[-1] <= most):
+        yield "dear"
     if None in costs[-2:] or costs[-1] > costs[-2] * FLAT + FEW:
         yield "grows"
     elif costs[-1] * FLAT + FEW < costs[-2]:
@@ -202,7 +205,7 @@ def measure(stream, counts, larger, has_both=True):
     reads = costs_of(stream.command, stream, counts) if has_both or not call else []
     peaks, lengths = at_sizes(peak, stream.command, stream, larger), [stream.length(it) for it in larger]
     kept = None if peaks[-1] is None else (peaks[-1] - peaks[0]) / (lengths[-1] - lengths[0])
-    marks = [mark for costs in (reads, call) if costs for mark in marks_of_costs(costs)]
+    marks = [mark for costs in (reads, call) if costs for mark in marks_of_costs(costs, stream.most)]
     marks += marks_of_memory(stream, peaks, [stream.largest_text(it) for it in larger], kept)
     return Result(stream.length(counts[-1]), reads, call, peaks, kept, [*dict.fromkeys(marks)])
 

@@ -22,6 +22,8 @@ class Stream(NamedTuple):
     # bytes of the largest single text; or, where the stream is one text, bytes of this text for each byte of the stream
     text: int = 4096
     grows: float = 0
+    # instructions a byte at most, where a bound is named
+    most: float = 0
     # memory that the program may take besides
     room: int = 8 * MB
     words: tuple = ("--show",)
@@ -137,7 +139,7 @@ LONG = {"counts": (3, 6, 12), "larger": (100, 200, 400)}
 WIDE = {"counts": (40, 80, 160), "larger": (500, 1000, 2000), "room": 20 * MB, "words": ("--width", "4096", "--show")}
 TALL = {"counts": (5, 10, 20), "larger": (400, 800, 1600), "room": 40 * MB, "words": ("--height", "4096", "--show")}
 STREAMS = [
-    Stream("one run of ASCII", one_text, counts=(100, 1000, 10_000), larger=(2000, 4000, 10_000), grows=1),
+    Stream("one run of ASCII", one_text, counts=(100, 1000, 10_000), larger=(2000, 4000, 10_000), grows=1, most=50),
     Stream("one run of wide characters", again("日本語の文字"), grows=1),
     Stream("one run of letters with a mark", again("e\u0301"), grows=1),
     Stream("marks on one letter", again("\u0301"), b"a", grows=1),

@@ -1,4 +1,4 @@
-"""What the scripts share: the kit's module, how many checks run side by side, and runs of the sources, unproved."""
+"""What the scripts share: the kit, how many checks run side by side, runs of the sources, recorded sessions."""
 import functools
 import importlib.machinery
 import importlib.util
@@ -15,15 +15,20 @@ ROOT = Path(__file__).resolve().parent.parent
 ROOM = 5 * 1024 * 1024
 
 
+def kit_command():
+    """Returns the path of the kit's command."""
+    return shutil.which("rt") or sys.exit("the Rattle kit's command rt is not on the path")
+
+
 def load_kit():
     """Returns the kit's own module on crates, which knows how a crate is checked over the libraries below it."""
-    rt = shutil.which("rt")
-    if not rt:
-        sys.exit("the Rattle kit's command rt is not on the path")
-    loader = importlib.machinery.SourceFileLoader("rtlib", str(Path(rt).resolve().parent / "rtlib.py"))
+    file = Path(kit_command()).resolve().parent / "rtlib.py"
+    loader = importlib.machinery.SourceFileLoader("rtlib", str(file))
     kit = importlib.util.module_from_spec(importlib.util.spec_from_loader("rtlib", loader))
     sys.modules["rtlib"] = kit
     loader.exec_module(kit)
+    if any(not hasattr(kit, it) for it in ("Crate", "crates_below", "guarded", "lock")):
+        sys.exit("the scripts are made for another Rattle kit: README names it, rt version names the one in use")
     # (a library's sum is asked for once for each way up to it, of which there are many, and sources stay as they are)
     kit.Crate.stamp = functools.cache(kit.Crate.stamp)
     return kit
@@ -32,7 +37,7 @@ def load_kit():
 def lanes():
     """Returns how many checks run side by side: one a processor, as far as memory holds them, or RT_JOBS."""
     free = int(re.search(r"MemAvailable:\s+(\d+)", Path("/proc/meminfo").read_text())[1])
-    return int(os.environ.get("RT_JOBS") or max(min(len(os.sched_getaffinity(0)), free // ROOM), 1))
+    return max(int(os.environ.get("RT_JOBS") or min(len(os.sched_getaffinity(0)), free // ROOM)), 1)
 
 
 def outputs(crate, cases):
@@ -46,9 +51,19 @@ def outputs(crate, cases):
         for name, (words, given) in cases.items():
             Path(folder, name).write_bytes(given)
             Path(folder, name + ".args").write_text("".join(word + "\n" for word in words))
-        ran = subprocess.run(["rt", "try", "--cases", folder], cwd=ROOT / "crates" / crate, capture_output=True)
+        words = [kit_command(), "try", "--cases", folder]
+        ran = subprocess.run(words, cwd=ROOT / "crates" / crate, capture_output=True)
     parts = re.split(rb"^== (\S+)\n", ran.stdout, flags=re.M)
     found = {name.decode(): output for name, output in zip(parts[1::2], parts[2::2])}
     if not found:
         sys.exit(f"{crate}: rt try ran nothing\n{ran.stderr.decode(errors='replace')}")
+    return found
+
+
+def recordings():
+    """Returns the recorded sessions: name, bytes, size, and the rows that are expected."""
+    found = []
+    for file in sorted((ROOT / "docs/sessions").glob("*.bytes")):
+        width, height = file.stem.rsplit("-", 1)[1].split("x")
+        found.append((file.stem, file.read_bytes(), (int(width), int(height)), file.with_suffix(".rows").read_text()))
     return found
