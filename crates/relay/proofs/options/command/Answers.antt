@@ -17,7 +17,7 @@ pub returns : goal.returns
 unfolding command_line
 returns c =
     let width : app_of c.in_ok-arg.field-0 ≡ with_width =
-    c.in_ok-arg.ensures.shape c.number_option-width.ensures.local ∙ ap₂ with_rule c.named_command.ensures c.number_option-width.ensures.rule in
+    c.in_ok-arg.ensures.shape c.number_option-width.ensures.local ∙ ap₂ with_rule c.in_ok-named_command.ensures c.number_option-width.ensures.rule in
     let height : app_of c.in_ok-arg-2.field-0 ≡ with_height =
     c.in_ok-arg-2.ensures.shape c.number_option-height.ensures.local ∙ ap₂ with_rule width c.number_option-height.ensures.rule in
     let every : app_of c.in_ok-arg-3.field-0 ≡ with_every =
