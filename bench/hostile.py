@@ -284,10 +284,9 @@ def main(words):
         print("bench/measure hostile: valgrind is not installed, so nothing is counted")
         print("0 passed, 0 failed")
         return 0
-    # (each is built with words with which it does nothing but end)
-    for program, built in ((RELAY, "relay --help"), (BENCH, "bench parse")):
+    for program in (RELAY, BENCH):
         if not program.is_file():
-            sys.exit(f"bench/measure: {program.relative_to(ROOT)} is not there; bin/build {built} builds it")
+            sys.exit(f"bench/measure: {program.relative_to(ROOT)} is not there; bin/build {program.name} builds it")
     if flags:
         return check(streams)
     table(streams, () if names else SCREENS)

@@ -46,11 +46,29 @@ fn line_cells(alloc: Global, line: &Line) -> Result<Vec<Cell>, AllocError>
     Ok(cells)
 }
 
+// How many bytes the text of a line has, with its line feed.
+fn line_len(line: &Line) -> usize {
+    let mut len = 1_usize;
+    for cell in line.visible_cells() {
+        len = len.saturating_add(cell.str().len());
+    }
+    len
+}
+
+// How many bytes the texts of lines have: room for them is asked for once, so that a large text never stands in two places.
+fn text_len(lines: &[Line]) -> usize {
+    let mut len = 0_usize;
+    for line in lines {
+        len = len.saturating_add(line_len(line));
+    }
+    len
+}
+
 // The texts of lines, each with a line feed behind it.
 fn lines_text(alloc: Global, lines: &[Line]) -> Result<String, AllocError>
     ensures { IfOk result (λ text. string_bytes text ≡ flat_map (λ row. row_text row ++ 10 ∷ []) (map (λ line. line.columns) lines.now)) }
 {
-    let mut text = String::new(alloc);
+    let mut text = String::with_capacity(alloc, text_len(lines))?;
     for line in lines {
         push_line(&mut text, line)?;
     }
