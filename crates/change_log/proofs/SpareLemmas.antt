@@ -1,13 +1,9 @@
--- Texts whose memory is kept, and places of dropped changes.
-use Rattle.std.proofs.Common.{◌≡◌, ℕ, ◌+◌, ◌<◌, ◌≤◌, List, [], ◌∷◌, ◌++◌, length, take, drop, ap, sym, subst, ◌∙◌, arith, length-append}
-use Rattle.std.specs.Prelude.{replicate, String, slice_set, sum_by}
-use Rattle.std.specs.String.{string_capacity}
-use Rattle.std.specs.declared.alloc.Global.{Global}
-use Rattle.std.proofs.lemmas.List.{drop-drop, drop-set-lt, replicate-append-replicate, take_at, take_more_set}
-use Rattle.std.proofs.lemmas.List.Sums.{sum_by-append}
+-- Places of dropped changes.
+use Rattle.std.proofs.Common.{◌≡◌, ℕ, ◌+◌, ◌<◌, List, [], ◌∷◌, ◌++◌, length, take, drop, ap, sym, ◌∙◌, arith}
+use Rattle.std.specs.Prelude.{replicate, slice_set}
+use Rattle.std.proofs.lemmas.List.{drop-drop, drop-set-lt, replicate-append-replicate, take_more_set}
 use Rattle.cell_change.specs.declared.change.Change.{Change}
 use Rattle.change_log.specs.LogView.{nothing}
-use Rattle.change_log.specs.SpareView.{AreCounted, spare_bytes}
 
 -- one place more holds nothing
 pub one_dropped : (changes : List Change) (at : ℕ) → at < length changes → take at changes ≡ replicate at nothing → take (at + 1) (slice_set changes at nothing) ≡ replicate (at + 1) nothing
@@ -18,7 +14,3 @@ one_dropped changes at h e =
 pub rest_stays : (changes old : List Change) (at : ℕ) → drop at changes ≡ drop at old → drop (at + 1) (slice_set changes at nothing) ≡ drop (at + 1) old
 rest_stays changes old at e =
     drop-set-lt (at + 1) changes at nothing (omega arith) ∙ sym (drop-drop 1 at changes) ∙ ap (drop 1) e ∙ drop-drop 1 at old
-
--- a vector that is written through its slice holds what the slice does
-pub written : (n : ℕ) (new old : List Change) → length new ≡ n → take n (new ++ drop (length new) old) ≡ new
-written n new old e = take_at new (drop (length new) old) n e
