@@ -1,3 +1,4 @@
+pub mod AnswerLemmas
 pub mod AppendLemmas
 pub mod GoLemmas
 pub mod LawLemmas

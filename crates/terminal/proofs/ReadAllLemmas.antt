@@ -4,62 +4,17 @@ use Rattle.std.specs.Prelude.{IfSome}
 use Rattle.std.specs.Io.KnownBytes.{Consumes, IsAtEnd}
 use Rattle.cell_base.specs.Screen.{Screen, screen_text}
 use Rattle.cell_surface.specs.Surface.{number_of}
-use Rattle.change_log.specs.LogSteps.{Sized}
-use Rattle.terminal.specs.Fed.{AnswersAt, IsFed, FeedsOn, Feeds, FeedingNeedsNumber}
-use Rattle.terminal.specs.Sent.{IsAt, IsCounted, lightened}
+use Rattle.terminal.specs.Fed.{AnswersAt, AnswersNow, IsFed, FeedsOn, Feeds, FeedingNeedsNumber}
+use Rattle.terminal.specs.Sent.{IsAt, Lightens}
 use Rattle.terminal.specs.Shown.{rows_shown}
 use Rattle.terminal.specs.Terminal.{Terminal, GoesBy, NeedsNumber, state_in}
-use Rattle.terminal.proofs.GoLemmas.{stays}
-use Rattle.terminal.proofs.UpdateLemmas.{goes_at, lightened_at, needs_at, number_rises, pieces_join}
+use Rattle.terminal.proofs.AnswerLemmas.{pieces_join, number_rises, answers_first, answers_on, answers_at_rest, answers_later, answers_lighter, number_there, needs_there}
 use Rattle.terminal_table.specs.History.{History, Piece, Look, Forget}
 use Rattle.terminal_table.specs.Logged.{log_of}
 use Rattle.terminal_table.specs.Meaning.{meaning}
 use Rattle.terminal_update.specs.Updates.{Standing, new_standing, standing_behind}
-use Rattle.terminal_update.specs.Viewers.{AnswersAs, AreFed}
-use Rattle.terminal_update.proofs.KeptLemmas.{answers_behind, answers_behind_forget, answers_itself, answers_with_replies}
+use Rattle.terminal_update.specs.Viewers.{AreFed}
 use Rattle.terminal_update.proofs.PieceLemmas.{standings_join}
-
--- ---- a terminal that answers as one that keeps all
-
--- so it does from a later number on
-answers_later : (number later : ℕ) (kept whole : Standing) → number ≤ later → AnswersAs number kept whole → AnswersAs later kept whole
-answers_later number later kept whole l h = record {
-  views = h.views;
-  logs = record { most = h.logs.most; count = h.logs.count; one_counted = h.logs.one_counted; other_counted = h.logs.other_counted; same = λ n m. h.logs.same n (omega arith) };
-}
-
-module _ {W : Type 0} (width_of : W → List ℕ → ℕ) (w : W) where
-  abbrev f : List ℕ → ℕ
-  f = width_of w
-
-  at_first : (t : Terminal W) (s : Standing) → IsAt t s → IsCounted s → AnswersAt t s
-  at_first t s at counted = record { kept = s; at = at; answers = answers_itself s.log.log.number s counted }
-
-  -- bytes are fed, and looks taken
-  goes_on : (t u : Terminal W) (whole : Standing) (h : History) → AreFed h → t.surface.canvas.widths ≡ w → AnswersAt t whole → GoesBy width_of t u h → AnswersAt u (standing_behind f whole h)
-  goes_on t u whole h fed e a g = record {
-    kept = standing_behind f a.kept h;
-    at = goes_at width_of w t u a.kept h e a.at g;
-    answers = answers_later whole.log.log.number (standing_behind f whole h).log.log.number (standing_behind f a.kept h) (standing_behind f whole h) (number_rises f whole h)
-        (answers_behind f whole.log.log.number a.kept whole h fed a.answers);
-  }
-
-  -- the changes so far are forgotten, and the replies dropped
-  forgets : (t u v : Terminal W) (whole : Standing) (number : ℕ) → t.surface.canvas.widths ≡ w → AnswersAt t whole → number ≡ number_of t.surface → GoesBy width_of t u (Forget number ∷ []) → v ≡ record u { replies = [] } → AnswersAt v whole
-  forgets t u v whole number e a n g k =
-      let number_is : number ≡ whole.log.log.number = n ∙ ap (λ (l : Sized). l.log.number) a.at.log ∙ a.answers.logs.count in
-      let forgotten = standing_behind f a.kept (Forget number ∷ []) in
-      record {
-        kept = lightened f number a.kept;
-        at = lightened_at width_of w t u v a.kept number e a.at g k;
-        answers = subst (λ m. AnswersAs m (lightened f number a.kept) whole) number_is
-            (answers_with_replies number forgotten whole [] (answers_behind_forget f whole.log.log.number number a.kept whole (omega (arith, number_is)) a.answers));
-      }
-
-  -- where it is refused a number, so is the one that keeps all
-  needs_there : (t : Terminal W) (whole : Standing) (h : History) → AreFed h → t.surface.canvas.widths ≡ w → AnswersAt t whole → NeedsNumber width_of t h → 2 ^ 64 ≤ (standing_behind f whole h).log.log.number
-  needs_there t whole h fed e a n =
-      subst (λ m. 2 ^ 64 ≤ m) (answers_behind f whole.log.log.number a.kept whole h fed a.answers).logs.count (needs_at width_of w t a.kept h e a.at n)
 
 -- ---- an input that is being read
 
@@ -69,35 +24,44 @@ module _ {W : Type 0} (width_of : W → List ℕ → ℕ) where
 
   none_fed : (t : Terminal W) → t.is_failed ≡ false → IsFed width_of [] t t
   none_fed t sound = record {
-    answers = λ start at counted. goes_on width_of t.surface.canvas.widths t t start (Piece [] ∷ []) tt refl (at_first width_of t.surface.canvas.widths t start at counted) (stays width_of t sound);
+    answers = λ start at counted.
+        let whole = standing_behind (of t) start (Piece [] ∷ []) in
+        answers_at_rest width_of t.surface.canvas.widths whole.log.log.number t start refl sound (answers_first width_of t.surface.canvas.widths whole.log.log.number t start at counted);
     widths = refl;
   }
 
+  -- bytes are fed, and looks taken
+  goes_on : (w : W) (t u : Terminal W) (whole : Standing) (h : History) → AreFed h → t.surface.canvas.widths ≡ w → AnswersNow t whole → GoesBy width_of t u h → AnswersNow u (standing_behind (width_of w) whole h)
+  goes_on w t u whole h fed e a g =
+      answers_later width_of w whole.log.log.number (standing_behind (width_of w) whole h).log.log.number u (standing_behind (width_of w) whole h) (number_rises (width_of w) whole h)
+      (answers_on width_of w whole.log.log.number t u whole h fed e a g)
+
   -- bytes more, behind which the changes are forgotten and the replies dropped
-  more_fed : (t now u v then : Terminal W) (fed bytes : List ℕ) (number : ℕ) → IsFed width_of fed t now → GoesBy width_of now u (Piece bytes ∷ []) → number ≡ number_of u.surface → GoesBy width_of u v (Forget number ∷ [])
-      → then ≡ record v { replies = [] } → IsFed width_of (fed ++ bytes) t then
-  more_fed t now u v then fed bytes number h g n forget k = record {
+  more_fed : (t now u then : Terminal W) (fed bytes : List ℕ) (number : ℕ) → IsFed width_of fed t now → GoesBy width_of now u (Piece bytes ∷ []) → number ≡ number_of u.surface → Lightens width_of u then number
+      → IsFed width_of (fed ++ bytes) t then
+  more_fed t now u then fed bytes number h g n l = record {
     answers = λ start at counted.
-        forgets width_of t.surface.canvas.widths u v then (standing_behind (of t) start (Piece (fed ++ bytes) ∷ [])) number (g.widths ∙ h.widths)
-        (subst (AnswersAt u) (pieces_join (of t) start fed bytes)
-        (goes_on width_of t.surface.canvas.widths now u (standing_behind (of t) start (Piece fed ∷ [])) (Piece bytes ∷ []) tt h.widths (h.answers start at counted) g))
-        n forget k;
-    widths = ap (λ (x : Terminal W). x.surface.canvas.widths) k ∙ forget.widths ∙ g.widths ∙ h.widths;
+        let w = t.surface.canvas.widths in
+        let whole = standing_behind (of t) start (Piece (fed ++ bytes) ∷ []) in
+        let a = subst (AnswersNow u) (pieces_join (of t) start fed bytes) (goes_on w now u (standing_behind (of t) start (Piece fed ∷ [])) (Piece bytes ∷ []) tt h.widths (h.answers start at counted) g) in
+        let there = n ∙ number_there width_of w whole.log.log.number u whole a in
+        subst (λ m. AnswersAt m then whole) there (answers_lighter width_of w whole.log.log.number number u then whole (omega (arith, there)) (g.widths ∙ h.widths) a l);
+    widths = ap (λ (x : Terminal W). x.surface.canvas.widths) l.dropped ∙ l.goes.widths ∙ g.widths ∙ h.widths;
   }
 
   pub feeds_first : (input : Option (List ℕ)) (t : Terminal W) → t.is_failed ≡ false → FeedsOn width_of input input t t
   feeds_first None t sound = tt
   feeds_first (Some input) t sound = record { fed = []; whole = refl; is = none_fed t sound }
 
-  pub feeds_more : (input rest next : Option (List ℕ)) (t now u v then : Terminal W) (bytes : List ℕ) (number : ℕ) → FeedsOn width_of input rest t now → Consumes rest next bytes → GoesBy width_of now u (Piece bytes ∷ [])
-      → number ≡ number_of u.surface → GoesBy width_of u v (Forget number ∷ []) → then ≡ record v { replies = [] } → FeedsOn width_of input next t then
-  feeds_more None rest next t now u v then bytes number h c g n forget k = tt
-  feeds_more (Some input) None next t now u v then bytes number h c g n forget k = absurd h
-  feeds_more (Some input) (Some rest) None t now u v then bytes number h c g n forget k = absurd c
-  feeds_more (Some input) (Some rest) (Some next) t now u v then bytes number h c g n forget k = record {
+  pub feeds_more : (input rest next : Option (List ℕ)) (t now u then : Terminal W) (bytes : List ℕ) (number : ℕ) → FeedsOn width_of input rest t now → Consumes rest next bytes → GoesBy width_of now u (Piece bytes ∷ [])
+      → number ≡ number_of u.surface → Lightens width_of u then number → FeedsOn width_of input next t then
+  feeds_more None rest next t now u then bytes number h c g n l = tt
+  feeds_more (Some input) None next t now u then bytes number h c g n l = absurd h
+  feeds_more (Some input) (Some rest) None t now u then bytes number h c g n l = absurd c
+  feeds_more (Some input) (Some rest) (Some next) t now u then bytes number h c g n l = record {
     fed = h.fed ++ bytes;
     whole = h.whole ∙ ap (λ l. h.fed ++ l) c ∙ sym (append_assoc h.fed bytes next);
-    is = more_fed t now u v then h.fed bytes number h.is g n forget k;
+    is = more_fed t now u then h.fed bytes number h.is g n l;
   }
 
   pub feeds_all : (input rest next : Option (List ℕ)) (t now : Terminal W) → FeedsOn width_of input rest t now → Consumes rest next [] → IsAtEnd next → Feeds width_of input t now
@@ -115,7 +79,7 @@ module _ {W : Type 0} (width_of : W → List ℕ → ℕ) where
   number_fed (Some input) (Some rest) (Some next) t now bytes h c n = λ start at counted.
       let fed = standing_behind (of t) start (Piece h.fed ∷ []) in
       let there = standing_behind (of t) fed (Piece bytes ∷ []) in
-      let past = needs_there width_of t.surface.canvas.widths now fed (Piece bytes ∷ []) tt h.is.widths (h.is.answers start at counted) n in
+      let past = needs_there width_of t.surface.canvas.widths fed.log.log.number now fed (Piece bytes ∷ []) tt h.is.widths (h.is.answers start at counted) n in
       let rises = number_rises (of t) there (Piece next ∷ []) in
       let whole : standing_behind (of t) there (Piece next ∷ []) ≡ standing_behind (of t) start (Piece input ∷ [])
       = ap (λ x. standing_behind (of t) x (Piece next ∷ [])) (pieces_join (of t) start h.fed bytes) ∙ pieces_join (of t) start (h.fed ++ bytes) next
@@ -131,7 +95,7 @@ module _ {W : Type 0} (width_of : W → List ℕ → ℕ) where
     shows input fed looked now number h g forget =
         let start = new_standing width height in
         let whole = standing_behind (of new) start (Piece input ∷ []) in
-        let a = goes_on width_of new.surface.canvas.widths fed looked whole (Look ∷ []) tt h.widths (h.answers start at (omega arith)) g in
+        let a = goes_on new.surface.canvas.widths fed looked whole (Look ∷ []) tt h.widths (h.answers start at (omega arith)) g in
         ap (λ s. s.screen) (forget.stands a.kept.view a.at.stands).state ∙ a.answers.views.screen ∙ ap (λ (x : Standing). x.view.state.screen) (sym (standings_join (of new) start (Piece input ∷ []) (Look ∷ [])))
         ∙ ap (λ v. (meaning (width_of v) width height (Piece input ∷ Look ∷ [])).state.screen) e
 
@@ -158,7 +122,8 @@ module _ {W : Type 0} (width_of : W → List ℕ → ℕ) where
     pub number_of_look : (input : Option (List ℕ)) (fed : Terminal W) → Feeds width_of input new fed → NeedsNumber width_of fed (Look ∷ []) → IfSome input (λ x. 2 ^ 64 ≤ (log_of (width_of w) width height (Piece x ∷ Look ∷ [])).log.number)
     number_of_look None fed h n = tt
     number_of_look (Some x) fed h n =
-        past x (needs_there width_of new.surface.canvas.widths fed (standing_behind (of new) (new_standing width height) (Piece x ∷ [])) (Look ∷ []) tt h.widths (h.answers (new_standing width height) at (omega arith)) n)
+        let whole = standing_behind (of new) (new_standing width height) (Piece x ∷ []) in
+        past x (needs_there width_of new.surface.canvas.widths whole.log.log.number fed whole (Look ∷ []) tt h.widths (h.answers (new_standing width height) at (omega arith)) n)
 
 pub rows_are : (f : List ℕ → ℕ) (width height : ℕ) (input : Option (List ℕ)) (screen : Screen) (bytes : List ℕ) → IfSome input (λ x. screen ≡ (meaning f width height (Piece x ∷ Look ∷ [])).state.screen)
     → bytes ≡ screen_text screen → IfSome input (λ x. bytes ≡ rows_shown f width height x)

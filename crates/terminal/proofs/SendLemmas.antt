@@ -2,11 +2,11 @@
 use Rattle.std.proofs.Common.{◌≡◌, ℕ, ◌+◌, ◌<◌, ◌≤◌, ◌^◌, false, List, [], ◌∷◌, length, refl, sym, ap, subst, ◌∙◌, arith, Option, Some, None}
 use Rattle.std.specs.Prelude.{IfSome}
 use Rattle.std.specs.Io.KnownBytes.{Consumes, IsAtEnd, Keeps}
-use Rattle.terminal.specs.Sent.{IsAt, IsCounted, Sent, Sends, SendsSome, SendsAll, SendsFirst, SendsPart, LooksNeedNumber, looked, number_behind, update_at, updates_from}
+use Rattle.terminal.specs.Sent.{IsAt, IsCounted, Lightens, Sent, Sends, SendsSome, SendsAll, SendsFirst, SendsPart, LooksNeedNumber, due_from, looked, number_behind, update_at, updates_from}
 use Rattle.terminal.specs.Shown.{AppendsPrefix}
 use Rattle.terminal.specs.Terminal.{Terminal, GoesBy, NeedsNumber}
 use Rattle.terminal.proofs.AppendLemmas.{nothing_appended, keeps_same}
-use Rattle.terminal.proofs.UpdateLemmas.{IsSending, sending_first, sending_more, sending_next, sending_all, sending_part, sending_some, sending_last, past_feed, past_look, past_end}
+use Rattle.terminal.proofs.UpdateLemmas.{IsSending, sending_first, sending_lighter, sending_more, sending_next, sending_all, sending_part, sending_some, sending_last, past_feed, past_look, past_end}
 use Rattle.terminal_table.specs.History.{Piece, Look}
 use Rattle.terminal_update.specs.Updates.{Standing, new_standing}
 
@@ -30,6 +30,14 @@ module _ {W : Type 0} (width_of : W → List ℕ → ℕ) where
     on_more (Some input) (Some rest) None bytes u less s c g count some = absurd c
     on_more (Some input) (Some rest) (Some next) bytes u less s c g count some = λ start at counted.
         sending_more width_of before.surface.canvas.widths every start input rest old now t number left (s start at counted) next bytes u less c same g count some
+
+    -- what no viewer is sent is forgotten within a piece
+    pub on_lighter : (input rest : Option (List ℕ)) (v : Terminal W) (later : ℕ) → SendsOn width_of every before input rest old now t number left → later ≡ due_from t number → Lightens width_of t v later
+        → SendsOn width_of every before input rest old now v number left
+    on_lighter None rest v later s e l = tt
+    on_lighter (Some input) None v later s e l = absurd s
+    on_lighter (Some input) (Some rest) v later s e l = λ start at counted.
+        sending_lighter width_of before.surface.canvas.widths every start input rest old now t number left (s start at counted) v later e same l
 
     pub on_next : (input rest next : Option (List ℕ)) (bytes : List ℕ) (u v : Terminal W) (later : ℕ) (new : Option (List ℕ)) → SendsOn width_of every before input rest old now t number left → Consumes rest next bytes → GoesBy width_of t u (Piece bytes ∷ []) → length bytes ≡ left → 0 < left
         → Sends width_of u v number later now new → v.surface.canvas.widths ≡ u.surface.canvas.widths → v.is_failed ≡ false → SendsOn width_of every before input next old new v later every

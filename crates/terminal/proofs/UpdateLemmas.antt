@@ -1,23 +1,21 @@
 -- The updates of an input that is read in pieces.
-use Rattle.std.proofs.Common.{◌≡◌, ℕ, ◌+◌, ◌<◌, ◌≤◌, ◌^◌, ◌⊎◌, inl, inr, Bool, true, false, List, [], ◌∷◌, ◌++◌, length, refl, sym, ap, subst, ◌∙◌, arith, Option, Some, None, append_assoc, append-nil, length-append}
+use Rattle.std.proofs.Common.{◌≡◌, ◌≢◌, ℕ, ◌+◌, ◌<◌, ◌≤◌, ◌^◌, ◌⊎◌, inl, inr, Bool, true, false, List, [], ◌∷◌, ◌++◌, length, refl, sym, ap, subst, ◌∙◌, arith, Option, Some, None, append_assoc, append-nil, length-append}
 use Rattle.std.specs.Prelude.{◌==◌, if◌then◌else◌}
 use Rattle.std.proofs.lemmas.Grind.{flat_map-append}
+use Rattle.std.proofs.lemmas.Bool.Decides.{eqb_tells}
 use Rattle.std.specs.Io.KnownBytes.{Appends}
 use Rattle.cell_surface.specs.Surface.{number_of}
-use Rattle.change_log.specs.LogSteps.{Sized}
 use Rattle.escape_framing.specs.Existence.Utf8Lemmas.{order}
-use Rattle.terminal.specs.Sent.{IsAt, IsCounted, Sent, SendsPart, looked, lightened, update_at, updates_from, number_behind}
+use Rattle.terminal.specs.Fed.{AnswersAt}
+use Rattle.terminal.specs.Sent.{IsAt, IsCounted, Lightens, Sent, SendsPart, due_from, looked, lightened, update_at, updates_from, number_behind}
 use Rattle.terminal.specs.Shown.{AppendsPrefix}
-use Rattle.terminal.specs.Terminal.{Terminal, StandsAt, GoesBy, NeedsNumber, state_in}
-use Rattle.terminal.proofs.GoLemmas.{actions_join, stays}
-use Rattle.terminal_steps.proofs.NumberLemmas.{fold_number}
-use Rattle.terminal_table.specs.History.{History, Piece, Look, Forget}
-use Rattle.terminal_table.specs.Logged.{logged, log_after}
-use Rattle.terminal_table.specs.Meaning.{after}
-use Rattle.terminal_update.specs.Update.{update_of}
+use Rattle.terminal.specs.Terminal.{Terminal, GoesBy, NeedsNumber}
+use Rattle.terminal.proofs.AnswerLemmas.{pieces_join, number_rises, update_alike, answers_first, answers_on, answers_at_rest, answers_lightened, answers_lighter, number_there, needs_there}
+use Rattle.terminal.proofs.GoLemmas.{actions_join}
+use Rattle.terminal_table.specs.History.{History, Piece, Look}
 use Rattle.terminal_update.specs.Updates.{Standing, in_pieces, looks, standing_behind, updates_behind}
 use Rattle.terminal_update.specs.Viewers.{AnswersAs}
-use Rattle.terminal_update.proofs.KeptLemmas.{answers_itself, answers_behind, answers_with_replies, answers_behind_forget, answers_alike}
+use Rattle.terminal_update.proofs.KeptLemmas.{answers_behind}
 use Rattle.terminal_update.proofs.PieceLemmas.{grows, fills, standings_join, standings_cut}
 
 -- ---- known bytes
@@ -95,78 +93,31 @@ holds every begun (byte ∷ bytes) next h = either (order (length begun + length
 looks-append : (ps qs : List (List ℕ)) → looks (ps ++ qs) ≡ looks ps ++ looks qs
 looks-append ps qs = flat_map-append (λ piece. Piece piece ∷ Look ∷ []) ps qs
 
--- one piece behind another is both
-pub pieces_join : (f : List ℕ → ℕ) (s : Standing) (x y : List ℕ) → standing_behind f (standing_behind f s (Piece x ∷ [])) (Piece y ∷ []) ≡ standing_behind f s (Piece (x ++ y) ∷ [])
-pieces_join f s x y = sym (standings_join f s (Piece x ∷ []) (Piece y ∷ [])) ∙ standings_cut actions_join f s x y []
-
-pub number_rises : (f : List ℕ → ℕ) (s : Standing) (h : History) → s.log.log.number ≤ (standing_behind f s h).log.log.number
-number_rises f s h = fold_number (logged f s.view h) s.log
-
 module _ {W : Type 0} (width_of : W → List ℕ → ℕ) (w : W) where
   abbrev f : List ℕ → ℕ
   f = width_of w
 
-  -- where a terminal that goes on stands
-  pub goes_at : (t u : Terminal W) (s : Standing) (h : History) → t.surface.canvas.widths ≡ w → IsAt t s → GoesBy width_of t u h → IsAt u (standing_behind f s h)
-  goes_at t u s h e at g = record {
-    stands = subst (λ x. StandsAt u (after (width_of x) s.view h)) e (g.stands s.view at.stands);
-    log = g.log s.view at.stands ∙ (λ i. log_after (width_of (e i)) s.view (at.log i) h);
-  }
-
-  pub needs_at : (t : Terminal W) (s : Standing) (h : History) → t.surface.canvas.widths ≡ w → IsAt t s → NeedsNumber width_of t h → 2 ^ 64 ≤ (standing_behind f s h).log.log.number
-  needs_at t s h e at n = subst (λ x. 2 ^ 64 ≤ x.log.number) (λ i. log_after (width_of (e i)) s.view (at.log i) h) (n s.view at.stands)
-
-  -- where one stands that has forgotten changes, and dropped its replies
-  pub lightened_at : (t u v : Terminal W) (s : Standing) (number : ℕ) → t.surface.canvas.widths ≡ w → IsAt t s → GoesBy width_of t u (Forget number ∷ []) → v ≡ record u { replies = [] } → IsAt v (lightened f number s)
-  lightened_at t u v s number e at g k =
-      let there = goes_at t u s (Forget number ∷ []) e at g in
-      subst (λ (x : Terminal W). IsAt x (lightened f number s)) (sym k) (record {
-        stands = record { state = λ i. record (there.stands.state i) { replies = [] }; run = there.stands.run; unfinished = there.stands.unfinished };
-        log = there.log;
-      })
-
-  -- what a viewer is sent behind a look, by what the terminal shows then
-  update_there : (t u : Terminal W) (s : Standing) (number : ℕ) → t.surface.canvas.widths ≡ w → IsAt t s → GoesBy width_of t u (Look ∷ []) → update_of (state_in u).screen u.surface.log number ≡ update_at (looked f s) number
-  update_there t u s number e at g = let there = goes_at t u s (Look ∷ []) e at g in λ i. update_of (there.stands.state i).screen (there.log i) number
-
-  pub sent_is : (t u v x : Terminal W) (s : Standing) (number next : ℕ) (bytes : List ℕ) (old new : Option (List ℕ)) → t.surface.canvas.widths ≡ w → IsAt t s → GoesBy width_of t u (Look ∷ [])
-      → bytes ≡ update_of (state_in u).screen u.surface.log number → next ≡ number_of u.surface → Appends old new bytes → GoesBy width_of u v (Forget next ∷ []) → x ≡ record v { replies = [] } → Sent f s number next x old new
-  sent_is t u v x s number next bytes old new e at g b n a h k =
-      let there = goes_at t u s (Look ∷ []) e at g in
-      record {
-        appends = subst (Appends old new) (b ∙ update_there t u s number e at g) a;
-        next_is = n ∙ ap (λ (l : Sized). l.log.number) there.log;
-        at = lightened_at u v x (looked f s) next (g.widths ∙ e) there h k;
-      }
-
-  pub some_is : (t u : Terminal W) (s : Standing) (number : ℕ) (bytes : List ℕ) (old new : Option (List ℕ)) → t.surface.canvas.widths ≡ w → IsAt t s → GoesBy width_of t u (Look ∷ [])
-      → bytes ≡ update_of (state_in u).screen u.surface.log number → AppendsPrefix old new bytes → AppendsPrefix old new (update_at (looked f s) number)
-  some_is t u s number bytes old new e at g b a = subst (AppendsPrefix old new) (b ∙ update_there t u s number e at g) a
-
-  -- nothing was fed
-  at_rest : (t : Terminal W) (s : Standing) → t.surface.canvas.widths ≡ w → t.is_failed ≡ false → IsAt t s → IsAt t (standing_behind f s (Piece [] ∷ []))
-  at_rest t s e sound at = goes_at t t s (Piece [] ∷ []) e at (stays width_of t sound)
-
   -- ---- an input that is being read
 
   -- Of an input some bytes were read, in pieces that are done and one that has begun; an update was written behind each that is done. `last` is where a
-  -- terminal that keeps all stood at the last look, and `kept` where this one did, which answers alike.
+  -- terminal that keeps all stood at the last look. This one answers as that one does with the piece that has begun, from the viewer's number on; before
+  -- the first update, for which nothing is due, from any number.
   pub record IsSending (every : ℕ) (start : Standing) (input rest : List ℕ) (old now : Option (List ℕ)) (t : Terminal W) (number left : ℕ) : Type 0 where
     pub read : List ℕ
     pub done : List (List ℕ)
     pub begun : List ℕ
     pub written : List ℕ
     pub last : Standing
-    pub kept : Standing
+    pub from : ℕ
     pub whole : input ≡ read ++ rest
     pub room : length begun + left ≡ every
     pub pieces : (more : List ℕ) → in_pieces every [] (read ++ more) ≡ done ++ in_pieces every begun more
     pub appends : Appends old now written
     pub leads : (ps : List (List ℕ)) → updates_behind f start 0 (done ++ ps) ≡ written ++ updates_behind f last number ps
     pub last_is : last ≡ standing_behind f start (looks done)
-    pub seen : number ≤ last.log.log.number
-    pub answers : AnswersAs number kept last
-    pub at : IsAt t (standing_behind f kept (Piece begun ∷ []))
+    pub asked : (number ≡ 0) ⊎ (from ≡ number)
+    pub seen : from ≤ (standing_behind f last (Piece begun ∷ [])).log.log.number
+    pub answers : AnswersAt from t (standing_behind f last (Piece begun ∷ []))
 
   pub sending_first : (every : ℕ) (start : Standing) (input : List ℕ) (old : Option (List ℕ)) (t : Terminal W) → t.surface.canvas.widths ≡ w → t.is_failed ≡ false → IsAt t start → IsCounted start → Appends old old []
       → IsSending every start input input old old t 0 every
@@ -176,16 +127,16 @@ module _ {W : Type 0} (width_of : W → List ℕ → ℕ) (w : W) where
     begun = [];
     written = [];
     last = start;
-    kept = start;
+    from = 0;
     whole = refl;
     room = omega arith;
     pieces = λ more. refl;
     appends = none;
     leads = λ ps. refl;
     last_is = λ i. record { view = record start.view { stream = sym (append-nil start.view.stream) i }; log = start.log };
+    asked = inl refl;
     seen = omega arith;
-    answers = answers_itself 0 start counted;
-    at = at_rest t start e sound at;
+    answers = answers_at_rest width_of w 0 t start e sound (answers_first width_of w 0 t start at counted);
   }
 
   module _ (every : ℕ) (start : Standing) (input rest : List ℕ) (old now : Option (List ℕ)) (t : Terminal W) (number left : ℕ) (s : IsSending every start input rest old now t number left) where
@@ -193,52 +144,109 @@ module _ {W : Type 0} (width_of : W → List ℕ → ℕ) (w : W) where
     all_is : (more : List ℕ) → updates_from f every start (s.read ++ more) ≡ s.written ++ updates_behind f s.last number (in_pieces every s.begun more)
     all_is more = ap (updates_behind f start 0) (s.pieces more) ∙ s.leads (in_pieces every s.begun more)
 
-    -- where some bytes more lead
-    fed_at : (bytes : List ℕ) (u : Terminal W) → t.surface.canvas.widths ≡ w → GoesBy width_of t u (Piece bytes ∷ []) → IsAt u (standing_behind f s.kept (Piece (s.begun ++ bytes) ∷ []))
-    fed_at bytes u same g =
-        subst (IsAt u) (pieces_join f s.kept s.begun bytes)
-        (goes_at t u (standing_behind f s.kept (Piece s.begun ∷ [])) (Piece bytes ∷ []) same s.at g)
+    -- with the piece that has begun, and with others bytes in its place
+    here : Standing
+    here = standing_behind f s.last (Piece s.begun ∷ [])
+
+    with_piece : List ℕ → Standing
+    with_piece piece = standing_behind f s.last (Piece piece ∷ [])
+
+    -- some bytes more are fed
+    fed_on : (bytes : List ℕ) (u : Terminal W) → t.surface.canvas.widths ≡ w → GoesBy width_of t u (Piece bytes ∷ []) → AnswersAt s.from u (with_piece (s.begun ++ bytes))
+    unfolding here with_piece
+    fed_on bytes u same g =
+        subst (AnswersAt s.from u) (pieces_join f s.last s.begun bytes)
+        (answers_on width_of w s.from t u here (Piece bytes ∷ []) tt same s.answers g)
+
+    seen_behind : (bytes : List ℕ) → here.log.log.number ≤ (with_piece (s.begun ++ bytes)).log.log.number
+    unfolding here with_piece
+    seen_behind bytes =
+        subst (λ (x : Standing). here.log.log.number ≤ x.log.log.number) (pieces_join f s.last s.begun bytes) (number_rises f here (Piece bytes ∷ []))
 
     -- some bytes more, which don't fill the piece
     pub sending_more : (next bytes : List ℕ) (u : Terminal W) (less : ℕ) → rest ≡ bytes ++ next → t.surface.canvas.widths ≡ w → GoesBy width_of t u (Piece bytes ∷ []) → less + length bytes ≡ left → 0 < less
         → IsSending every start input next old now u number less
+    unfolding here with_piece
     sending_more next bytes u less e same g count some =
         let long = length-append s.begun bytes in
         let room = s.room in
+        let seen = s.seen in
+        let rises = seen_behind bytes in
         record {
           read = s.read ++ bytes;
           done = s.done;
           begun = s.begun ++ bytes;
           written = s.written;
           last = s.last;
-          kept = s.kept;
+          from = s.from;
           whole = s.whole ∙ ap (λ l. s.read ++ l) e ∙ sym (append_assoc s.read bytes next);
           room = omega arith;
           pieces = λ more. ap (in_pieces every []) (append_assoc s.read bytes more) ∙ s.pieces (bytes ++ more) ∙ ap (λ ps. s.done ++ ps) (grows every s.begun bytes more (omega arith));
           appends = s.appends;
           leads = s.leads;
           last_is = s.last_is;
-          seen = s.seen;
-          answers = s.answers;
-          at = fed_at bytes u same g;
+          asked = s.asked;
+          seen = omega (arith, seen, rises);
+          answers = fed_on bytes u same g;
         }
+
+    -- ---- what is forgotten within a piece
+
+    forgotten_from : (v : Terminal W) (later : ℕ) → s.from ≤ later → later ≤ (standing_behind f s.last (Piece s.begun ∷ [])).log.log.number → (number ≡ 0) ⊎ (later ≡ number) → t.surface.canvas.widths ≡ w → Lightens width_of t v later
+        → IsSending every start input rest old now v number left
+    forgotten_from v later more most asked same l = record {
+      read = s.read;
+      done = s.done;
+      begun = s.begun;
+      written = s.written;
+      last = s.last;
+      from = later;
+      whole = s.whole;
+      room = s.room;
+      pieces = s.pieces;
+      appends = s.appends;
+      leads = s.leads;
+      last_is = s.last_is;
+      asked = asked;
+      seen = most;
+      answers = answers_lighter width_of w s.from later t v (standing_behind f s.last (Piece s.begun ∷ [])) more same s.answers l;
+    }
+
+    -- what no viewer is sent
+    pub sending_lighter : (v : Terminal W) (later : ℕ) → later ≡ due_from t number → t.surface.canvas.widths ≡ w → Lightens width_of t v later → IsSending every start input rest old now v number left
+    unfolding here
+    sending_lighter v later e same l = by_number (eqb_tells number 0)
+      where
+        by_asked : number ≢ 0 → later ≡ number → (number ≡ 0) ⊎ (s.from ≡ number) → IsSending every start input rest old now v number left
+        by_asked some is (inl none) = absurd (some none)
+        by_asked some is (inr from) = let seen = s.seen in forgotten_from v later (omega (arith, from, is)) (omega (arith, from, is, seen)) (inr is) same l
+
+        by_number : (((number == 0) ≡ true) × (number ≡ 0)) ⊎ (((number == 0) ≡ false) × (number ≢ 0)) → IsSending every start input rest old now v number left
+        by_number (inl p) =
+            let is = e ∙ ap (λ b. if b then number_of t.surface else number) p.0 in
+            let there = number_there width_of w s.from t here s.answers in
+            let seen = s.seen in
+            forgotten_from v later (omega (arith, seen, there, is)) (omega (arith, there, is)) (inl p.1) same l
+        by_number (inr p) = by_asked p.1 (e ∙ ap (λ b. if b then number_of t.surface else number) p.0) s.asked
 
     -- ---- a look behind a piece
 
     next_of : List ℕ → Standing
     next_of piece = standing_behind f s.last (looks (piece ∷ []))
 
-    here : List ℕ → Standing
-    here piece = looked f (standing_behind f s.kept (Piece piece ∷ []))
+    looked_on : (piece : List ℕ) (u : Terminal W) (a : AnswersAt s.from u (with_piece piece)) → AnswersAs s.from (looked f a.kept) (next_of piece)
+    unfolding next_of with_piece
+    looked_on piece u a =
+        subst (AnswersAs s.from (looked f a.kept)) (sym (standings_join f s.last (Piece piece ∷ []) (Look ∷ [])))
+        (answers_behind f s.from a.kept (with_piece piece) (Look ∷ []) tt a.answers)
 
-    answers_next : (piece : List ℕ) → AnswersAs number (here piece) (next_of piece)
-    unfolding here next_of
-    answers_next piece =
-        subst (λ k. AnswersAs number k (standing_behind f s.last (looks (piece ∷ [])))) (standings_join f s.kept (Piece piece ∷ []) (Look ∷ []))
-        (answers_behind f number s.kept s.last (looks (piece ∷ [])) tt s.answers)
+    update_is : (piece : List ℕ) (u : Terminal W) (a : AnswersAt s.from u (with_piece piece)) → update_at (looked f a.kept) number ≡ update_at (next_of piece) number
+    update_is piece u a = update_alike s.from number (looked f a.kept) (next_of piece) s.asked (looked_on piece u a)
 
-    update_is : (piece : List ℕ) → update_at (here piece) number ≡ update_at (next_of piece) number
-    update_is piece = answers_alike number (here piece) (next_of piece) (answers_next piece) number (omega arith)
+    next_rises : (piece : List ℕ) → (with_piece piece).log.log.number ≤ (next_of piece).log.log.number
+    unfolding next_of with_piece
+    next_rises piece =
+        subst (λ (x : Standing). (with_piece piece).log.log.number ≤ x.log.log.number) (sym (standings_join f s.last (Piece piece ∷ []) (Look ∷ []))) (number_rises f (with_piece piece) (Look ∷ []))
 
     -- the updates, where the piece that has begun is full
     full_is : (bytes more : List ℕ) → 0 < length bytes → length s.begun + length bytes ≡ every
@@ -250,14 +258,17 @@ module _ {W : Type 0} (width_of : W → List ℕ → ℕ) (w : W) where
     pub sending_next : (next bytes : List ℕ) (u v : Terminal W) (later : ℕ) (new : Option (List ℕ)) → rest ≡ bytes ++ next → t.surface.canvas.widths ≡ w → GoesBy width_of t u (Piece bytes ∷ []) → length bytes ≡ left → 0 < left
         → ((x : Standing) → IsAt u x → Sent f x number later v now new) → v.surface.canvas.widths ≡ w → v.is_failed ≡ false
         → IsSending every start input next old new v later every
-    unfolding here next_of
+    unfolding next_of with_piece here
     sending_next next bytes u v later new e same g full some sends widths sound =
         let piece = s.begun ++ bytes in
-        let sent = sends (standing_behind f s.kept (Piece piece ∷ [])) (fed_at bytes u same g) in
-        let answers = answers_next piece in
+        let a = fed_on bytes u same g in
+        let sent = sends a.kept a.at in
+        let answers = looked_on piece u a in
         let later_is : later ≡ (next_of piece).log.log.number = sent.next_is ∙ answers.logs.count in
-        let rises = number_rises f s.last (looks (piece ∷ [])) in
         let seen = s.seen in
+        let fed_rises = seen_behind bytes in
+        let rises = next_rises piece in
+        let end_rises = number_rises f (next_of piece) (Piece [] ∷ []) in
         let room = s.room in
         let update = update_at (next_of piece) number in
         record {
@@ -266,17 +277,21 @@ module _ {W : Type 0} (width_of : W → List ℕ → ℕ) (w : W) where
           begun = [];
           written = s.written ++ update;
           last = next_of piece;
-          kept = lightened f later (here piece);
+          from = later;
           whole = s.whole ∙ ap (λ l. s.read ++ l) e ∙ sym (append_assoc s.read bytes next);
           room = omega arith;
           pieces = λ more. ap (in_pieces every []) (append_assoc s.read bytes more) ∙ s.pieces (bytes ++ more) ∙ ap (λ ps. s.done ++ ps) (fills every s.begun bytes more (omega arith) (omega arith)) ∙ sym (append_assoc s.done (piece ∷ []) (in_pieces every [] more));
-          appends = appends_both old now new s.written update s.appends (subst (Appends now new) (update_is piece) sent.appends);
+          appends = appends_both old now new s.written update s.appends (subst (Appends now new) (update_is piece u a) sent.appends);
           leads = λ ps. ap (updates_behind f start 0) (append_assoc s.done (piece ∷ []) ps) ∙ s.leads (piece ∷ ps)
               ∙ ap (λ n. s.written ++ (update ++ updates_behind f (next_of piece) n ps)) (sym later_is) ∙ sym (append_assoc s.written update (updates_behind f (next_of piece) later ps));
           last_is = ap (λ x. standing_behind f x (looks (piece ∷ []))) s.last_is ∙ sym (standings_join f start (looks s.done) (looks (piece ∷ []))) ∙ ap (standing_behind f start) (sym (looks-append s.done (piece ∷ [])));
-          seen = omega (arith, later_is);
-          answers = answers_with_replies later (standing_behind f (here piece) (Forget later ∷ [])) (next_of piece) [] (answers_behind_forget f number later (here piece) (next_of piece) (omega (arith, later_is)) answers);
-          at = at_rest v (lightened f later (here piece)) widths sound sent.at;
+          asked = inr refl;
+          seen = omega (arith, later_is, end_rises);
+          answers = answers_at_rest width_of w later v (next_of piece) widths sound (record {
+            kept = lightened f later (looked f a.kept);
+            at = sent.at;
+            answers = answers_lightened width_of w s.from later (looked f a.kept) (next_of piece) (omega (arith, later_is, seen, fed_rises, rises)) answers;
+          });
         }
 
     -- the update at the end of the input
@@ -285,12 +300,12 @@ module _ {W : Type 0} (width_of : W → List ℕ → ℕ) (w : W) where
     at_end e = ap (updates_from f every start) (s.whole ∙ ap (λ l. s.read ++ l) e) ∙ all_is []
 
     pub sending_all : (u : Terminal W) (later : ℕ) (new : Option (List ℕ)) → rest ≡ [] → ((x : Standing) → IsAt t x → Sent f x number later u now new) → Appends old new (updates_from f every start input)
-    unfolding here
+    unfolding with_piece
     sending_all u later new e sends =
-        let sent = sends (standing_behind f s.kept (Piece s.begun ∷ [])) s.at in
+        let sent = sends s.answers.kept s.answers.at in
         let update = update_at (next_of s.begun) number in
         subst (Appends old new) (sym (at_end e ∙ ap (λ l. s.written ++ l) (append-nil update)))
-        (appends_both old now new s.written update s.appends (subst (Appends now new) (update_is s.begun) sent.appends))
+        (appends_both old now new s.written update s.appends (subst (Appends now new) (update_is s.begun t s.answers) sent.appends))
 
     -- ---- where it ends early
 
@@ -308,11 +323,11 @@ module _ {W : Type 0} (width_of : W → List ℕ → ℕ) (w : W) where
     -- the first bytes of an update behind them
     pub sending_some : (next bytes : List ℕ) (u : Terminal W) (new others : Option (List ℕ)) → rest ≡ bytes ++ next → others ≡ Some next → t.surface.canvas.widths ≡ w → GoesBy width_of t u (Piece bytes ∷ []) → length bytes ≡ left → 0 < left
         → ((x : Standing) → IsAt u x → AppendsPrefix now new (update_at (looked f x) number)) → SendsPart f every start input others old new
-    unfolding here
     sending_some next bytes u new others e known same g full some sends =
         let piece = s.begun ++ bytes in
         let room = s.room in
-        let first = subst (AppendsPrefix now new) (update_is piece) (sends (standing_behind f s.kept (Piece piece ∷ [])) (fed_at bytes u same g)) in
+        let a = fed_on bytes u same g in
+        let first = subst (AppendsPrefix now new) (update_is piece u a) (sends a.kept a.at) in
         record {
           read = s.read ++ bytes;
           rest = next;
@@ -326,9 +341,9 @@ module _ {W : Type 0} (width_of : W → List ℕ → ℕ) (w : W) where
 
     -- the first bytes of the update at the end
     pub sending_last : (new others : Option (List ℕ)) → rest ≡ [] → others ≡ Some rest → ((x : Standing) → IsAt t x → AppendsPrefix now new (update_at (looked f x) number)) → SendsPart f every start input others old new
-    unfolding here
+    unfolding with_piece
     sending_last new others e known sends =
-        let first = subst (AppendsPrefix now new) (update_is s.begun) (sends (standing_behind f s.kept (Piece s.begun ∷ [])) s.at) in
+        let first = subst (AppendsPrefix now new) (update_is s.begun t s.answers) (sends s.answers.kept s.answers.at) in
         let all = prefix_behind old now new s.written (update_at (next_of s.begun) number) [] s.appends first in
         let read_is : input ≡ s.read = s.whole ∙ ap (λ l. s.read ++ l) e ∙ append-nil s.read in
         record {
@@ -361,30 +376,33 @@ module _ {W : Type 0} (width_of : W → List ℕ → ℕ) (w : W) where
     input_is bytes next e = ap (in_pieces every []) (s.whole ∙ ap (λ l. s.read ++ l) e) ∙ s.pieces (bytes ++ next)
 
     pub past_feed : (next bytes : List ℕ) → rest ≡ bytes ++ next → t.surface.canvas.widths ≡ w → length bytes ≤ left → NeedsNumber width_of t (Piece bytes ∷ []) → 2 ^ 64 ≤ number_behind f every start input
+    unfolding here
     past_feed next bytes e same count n =
         let room = s.room in
         let piece = s.begun ++ bytes in
         let h = holds every s.begun bytes next (omega arith) in
-        let there = needs_at t (standing_behind f s.kept (Piece s.begun ∷ [])) (Piece bytes ∷ []) same s.at n in
-        let counted = (answers_behind f number s.kept s.last (Piece piece ∷ []) tt s.answers).logs.count in
         past_front (Piece piece ∷ []) (Piece h.more ∷ Look ∷ looks h.others)
         (pieces_behind ((piece ++ h.more) ∷ h.others) (input_is bytes next e ∙ ap (λ ps. s.done ++ ps) h.are) ∙ sym (standings_cut actions_join f s.last piece h.more (Look ∷ looks h.others)))
-        (subst (λ n. 2 ^ 64 ≤ n) counted (subst (λ (x : Standing). 2 ^ 64 ≤ x.log.log.number) (pieces_join f s.kept s.begun bytes) there))
+        (subst (λ (x : Standing). 2 ^ 64 ≤ x.log.log.number) (pieces_join f s.last s.begun bytes) (needs_there width_of w s.from t here (Piece bytes ∷ []) tt same s.answers n))
+
+    -- a look that is refused a number behind a piece
+    look_needs : (piece : List ℕ) (u : Terminal W) → u.surface.canvas.widths ≡ w → AnswersAt s.from u (with_piece piece) → NeedsNumber width_of u (Look ∷ []) → 2 ^ 64 ≤ (next_of piece).log.log.number
+    unfolding next_of with_piece
+    look_needs piece u same a n =
+        subst (λ (x : Standing). 2 ^ 64 ≤ x.log.log.number) (sym (standings_join f s.last (Piece piece ∷ []) (Look ∷ []))) (needs_there width_of w s.from u (with_piece piece) (Look ∷ []) tt same a n)
 
     pub past_look : (next bytes : List ℕ) (u : Terminal W) → rest ≡ bytes ++ next → t.surface.canvas.widths ≡ w → u.surface.canvas.widths ≡ w → GoesBy width_of t u (Piece bytes ∷ []) → length bytes ≡ left → 0 < left → NeedsNumber width_of u (Look ∷ []) → 2 ^ 64 ≤ number_behind f every start input
-    unfolding here next_of
+    unfolding next_of
     past_look next bytes u e same widths g full some n =
         let room = s.room in
         let piece = s.begun ++ bytes in
-        let there = needs_at u (standing_behind f s.kept (Piece piece ∷ [])) (Look ∷ []) widths (fed_at bytes u same g) n in
         past_front (looks (piece ∷ [])) (looks (in_pieces every [] next))
         (pieces_behind (piece ∷ in_pieces every [] next) (input_is bytes next e ∙ ap (λ ps. s.done ++ ps) (fills every s.begun bytes next (omega arith) (omega arith))))
-        (subst (λ n. 2 ^ 64 ≤ n) (answers_next piece).logs.count there)
+        (look_needs piece u widths (fed_on bytes u same g) n)
 
     pub past_end : rest ≡ [] → t.surface.canvas.widths ≡ w → NeedsNumber width_of t (Look ∷ []) → 2 ^ 64 ≤ number_behind f every start input
-    unfolding here next_of
+    unfolding next_of with_piece
     past_end e same n =
-        let there = needs_at t (standing_behind f s.kept (Piece s.begun ∷ [])) (Look ∷ []) same s.at n in
         past_front (looks (s.begun ∷ [])) []
         (pieces_behind (s.begun ∷ []) (ap (in_pieces every []) (s.whole ∙ ap (λ l. s.read ++ l) e) ∙ s.pieces []))
-        (subst (λ n. 2 ^ 64 ≤ n) (answers_next s.begun).logs.count there)
+        (look_needs s.begun t same s.answers n)

@@ -6,15 +6,19 @@ use Rattle.terminal_table.specs.History.{Piece}
 use Rattle.terminal_update.specs.Updates.{Standing, standing_behind}
 use Rattle.terminal_update.specs.Viewers.{AnswersAs}
 
--- from the current number on a terminal answers as one that keeps all and stands there
-pub record AnswersAt {W : Type 0} (t : Terminal W) (whole : Standing) : Type 0 where
+-- from a number on a terminal answers as one that keeps all and stands there
+pub record AnswersAt {W : Type 0} (number : ℕ) (t : Terminal W) (whole : Standing) : Type 0 where
   pub kept : Standing
   pub at : IsAt t kept
-  pub answers : AnswersAs whole.log.log.number kept whole
+  pub answers : AnswersAs number kept whole
+
+-- so it does from the current number on
+abbrev pub AnswersNow : {W : Type 0} → Terminal W → Standing → Type 0
+AnswersNow t whole = AnswersAt whole.log.log.number t whole
 
 -- some bytes were fed: wherever the terminal stood before, it answers as one that was fed them and keeps all
 pub record IsFed {W : Type 0} (width_of : W → List ℕ → ℕ) (bytes : List ℕ) (before now : Terminal W) : Type 0 where
-  pub answers : (start : Standing) → IsAt before start → IsCounted start → AnswersAt now (standing_behind (width_of before.surface.canvas.widths) start (Piece bytes ∷ []))
+  pub answers : (start : Standing) → IsAt before start → IsCounted start → AnswersNow now (standing_behind (width_of before.surface.canvas.widths) start (Piece bytes ∷ []))
   pub widths : now.surface.canvas.widths ≡ before.surface.canvas.widths
 
 -- of a known input some bytes were read, and fed; and others are left

@@ -1,8 +1,9 @@
 -- What `run` writes of an input.
-use Rattle.std.specs.Prelude.{◌≡◌, ℕ, ◌≤◌, ◌^◌, List, [], ◌∷◌, ◌++◌, length, Option, Some, None}
+use Rattle.std.specs.Prelude.{◌≡◌, ℕ, ◌≤◌, ◌^◌, ◌==◌, List, [], ◌∷◌, ◌++◌, length, Option, Some, None, if◌then◌else◌}
 use Rattle.std.specs.Io.KnownBytes.{Appends}
+use Rattle.cell_surface.specs.Surface.{number_of}
 use Rattle.terminal.specs.Shown.{AppendsPrefix}
-use Rattle.terminal.specs.Terminal.{Terminal, StandsAt}
+use Rattle.terminal.specs.Terminal.{Terminal, StandsAt, GoesBy}
 use Rattle.terminal_table.specs.History.{Look, Forget}
 use Rattle.terminal_update.specs.Update.{update_of}
 use Rattle.terminal_update.specs.Updates.{Standing, in_pieces, looks, standing_behind, updates_behind}
@@ -26,6 +27,16 @@ abbrev pub lightened : (List ℕ → ℕ) → ℕ → Standing → Standing
 lightened width_of number s =
     let t = standing_behind width_of s (Forget number ∷ []) in
     record t { view = record t.view { state = record t.view.state { replies = [] } } }
+
+-- so a terminal does that stood where another does
+pub record Lightens {W : Type 0} (width_of : W → List ℕ → ℕ) (before now : Terminal W) (number : ℕ) : Type 0 where
+  pub forgotten : Terminal W
+  pub goes : GoesBy width_of before forgotten (Forget number ∷ [])
+  pub dropped : now ≡ record forgotten { replies = [] }
+
+-- from where on changes are due to a viewer at a number: to one at number 0 none is, since it is sent the whole screen
+abbrev pub due_from : {W : Type 0} → Terminal W → ℕ → ℕ
+due_from t number = if number == 0 then number_of t.surface else number
 
 -- what a viewer at a number is sent
 abbrev pub update_at : Standing → ℕ → List ℕ

@@ -4,6 +4,7 @@ ghost use Rattle.std.specs.Io.KnownBytes.{Appends, Keeps};
 ghost use Rattle.std.specs.String.{string_bytes};
 ghost use Rattle.cell_surface.specs.Surface.{shown_by};
 ghost use Rattle.terminal.specs.Fed.{Feeds, FeedingNeedsNumber};
+ghost use Rattle.terminal.specs.Sent.{Lightens};
 ghost use Rattle.terminal.specs.Shown.{AppendsPrefix, rows_shown};
 ghost use Rattle.terminal_table.specs.History.{Piece, Look};
 ghost use Rattle.terminal_table.specs.Logged.{log_of};
@@ -12,7 +13,7 @@ ghost use Rattle.terminal_table.specs.Meaning.{meaning};
 use crate::error::RunError;
 use crate::terminal::Terminal;
 use crate::watched::Watched;
-use cell_base::Widths;
+use cell_base::{SequenceNo, Widths};
 use std::alloc::Global;
 use std::io::{Read, Write};
 use terminal_steps::TerminalError;
@@ -42,6 +43,15 @@ pub(crate) fn write_all<T: Write>(writer: &mut Watched<T>, bytes: &[u8]) -> Resu
 /// How many reads an input may take.
 pub(crate) const READS: u64 = 1 << 48;
 
+// Forgets the changes before a number, and the replies: nobody is sent them any more.
+pub(crate) fn forget<W: Widths + Drop>(terminal: &mut Terminal<W>, number: SequenceNo)
+    requires sound { terminal.old.is_failed ≡ false }
+    ensures lighter { Lightens (λ w. W.width_of w) terminal.old terminal.new number }
+{
+    terminal.forget_before(number);
+    let _replies = terminal.take_replies();
+}
+
 // Feeds the whole input, and forgets the changes and the replies, which nobody reads.
 fn feed_all<R: Read, W: Widths + Drop>(
     reader: &mut Watched<R>,
@@ -68,8 +78,8 @@ fn feed_all<R: Read, W: Widths + Drop>(
             return Ok(());
         }
         terminal.feed(&buffer[..count])?;
-        terminal.forget_before(terminal.current_number());
-        let _replies = terminal.take_replies();
+        let number = terminal.current_number();
+        forget(terminal, number);
     }
     Err(RunError::TooLong)
 }

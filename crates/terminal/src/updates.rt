@@ -1,12 +1,12 @@
 //! The updates of an input, written behind each of so many bytes.
 ghost use Rattle.std.specs.Prelude.{◌≡◌, ◌↔◌, ◌<◌, ◌≤◌, ◌^◌, false, IsTrue, IsErr, IfOk, IfSome, OnOk, OnErr, IsErrOf, [], ◌∷◌};
 ghost use Rattle.std.specs.Io.KnownBytes.{Appends};
-ghost use Rattle.terminal.specs.Sent.{LooksNeedNumber, Sends, SendsAll, SendsFirst, SendsPart, SendsSome, number_behind};
+ghost use Rattle.terminal.specs.Sent.{LooksNeedNumber, Sends, SendsAll, SendsFirst, SendsPart, SendsSome, due_from, number_behind};
 ghost use Rattle.terminal.specs.Terminal.{NeedsNumber};
 ghost use Rattle.terminal_table.specs.History.{Look};
 ghost use Rattle.terminal_update.specs.Updates.{new_standing, updates};
 
-use crate::driver::{READS, write_all};
+use crate::driver::{READS, forget, write_all};
 use crate::error::RunError;
 use crate::terminal::Terminal;
 use crate::watched::Watched;
@@ -36,9 +36,20 @@ fn write_update<T: Write, W: Widths + Drop>(
 {
     let (next, bytes) = terminal.update(number)?;
     write_all(writer, &bytes)?;
-    terminal.forget_before(next);
-    let _replies = terminal.take_replies();
+    forget(terminal, next);
     Ok(next)
+}
+
+// From where on changes are due to a viewer that has seen those before a number. One at number 0 has seen nothing and is
+// sent the whole screen.
+fn due_from<W: Widths + Drop>(terminal: &Terminal<W>, number: SequenceNo) -> SequenceNo
+    ensures { result ≡ due_from terminal.now number }
+{
+    if number == 0 {
+        terminal.current_number()
+    } else {
+        number
+    }
 }
 
 // Feeds the whole input, and writes an update behind each of so many bytes and at the end.
@@ -79,14 +90,18 @@ fn write_updates<R: Read, T: Write, W: Widths + Drop>(
         if left == 0 {
             number = write_update(terminal, writer, number)?;
             left = every;
+        } else {
+            let from = due_from(terminal, number);
+            forget(terminal, from);
         }
     }
     Err(RunError::TooLong)
 }
 
 /// Feeds the input to a new terminal, and behind each `every` bytes, at least 1, and once more at the end
-/// writes the update for the number that it got last, at first 0, and flushes. What is older than the new
-/// number is forgotten, and replies are dropped. Width and height are from 1 to 2^32 - 1.
+/// writes the update for the number that it got last, at first 0, and flushes. After each read the changes
+/// that no update needs any more are forgotten, and the replies dropped. Width and height are from 1 to
+/// 2^32 - 1.
 ///
 /// A read asks for at most 4,096 bytes, and at most for what is left to the next look. It ends at the first
 /// fault, also one of a read that was interrupted, with `Read` or `Write`; with `Terminal` where the

@@ -31,10 +31,10 @@ pub loop-preserved : goal.loop-preserved
 loop-preserved g c = record {
   not_failed = no_fault _ _ _ c.in-Ok.ensures.failed c.loop.invariant.not_failed refl;
   reads = let h = c.in-Ok.ensures.reads in omega (arith, h, c.loop.invariant.reads, c.loop-test.true);
-  sound = ap (λ (t : Value g.row.W.Denot). t.is_failed) c.take_replies-replies.ensures.none ∙ (c.forget_before.ensures.done c.in_ok-feed.ensures.done.sound).sound;
+  sound = ap (λ (t : Value g.row.W.Denot). t.is_failed) c.forget.ensures.lighter.dropped ∙ c.forget.ensures.lighter.goes.sound;
   feeds = feeds_more (λ w. g.W.Widths.width_of w) (g.R.Read.remaining c.args.reader.now.inner) (g.R.Read.remaining c.loop.reader.inner) (g.R.Read.remaining c.read.new.self.inner)
-      c.args.terminal.now c.loop.terminal c.feed.new.self c.forget_before.new.self c.take_replies-replies.new.self (take c.in-Ok.count c.read.new.buffer) c.current_number.result
-      c.loop.invariant.feeds c.in-Ok.ensures.bytes.0 c.in_ok-feed.ensures.done c.current_number.ensures (c.forget_before.ensures.done c.in_ok-feed.ensures.done.sound) c.take_replies-replies.ensures.none;
+      c.args.terminal.now c.loop.terminal c.feed.new.self c.forget.new.terminal (take c.in-Ok.count c.read.new.buffer) c.current_number-number.result
+      c.loop.invariant.feeds c.in-Ok.ensures.bytes.0 c.in_ok-feed.ensures.done c.current_number-number.ensures c.forget.ensures.lighter;
   room = c.read.auto.buffer ∙ c.loop.invariant.room;
 }
 

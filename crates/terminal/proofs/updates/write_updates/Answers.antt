@@ -10,7 +10,7 @@ use Rattle.terminal.specs.Terminal.{Terminal as Value}
 use Rattle.terminal.specs.Watched.{Watched}
 use Rattle.terminal_table.specs.History.{Piece}
 use Rattle.terminal.proofs.AppendLemmas.{keeps_same, no_fault}
-use Rattle.terminal.proofs.SendLemmas.{SendsOn, none_read, on_first, on_more, on_next, on_all, on_part, on_some, on_last, on_feed_past, on_look_past, on_end_past}
+use Rattle.terminal.proofs.SendLemmas.{SendsOn, none_read, on_first, on_lighter, on_more, on_next, on_all, on_part, on_some, on_last, on_feed_past, on_look_past, on_end_past}
 use Rattle.terminal.proofs.updates.write_updates.Goals as goal
 use Rattle.terminal.proofs.updates.write_updates.Goals.{then-left-eq0+in_ok-number, else-left-eq0}
 
@@ -131,11 +131,15 @@ loop-preserved g c =
             reader = no_fault _ _ _ c.in-Ok.ensures.failed c.loop.invariant.reader refl;
             reads = counted;
             writer = ap (λ (x : Watched g.row.T.Denot). x.has_failed) w.writer-is ∙ c.loop.invariant.writer;
-            sound = ap (λ (t : Value g.row.W.Denot). t.is_failed) w.terminal-is ∙ c.in_ok-feed.ensures.done.sound;
-            widths = ap (λ (t : Value g.row.W.Denot). t.surface.canvas.widths) w.terminal-is ∙ c.in_ok-feed.ensures.done.widths ∙ c.loop.invariant.widths;
+            sound = ap (λ (t : Value g.row.W.Denot). t.is_failed) w.terminal-is ∙ ap (λ (t : Value g.row.W.Denot). t.is_failed) w.forget.ensures.lighter.dropped ∙ w.forget.ensures.lighter.goes.sound;
+            widths = ap (λ (t : Value g.row.W.Denot). t.surface.canvas.widths) w.terminal-is ∙ ap (λ (t : Value g.row.W.Denot). t.surface.canvas.widths) w.forget.ensures.lighter.dropped ∙ w.forget.ensures.lighter.goes.widths
+                ∙ c.in_ok-feed.ensures.done.widths ∙ c.loop.invariant.widths;
             room = room;
             some = subst (λ n. 0 < n) (sym w.left-is) some;
             sends = subst (λ (T : Type 0). T) (sym (λ i. SendsOn (λ w. g.W.Widths.width_of w) c.args.every c.args.terminal.now (g.R.Read.remaining c.args.reader.now.inner) (g.R.Read.remaining c.read.new.self.inner) (g.T.Write.contents c.args.writer.now.inner) (g.T.Write.contents (w.writer-is i).inner) (w.terminal-is i) (w.number-is i) (w.left-is i)))
-                (on_more (λ w. g.W.Widths.width_of w) c.args.every c.args.terminal.now (g.T.Write.contents c.args.writer.now.inner) (g.T.Write.contents c.loop.writer.inner) c.loop.terminal c.loop.number c.loop.left c.loop.invariant.widths (g.R.Read.remaining c.args.reader.now.inner) (g.R.Read.remaining c.loop.reader.inner) (g.R.Read.remaining c.read.new.self.inner) (take c.in-Ok.count c.read.new.buffer) c.feed.new.self (c.loop.left - c.in-Ok.count) c.loop.invariant.sends c.in-Ok.ensures.bytes.0 fed less some);
+                (on_lighter (λ w. g.W.Widths.width_of w) c.args.every c.args.terminal.now (g.T.Write.contents c.args.writer.now.inner) (g.T.Write.contents c.loop.writer.inner) c.feed.new.self c.loop.number (c.loop.left - c.in-Ok.count) (c.in_ok-feed.ensures.done.widths ∙ c.loop.invariant.widths)
+                (g.R.Read.remaining c.args.reader.now.inner) (g.R.Read.remaining c.read.new.self.inner) w.forget.new.terminal w.due_from-from.result
+                (on_more (λ w. g.W.Widths.width_of w) c.args.every c.args.terminal.now (g.T.Write.contents c.args.writer.now.inner) (g.T.Write.contents c.loop.writer.inner) c.loop.terminal c.loop.number c.loop.left c.loop.invariant.widths (g.R.Read.remaining c.args.reader.now.inner) (g.R.Read.remaining c.loop.reader.inner) (g.R.Read.remaining c.read.new.self.inner) (take c.in-Ok.count c.read.new.buffer) c.feed.new.self (c.loop.left - c.in-Ok.count) c.loop.invariant.sends c.in-Ok.ensures.bytes.0 fed less some)
+                w.due_from-from.ensures w.forget.ensures.lighter);
           }
     ]
