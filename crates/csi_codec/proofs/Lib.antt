@@ -2,8 +2,6 @@ mod ShapeLemmas
 mod SgrLemmas
 mod PieceLemmas
 mod SgrTokens
-mod PlainLemmas
-mod QuickLemmas
 mod TextSteps
 mod PlaceLemmas
 mod ReadingLemmas

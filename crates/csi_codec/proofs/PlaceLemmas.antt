@@ -1,27 +1,18 @@
 -- Steps from place to place of a list.
-use Rattle.std.proofs.Common.{◌≡◌, ◌≢◌, ℕ, ◌+◌, ℤ, inl, inr, ◌<◌, ◌≤◌, eqb, Bool, true, false, cond, List, [], ◌∷◌, length, length-drop, drop, drop-drop, Option, Some, None, Result, IfSome, IfNone, option_map, option_and_then, arith, refl, sym, ap, ◌∙◌, subst}
+use Rattle.std.proofs.Common.{◌≡◌, ◌≢◌, ℕ, zero, suc, ◌+◌, inl, inr, ◌<◌, ◌≤◌, max, eqb, nat_lt, ◌||◌, Bool, true, false, cond, List, [], ◌∷◌, length, length-drop, drop, drop-drop, Option, Some, None, Result, IfSome, IfNone, option_map, arith, refl, sym, ap, ◌∙◌, subst}
 use Rattle.std.proofs.lemmas.Option.{none-some}
-use Rattle.std.specs.Prelude.{is_some}
-use Rattle.std.specs.Option.{option_map_or}
-use Rattle.std.proofs.lemmas.Bool.{cases_Bool, eqb-true, cond_both}
+use Rattle.std.proofs.lemmas.Bool.{cases_Bool, cond_both}
 use Rattle.std.proofs.lemmas.Bool.Decides.{nat_tests}
 use Rattle.std.specs.declared.alloc.AllocError.{AllocError}
 use Rattle.csi_codec.specs.declared.parameters.CsiParam.{CsiParam}
-use Rattle.csi_codec.specs.declared.parameters.CsiParam.TheVariants.{Integer, P}
-use Rattle.csi_codec.specs.declared.modes.Mode.{Mode}
 use Rattle.csi_codec.specs.declared.rendition.Sgr.{Sgr}
 use Rattle.csi_codec.specs.declared.rendition.Sgr.TheVariants.{Reset}
 use Rattle.csi_codec.specs.declared.sequences.CSI.{CSI}
 use Rattle.csi_codec.specs.Known.{found_action}
-use Rattle.csi_codec.specs.Parsing.{HasNoPiece, HasNoSetting, IsEnd, IsFirstPiece, IsNext, actions_behind, before_tokens, counted_from, first_setting, further_setting, list_kind}
-use Rattle.csi_codec.specs.Cursors.{cursor_reading}
-use Rattle.csi_codec.specs.Devices.{device_reading}
-use Rattle.csi_codec.specs.Edits.{edit_reading}
-use Rattle.csi_codec.specs.Modes.{dec_mode_of, lone_private_mode, private_mode_reading, private_step, switched_mode, switched_step}
-use Rattle.csi_codec.specs.Parameters.{begins_with_number, number_within, with_semicolon}
-use Rattle.csi_codec.specs.Rendition.{sgr_piece, taking}
+use Rattle.csi_codec.specs.Parsing.{HasNoPiece, HasNoSetting, IsEnd, IsFirstPiece, IsNext, actions_behind, before_tokens, counted_from, first_setting, further_setting, list_kind, setting_at}
+use Rattle.csi_codec.specs.Rendition.{sgr_piece}
 use Rattle.csi_codec.specs.Sequences.{HandsOut, action_of}
-use Rattle.csi_codec.specs.Actions.{Kind, Action, sgr, sgr_pieces, mode, unspecified, private_mode_pieces, mode_piece, rendition_piece, piece_of, pieces, all_sgr_tokens, sgr_reading, modes_or, lone_reading, lone_or, standard_reading, csi_reading}
+use Rattle.csi_codec.specs.Actions.{Kind, Action, sgr, sgr_pieces, unspecified, rendition_piece, piece_of, pieces, all_sgr_tokens, sgr_reading, csi_reading}
 use Rattle.csi_codec.proofs.PieceLemmas.{piece_of_takes, pieces_found, pieces_rest, pieces_none, pieces_ended}
 use Rattle.csi_codec.proofs.ReadingLemmas.{csi_reading-counted}
 use Rattle.csi_codec.proofs.SgrTokens.{sgr_tokens_behind}
@@ -96,35 +87,11 @@ step_behind n m ts truncated final before action e some h =
 
 -- ---- The next action
 
--- a mode that a list begins with
-modes_found : (k : Kind) (start n : ℕ) (ts : List CsiParam) (truncated : Bool) (final : ℕ) (a : Action) → piece_of k final (drop start ts) ≡ Some (a, n)
-    → modes_or k truncated final (drop start ts) ts ≡ a ∷ pieces k truncated final (drop (start + n) ts)
-modes_found k start n ts truncated final a e =
-    ap (λ found. cond (is_some found) (pieces k truncated final (drop start ts)) (unspecified ts truncated final ∷ [])) e
-    ∙ pieces_found k truncated final (drop start ts) a n e
-    ∙ ap (λ rest. a ∷ pieces k truncated final rest) (drop-drop n start ts)
-
-pub mode_found : (k : Kind) (start n : ℕ) (ts us : List CsiParam) (truncated : Bool) (final : ℕ) (found : CSI) → us ≡ drop start ts → Some (found_action (found, n)) ≡ piece_of k final us
-    → modes_or k truncated final (drop start ts) ts ≡ action_of found ∷ pieces k truncated final (drop (start + n) ts)
-mode_found k start n ts us truncated final found at e =
-    modes_found k start n ts truncated final (action_of found) (subst (λ x. piece_of k final x ≡ Some (action_of found, n)) at (sym e))
-
--- the only one of a list
-pub only_found : (k : Kind) («end» : ℕ) (ts : List CsiParam) (truncated : Bool) (final : ℕ) (a : Action) → length ts ≤ «end» → lone_or truncated final ts ≡ a ∷ []
-    → lone_or truncated final ts ≡ a ∷ pieces k truncated final (drop «end» ts)
-only_found k «end» ts truncated final a h e = e ∙ ap (λ rest. a ∷ rest) (sym (pieces_ended k truncated final ts «end» h))
-
 -- the first of any list
 next_first : (n : ℕ) (ts : List CsiParam) (final : ℕ) (a : Action) → 0 < n
     → ((truncated : Bool) → csi_reading ts truncated final ≡ a ∷ pieces (list_kind final ts) truncated final (drop n ts)) → IsNext 0 ts final a n
 unfolding actions_behind
 next_first n ts final a h first = record { actions = λ truncated. first truncated ∙ ap (λ rest. a ∷ rest) (sym (behind_some n ts truncated final h)) }
-
-pub next_found : (ts : List CsiParam) (final : ℕ) (found : Option (CSI × ℕ))
-    → IfSome found (λ f. (truncated : Bool) → csi_reading ts truncated final ≡ action_of f.0 ∷ pieces (list_kind final ts) truncated final (drop f.1 ts))
-    → IfSome found (λ f. 0 < f.1) → IfSome found (λ f. IsNext 0 ts final (action_of f.0) f.1)
-next_found ts final None first some = tt
-next_found ts final (Some f) first some = next_first f.1 ts final (action_of f.0) some first
 
 -- one behind some tokens
 next_further : (read n : ℕ) (ts : List CsiParam) (final : ℕ) (a : Action) → 0 < read → IsFirstPiece (list_kind final ts) final (drop read ts) a n → IsNext read ts final a (read + n)
@@ -134,11 +101,6 @@ next_further read n ts final a h first = record {
       ∙ ap (λ rest. a ∷ pieces (list_kind final ts) truncated final rest) (drop-drop n read ts)
       ∙ ap (λ rest. a ∷ rest) (sym (behind_some (read + n) ts truncated final (omega arith)));
 }
-
-pub next_piece : (k : Kind) (read n : ℕ) (ts us : List CsiParam) (final : ℕ) (a : Action) → 0 < read → k ≡ list_kind final ts → us ≡ drop read ts → IsFirstPiece k final us a n
-    → IsNext read ts final a (read + n)
-next_piece k read n ts us final a h kind at first =
-    next_further read n ts final a h (subst (λ x. IsFirstPiece (list_kind final ts) final x a n) at (subst (λ k. IsFirstPiece k final us a n) kind first))
 
 -- ---- Settings of an SGR list, and what is to come
 
@@ -209,15 +171,60 @@ further_none read ts some h e = record {
   within = h;
 }
 
--- the same by the final byte of the list, and where no token was read
-pub first_at : (read n final : ℕ) (ts : List CsiParam) (v : Sgr) → read ≡ 0 → final ≡ 109 → first_setting ts ≡ Some (v, n) → IsNext read ts final (sgr v) n
-first_at read n final ts v h m e = subst (λ k. IsNext k ts final (sgr v) n) (sym h) (subst (λ k. IsNext 0 ts k (sgr v) n) (sym m) (first_next ts v n e))
+-- the one that stands at a place
+further_at : (read : ℕ) (ts : List CsiParam) (found : Option (Sgr × ℕ)) → 0 < read → setting_at read ts ≡ found → further_setting read ts ≡ found
+further_at read ts found h e = ap (λ b. cond b (first_setting ts) (further_setting read ts)) (sym (not_none read h)) ∙ e
 
-pub further_at : (read n final : ℕ) (ts : List CsiParam) (v : Sgr) → 0 < read → final ≡ 109 → further_setting read ts ≡ Some (v, n) → IsNext read ts final (sgr v) n
-further_at read n final ts v h m e = subst (λ k. IsNext read ts k (sgr v) n) (sym m) (further_next read n ts v h e)
+pub setting_next : (read n : ℕ) (ts : List CsiParam) (v : Sgr) → setting_at read ts ≡ Some (v, n) → IsNext read ts 109 (sgr v) n
+setting_next zero n ts v e = first_next ts v n e
+setting_next (suc read) n ts v e = further_next (suc read) n ts v (omega arith) (further_at (suc read) ts (Some (v, n)) (omega arith) e)
 
-pub none_at : (read : ℕ) (ts : List CsiParam) → read ≡ 0 → first_setting ts ≡ None → HasNoSetting read ts
-none_at read ts h e = subst (λ k. HasNoSetting k ts) (sym h) (first_none ts e)
+pub no_setting : (read : ℕ) (ts : List CsiParam) → read < max (length ts) 1 → setting_at read ts ≡ None → HasNoSetting read ts
+no_setting zero ts h e = first_none ts e
+no_setting (suc read) ts h e = further_none (suc read) ts (omega arith) (omega arith) (further_at (suc read) ts None (omega arith) e)
+
+-- how it is found
+first_found : (ts : List CsiParam) → 0 < length ts → first_setting ts ≡ before_tokens ts (sgr_piece ts)
+unfolding first_setting
+first_found [] h = absurd (omega arith)
+first_found (t ∷ ts) h = refl
+
+pub empty_reset : (ts : List CsiParam) → length ts ≡ 0 → first_setting ts ≡ Some (Reset, 1)
+unfolding first_setting
+empty_reset [] h = refl
+empty_reset (t ∷ ts) h = absurd (omega arith)
+
+pub first_told : (ts : List CsiParam) (v : Sgr) (n : ℕ) (b : Bool) → 0 < length ts → sgr_piece ts ≡ Some (v, n) → all_sgr_tokens (drop n ts) ≡ b → first_setting ts ≡ cond b (Some (v, n)) None
+first_told ts v n b h e tokens = first_found ts h ∙ ap (before_tokens ts) e ∙ ap (λ b. cond b (Some (v, n)) None) tokens
+
+pub first_lost : (ts : List CsiParam) → 0 < length ts → sgr_piece ts ≡ None → first_setting ts ≡ None
+first_lost ts h e = first_found ts h ∙ ap (before_tokens ts) e
+
+pub further_told : (read : ℕ) (ts us : List CsiParam) (found : Option (Sgr × ℕ)) → 0 < read → us ≡ drop read ts → sgr_piece us ≡ found → setting_at read ts ≡ counted_from read found
+unfolding further_setting
+further_told read ts us found h at e =
+    ap (λ b. cond b (first_setting ts) (further_setting read ts)) (not_none read h) ∙ ap (λ us. counted_from read (sgr_piece us)) (sym at) ∙ ap (counted_from read) e
+
+pub reset_at : (read : ℕ) (ts : List CsiParam) → read < max (length ts) 1 → length ts ≡ 0 → setting_at read ts ≡ Some (Reset, 1)
+reset_at zero ts h e = empty_reset ts e
+reset_at (suc read) ts h e = absurd (omega (arith, h, e))
+
+pub setting_lost : (read : ℕ) (ts us : List CsiParam) → 0 < length ts → us ≡ drop read ts → sgr_piece us ≡ None → setting_at read ts ≡ None
+setting_lost zero ts us some at e = first_lost ts some (sym (ap sgr_piece at) ∙ e)
+setting_lost (suc read) ts us some at e = further_told (suc read) ts us None (omega arith) at e
+
+some_read : (read : ℕ) → 0 < read → nat_lt 0 read ≡ true
+some_read read h = grind (arith, nat_tests)
+
+pub setting_told : (read n : ℕ) (ts us : List CsiParam) (v : Sgr) (b : Bool) → 0 < length ts → us ≡ drop read ts → sgr_piece us ≡ Some (v, n)
+    → (nat_lt 0 read || all_sgr_tokens (drop (read + n) ts)) ≡ b → setting_at read ts ≡ cond b (Some (v, read + n)) None
+setting_told zero n ts us v b some at e t =
+    let z : 0 + n ≡ n = omega arith in
+    first_told ts v n b some (sym (ap sgr_piece at) ∙ e) (sym (ap (λ m. all_sgr_tokens (drop m ts)) z) ∙ t) ∙ sym (ap (λ m. cond b (Some (v, m)) None) z)
+setting_told (suc read) n ts us v b some at e t =
+    let h : 0 < suc read = omega arith in
+    let all : b ≡ true = sym t ∙ ap (λ k. k || all_sgr_tokens (drop (suc read + n) ts)) (some_read (suc read) h) in
+    further_told (suc read) ts us (Some (v, n)) h at e ∙ sym (ap (λ b. cond b (Some (v, suc read + n)) None) all)
 
 -- the rest is the last action
 pub rest_is_last : (read : ℕ) (ts : List CsiParam) (truncated : Bool) (action : Option (Result CSI AllocError)) → HasNoSetting read ts
@@ -228,111 +235,6 @@ rest_is_last read ts truncated action none h =
     let last : actions_behind (length ts) ts truncated 109 ≡ [] =
     behind_some (length ts) ts truncated 109 (omega (arith, none.within)) ∙ pieces_ended (list_kind 109 ts) truncated 109 ts (length ts) (omega arith) in
     subst P (sym (none.rest truncated)) (subst Q (sym last) h)
-
-not_both : (found : Option Action) (a : Action) → found ≡ None → found ≡ Some a → ⊥
-not_both found a none e = cc
-
--- the only one of a list with no sign at its front, by its reading: no such list before m, h or l has one
-other_final : (n final : ℕ) (ts : List CsiParam) (a : Action) → lone_reading n ts ≡ None → lone_reading final ts ≡ Some a → eqb final n ≡ false
-other_final n final ts a none e = elim (cases_Bool (eqb final n)) [
-  | inl h ↦ absurd (not_both (lone_reading n ts) a none (subst (λ k. lone_reading k ts ≡ Some a) (eqb-true final n h) e))
-  | inr h ↦ h
-]
-
-no_lone : (ts : List CsiParam) → (lone_reading 109 ts ≡ None) × ((lone_reading 104 ts ≡ None) × (lone_reading 108 ts ≡ None))
-unfolding cursor_reading edit_reading device_reading
-no_lone ts = (refl, (refl, refl))
-
-standard_is : (ts : List CsiParam) (truncated : Bool) (final : ℕ) (a : Action) → lone_reading final ts ≡ Some a → standard_reading truncated final ts ≡ a ∷ []
-standard_is ts truncated final a e =
-    rw (other_final 104 final ts a (no_lone ts).1.0 e, other_final 108 final ts a (no_lone ts).1.1 e)
-    (ap (λ found. option_map_or (λ known. known ∷ []) found (unspecified ts truncated final ∷ [])) e)
-
-abbrev HasNoSign : List CsiParam → Type 0
-HasNoSign [] = Unit {0}
-HasNoSign (Integer z ∷ ts) = Unit {0}
-HasNoSign (P b ∷ ts) = ⊥
-
-lone_is : (ts : List CsiParam) (truncated : Bool) (final : ℕ) (a : Action) → HasNoSign ts → lone_reading final ts ≡ Some a → csi_reading ts truncated final ≡ a ∷ []
-unfolding csi_reading
-lone_is [] truncated final a h e = rw (other_final 109 final [] a (no_lone []).0 e) (standard_is [] truncated final a e)
-lone_is (Integer z ∷ ts) truncated final a h e = rw (other_final 109 final (Integer z ∷ ts) a (no_lone (Integer z ∷ ts)).0 e) (standard_is (Integer z ∷ ts) truncated final a e)
-lone_is (P b ∷ ts) truncated final a h e = absurd h
-
-lone_next : (ts : List CsiParam) (final : ℕ) (a : Action) («end» : ℕ) → HasNoSign ts → lone_reading final ts ≡ Some a → 0 < «end» → length ts ≤ «end» → IsNext 0 ts final a «end»
-lone_next ts final a «end» plain e some h =
-    next_first «end» ts final a some
-    (λ truncated. lone_is ts truncated final a plain e ∙ ap (λ rest. a ∷ rest) (sym (pieces_ended (list_kind final ts) truncated final ts «end» h)))
-
-bare_next : (ts : List CsiParam) (final : ℕ) (a : Action) → lone_reading final [] ≡ Some a → length ts ≡ 0 → IsNext 0 ts final a 1
-bare_next [] final a e h = lone_next [] final a 1 tt e (omega arith) (omega arith)
-bare_next (t ∷ ts) final a e h = absurd (omega arith)
-
-pub bare_found : (final : ℕ) (found : Option CSI) → IfSome found (λ value. lone_reading final [] ≡ Some (action_of value))
-    → IfSome found (λ value. (ts : List CsiParam) → length ts ≡ 0 → IsNext 0 ts final (action_of value) 1)
-bare_found final None e = tt
-bare_found final (Some value) e = λ ts h. bare_next ts final (action_of value) e h
-
-pub numbered_next : (ts : List CsiParam) (final : ℕ) (a : Action) → begins_with_number ts ≡ true → lone_reading final ts ≡ Some a → IsNext 0 ts final a (length ts)
-numbered_next [] final a h e = cc
-numbered_next (P b ∷ ts) final a h e = cc
-numbered_next (Integer z ∷ ts) final a h e = lone_next (Integer z ∷ ts) final a (length (Integer z ∷ ts)) tt e (omega arith) (omega arith)
-
-pub numbered_found : (ts : List CsiParam) (final : ℕ) (found : Option CSI) → begins_with_number ts ≡ true → IfSome found (λ value. lone_reading final ts ≡ Some (action_of value))
-    → IfSome found (λ value. IsNext 0 ts final (action_of value) (length ts))
-numbered_found ts final None h e = tt
-numbered_found ts final (Some value) h e = numbered_next ts final (action_of value) h e
-
--- the only mode of a list that is a ? and one number
-private_piece : (z : ℤ) (final : ℕ) (m : Mode) → private_mode_reading final z ≡ Some m → piece_of private_mode_pieces final (Integer z ∷ []) ≡ Some (mode m, 1)
-unfolding mode_piece
-private_piece z final m e = ap (λ read. with_semicolon (Integer z ∷ []) (taking 1 (option_map mode read))) e
-
-no_private_step : (n : Option ℕ) (m : Mode) → option_and_then (λ n. private_step 109 (dec_mode_of n)) n ≡ Some m → ⊥
-no_private_step None m e = cc
-no_private_step (Some n) m e = cc
-
-private_final : (final : ℕ) (z : ℤ) (m : Mode) → private_mode_reading final z ≡ Some m → eqb final 109 ≡ false
-unfolding private_mode_reading
-private_final final z m e = elim (cases_Bool (eqb final 109)) [
-  | inl h ↦ absurd (no_private_step (number_within 65535 z) m (subst (λ k. private_mode_reading k z ≡ Some m) (eqb-true final 109 h) e))
-  | inr h ↦ h
-]
-
-private_next_by : (z : ℤ) (final : ℕ) (m : Mode) → private_mode_reading final z ≡ Some m → eqb final 109 ≡ false → IsNext 0 (P 63 ∷ Integer z ∷ []) final (mode m) 2
-unfolding csi_reading
-private_next_by z final m e other =
-    next_first 2 (P 63 ∷ Integer z ∷ []) final (mode m) (omega arith)
-    (λ truncated. rw other (modes_found private_mode_pieces 1 1 (P 63 ∷ Integer z ∷ []) truncated final (mode m) (private_piece z final m e)))
-
-either_mode : (p q : Bool) (a b c : Option Mode) (m : Mode) → cond p a (cond q b None) ≡ Some m → cond p a (cond q b c) ≡ Some m
-either_mode true q a b c m e = e
-either_mode false true a b c m e = e
-either_mode false false a b c m e = absurd (none-some m e)
-
-switched_is : (final : ℕ) (n : Option ℕ) (m : Mode) → option_and_then (λ n. switched_step final (dec_mode_of n)) n ≡ Some m → option_and_then (λ n. private_step final (dec_mode_of n)) n ≡ Some m
-switched_is final None m e = e
-switched_is final (Some n) m e = either_mode (eqb final 104) (eqb final 108) _ _ _ m e
-
-private_by : (z : ℤ) (final : ℕ) (m : Mode) → switched_mode final z ≡ Some m → IsNext 0 (P 63 ∷ Integer z ∷ []) final (mode m) 2
-unfolding switched_mode private_mode_reading
-private_by z final m e =
-    let read : private_mode_reading final z ≡ Some m = switched_is final (number_within 65535 z) m e in
-    private_next_by z final m read (private_final final z m read)
-
-pub private_next : (ts : List CsiParam) (final : ℕ) (m : Mode) → lone_private_mode final ts ≡ Some m → IsNext 0 ts final (mode m) (length ts)
-unfolding lone_private_mode
-private_next (P b ∷ Integer z ∷ []) final m e = elim (cases_Bool (eqb b 63)) [
-  | inl h ↦
-      let at : lone_private_mode final (P 63 ∷ Integer z ∷ []) ≡ Some m = subst (λ k. lone_private_mode final (P k ∷ Integer z ∷ []) ≡ Some m) (eqb-true b 63 h) e in
-      subst (λ k. IsNext 0 (P k ∷ Integer z ∷ []) final (mode m) 2) (sym (eqb-true b 63 h)) (private_by z final m at)
-  | inr h ↦ absurd (none-some m (ap (λ v. cond v (switched_mode final z) None) (sym h) ∙ e))
-]
-private_next [] final m e = absurd (none-some m e)
-private_next (Integer y ∷ ts) final m e = absurd (none-some m e)
-private_next (P b ∷ []) final m e = absurd (none-some m e)
-private_next (P b ∷ P d ∷ ts) final m e = absurd (none-some m e)
-private_next (P b ∷ Integer y ∷ t ∷ ts) final m e = absurd (none-some m e)
 
 -- ---- The end of a list
 

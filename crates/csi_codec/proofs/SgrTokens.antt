@@ -1,11 +1,10 @@
 -- What a piece of SGR takes are tokens of SGR, so whether a list has only such is told by what stands behind its first piece.
-use Rattle.std.proofs.Common.{◌≡◌, ◌<◌, ◌≤◌, pos, slice_index_or, ℕ, zero, suc, ◌+◌, ℤ, eqb, Bool, true, cond, ◌&&◌, ◌||◌, List, [], ◌∷◌, length, drop, Option, Some, None, IfSome, option_map, arith, refl, sym, ap, ◌∙◌, subst, inl, inr}
-use Rattle.std.proofs.lemmas.List.{drop_more, at_drop_all}
+use Rattle.std.proofs.Common.{◌≡◌, ℕ, zero, suc, ◌+◌, ℤ, eqb, Bool, true, cond, ◌&&◌, ◌||◌, List, [], ◌∷◌, length, drop, Option, Some, None, IfSome, option_map, arith, refl, sym, ap, ◌∙◌, subst, inl, inr}
 use Rattle.std.proofs.lemmas.Bool.{cases_Bool, eqb-true, and_parts, or_left}
 use Rattle.csi_codec.specs.declared.parameters.CsiParam.{CsiParam}
 use Rattle.csi_codec.specs.declared.parameters.CsiParam.TheVariants.{Integer, P}
 use Rattle.csi_codec.specs.declared.rendition.Sgr.{Sgr}
-use Rattle.csi_codec.specs.Parameters.{is_number_token, semicolon_at, with_semicolon}
+use Rattle.csi_codec.specs.Parameters.{semicolon_at, with_semicolon}
 use Rattle.csi_codec.specs.Rendition.{Part, byte_part, number_part, any_number, is_part, stands, Form, colour_forms, sgr_shape, sgr_piece}
 use Rattle.csi_codec.specs.Actions.{Action, sgr, rendition_piece, all_sgr_tokens, is_sgr_token}
 use Rattle.csi_codec.proofs.ShapeLemmas.{EachForm, EachShape, sgr_shape-each}
@@ -90,25 +89,3 @@ rendition_piece-passes ts = as_action ts (sgr_piece ts) (with_semicolon-passes t
 
 pub sgr_tokens_behind : (ts : List CsiParam) (a : Action) (n : ℕ) → rendition_piece ts ≡ Some (a, n) → all_sgr_tokens ts ≡ all_sgr_tokens (drop n ts)
 sgr_tokens_behind ts a n e = let P : Option (Action × ℕ) → Type 0 = λ found. Passes ts found in subst P e (rendition_piece-passes ts)
-
--- ---- Tokens in turn, by their places
-
-number_first : (t : CsiParam) (ts : List CsiParam) → is_number_token t ≡ true → all_sgr_tokens ts ≡ true → all_sgr_tokens (t ∷ ts) ≡ true
-number_first (Integer z) ts e rest = rest
-number_first (P b) ts e rest = cc
-
-number_at : (ts : List CsiParam) (i : ℕ) → i < length ts → is_number_token (slice_index_or ts i (Integer (pos 0))) ≡ true → all_sgr_tokens (drop (i + 1) ts) ≡ true
-    → all_sgr_tokens (drop i ts) ≡ true
-number_at ts i h e rest = ap all_sgr_tokens (drop_more ts i (Integer (pos 0)) h) ∙ number_first (slice_index_or ts i (Integer (pos 0))) (drop (i + 1) ts) e rest
-
-sign_at : (ts : List CsiParam) (i : ℕ) → i < length ts → slice_index_or ts i (Integer (pos 0)) ≡ P 59 → all_sgr_tokens (drop (i + 1) ts) ≡ true → all_sgr_tokens (drop i ts) ≡ true
-sign_at ts i h e rest = ap all_sgr_tokens (drop_more ts i (Integer (pos 0)) h) ∙ ap (λ t. all_sgr_tokens (t ∷ drop (i + 1) ts)) e ∙ rest
-
-pub four_numbers : (ts : List CsiParam) → 9 ≤ length ts → length ts < 10
-    → is_number_token (slice_index_or ts 2 (Integer (pos 0))) ≡ true → slice_index_or ts 3 (Integer (pos 0)) ≡ P 59
-    → is_number_token (slice_index_or ts 4 (Integer (pos 0))) ≡ true → slice_index_or ts 5 (Integer (pos 0)) ≡ P 59
-    → is_number_token (slice_index_or ts 6 (Integer (pos 0))) ≡ true → slice_index_or ts 7 (Integer (pos 0)) ≡ P 59
-    → is_number_token (slice_index_or ts 8 (Integer (pos 0))) ≡ true → all_sgr_tokens (drop 2 ts) ≡ true
-four_numbers ts h l a b c d e f g =
-    number_at ts 2 (omega arith) a (sign_at ts 3 (omega arith) b (number_at ts 4 (omega arith) c (sign_at ts 5 (omega arith) d
-    (number_at ts 6 (omega arith) e (sign_at ts 7 (omega arith) f (number_at ts 8 (omega arith) g (at_drop_all all_sgr_tokens ts 9 (omega arith))))))))

@@ -1,6 +1,7 @@
 -- Lists of at most three numbers: the only action of each.
-use Rattle.std.proofs.Common.{◌≡◌, ◌≤◌, ℕ, pos, Bool, true, false, List, [], ◌∷◌, Option, Some, None, IfSome, arith, refl, sym, ◌∙◌, subst, eqb}
+use Rattle.std.proofs.Common.{◌≡◌, ◌≤◌, ℕ, ℤ, pos, Bool, true, false, List, [], ◌∷◌, Option, Some, None, IfSome, arith, refl, sym, ap, ◌∙◌, subst, eqb}
 use Rattle.std.specs.Prelude.{nat_le}
+use Rattle.std.proofs.lemmas.Option.{none-some}
 use Rattle.std.proofs.lemmas.Bool.Decides.{nat_tests}
 use Rattle.csi_codec.specs.declared.parameters.CsiParam.{CsiParam}
 use Rattle.csi_codec.specs.declared.parameters.CsiParam.TheVariants.{Integer, P}
@@ -16,16 +17,37 @@ use Rattle.csi_codec.specs.Actions.{Action, sgr, cursor, edit, lone_or, csi_read
 use Rattle.csi_codec.specs.Cursors.{cursor_reading}
 use Rattle.csi_codec.specs.ColourCases.{semicolon_form, palette_case}
 use Rattle.csi_codec.specs.Edits.{edit_reading}
-use Rattle.csi_codec.specs.Rendition.{plain_code}
+use Rattle.csi_codec.specs.Parameters.{with_semicolon}
+use Rattle.csi_codec.specs.Rendition.{single_code, plain_code, taking, underline_or_single, numbered_shape, sgr_shape, sgr_piece}
 use Rattle.csi_codec.specs.Sequences.{action_of}
 use Rattle.csi_codec.specs.Short.{BeginsAsNumber, IsOnly, short_list, targeted}
-use Rattle.csi_codec.proofs.PlainLemmas.{plain_last}
+use Rattle.csi_codec.proofs.ShapeLemmas.{numbered_shape-by}
 use Rattle.csi_codec.proofs.SemicolonLemmas.{semicolon_found, semicolon_shape}
 use Rattle.csi_codec.proofs.PlaceLemmas.{rendition_found}
 
 pub reset_only : IsOnly [] 109 (sgr Reset)
 unfolding csi_reading
 reset_only = λ truncated. refl
+
+-- no number of a colour has a value of its own
+no_target : (n : ℕ) (z : ℤ) (v : Sgr) → plain_code (pos n) ≡ None → plain_code z ≡ Some v → z ≡ pos n → ⊥
+no_target n z v none e is = none-some v (sym none ∙ sym (ap plain_code is) ∙ e)
+
+-- 4 means a single underline where no `:` follows
+single : (z : ℤ) (v : Sgr) → plain_code z ≡ Some v → z ≡ pos 4 → underline_or_single None ≡ Some (v, 1)
+unfolding single_code
+single z v e is = ap (taking 1) (sym (ap plain_code is) ∙ e)
+
+plain_shape : (z : ℤ) (v : Sgr) → plain_code z ≡ Some v → numbered_shape z [] ≡ Some (v, 1)
+unfolding single_code
+plain_shape z v e =
+    numbered_shape-by (λ found. found ≡ Some (v, 1)) z []
+    (λ p. absurd (no_target 38 z v refl e p)) (λ p. absurd (no_target 48 z v refl e p)) (λ p. absurd (no_target 58 z v refl e p))
+    (λ p. single z v e p) (λ p q r s. ap (taking 1) e)
+
+plain_last : (z : ℤ) (v : Sgr) → plain_code z ≡ Some v → sgr_piece (Integer z ∷ []) ≡ Some (v, 1)
+unfolding sgr_piece sgr_shape
+plain_last z v e = ap (with_semicolon (Integer z ∷ [])) (plain_shape z v e)
 
 pub rendition_only : (n : ℕ) (v : Sgr) → plain_code (pos n) ≡ Some v → IsOnly (Integer (pos n) ∷ []) 109 (sgr v)
 unfolding csi_reading pieces

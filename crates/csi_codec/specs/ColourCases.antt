@@ -1,6 +1,6 @@
 -- The forms of a colour by cases, as the code reads them: it looks at the sign and the kind, and then at the numbers
 -- behind them. It is only there for the contracts of private steps; what a colour is stands in `Rendition`.
-use Rattle.std.specs.Prelude.{◌≡◌, ℕ, ℤ, List, ◌∷◌, ◌&&◌, Bool, false, Option, Some, None, ◌==◌, if◌then◌else◌, option_map, option_and_then}
+use Rattle.std.specs.Prelude.{ℕ, ℤ, List, ◌∷◌, Option, Some, None, ◌==◌, if◌then◌else◌, option_map, option_and_then}
 use Rattle.cell_base.specs.declared.color.ColorSpec.{ColorSpec}
 use Rattle.cell_base.specs.declared.color.ColorSpec.TheVariants as color
 use Rattle.csi_codec.specs.declared.parameters.CsiParam.{CsiParam}
@@ -68,21 +68,7 @@ unfoldable pub form_case : List CsiParam → Option (ColorSpec × ℕ)
 form_case (P b ∷ Integer kind ∷ ts) = if b == 58 then colon_form kind ts else (if b == 59 then semicolon_form kind ts else None)
 form_case _ = None
 
--- ---- A colour told with `;`
-
--- the colour of the palette that a number names
-abbrev pub palette_of : ℤ → Option ColorSpec
-palette_of n = option_map color.PaletteIndex (number_within 255 n)
-
--- the colour of the palette whose number stands behind the first three tokens, the last of which is its kind
-unfoldable pub palette_behind : List CsiParam → Option ColorSpec
-palette_behind (t ∷ u ∷ w ∷ P b ∷ Integer n ∷ ts) = if b == 59 then palette_of n else None
-palette_behind _ = None
-
--- the opaque colour whose numbers stand there
-unfoldable pub opaque_behind : List CsiParam → Option ColorSpec
-opaque_behind (t ∷ u ∷ w ∷ P a ∷ Integer x ∷ P b ∷ Integer y ∷ P c ∷ Integer z ∷ ts) = if a == 59 && (b == 59 && c == 59) then opaque_of x y z else None
-opaque_behind _ = None
+-- ---- What a colour is for
 
 -- what a number in front of a colour sets
 abbrev pub target_numbered : ℤ → Option Target
@@ -96,23 +82,3 @@ abbrev pub set_to : Target → ColorSpec → Sgr
 set_to target.Foreground c = sgr.Foreground c
 set_to target.Background c = sgr.Background c
 set_to target.Underline c = sgr.UnderlineColor c
-
--- a list begins with a `;` that something stands behind
-abbrev pub begins_as_more : List CsiParam → Bool
-begins_as_more (P b ∷ t ∷ ts) = b == 59
-begins_as_more _ = false
-
--- a list begins with a number and such a `;`
-abbrev pub has_more : List CsiParam → Bool
-has_more (Integer z ∷ ts) = begins_as_more ts
-has_more _ = false
-
--- a list begins with this number and a `;`
-abbrev pub begins_signed : ℤ → List CsiParam → Type 0
-begins_signed z (Integer y ∷ P b ∷ ts) = (y ≡ z) × (b ≡ 59)
-begins_signed z _ = ⊥
-
--- a list begins with the number of this target, a `;` and this number, the kind of a colour
-abbrev pub IsTold : Target → ℤ → List CsiParam → Type 0
-IsTold t z (Integer y ∷ P b ∷ Integer k ∷ ts) = (target_numbered y ≡ Some t) × ((b ≡ 59) × (k ≡ z))
-IsTold t z _ = ⊥

@@ -124,18 +124,6 @@ standard_step final m =
 unfoldable pub private_mode_reading : ℕ → ℤ → Option Mode
 private_mode_reading final z = option_and_then (λ n. private_step final (dec_mode_of n)) (number_within 65535 z)
 
--- the same before h and l alone
-abbrev pub switched_step : ℕ → DecPrivateMode → Option Mode
-switched_step final m = if final == 104 then Some (mode.SetDecPrivateMode m) else (if final == 108 then Some (mode.ResetDecPrivateMode m) else None)
-
-unfoldable pub switched_mode : ℕ → ℤ → Option Mode
-switched_mode final z = option_and_then (λ n. switched_step final (dec_mode_of n)) (number_within 65535 z)
-
--- the same of a list that is ? and one number
-unfoldable pub lone_private_mode : ℕ → List CsiParam → Option Mode
-lone_private_mode final (P b ∷ Integer z ∷ []) = if b == 63 then switched_mode final z else None
-lone_private_mode final _ = None
-
 -- what a number spells before a final byte
 unfoldable pub mode_reading : ℕ → ℤ → Option Mode
 mode_reading final z = option_and_then (λ n. standard_step final (ansi_mode_of n)) (number_within 65535 z)

@@ -63,16 +63,6 @@ count ts = option_and_then (place 1) (one_slot ts)
 abbrev pub place_pair : ℕ → List CsiParam → Option (ℕ × ℕ)
 place_pair default ts = option_and_then (λ slots. option_zip (place 1 slots.0) (place default slots.1)) (two_slots ts)
 
--- the same of two numbers with a `;` between them, and no other list
-abbrev pub number_pair : List CsiParam → Option (ℕ × ℕ)
-number_pair (Integer a ∷ P s ∷ Integer b ∷ []) = if s == 59 then option_zip (place 1 (Some a)) (place 1 (Some b)) else None
-number_pair _ = None
-
--- whether a token is a number
-abbrev pub is_number_token : CsiParam → Bool
-is_number_token (Integer z) = true
-is_number_token (P b) = false
-
 -- a list that begins with a number
 abbrev pub begins_with_number : List CsiParam → Bool
 begins_with_number [] = false

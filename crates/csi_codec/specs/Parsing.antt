@@ -1,5 +1,5 @@
 -- What is to come of a list from a place on.
-use Rattle.std.specs.Prelude.{◌≡◌, ℕ, ◌+◌, ◌<◌, ◌≤◌, nat_lt, ◌||◌, Bool, List, [], ◌∷◌, length, drop, Option, Some, None, option_map, option_and_then, ◌==◌, if◌then◌else◌}
+use Rattle.std.specs.Prelude.{◌≡◌, ℕ, ◌+◌, ◌<◌, ◌≤◌, Bool, List, [], ◌∷◌, length, drop, Option, Some, None, option_map, option_and_then, ◌==◌, if◌then◌else◌}
 use Rattle.csi_codec.specs.declared.parameters.CsiParam.{CsiParam}
 use Rattle.csi_codec.specs.declared.pieces.Kind.{Kind}
 use Rattle.csi_codec.specs.declared.pieces.Kind.TheVariants as code
@@ -8,7 +8,6 @@ use Rattle.csi_codec.specs.Actions as actions
 use Rattle.csi_codec.specs.declared.rendition.Sgr.{Sgr}
 use Rattle.csi_codec.specs.declared.rendition.Sgr.TheVariants.{Reset}
 use Rattle.csi_codec.specs.Actions.{Action, unspecified, sgr_pieces, private_mode_pieces, standard_mode_pieces, pieces, all_sgr_tokens, csi_reading}
-use Rattle.csi_codec.specs.Parameters.{semicolon_at}
 use Rattle.csi_codec.specs.Rendition.{sgr_piece}
 use Rattle.csi_codec.specs.Laws.{begins_with_question}
 
@@ -73,17 +72,9 @@ counted_from read found = option_map (λ f. (f.0, read + f.1)) found
 unfoldable pub further_setting : ℕ → List CsiParam → Option (Sgr × ℕ)
 further_setting read ts = counted_from read (sgr_piece (drop read ts))
 
--- so many tokens, unless none were read and others than those of SGR stand behind them
-abbrev pub behind_all : ℕ → List CsiParam → ℕ → Option ℕ
-behind_all read ts n = if nat_lt 0 read || all_sgr_tokens (drop n ts) then Some n else None
-
--- how many tokens are read behind a shape of so many at a place, with the `;` right behind it
-unfoldable pub end_at : ℕ → ℕ → List CsiParam → Option ℕ
-end_at read len ts = behind_all read ts (read + len + semicolon_at ts (read + len))
-
--- what such a shape stands for, and how many tokens are read then
-abbrev pub ended : {A : Type 0} → ℕ → ℕ → List CsiParam → Option A → Option (A × ℕ)
-ended read len ts value = option_and_then (λ v. option_map (λ n. (v, n)) (end_at read len ts)) value
+-- the setting at a place, and how many tokens are read then
+abbrev pub setting_at : ℕ → List CsiParam → Option (Sgr × ℕ)
+setting_at read ts = if read == 0 then first_setting ts else further_setting read ts
 
 -- no setting is to come where so many tokens were read: the rest is the last action
 pub record HasNoSetting (read : ℕ) (ts : List CsiParam) : Type 0 where

@@ -1,6 +1,5 @@
 //! Sequences that move the cursor, set tab stops and margins, and report or save a place.
-ghost use Rattle.std.specs.Prelude.{◌≡◌, IfSome, Some};
-ghost use Rattle.csi_codec.specs.Actions.{cursor, lone_reading};
+ghost use Rattle.std.specs.Prelude.{◌≡◌, Some};
 ghost use Rattle.csi_codec.specs.Cursors.{
   cursor_style_named,
   cursor_style_number,
@@ -16,9 +15,7 @@ ghost use Rattle.csi_codec.specs.Cursors.{
 ghost use Rattle.csi_codec.specs.Parameters.{sequence_text, spelled_text};
 
 use crate::one_based::OneBased;
-use crate::parameters::{
-    CsiParam, count, number_and_space, number_pair, one_number, one_place, place_pair,
-};
+use crate::parameters::{CsiParam, count, number_and_space, one_number, one_place, place_pair};
 use crate::spelling::{
     ControlSequence, put_bare, put_count, put_number, put_pair, write_parameters,
 };
@@ -275,18 +272,6 @@ pub(crate) fn cursor_reading(params: &[CsiParam], control: char) -> Option<Curso
         'q' => Some(Cursor::CursorStyle(CursorStyle::from_i64(number_and_space(params)?)?)),
         _ => None,
     }
-}
-
-/// The position that a list of two numbers with a `;` between them spells before `H`.
-#[tactic(auto, unfolding(crate::specs::Cursors::cursor_reading), using(crate::proofs::QuickLemmas::pair_placed))]
-#[inline(always)]
-pub(crate) fn position(params: &[CsiParam]) -> Option<Cursor>
-    ensures { IfSome result (λ value. lone_reading 72 params.now ≡ Some (cursor value)) }
-{
-    let Some((line, col)) = number_pair(params) else {
-        return None;
-    };
-    Some(Cursor::Position { line, col })
 }
 
 fn save_or_margins(params: &[CsiParam]) -> Option<Cursor>

@@ -10,15 +10,11 @@ ghost use Rattle.csi_codec.specs.Modes.{
   ansi_mode_of,
   ansi_mode_code,
   private_mode_reading,
-  switched_mode,
-  switched_step,
-  lone_private_mode,
   mode_reading,
   mode_spelling,
 };
 ghost use Rattle.csi_codec.specs.Parameters.{number_within, private_tokens, sequence_text, spelled, spelled_text};
 
-use crate::parameters::CsiParam;
 use crate::spelling::{ControlSequence, put_number, write_parameters};
 use crate::text::SequenceText;
 use std::fmt;
@@ -264,45 +260,10 @@ pub(crate) fn private_mode_reading(value: i64, control: char) -> Option<Mode>
 {
     let mode = DecPrivateMode::of_number(mode_number(value)?);
     match control {
-        'h' | 'l' => set_or_reset(mode, control),
-        's' => Some(Mode::SaveDecPrivateMode(mode)),
-        'r' => Some(Mode::RestoreDecPrivateMode(mode)),
-        _ => None,
-    }
-}
-
-/// What a list that is `?` and one number spells before a final byte, where a mode is set or reset.
-#[tactic(auto, unfolding(crate::specs::Modes::lone_private_mode))]
-#[inline(always)]
-pub(crate) fn lone_private_mode(params: &[CsiParam], control: char) -> Option<Mode>
-    ensures { result ≡ lone_private_mode control params.now }
-{
-    match params {
-        [CsiParam::P(b'?'), CsiParam::Integer(value)] => switched_mode(*value, control),
-        _ => None,
-    }
-}
-
-/// What a number behind `?` spells before a final byte, where a mode is set or reset.
-#[tactic(auto, unfolding(crate::specs::Modes::switched_mode))]
-#[inline(always)]
-fn switched_mode(value: i64, control: char) -> Option<Mode>
-    ensures { result ≡ switched_mode control value }
-{
-    let Some(number) = mode_number(value) else {
-        return None;
-    };
-    set_or_reset(DecPrivateMode::of_number(number), control)
-}
-
-/// What a final byte does to a private mode, where it sets or resets it.
-#[inline(always)]
-fn set_or_reset(mode: DecPrivateMode, control: char) -> Option<Mode>
-    ensures { result ≡ switched_step control mode }
-{
-    match control {
         'h' => Some(Mode::SetDecPrivateMode(mode)),
         'l' => Some(Mode::ResetDecPrivateMode(mode)),
+        's' => Some(Mode::SaveDecPrivateMode(mode)),
+        'r' => Some(Mode::RestoreDecPrivateMode(mode)),
         _ => None,
     }
 }

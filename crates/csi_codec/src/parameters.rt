@@ -1,7 +1,7 @@
 //! Tokens of a CSI list, the numbers and places that a list can have, and how tokens are written.
-ghost use Rattle.std.specs.Prelude.{◌≡◌, ◌≤◌, ◌++◌, true, Some, IfOk, OnErr, OnOk, is_some, option_map, drop, length, take};
+ghost use Rattle.std.specs.Prelude.{◌≡◌, ◌≤◌, ◌++◌, Some, IfOk, OnErr, OnOk, option_map, drop, length, take};
 ghost use Rattle.std.specs.Fmt.{signed_decimal};
-ghost use Rattle.csi_codec.specs.Parameters.{is_number_token, number_within, word_max, token_text, sequence_text, spelled, spelled_text, one_slot, two_slots, slot_and_space, place, slot_number, count, place_pair, number_pair, begins_with_number, semicolon_at};
+ghost use Rattle.csi_codec.specs.Parameters.{number_within, token_text, sequence_text, spelled, spelled_text, one_slot, two_slots, slot_and_space, place, slot_number, count, place_pair, semicolon_at};
 ghost use Rattle.csi_codec.specs.Rests.{IsSameRest};
 
 use crate::one_based::OneBased;
@@ -26,14 +26,6 @@ impl fmt::Display for CsiParam {
 }
 
 impl CsiParam {
-    /// Whether it is a number.
-    #[inline(always)]
-    pub(crate) fn is_number(&self) -> bool
-        ensures { result ≡ is_number_token self.now }
-    {
-        matches!(self, CsiParam::Integer(_))
-    }
-
     /// What is written for it.
     fn text(self) -> SequenceText
         ensures { result ≡ token_text self }
@@ -219,46 +211,6 @@ pub(crate) fn place_pair(default: u32, params: &[CsiParam]) -> Option<(OneBased,
 {
     let (a, b) = two_numbers(params)?;
     Some((place(1, a)?, place(default, b)?))
-}
-
-/// The two places of a list that is two numbers with a `;` between them, where 0 is 1.
-#[inline(always)]
-pub(crate) fn number_pair(params: &[CsiParam]) -> Option<(OneBased, OneBased)>
-    ensures { result ≡ number_pair params.now }
-{
-    match params {
-        [
-            CsiParam::Integer(a),
-            CsiParam::P(b';'),
-            CsiParam::Integer(b),
-        ] if is_word(*a) & is_word(*b) => Some((place_of(*a), place_of(*b))),
-        _ => None,
-    }
-}
-
-/// Whether a parameter can hold a number.
-#[inline(always)]
-fn is_word(value: i64) -> bool
-    ensures { result ≡ is_some (number_within word_max value) }
-{
-    0 <= value && value <= i64::from(u32::MAX)
-}
-
-/// The place of a number that a parameter can hold, where 0 is 1.
-#[inline(always)]
-fn place_of(value: i64) -> OneBased
-    requires { is_some (number_within word_max value) ≡ true }
-    ensures { Some result ≡ place 1 (Some value) }
-{
-    OneBased::new((value as u32).max(1))
-}
-
-/// Whether a list begins with a number.
-#[inline(always)]
-pub(crate) fn begins_with_number(params: &[CsiParam]) -> bool
-    ensures { result ≡ begins_with_number params.now }
-{
-    matches!(params, [CsiParam::Integer(_), ..])
 }
 
 /// 1 where a `;` stands at a place of the list, else 0.

@@ -1,7 +1,7 @@
 //! Lists of at most three short numbers.
 ghost use Rattle.std.specs.Prelude.{◌≡◌, ◌≤◌, ℕ, Bool, pos, ◌∷◌, [], Some, IfSome, length};
 ghost use Rattle.cell_base.specs.declared.color.ColorSpec.TheVariants.{PaletteIndex};
-ghost use Rattle.csi_codec.specs.Actions.{csi_reading};
+ghost use Rattle.csi_codec.specs.Actions.{csi_reading, lone_or};
 ghost use Rattle.csi_codec.specs.Cursors.{cursor_reading};
 ghost use Rattle.csi_codec.specs.Edits.{edit_reading};
 ghost use Rattle.csi_codec.specs.Parameters.{count, place_pair};
@@ -9,11 +9,10 @@ ghost use Rattle.csi_codec.specs.Sequences.{action_of};
 ghost use Rattle.csi_codec.specs.Short.{BeginsAsNumber, IsOnly, short_list, targeted};
 ghost use Rattle.csi_codec.specs.declared.parameters.CsiParam.TheVariants.{Integer, P};
 
-use crate::cursors::Cursor;
-use crate::edits::{Edit, EraseInLine};
+use crate::cursors::{Cursor, cursor_reading};
+use crate::edits::{Edit, EraseInLine, edit_reading};
 use crate::one_based::OneBased;
 use crate::parameters::{CsiParam, place};
-use crate::places::lone_reading;
 use crate::rendition::Sgr;
 use crate::sequences::CSI;
 use crate::sgr_reading::{Target, plain_code};
@@ -144,6 +143,18 @@ fn only_action(params: &[CsiParam], control: u8) -> Option<CSI>
         b'h' | b'l' => None,
         _ => lone_reading(params, char::from(control)),
     }
+}
+
+/// What a whole list spells before a final byte, if it is a cursor sequence or an edit: its only action. It is read by a
+/// call, whose result has room of its own.
+#[inline(never)]
+fn lone_reading(params: &[CsiParam], control: char) -> Option<CSI>
+    ensures { IfSome result (λ value. (truncated : Bool) → lone_or truncated control params.now ≡ action_of value ∷ []) }
+{
+    if let Some(value) = cursor_reading(params, control) {
+        return Some(CSI::Cursor(value));
+    }
+    Some(CSI::Edit(edit_reading(params, control)?))
 }
 
 /// The only action of a list of two numbers, where it is a position or margins; else `None`.
