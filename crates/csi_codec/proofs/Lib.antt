@@ -15,6 +15,8 @@ mod RoundTrip
 mod TextLemmas
 mod Written
 mod TextTrip
+pub mod TokenLemmas
+pub mod RunLemmas
 mod FrontLemmas
 mod FrontTrip
 mod PairTrip

@@ -17,7 +17,7 @@ pub mod Laws
 pub mod Texts
 pub mod CrackedView
 pub mod Fronts
-pub mod Keeping
+pub mod Tokens
 pub mod FrontView
 pub mod Writable
 pub mod Sizes

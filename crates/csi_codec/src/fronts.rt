@@ -1,17 +1,12 @@
 //! A control sequence at the front of some bytes (ECMA-48 5.4).
-ghost use Rattle.std.specs.Prelude.{◌≡◌, ◌≤◌, ◌↔◌, IsTrue, ℕ, List, ◌∷◌, length, IfNone, IfOk, IfSome, OnErr, OnOk};
-ghost use Rattle.csi_codec.specs.FrontView.{front_of, taken_of};
-ghost use Rattle.csi_codec.specs.Fronts.{Front, HasFront, HasNoFront, IsSequence};
-ghost use Rattle.csi_codec.specs.Keeping.{TakesByte, keep, kept_of, number_ended, parameter_len};
+ghost use Rattle.std.specs.Prelude.{◌≡◌, ◌≤◌, ◌↔◌, IsTrue, ℕ, List, ◌∷◌, length, nat_lt, take, IfNone, IfOk, IfSome, OnErr};
+ghost use Rattle.csi_codec.specs.FrontView.{front_of, parameter_len};
+ghost use Rattle.csi_codec.specs.Fronts.{Front, HasFront, HasNoFront, IsSequence, most_tokens};
+ghost use Rattle.csi_codec.specs.Texts.{tokens_of};
 
 use crate::parameters::CsiParam;
+use crate::tokens::Parameters;
 use std::alloc::{AllocError, Global};
-
-/// How many tokens of a sequence are kept.
-const MOST_TOKENS: usize = 256;
-
-/// The largest number of a token, that of an `i64`.
-const LARGEST_NUMBER: u64 = i64::MAX as u64;
 
 /// A control sequence at the front of some bytes, and what stands behind it.
 #[derive(Debug, PartialEq, Eq, Drop)]
@@ -51,10 +46,11 @@ pub fn read_csi<'a>(alloc: Global, bytes: &'a [u8]) -> Result<Option<CsiFront<'a
     let Some((body, control, rest)) = split_front(bytes) else {
         return Ok(None);
     };
-    let tokens = read_tokens(alloc, body)?;
+    let parameters = read_parameters(body);
+    let params = Vec::from_slice(alloc, parameters.tokens())?;
     Ok(Some(CsiFront {
-        params: tokens.params,
-        truncated: tokens.truncated,
+        params,
+        truncated: parameters.is_truncated(),
         control: char::from(control),
         rest,
     }))
@@ -107,71 +103,14 @@ fn parameter_len(bytes: &[u8]) -> usize
         .count()
 }
 
-/// The tokens of the bytes so far: those that are kept, whether some were dropped, and the number whose digits have
-/// begun.
-#[derive(Drop)]
-struct Tokens {
-    params: Vec<CsiParam>,
-    truncated: bool,
-    begun: Option<u64>,
-}
-
 /// The tokens of parameter bytes.
-fn read_tokens(alloc: Global, body: &[u8]) -> Result<Tokens, AllocError>
-    ensures { IfOk result (λ tokens. (taken_of tokens).kept ≡ kept_of body.now) }
+fn read_parameters(body: &[u8]) -> Parameters
+    ensures kept { result.tokens ≡ take most_tokens (tokens_of body.now) }
+    ensures dropped { result.truncated ≡ nat_lt most_tokens (length (tokens_of body.now)) }
 {
-    let mut tokens = Tokens {
-        params: Vec::new(alloc),
-        truncated: false,
-        begun: None,
-    };
+    let mut parameters = Parameters::new();
     for byte in body {
-        tokens.take_byte(*byte)?;
+        parameters.push(*byte);
     }
-    tokens.end_number()?;
-    Ok(tokens)
-}
-
-impl Tokens {
-    /// One more token; past the most it is dropped.
-    fn keep(&mut self, token: CsiParam) -> Result<(), AllocError>
-        ensures { OnOk result (taken_of self.new ≡ record (taken_of self.old) { kept = keep (taken_of self.old).kept token }) }
-    {
-        if self.params.len() < MOST_TOKENS {
-            self.params.push(token)?;
-        } else {
-            self.truncated = true;
-        }
-        Ok(())
-    }
-
-    /// The end of the number that has begun, if one has.
-    fn end_number(&mut self) -> Result<(), AllocError>
-        ensures { OnOk result (taken_of self.new ≡ number_ended (taken_of self.old)) }
-    {
-        if let Some(number) = self.begun {
-            self.keep(CsiParam::Integer(number.min(LARGEST_NUMBER) as i64))?;
-            self.begun = None;
-        }
-        Ok(())
-    }
-
-    /// One more byte: a digit belongs to the number, any other byte ends it.
-    fn take_byte(&mut self, byte: u8) -> Result<(), AllocError>
-        ensures { OnOk result (TakesByte (taken_of self.old) byte (taken_of self.new)) }
-    {
-        if byte.is_ascii_digit() {
-            let digit = u64::from(byte - b'0');
-            self.begun = Some(
-                self.begun
-                    .unwrap_or(0)
-                    .saturating_mul(10)
-                    .saturating_add(digit),
-            );
-        } else {
-            self.end_number()?;
-            self.keep(CsiParam::P(byte))?;
-        }
-        Ok(())
-    }
+    parameters
 }

@@ -21,6 +21,7 @@ mod sgr_spelling;
 mod short;
 mod spelling;
 mod text;
+mod tokens;
 
 pub use cracking::Cracked;
 pub use cursors::{Cursor, CursorStyle, CursorTabulationControl, TabulationClear};
@@ -35,3 +36,4 @@ pub use places::CSIPlace;
 pub use rendition::{Font, Sgr};
 pub use sequences::{CSI, CSIParser};
 pub use short::{ShortNumbers, read_numbers, read_short};
+pub use tokens::{Parameters, is_parameter};

@@ -7,7 +7,7 @@ use Rattle.std.proofs.lemmas.Bool.Decides.{nat_tests}
 use Rattle.std.proofs.lemmas.List.Sums.{prefix_len-le-length}
 use Rattle.escape_framing.specs.Bytes.{is_stop}
 use Rattle.escape_framing.specs.Dispatch.{Print, Data}
-use Rattle.escape_framing.specs.Parameters.{Parameters}
+use Rattle.csi_codec.specs.Tokens.{Parameters}
 use Rattle.escape_framing.specs.Held.{InCharacter, InDevice, InString, Step, handed, device_step, string_step, fresh_step, Held, Handed, held_step, nothing_held, hand_out}
 use Rattle.escape_framing.specs.Framed.{Lone, framed, at_place, placed_behind, framed_behind, no_text}
 use Rattle.escape_framing.specs.Stepped.{Reads}

@@ -8,9 +8,10 @@ use Rattle.std.specs.Char.{is_ascii_control}
 use Rattle.std.proofs.lemmas.Str.{IsUtf8-from_is_utf8, chars_past_char}
 use Rattle.text_clusters.specs.Controls.{is_c1, in_c1}
 use lib.Utf8.{encode}
-use Rattle.escape_framing.specs.Bytes.{is_stop, is_embedded, is_intermediate, is_parameter, is_opener, is_cut}
+use Rattle.escape_framing.specs.Bytes.{is_stop, is_embedded, is_intermediate, is_opener, is_cut}
+use Rattle.csi_codec.specs.Tokens.{is_parameter}
 use Rattle.escape_framing.specs.Decode.{segment_of, first_byte, in_character}
-use Rattle.escape_framing.specs.Parameters.{Parameters}
+use Rattle.csi_codec.specs.Tokens.{Parameters}
 use Rattle.escape_framing.specs.Dispatch.{Dispatch, Print, Escape, ControlSequence, OperatingSystemCommand, Enter, Data, Exit, dispatches_of, controls_in, escape_dispatch}
 use Rattle.escape_framing.specs.Dispatch as dispatch
 use Rattle.escape_framing.specs.Held.{Kept, InCharacter, InEscape, InControlSequence, InCommand, InHeader, InDevice, InString, kept_of, Step, steps, character_step, opened, final_step, escape_step, control_sequence_step, command_step, header_step, device_step, string_step, kept_step, Held, Handed, interrupted, fresh_step, waiting_step, held_step}

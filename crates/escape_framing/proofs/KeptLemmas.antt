@@ -10,14 +10,20 @@ use Rattle.std.proofs.lemmas.Bool.Decides.{nat_tests}
 use Rattle.std.proofs.lemmas.List.{append-nil, map-append}
 use Rattle.std.proofs.lemmas.List.Elements.{filter-append}
 use Rattle.std.proofs.lemmas.List.Sums.{fold-append}
-use Rattle.escape_framing.specs.Bytes.{is_stop, is_embedded, is_intermediate, is_parameter, is_opener, is_cut, in_escape, taken}
+use Rattle.escape_framing.specs.Bytes.{is_stop, is_embedded, is_intermediate, is_opener, is_cut, in_escape, taken}
+use Rattle.csi_codec.specs.Tokens.{is_parameter}
 use Rattle.escape_framing.specs.Segment.{Tail, Begun, OpenEscape, OpenControlSequence, OpenCommand, OpenHeader, OpenDevice, OpenString, Segment, Escape, ControlSequence, OperatingSystemCommand, DeviceControl, String, CutOff, IsUnfinished}
 use Rattle.escape_framing.specs.Decode.{Reading, waits, ends, ends_before, first_byte, in_character, opened_by, behind_escape, next_byte}
 use Rattle.escape_framing.specs.Dispatch.{Dispatch, Data, Enter, Exit, controls_in, escape_dispatch, control_sequence_dispatch, command_dispatch, decided_of, dispatches_of}
 use Rattle.escape_framing.specs.Dispatch as dispatch
-use Rattle.escape_framing.specs.Parameters.{with_byte, parameters_of}
+use Rattle.csi_codec.specs.Tokens.{with_byte, parameters_of}
 use Rattle.escape_framing.specs.Held.{Kept, InCharacter, InEscape, InControlSequence, InCommand, InHeader, kept_of, Step, steps, before, character_step, opened, final_step, escape_step, control_sequence_step, command_step, header_step, device_step, string_step, kept_step}
-use Rattle.escape_framing.proofs.ParameterLemmas.{parameters_kept}
+use Rattle.csi_codec.proofs.TokenLemmas.{keeps_tokens}
+
+-- what is kept of parameter bytes is what their sequence hands out
+parameters_kept : (bytes : List ℕ) (final : ℕ) → dispatch.ControlSequence (parameters_of bytes).tokens (parameters_of bytes).truncated final ≡ control_sequence_dispatch bytes final
+unfolding control_sequence_dispatch
+parameters_kept bytes final = let k = keeps_tokens bytes in (λ i. dispatch.ControlSequence (k.kept i) (k.more i) final)
 
 -- what is open has handed out where no C2 waits
 abbrev pub given : Tail → List Dispatch

@@ -2,7 +2,6 @@ pub mod ReadLemmas
 pub mod SequenceReading
 pub mod CharacterReading
 pub mod UniqueLemmas
-pub mod ParameterLemmas
 pub mod KeptLemmas
 pub mod HeldLemmas
 pub mod PlacedLemmas
@@ -31,7 +30,6 @@ pub mod ApartLemmas
 mod WideLemmas
 mod QuickLemmas
 mod NumberLemmas
-mod RunLemmas
 mod SkipLemmas
 mod ShortLemmas
 mod AloneLemmas

@@ -2,8 +2,7 @@
 use Rattle.std.proofs.Common.{◌≡◌, ℕ, ◌-◌, ◌≤◌, Bool, true, false, Some, refl, arith}
 use Rattle.std.specs.Char.{is_ascii_digit}
 use Rattle.std.proofs.lemmas.Bool.Decides.{nat_tests}
-use Rattle.escape_framing.specs.Bytes.{is_parameter}
-use Rattle.escape_framing.specs.Parameters.{digit_of}
+use Rattle.escape_framing.specs.Numbers.{digit_of}
 
 pub digit_is : (b n : ℕ) → digit_of b ≡ Some n → (is_ascii_digit b ≡ true) × (n ≡ b - 48)
 digit_is b n h = by_test (is_ascii_digit b) refl
@@ -14,7 +13,3 @@ digit_is b n h = by_test (is_ascii_digit b) refl
 
 pub digit_range : (b : ℕ) → is_ascii_digit b ≡ true → (48 ≤ b) × (b ≤ 57)
 digit_range b h = (grind (arith, nat_tests), grind (arith, nat_tests))
-
-pub digit_parameter : (b : ℕ) → is_ascii_digit b ≡ true → is_parameter b ≡ true
-unfolding is_parameter
-digit_parameter b h = let r = digit_range b h in let l = r.0 in let m = r.1 in grind (arith, nat_tests)

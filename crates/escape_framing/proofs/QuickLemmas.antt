@@ -7,10 +7,11 @@ use Rattle.std.proofs.lemmas.Bool.{and_parts}
 use Rattle.std.proofs.lemmas.Bool.Decides.{nat_tests}
 use Rattle.std.proofs.lemmas.List.{map-append, take-append-drop, length-take-le}
 use Rattle.std.proofs.lemmas.List.Sums.{prefix_len-le-length}
-use Rattle.escape_framing.specs.Bytes.{is_stop, is_embedded, is_intermediate, is_parameter, is_final, is_escape_final, is_string_opener, is_opener, is_cut}
+use Rattle.escape_framing.specs.Bytes.{is_stop, is_embedded, is_intermediate, is_final, is_escape_final, is_string_opener, is_opener, is_cut}
+use Rattle.csi_codec.specs.Tokens.{is_parameter}
 use Rattle.escape_framing.specs.Dispatch.{Dispatch, Print, Control, Escape, ControlSequence, OperatingSystemCommand, Enter, Data, Exit, escape_dispatch}
 use Rattle.csi_codec.specs.declared.short.ShortNumbers.{ShortNumbers}
-use Rattle.escape_framing.specs.Parameters.{Parameters, no_parameters, with_byte}
+use Rattle.csi_codec.specs.Tokens.{Parameters, no_parameters, with_byte}
 use Rattle.escape_framing.specs.Held.{InCharacter, InEscape, InControlSequence, InCommand, Step, before, Held, Handed, handed, escape_step, opened, control_sequence_step, command_step, fresh_step, held_step, nothing_held, hand_out}
 use Rattle.escape_framing.specs.Framed.{Framed, Lone, placed_behind, framed_behind, begun_bytes, no_text, IsReached, Frames, IsTextLen}
 use Rattle.escape_framing.specs.Dispatched.{dispatches_in}
@@ -176,17 +177,6 @@ short_reads held bytes others numbers control count e b s =
     subst (λ (l : List ℕ). Reads (short_parameters numbers) held l (lone_step (lone.ControlSequence control count)) held) (sym b)
     (subst (λ (n : ℕ). Reads (short_parameters numbers) held (0x1B ∷ 0x5B ∷ others) (lone_step (lone.ControlSequence control n)) held) (sym s.read)
     (sequence_reads others s.len s.counted (short_parameters numbers) held held control s.last.1.0 e s.is_short refl s.last.0 s.last.1.1))
-
-pub one_more : (b : ℕ) (xs : List ℕ) → is_parameter b ≡ true → prefix_len is_parameter (b ∷ xs) ≡ 1 + prefix_len is_parameter xs
-one_more b xs h = rw h refl
-
-pub fold_more : (p : Parameters) (b : ℕ) (xs bytes : List ℕ) → bytes ≡ b ∷ xs → is_parameter b ≡ true → fold with_byte (with_byte p b) (take (prefix_len is_parameter xs) xs) ≡ fold with_byte p (take (prefix_len is_parameter bytes) bytes)
-fold_more p b xs bytes e h =
-    let k : 1 + prefix_len is_parameter xs ≡ suc (prefix_len is_parameter xs) = omega arith in
-    sym (ap (λ (l : List ℕ). fold with_byte p (take (prefix_len is_parameter l) l)) e ∙ ap (λ (n : ℕ). fold with_byte p (take n (b ∷ xs))) (one_more b xs h ∙ k))
-
-pub count_more : (count b : ℕ) (xs bytes : List ℕ) → bytes ≡ b ∷ xs → is_parameter b ≡ true → count + 1 + prefix_len is_parameter xs ≡ count + prefix_len is_parameter bytes
-count_more count b xs bytes e h = let k : prefix_len is_parameter bytes ≡ 1 + prefix_len is_parameter xs = ap (prefix_len is_parameter) e ∙ one_more b xs h in omega arith
 
 -- ---- a text
 

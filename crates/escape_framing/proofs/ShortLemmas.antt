@@ -9,11 +9,12 @@ use Rattle.std.proofs.Math.Seq.{take-append_seam, drop-append_seam}
 use Rattle.csi_codec.specs.declared.parameters.CsiParam.TheVariants.{Integer, P}
 use Rattle.csi_codec.specs.declared.short.ShortNumbers.{ShortNumbers}
 use Rattle.csi_codec.specs.declared.short.ShortNumbers.TheVariants.{Nothing, One, Two, Three}
-use Rattle.escape_framing.specs.Bytes.{is_parameter}
-use Rattle.escape_framing.specs.Parameters.{Parameters, no_parameters, digit_of, next_number, with_byte, parameters_of, IsFront, IsNumberFront}
+use Rattle.csi_codec.specs.Tokens.{is_parameter}
+use Rattle.csi_codec.specs.Tokens.{Parameters, no_parameters, next_number, with_byte, parameters_of}
+use Rattle.escape_framing.specs.Numbers.{digit_of, IsFront, IsNumberFront}
 use Rattle.escape_framing.specs.Quick.{short_parameters, IsLastAt, IsShort}
-use Rattle.escape_framing.proofs.NumberLemmas.{digit_is, digit_range, digit_parameter}
-use Rattle.escape_framing.proofs.RunLemmas.{begun, first_digit, digit_behind}
+use Rattle.escape_framing.proofs.NumberLemmas.{digit_is, digit_range}
+use Rattle.csi_codec.proofs.RunLemmas.{begun, digit_parameter, first_digit, digit_behind}
 use Rattle.escape_framing.proofs.QuickLemmas.{final_alone}
 
 -- ---- the bytes at the front

@@ -2,8 +2,8 @@
 use Rattle.std.proofs.Common.{◌≡◌, ◌≢◌, ℕ, zero, suc, ◌+◌, ◌≤◌, Bool, true, false, List, [], ◌∷◌, ◌++◌, length, take, fold, refl, sym, ap, ◌∙◌, arith}
 use Rattle.std.specs.List.{prefix_len, list_all}
 use Rattle.std.proofs.lemmas.List.Sums.{prefix_len-le-length}
-use Rattle.escape_framing.specs.Bytes.{is_parameter}
-use Rattle.escape_framing.specs.Parameters.{Parameters, with_byte}
+use Rattle.csi_codec.specs.Tokens.{is_parameter}
+use Rattle.csi_codec.specs.Tokens.{Parameters, with_byte}
 use Rattle.escape_framing.specs.Held.{Kept, InControlSequence, InCommand, Held, Handed, nothing_held, hand_out}
 use Rattle.escape_framing.specs.Quick.{is_body_byte, IsSkipped}
 use Rattle.escape_framing.proofs.QuickLemmas.{body_handed, parameters_handed}

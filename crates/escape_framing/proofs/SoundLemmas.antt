@@ -4,7 +4,8 @@ use Rattle.std.specs.Prelude.{◌==◌}
 use Rattle.std.proofs.lemmas.Bool.{or_parts}
 use Rattle.std.proofs.lemmas.Bool.Decides.{nat_tests}
 use Rattle.text_clusters.specs.Controls.{is_c1}
-use Rattle.escape_framing.specs.Bytes.{is_stop, is_embedded, is_parameter, is_cut}
+use Rattle.escape_framing.specs.Bytes.{is_stop, is_embedded, is_cut}
+use Rattle.csi_codec.specs.Tokens.{is_parameter}
 use Rattle.escape_framing.specs.Segment.{Tail, Begun, OpenEscape, OpenControlSequence, OpenCommand, OpenHeader, OpenDevice, OpenString, IsUnfinished}
 use Rattle.escape_framing.specs.Decode.{read_on}
 use Rattle.escape_framing.specs.SevenBit.{seven_bit}

@@ -9,7 +9,7 @@ use Rattle.escape_framing.specs.Dispatch.{Print}
 use Rattle.escape_framing.specs.Held.{Kept, InCharacter, InEscape, InControlSequence, InCommand, InHeader, InDevice, InString, Step, kept_step, Held, fresh_step, held_step, nothing_held, hand_out, held_of}
 use Rattle.escape_framing.specs.Framed.{Framed, Text, Lone, placed_behind, framed_behind, begun_bytes, bytes_begun, kept_takes, takes_text, IsLendable, IsText, no_text, text_of, BeginsNoText, IsCarried, IsReached, Frames, IsTextLen}
 use Rattle.escape_framing.proofs.Begun.{is_body}
-use Rattle.escape_framing.specs.Parameters.{Parameters}
+use Rattle.csi_codec.specs.Tokens.{Parameters}
 use Rattle.escape_framing.specs.Dispatched.{dispatches_in}
 use Rattle.escape_framing.specs.declared.step.Step as stepped
 use Rattle.escape_framing.specs.Stepped.{items_in, Reads}

@@ -8,7 +8,8 @@ use Rattle.std.proofs.lemmas.Bool.Decides.{nat_tests}
 use Rattle.text_clusters.specs.Controls.{is_c1}
 use lib.Utf8.{encode, low_scalar}
 use Rattle.escape_framing.specs.SevenBit.{seven_bit}
-use Rattle.escape_framing.specs.Bytes.{is_stop, is_embedded, is_parameter, is_cut}
+use Rattle.escape_framing.specs.Bytes.{is_stop, is_embedded, is_cut}
+use Rattle.csi_codec.specs.Tokens.{is_parameter}
 use Rattle.escape_framing.specs.Segment.{Tail, Begun, OpenEscape, OpenControlSequence, OpenCommand, OpenHeader, OpenDevice, OpenString, IsBegun, IsUnfinished}
 use Rattle.escape_framing.specs.Decode.{Reading, next_byte, ends, read_on}
 use Rattle.escape_framing.specs.Dispatch.{Dispatch, Print, Control, Data, Exit, dispatches_of}

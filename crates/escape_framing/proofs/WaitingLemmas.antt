@@ -6,9 +6,10 @@ use Rattle.std.specs.Str.Lossy.{utf8_error_len}
 use Rattle.std.proofs.lemmas.Bool.{or_parts}
 use Rattle.std.proofs.lemmas.List.{append-nil}
 use Rattle.text_clusters.specs.Controls.{is_c1}
-use Rattle.escape_framing.specs.Bytes.{is_stop, is_embedded, is_intermediate, is_parameter, is_cut}
+use Rattle.escape_framing.specs.Bytes.{is_stop, is_embedded, is_intermediate, is_cut}
+use Rattle.csi_codec.specs.Tokens.{is_parameter}
 use Rattle.escape_framing.specs.Decode.{first_byte, in_character}
-use Rattle.escape_framing.specs.Parameters.{Parameters}
+use Rattle.csi_codec.specs.Tokens.{Parameters}
 use Rattle.escape_framing.specs.Held.{Kept, InCharacter, InEscape, InControlSequence, InCommand, InHeader, InDevice, InString, kept_of, Step, character_step, escape_step, control_sequence_step, device_step, string_step, kept_step, fresh_step, waiting_step}
 use Rattle.escape_framing.specs.Dispatched.{optional, dispatches_in, handed_in, TakesMemory}
 use Rattle.escape_framing.specs.declared.framer.Handed.{Handed}

@@ -1,6 +1,7 @@
 -- The classes of bytes in escape sequences (ECMA-48, 5.2 to 5.6).
 use Rattle.std.specs.Prelude.{ℕ, Bool, not, ◌&&◌, ◌||◌, nat_le, ◌==◌, List, filter}
 use Rattle.std.specs.Char.{is_ascii_control}
+use Rattle.csi_codec.specs.Tokens.{is_parameter}
 
 -- CAN, SUB and ESC: each ends what is open, and is no part of it
 unfoldable pub is_stop : ℕ → Bool
@@ -13,10 +14,6 @@ is_embedded b = is_ascii_control b && not (is_stop b)
 -- an intermediate byte (ECMA-48, 5.4)
 unfoldable pub is_intermediate : ℕ → Bool
 is_intermediate b = nat_le 0x20 b && nat_le b 0x2F
-
--- a parameter byte or an intermediate byte
-unfoldable pub is_parameter : ℕ → Bool
-is_parameter b = nat_le 0x20 b && nat_le b 0x3F
 
 -- the final byte of a control sequence
 unfoldable pub is_final : ℕ → Bool

@@ -3,7 +3,7 @@ use Rattle.std.specs.Prelude.{◌≡◌, ℕ, false, List, [], ◌∷◌, ◌++�
 use Rattle.std.specs.List.{flat_map}
 use Rattle.escape_framing.specs.Bytes.{is_cut}
 use Rattle.escape_framing.specs.Dispatch as stream
-use Rattle.escape_framing.specs.Parameters.{Parameters}
+use Rattle.csi_codec.specs.Tokens.{Parameters}
 use Rattle.escape_framing.specs.Held.{Kept, InCharacter, InEscape, InControlSequence, InCommand, InHeader, InDevice, InString, Step}
 use Rattle.escape_framing.specs.declared.dispatch.Dispatch.{Dispatch}
 use Rattle.escape_framing.specs.declared.dispatch.Dispatch.TheVariants.{Print, Control, Escape, ControlSequence, OperatingSystemCommand, Enter, Data, Exit}

@@ -3,11 +3,12 @@ use Rattle.std.specs.Prelude.{ℕ, ◌-◌, Bool, true, false, ◌==◌, List, [
 use Rattle.std.specs.List.{flat_map}
 use Rattle.std.specs.Char.{is_ascii_control}
 use Rattle.text_clusters.specs.Controls.{is_c1}
-use Rattle.escape_framing.specs.Bytes.{is_stop, is_embedded, is_intermediate, is_parameter, is_opener, is_cut, taken}
+use Rattle.escape_framing.specs.Bytes.{is_stop, is_embedded, is_intermediate, is_opener, is_cut, taken}
+use Rattle.csi_codec.specs.Tokens.{is_parameter}
 use Rattle.escape_framing.specs.Segment.{Tail, Begun, OpenEscape, OpenControlSequence, OpenCommand, OpenHeader, OpenDevice, OpenString}
 use Rattle.escape_framing.specs.Decode.{in_character}
 use Rattle.escape_framing.specs.Dispatch.{Dispatch, Print, ControlSequence, OperatingSystemCommand, Enter, Data, Exit, controls_in, escape_dispatch, dispatches_of}
-use Rattle.escape_framing.specs.Parameters.{Parameters, no_parameters, with_byte, parameters_of}
+use Rattle.csi_codec.specs.Tokens.{Parameters, no_parameters, with_byte, parameters_of}
 
 -- what is kept of what is open: the first bytes of a character, intermediate bytes (the first two tell whether there is
 -- none, one or more), tokens, the bytes of a command's body, those of a header, and of data and strings nothing

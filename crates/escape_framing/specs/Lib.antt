@@ -8,7 +8,7 @@ pub mod Dispatch
 pub mod Cut
 pub mod Placed
 pub mod PlacedSegments
-pub mod Parameters
+pub mod Numbers
 pub mod Held
 pub mod Characters
 pub mod Undecided

@@ -2,11 +2,12 @@
 use Rattle.std.specs.Prelude.{◌≡◌, ◌≢◌, ◌<◌, ◌≤◌, ℕ, ◌+◌, Bool, true, false, not, ◌&&◌, ◌==◌, List, [], ◌∷◌, length, take, drop, Option, Some, None, if◌then◌else◌}
 use Rattle.std.specs.List.{prefix_len}
 use Rattle.std.specs.Char.{is_ascii_control}
-use Rattle.escape_framing.specs.Bytes.{is_final, is_escape_final, is_opener, is_parameter}
+use Rattle.escape_framing.specs.Bytes.{is_final, is_escape_final, is_opener}
+use Rattle.csi_codec.specs.Tokens.{is_parameter}
 use Rattle.csi_codec.specs.Short.{short_list}
 use Rattle.csi_codec.specs.declared.short.ShortNumbers.{ShortNumbers}
 use Rattle.csi_codec.specs.declared.short.ShortNumbers.TheVariants.{Nothing, One, Two, Three}
-use Rattle.escape_framing.specs.Parameters.{Parameters, parameters_of}
+use Rattle.csi_codec.specs.Tokens.{Parameters, parameters_of}
 use Rattle.escape_framing.specs.Held.{Held, nothing_held, hand_out}
 use Rattle.escape_framing.specs.Dispatch.{OperatingSystemCommand}
 use Rattle.escape_framing.specs.Framed.{begun_bytes, Lone, IsReached, IsCarried, Frames}

@@ -1,6 +1,6 @@
 -- What a framer has read at once.
 use Rattle.std.specs.Prelude.{◌≡◌, ◌≤◌, ◌<◌, ℕ, ◌==◌, List, [], ◌∷◌, length, take, map, if◌then◌else◌}
-use Rattle.escape_framing.specs.Parameters.{Parameters}
+use Rattle.csi_codec.specs.Tokens.{Parameters}
 use Rattle.escape_framing.specs.Held.{Held}
 use Rattle.escape_framing.specs.Dispatch.{Print}
 use Rattle.escape_framing.specs.Dispatched.{dispatches_in}

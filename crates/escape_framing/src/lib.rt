@@ -7,7 +7,6 @@ mod error;
 mod framer;
 pub mod laws;
 mod lone;
-mod parameters;
 mod quick;
 mod short;
 mod step;

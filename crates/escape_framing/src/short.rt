@@ -1,10 +1,10 @@
 //! Control sequences whose parameters are at most three short numbers.
-ghost use Rattle.std.specs.Prelude.{◌≡◌, ◌∷◌, IfSome, Some};
+ghost use Rattle.std.specs.Prelude.{◌≡◌, ◌≤◌, ◌∷◌, IfSome, Some};
 ghost use Rattle.csi_codec.specs.declared.short.ShortNumbers.TheVariants.{One, Two, Three};
-ghost use Rattle.escape_framing.specs.Parameters.{no_parameters, IsFront};
+ghost use Rattle.csi_codec.specs.Tokens.{no_parameters};
+ghost use Rattle.escape_framing.specs.Numbers.{digit_of, IsFront, IsNumberFront};
 ghost use Rattle.escape_framing.specs.Quick.{short_parameters, IsLastAt, IsShort};
 
-use crate::parameters::short_number;
 use crate::quick::last_at;
 use csi_codec::ShortNumbers;
 
@@ -15,6 +15,42 @@ pub struct ShortSequence {
     pub numbers: ShortNumbers,
     pub control: u8,
     pub count: usize,
+}
+
+// A digit.
+#[inline(always)]
+fn digit(byte: u8) -> Option<u8>
+    ensures value { result ≡ digit_of byte }
+    ensures most { IfSome result (λ digit. digit ≤ 9) }
+{
+    if byte.is_ascii_digit() {
+        Some(byte - b'0')
+    } else {
+        None
+    }
+}
+
+// The number of the digits at the front, which are at most three, where it is at most 255 and a byte stands behind them;
+// and what is left. A fourth digit is left too.
+#[inline(always)]
+fn short_number(bytes: &[u8]) -> Option<(u8, &[u8])>
+    ensures { IfSome result (λ n. IsNumberFront bytes.now n.0 n.1.now) }
+{
+    let (first, others) = bytes.split_first()?;
+    let hundreds = digit(*first)?;
+    let (second, behind) = others.split_first()?;
+    let Some(tens) = digit(*second) else {
+        return Some((hundreds, others));
+    };
+    let (third, last) = behind.split_first()?;
+    let Some(ones) = digit(*third) else {
+        return Some((hundreds * 10 + tens, behind));
+    };
+    let number = u16::from(hundreds * 10 + tens) * 10 + u16::from(ones);
+    if number > 255 {
+        return None;
+    }
+    Some((number as u8, last))
 }
 
 /// What stands behind ESC [, where it is such a control sequence of at most one number.

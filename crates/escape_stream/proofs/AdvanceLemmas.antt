@@ -2,7 +2,7 @@
 use Rattle.std.proofs.Common.{◌≡◌, ◌≢◌, ◌<◌, ◌≤◌, ℕ, ◌+◌, ◌-◌, ◌*◌, Bool, true, List, [], ◌∷◌, ◌++◌, length, map, take, drop, Option, Some, None, refl, ap, subst, sym, ◌∙◌, arith, length-drop, Bor}
 use Rattle.std.proofs.Math.ListN.{drop_of_length-le}
 use Rattle.escape_framing.specs.Held.{Held, hand_out, held_of}
-use Rattle.escape_framing.specs.Parameters.{Parameters}
+use Rattle.csi_codec.specs.Tokens.{Parameters}
 use Rattle.escape_framing.specs.Framing.{Framing}
 use Rattle.escape_framing.specs.Stepped.{Reads}
 use Rattle.escape_framing.specs.Quick.{text_step, lone_step, short_parameters}

@@ -7,7 +7,7 @@ use Rattle.std.proofs.lemmas.List.{take_more, take_all}
 use borrow.Author.Count.{below_none, below_more}
 use Rattle.escape_framing.specs.Dispatch as framing
 use Rattle.escape_framing.specs.Dispatched.{optional, dispatches_in}
-use Rattle.escape_framing.specs.Parameters.{Parameters}
+use Rattle.csi_codec.specs.Tokens.{Parameters}
 use Rattle.escape_framing.specs.declared.dispatch.Dispatch.{Dispatch}
 use Rattle.escape_framing.specs.Cut.{newly_decided}
 use Rattle.escape_framing.specs.Held.{Held, hand_out, held_of, nothing_held}

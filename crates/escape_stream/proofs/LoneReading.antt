@@ -1,7 +1,7 @@
 -- A control or a sequence that is read at once.
 use Rattle.std.proofs.Common.{◌≡◌, ℕ, ◌+◌, List, [], ◌++◌, drop, Option, Some, None, refl, ap, sym, subst, ◌∙◌, append-nil}
 use Rattle.escape_framing.specs.Dispatch as stream
-use Rattle.escape_framing.specs.Parameters.{Parameters}
+use Rattle.csi_codec.specs.Tokens.{Parameters}
 use Rattle.escape_framing.specs.declared.dispatch.Dispatch.{Dispatch}
 use Rattle.escape_framing.specs.declared.dispatch.Dispatch.TheVariants as dispatch
 use Rattle.escape_framing.specs.declared.lone.Lone.{Lone as Read}

@@ -7,7 +7,7 @@ use Rattle.std.proofs.lemmas.List.{drop-drop, map-append}
 use Rattle.escape_framing.specs.Dispatch.{Dispatch, Print}
 use Rattle.escape_framing.specs.Dispatched.{dispatches_in}
 use Rattle.escape_framing.specs.Held.{Held, hand_out}
-use Rattle.escape_framing.specs.Parameters.{Parameters}
+use Rattle.csi_codec.specs.Tokens.{Parameters}
 use Rattle.escape_framing.specs.Framed as framing
 use Rattle.escape_framing.specs.Framed.{Framed, framed_behind, IsReached, IsCarried, Frames}
 use Rattle.escape_framing.specs.Stepped.{items_in, Reads}

@@ -8,7 +8,8 @@ use Rattle.std.proofs.lemmas.Bool.Decides.{nat_tests}
 use Rattle.std.proofs.lemmas.List.Elements.{All-head, All-tail}
 use Rattle.csi_codec.specs.Rendition.{is_between}
 use Rattle.csi_codec.specs.Texts.{all_parameter_bytes}
-use Rattle.escape_framing.specs.Bytes.{is_stop, is_embedded, is_parameter, in_parameters, ends_command, taken}
+use Rattle.escape_framing.specs.Bytes.{is_stop, is_embedded, in_parameters, ends_command, taken}
+use Rattle.csi_codec.specs.Tokens.{is_parameter}
 use Rattle.escape_framing.specs.Dispatch.{controls_in}
 
 pub same_number : (m n : ℕ) → (m == n) ≡ true → m ≡ n

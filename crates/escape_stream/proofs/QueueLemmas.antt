@@ -7,7 +7,7 @@ use Rattle.csi_codec.specs.declared.short.ShortNumbers.{ShortNumbers}
 use Rattle.escape_framing.specs.Quick.{short_parameters}
 use Rattle.std.proofs.lemmas.Grind.{flat_map-append}
 use Rattle.escape_framing.specs.Dispatched.{optional, dispatch_of}
-use Rattle.escape_framing.specs.Parameters.{Parameters, no_parameters}
+use Rattle.csi_codec.specs.Tokens.{Parameters, no_parameters}
 use Rattle.escape_framing.specs.declared.dispatch.Dispatch.{Dispatch}
 use Rattle.escape_framing.specs.declared.dispatch.Dispatch.TheVariants as code
 use Rattle.escape_stream.specs.declared.action.Action.{Action}

@@ -19,7 +19,7 @@ use Rattle.escape_stream.specs.Queue.{queue_actions, IsEmpty}
 use Rattle.escape_stream.specs.Pending.{Gives}
 use Rattle.escape_stream.specs.declared.action.Action.{Action}
 use Rattle.escape_stream.specs.declared.queue.Queue.{Queue}
-use Rattle.escape_framing.specs.Parameters.{Parameters}
+use Rattle.csi_codec.specs.Tokens.{Parameters}
 use Rattle.escape_framing.specs.declared.lone.Lone.{Lone as Read}
 use Rattle.escape_framing.specs.declared.lone.Lone.TheVariants as lone
 use Rattle.csi_codec.specs.Escapes.{esc_reading}

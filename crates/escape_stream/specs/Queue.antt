@@ -5,7 +5,7 @@ use Rattle.escape_framing.specs.Dispatch as stream
 use Rattle.escape_framing.specs.Dispatched.{optional, dispatch_of}
 use Rattle.escape_framing.specs.declared.dispatch.Dispatch.{Dispatch}
 use Rattle.escape_framing.specs.declared.dispatch.Dispatch.TheVariants as code
-use Rattle.escape_framing.specs.Parameters.{Parameters}
+use Rattle.csi_codec.specs.Tokens.{Parameters}
 use Rattle.escape_stream.specs.StreamAction.{StreamAction, csi}
 use Rattle.escape_stream.specs.StreamActions.{actions_of, actions_of_dispatch}
 use Rattle.escape_stream.specs.declared.queue.Sequence.{Sequence}

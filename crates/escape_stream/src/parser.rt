@@ -3,7 +3,7 @@ ghost use Rattle.std.specs.Prelude.{◌≡◌, ◌≢◌, ◌↔◌, IsTrue, ℕ
 ghost use Rattle.escape_framing.specs.Decides.{Decides};
 ghost use Rattle.escape_framing.specs.Dispatched.{optional, dispatches_in};
 ghost use Rattle.escape_framing.specs.Held.{held_step, held_of, nothing_held};
-ghost use Rattle.escape_framing.specs.Parameters.{Parameters};
+ghost use Rattle.csi_codec.specs.Tokens.{Parameters};
 ghost use Rattle.escape_stream.specs.StreamActionView.{value_of};
 ghost use Rattle.escape_stream.specs.StreamActions.{actions_of};
 ghost use Rattle.escape_stream.specs.Parsing.{IsFirst, IsFirstSettled, bytes_read};

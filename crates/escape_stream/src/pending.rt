@@ -5,7 +5,7 @@ ghost use Rattle.escape_osc.specs.Parts.{parts_of};
 ghost use Rattle.escape_osc.specs.Reading.{osc_reading};
 ghost use Rattle.escape_framing.specs.Dispatch.{ControlSequence};
 ghost use Rattle.escape_framing.specs.Dispatched.{optional};
-ghost use Rattle.escape_framing.specs.Parameters.{Parameters};
+ghost use Rattle.csi_codec.specs.Tokens.{Parameters};
 ghost use Rattle.escape_stream.specs.StreamActionView.{value_of};
 ghost use Rattle.escape_stream.specs.StreamActions.{actions_of_dispatch, actions_of, named_control};
 ghost use Rattle.escape_stream.specs.Controls.{control_named};

@@ -4,7 +4,7 @@ ghost use Rattle.escape_framing.specs.Quick.{short_parameters};
 ghost use Rattle.escape_stream.specs.StreamActionView.{value_of};
 ghost use Rattle.escape_framing.specs.Dispatched.{optional, dispatches_in};
 ghost use Rattle.escape_stream.specs.StreamActions.{actions_of, actions_of_dispatch};
-ghost use Rattle.escape_framing.specs.Parameters.{Parameters};
+ghost use Rattle.csi_codec.specs.Tokens.{Parameters};
 ghost use Rattle.escape_stream.specs.Pending.{Gives, pending_values};
 ghost use Rattle.escape_stream.specs.Queue.{waiting_dispatches, sequence_actions, sequence_values, queue_actions, lone_actions, later_actions, IsEmpty};
 ghost use Rattle.escape_framing.specs.Dispatch.{ControlSequence};

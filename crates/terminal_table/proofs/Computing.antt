@@ -15,7 +15,8 @@ use Rattle.csi_codec.specs.Devices.{device_reading}
 use Rattle.csi_codec.specs.Modes.{private_mode_reading, mode_reading}
 use Rattle.csi_codec.specs.Rendition.{colour_form, single_code, numbered_shape, sgr_shape, sgr_piece}
 use Rattle.csi_codec.specs.Escapes.{lone_code, pair_code}
-use Rattle.escape_framing.specs.Bytes.{is_stop, is_embedded, is_intermediate, is_parameter, is_final, is_escape_final, is_string_opener, is_opener, is_cut}
+use Rattle.escape_framing.specs.Bytes.{is_stop, is_embedded, is_intermediate, is_final, is_escape_final, is_string_opener, is_opener, is_cut}
+use Rattle.csi_codec.specs.Tokens.{is_parameter}
 use Rattle.escape_framing.specs.Cut.{the_cut}
 use Rattle.escape_framing.specs.Decode.{first_byte, in_character, opened_by, behind_escape, next_byte, read_on}
 use Rattle.escape_framing.specs.Dispatch.{escape_dispatch, control_sequence_dispatch, command_dispatch}

@@ -1,5 +1,5 @@
 use Rattle.std.proofs.Common.{◌≡◌, length}
-use Rattle.escape_framing.specs.Parameters.{Parameters, no_parameters}
+use Rattle.csi_codec.specs.Tokens.{Parameters, no_parameters}
 use Rattle.escape_stream.specs.Queue.{waiting_dispatches, queue_actions}
 use Rattle.escape_stream.proofs.queue.Queue.next_of_waiting.Given as goal
 

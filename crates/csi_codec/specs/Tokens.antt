@@ -1,0 +1,58 @@
+-- The tokens of a control sequence that are kept while its bytes come.
+use Rattle.std.specs.Prelude.{◌≡◌, ◌<◌, ℕ, pos, ◌+◌, ◌-◌, ◌*◌, min, Bool, true, false, ◌&&◌, nat_le, nat_lt, List, [], ◌∷◌, ◌++◌, Option, Some, None, unwrap_or, is_some, length, take, fold, if◌then◌else◌}
+use Rattle.std.specs.Char.{is_ascii_digit}
+use Rattle.std.specs.List.{prefix_len}
+use Rattle.csi_codec.specs.Texts.{largest_number}
+use Rattle.csi_codec.specs.Fronts.{most_tokens}
+use Rattle.csi_codec.specs.declared.parameters.CsiParam.{CsiParam}
+use Rattle.csi_codec.specs.declared.parameters.CsiParam.TheVariants.{Integer, P}
+
+-- ECMA-48 5.4: a parameter byte or an intermediate byte
+unfoldable pub is_parameter : ℕ → Bool
+is_parameter b = nat_le 0x20 b && nat_le b 0x3F
+
+-- the first tokens, whether there were more, and the number whose digits have begun, cut at the largest
+pub record Parameters : Type 0 where
+  pub tokens : List CsiParam
+  pub truncated : Bool
+  pub number : Option ℕ
+
+abbrev pub no_parameters : Parameters
+no_parameters = record { tokens = []; truncated = false; number = None }
+
+-- one token more, where there is room
+abbrev pub with_token : Parameters → CsiParam → Option ℕ → Parameters
+with_token p token number =
+    if nat_lt (length p.tokens) most_tokens then record { tokens = p.tokens ++ token ∷ []; truncated = p.truncated; number = number }
+    else record { tokens = p.tokens; truncated = true; number = number }
+
+-- the last token is another number, if it was kept
+abbrev pub with_number : Parameters → ℕ → Parameters
+with_number p n =
+    if p.truncated then record { tokens = p.tokens; truncated = true; number = Some n }
+    else record { tokens = take (length p.tokens - 1) p.tokens ++ Integer (pos n) ∷ []; truncated = false; number = Some n }
+
+abbrev pub next_number : Option ℕ → ℕ → ℕ
+next_number number b = min (10 * unwrap_or number 0 + (b - 48)) largest_number
+
+-- one parameter byte more
+unfoldable pub with_byte : Parameters → ℕ → Parameters
+with_byte p b =
+    if is_ascii_digit b then
+    (if is_some p.number then with_number p (next_number p.number b) else with_token p (Integer (pos (next_number p.number b))) (Some (next_number p.number b)))
+    else with_token p (P b) None
+
+-- the parameter bytes in turn
+abbrev pub parameters_of : List ℕ → Parameters
+parameters_of bytes = fold with_byte no_parameters bytes
+
+-- a number whose digits go on, with those at the front, and what stands behind them
+abbrev pub number_run : ℕ → List ℕ → ℕ × List ℕ
+number_run n [] = (n, [])
+number_run n (b ∷ bytes) = if is_ascii_digit b then number_run (next_number (Some n) b) bytes else (n, b ∷ bytes)
+
+-- some parameter bytes at the front were read, and others may be behind them
+pub record IsPushed (p : Parameters) (bytes rest : List ℕ) (after : Parameters) : Type 0 where
+  pub shorter : length rest < length bytes
+  pub counted : length bytes - length rest + prefix_len is_parameter rest ≡ prefix_len is_parameter bytes
+  pub folded : fold with_byte after (take (prefix_len is_parameter rest) rest) ≡ fold with_byte p (take (prefix_len is_parameter bytes) bytes)
