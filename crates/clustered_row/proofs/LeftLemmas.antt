@@ -1,0 +1,92 @@
+-- What is left of runs and of texts behind columns that were lent.
+use Rattle.std.proofs.Common.{◌≡◌, ℕ, zero, suc, ◌+◌, ◌-◌, ◌<◌, true, List, [], ◌∷◌, ◌++◌, length, take, drop, replicate, get_or, refl, sym, ap, subst, ◌∙◌, arith, IsUtf8}
+use Rattle.std.specs.Prelude.{nat_lt}
+use Rattle.std.specs.List.{list_all}
+use Rattle.std.proofs.lemmas.Bool.{and_parts, and_from, ltb-true, lt-ltb}
+use Rattle.std.proofs.lemmas.List.{take_all, length-drop}
+use Rattle.text_clusters.specs.Plain.{is_printable}
+use Rattle.clustered_row.specs.declared.cell_size.CellSize.{CellSize}
+use Rattle.clustered_row.specs.declared.run.Run.{Run}
+use Rattle.clustered_row.specs.declared.run.Place.{Place}
+use Rattle.clustered_row.specs.Runs.{spread, AreMaximal, is_begun}
+use Rattle.clustered_row.specs.RunSteps.{column_at, IsPlace}
+use Rattle.clustered_row.specs.Sizes.{is_text, is_cut}
+use Rattle.clustered_row.proofs.SizeLemmas.{IsUtf8-cell, IsUtf8-cut}
+use Rattle.clustered_row.proofs.RunLists.{drop_maximal, behind_front}
+
+-- ---- runs
+
+first_copy : {X : Type 0} (n : ℕ) (x : X) (ys : List X) (k : ℕ) → k < n → drop k (replicate n x ++ ys) ≡ x ∷ drop (suc k) (replicate n x ++ ys)
+first_copy zero x ys k h = absurd (omega arith)
+first_copy (suc n) x ys zero h = refl
+first_copy (suc n) x ys (suc k) h = first_copy n x ys k (omega arith)
+
+-- the next column's attributes are the first run's
+pub first_column : (used : ℕ) (runs : List Run) (d : Run) → 0 < length runs → is_begun used runs ≡ true → drop used (spread runs) ≡ (get_or runs 0 d).attributes ∷ drop (used + 1) (spread runs)
+first_column used [] d h b = absurd (omega arith)
+first_column used (r ∷ runs) d h b =
+    let more : used < r.count = ltb-true used r.count (and_parts (nat_lt used r.count) (is_begun 0 runs) b).0 in
+    let next : suc used ≡ used + 1 = omega arith in
+    first_copy r.count r.attributes (spread runs) used more ∙ ap (λ n. r.attributes ∷ drop n (spread (r ∷ runs))) next
+
+pub run_has : (used : ℕ) (runs : List Run) (d : Run) → 0 < length runs → is_begun used runs ≡ true → used < (get_or runs 0 d).count
+run_has used [] d h b = absurd (omega arith)
+run_has used (r ∷ runs) d h b = ltb-true used r.count (and_parts (nat_lt used r.count) (is_begun 0 runs) b).0
+
+-- where columns are left there is a run
+pub some_run : (used : ℕ) (runs : List Run) → 0 < length (drop used (spread runs)) → 0 < length runs
+some_run zero [] h = absurd (omega arith)
+some_run (suc used) [] h = absurd (omega arith)
+some_run used (r ∷ runs) h = omega arith
+
+pub all_begun : (runs : List Run) → AreMaximal runs → is_begun 0 runs ≡ true
+all_begun [] h = refl
+all_begun (r ∷ runs) h = and_from (nat_lt 0 r.count) (is_begun 0 runs) (lt-ltb 0 r.count h.0) (all_begun runs h.2)
+
+-- runs from a place within the first one
+pub begun_at : (used : ℕ) (runs : List Run) → AreMaximal runs → ((run : Run) → 0 < length runs → run ≡ get_or runs 0 run → used < run.count) → is_begun used runs ≡ true
+begun_at used [] h k = refl
+begun_at used (r ∷ runs) h k = and_from (nat_lt used r.count) (is_begun 0 runs) (lt-ltb used r.count (k r (omega arith) refl)) (all_begun runs h.2)
+
+-- the runs from a place on
+begun_from : (xs : List Run) (place : Place) → IsPlace xs place → AreMaximal xs → is_begun place.offset (drop place.index xs) ≡ true
+begun_from xs place p h = begun_at place.offset (drop place.index xs) (drop_maximal place.index xs h)
+    (λ run some e.
+    let within : place.index < length xs = let n = length-drop place.index xs in omega (arith, n, some) in
+    p.inside run within (e ∙ first_left xs place.index run))
+  where
+    first_left : (xs : List Run) (i : ℕ) (run : Run) → get_or (drop i xs) 0 run ≡ get_or xs i run
+    first_left xs zero run = refl
+    first_left [] (suc i) run = refl
+    first_left (x ∷ xs) (suc i) run = first_left xs i run
+
+-- a slice's part up to its end
+pub rest_of : {X : Type 0} (i : ℕ) (xs : List X) → take (length xs - i) (drop i xs) ≡ drop i xs
+rest_of i xs = take_all (length xs - i) (drop i xs) (let n = length-drop i xs in omega (arith, n))
+
+pub begun_there : (bs cs xs : List Run) (place : Place) → bs ≡ xs → cs ≡ xs → IsPlace cs place → AreMaximal xs
+    → is_begun place.offset (take (length bs - place.index) (drop place.index bs)) ≡ true
+begun_there bs cs xs place p q here h =
+    ap (is_begun place.offset) (rest_of place.index bs ∙ ap (drop place.index) p) ∙ begun_from xs place (subst (λ (ys : List Run). IsPlace ys place) q here) h
+
+pub left_there : (bs cs xs : List Run) (place : Place) (column : ℕ) → bs ≡ xs → cs ≡ xs → column_at cs place ≡ 0 + column
+    → drop place.offset (spread (take (length bs - place.index) (drop place.index bs))) ≡ drop column (spread xs)
+left_there bs cs xs place column p q e =
+    let at : column_at xs place ≡ column = ap (λ (ys : List Run). column_at ys place) (sym q) ∙ e ∙ omega arith in
+    ap (λ (ys : List Run). drop place.offset (spread ys)) (rest_of place.index bs ∙ ap (drop place.index) p) ∙ sym (behind_front xs place.index place.offset) ∙ ap (λ n. drop n (spread xs)) at
+
+-- ---- texts
+
+-- the text of the first cell
+pub first_utf8 : (text : List ℕ) (all : List CellSize) (s : CellSize) (sizes : List CellSize) → all ≡ s ∷ sizes → is_cut text all ≡ true → IsUtf8 (take s.len text)
+first_utf8 text all s sizes e h =
+    IsUtf8-cell s (take s.len text) (and_parts (is_text s (take s.len text)) (is_cut (drop s.len text) sizes) (ap (is_cut text) (sym e) ∙ h)).0
+
+one_utf8 : (text : List ℕ) → list_all is_printable text ≡ true → IsUtf8 (take 1 text)
+one_utf8 [] h = IsUtf8-cut [] [] refl
+one_utf8 (b ∷ text) h = IsUtf8-cut (b ∷ []) [] (and_from (is_printable b) true (and_parts (is_printable b) (list_all is_printable text) h).0 refl)
+
+-- the first byte, behind all sizes
+pub byte_utf8 : (text : List ℕ) (sizes : List CellSize) → length sizes ≡ 0 → is_cut text sizes ≡ true → IsUtf8 (take 1 text)
+byte_utf8 text [] e h = one_utf8 text h
+byte_utf8 text (s ∷ sizes) e h = absurd (omega arith)

@@ -1,0 +1,119 @@
+-- Columns of lists of runs, and what keeps runs as long as they can be.
+use Rattle.std.proofs.Common.{zero, suc, arith, ap, refl, sym, ◌∙◌, ◌≡◌, ◌<◌, ◌≤◌, [], ◌∷◌, ◌++◌, ℕ, ◌+◌, ◌-◌, length, List, slice_index_or, take, drop}
+use Rattle.std.proofs.lemmas.List.{append-nil, take-append-le, take-replicate, drop-replicate, drop-append-le, length-replicate, length-append, take-append-drop, take_at, drop_more, take_more}
+use Rattle.std.proofs.lemmas.List.Concat.{flat_map-append}
+use Rattle.std.proofs.Math.Seq.{take-append-add, drop-append-add}
+use Rattle.clustered_row.specs.declared.run.Run.{Run}
+use Rattle.clustered_row.specs.Runs.{columns_of, spread, IsApart, AreMaximal}
+use Rattle.clustered_row.specs.RunSteps.{counted}
+
+-- a list around one of its runs
+pub around : (xs : List Run) (i : ℕ) (run : Run) → i < length xs → run ≡ slice_index_or xs i run → xs ≡ take i xs ++ run ∷ drop (i + 1) xs
+around xs i run within is =
+    sym (take-append-drop i xs) ∙ ap (λ ys. take i xs ++ ys) (drop_more xs i run within ∙ ap (λ (r : Run). r ∷ drop (i + 1) xs) (sym is))
+
+-- the first runs and one more
+pub take_next : (xs : List Run) (i : ℕ) (run : Run) → i < length xs → run ≡ slice_index_or xs i run → take (i + 1) xs ≡ take i xs ++ run ∷ []
+take_next xs i run within is = take_more xs i run within ∙ ap (λ (r : Run). take i xs ++ r ∷ []) (sym is)
+
+-- the runs from one on
+pub drop_next : (xs : List Run) (i : ℕ) (run : Run) → i < length xs → run ≡ slice_index_or xs i run → drop i xs ≡ run ∷ drop (i + 1) xs
+drop_next xs i run within is = drop_more xs i run within ∙ ap (λ (r : Run). r ∷ drop (i + 1) xs) (sym is)
+
+pub spread-append : (xs ys : List Run) → spread (xs ++ ys) ≡ spread xs ++ spread ys
+spread-append xs ys = flat_map-append columns_of xs ys
+
+pub spread_last : (xs : List Run) (run : Run) → spread (xs ++ run ∷ []) ≡ spread xs ++ columns_of run
+spread_last xs run = spread-append xs (run ∷ []) ∙ ap (λ ys. spread xs ++ ys) (append-nil (columns_of run))
+
+pub spread_parts : (xs : List Run) (i : ℕ) → spread xs ≡ spread (take i xs) ++ spread (drop i xs)
+spread_parts xs i = ap spread (sym (take-append-drop i xs)) ∙ spread-append (take i xs) (drop i xs)
+
+pub length_parts : (xs : List Run) (i : ℕ) → length (spread xs) ≡ length (spread (take i xs)) + length (spread (drop i xs))
+length_parts xs i = ap length (spread_parts xs i) ∙ length-append (spread (take i xs)) (spread (drop i xs))
+
+pub length_columns : (run : Run) → length (columns_of run) ≡ run.count
+length_columns run = length-replicate run.count run.attributes
+
+pub length_next : (xs : List Run) (i : ℕ) (run : Run) → i < length xs → run ≡ slice_index_or xs i run → length (spread (take (i + 1) xs)) ≡ length (spread (take i xs)) + run.count
+length_next xs i run within is =
+    ap (λ ys. length (spread ys)) (take_next xs i run within is) ∙ ap length (spread_last (take i xs) run) ∙ length-append (spread (take i xs)) (columns_of run) ∙ ap (λ n. length (spread (take i xs)) + n) (length_columns run)
+
+-- the columns of whole runs
+pub whole_front : (xs : List Run) (i : ℕ) → take (length (spread (take i xs))) (spread xs) ≡ spread (take i xs)
+whole_front xs i = ap (λ ys. take (length (spread (take i xs))) ys) (spread_parts xs i) ∙ take_at (spread (take i xs)) (spread (drop i xs)) (length (spread (take i xs))) refl
+
+-- the columns so many behind whole runs
+pub behind_front : (xs : List Run) (i k : ℕ) → drop (length (spread (take i xs)) + k) (spread xs) ≡ drop k (spread (drop i xs))
+behind_front xs i k =
+    ap (λ ys. drop (length (spread (take i xs)) + k) ys) (spread_parts xs i) ∙ drop-append-add (spread (take i xs)) (spread (drop i xs)) k
+
+within_run : (k : ℕ) (run : Run) → k ≤ run.count → k ≤ length (columns_of run)
+within_run k run fits =
+    let e : length (columns_of run) ≡ run.count = length_columns run in
+    omega arith
+
+-- whole runs and so many columns of the next one
+pub cut_front : (before : List Run) (run : Run) (behind : List Run) (k : ℕ) → k ≤ run.count → take (length (spread before) + k) (spread (before ++ run ∷ behind)) ≡ spread (before ++ counted run k ∷ [])
+cut_front before run behind k fits =
+    ap (λ xs. take (length (spread before) + k) xs) (spread-append before (run ∷ behind)) ∙ take-append-add (spread before) (columns_of run ++ spread behind) k ∙
+    ap (λ xs. spread before ++ xs) (take-append-le k (columns_of run) (spread behind) (within_run k run fits) ∙ take-replicate k run.count run.attributes fits) ∙ sym (spread_last before (counted run k))
+
+-- what is left of a run, and the runs behind it
+pub cut_run : (run : Run) (behind : List Run) (k : ℕ) → k ≤ run.count → drop k (spread (run ∷ behind)) ≡ spread (counted run (run.count - k) ∷ behind)
+cut_run run behind k fits =
+    drop-append-le k (columns_of run) (spread behind) (within_run k run fits) ∙ ap (λ xs. xs ++ spread behind) (drop-replicate k run.count run.attributes)
+
+-- Maximal runs
+
+take_apart : (run : Run) (i : ℕ) (xs : List Run) → IsApart run xs → IsApart run (take i xs)
+take_apart run zero xs h = tt
+take_apart run (suc i) [] h = tt
+take_apart run (suc i) (x ∷ xs) h = h
+
+pub take_maximal : (i : ℕ) (xs : List Run) → AreMaximal xs → AreMaximal (take i xs)
+take_maximal zero xs h = tt
+take_maximal (suc i) [] h = tt
+take_maximal (suc i) (x ∷ xs) h = (h.0, take_apart x i xs h.1, take_maximal i xs h.2)
+
+pub drop_maximal : (i : ℕ) (xs : List Run) → AreMaximal xs → AreMaximal (drop i xs)
+drop_maximal zero xs h = h
+drop_maximal (suc i) [] h = tt
+drop_maximal (suc i) (x ∷ xs) h = drop_maximal i xs h.2
+
+other_head : (x : Run) (front : List Run) (r s : Run) → r.attributes ≡ s.attributes → IsApart x (front ++ r ∷ []) → IsApart x (front ++ s ∷ [])
+other_head x [] r s same h = λ e. h (e ∙ sym same)
+other_head x (y ∷ front) r s same h = h
+
+-- the last run with another count
+pub other_last : (front : List Run) (r s : Run) → r.attributes ≡ s.attributes → 0 < s.count → AreMaximal (front ++ r ∷ []) → AreMaximal (front ++ s ∷ [])
+other_last [] r s same some h = (some, tt, tt)
+other_last (x ∷ front) r s same some h = (h.0, other_head x front r s same h.1, other_last front r s same some h.2)
+
+joined_head : (x : Run) (front : List Run) (r : Run) (behind : List Run) → IsApart x (front ++ r ∷ []) → IsApart x (front ++ r ∷ behind)
+joined_head x [] r behind h = h
+joined_head x (y ∷ front) r behind h = h
+
+-- lists that end and begin with one run
+pub joined : (front : List Run) (r : Run) (behind : List Run) → AreMaximal (front ++ r ∷ []) → AreMaximal (r ∷ behind) → AreMaximal (front ++ r ∷ behind)
+joined [] r behind h k = k
+joined (x ∷ front) r behind h k = (h.0, joined_head x front r behind h.1, joined front r behind h.2 k)
+
+pub some_last : (front : List Run) (last : Run) → AreMaximal (front ++ last ∷ []) → 0 < last.count
+some_last [] last h = h.0
+some_last (x ∷ front) last h = some_last front last h.2
+
+-- one run more
+pub one_more : (front : List Run) (last r : Run) → AreMaximal (front ++ last ∷ []) → (last.attributes ≡ r.attributes → last.count ≡ 4294967295) → 0 < r.count → AreMaximal (front ++ last ∷ (r ∷ []))
+one_more front last r h apart some = joined front last (r ∷ []) h (some_last front last h, apart, (some, tt, tt))
+
+no_room : (run y : Run) (behind : List Run) → run.count ≡ 4294967295 → 0 < y.count → run.count + length (spread (y ∷ behind)) ≤ 4294967295 → ⊥
+no_room run y behind full some fits =
+    let e : length (spread (y ∷ behind)) ≡ length (columns_of y) + length (spread behind) = length-append (columns_of y) (spread behind) in
+    let f : length (columns_of y) ≡ y.count = length_columns y in
+    omega arith
+
+-- the first run with another count, where one run could count all columns
+pub other_first : (r s : Run) (behind : List Run) → r.attributes ≡ s.attributes → 0 < s.count → r.count + length (spread behind) ≤ 4294967295 → AreMaximal (r ∷ behind) → AreMaximal (s ∷ behind)
+other_first r s [] same some fits h = (some, tt, tt)
+other_first r s (y ∷ behind) same some fits h = (some, (λ e. absurd (no_room r y behind (h.1 (same ∙ e)) h.2.0 fits)), h.2)

@@ -1,0 +1,26 @@
+use Rattle.std.proofs.Common.{◌≡◌, ◌∙◌, ap, sym, length, replicate, true, List}
+use Rattle.std.specs.List.{list_all}
+use Rattle.cell_base.specs.Row.{set_columns}
+use Rattle.clustered_row.specs.declared.cell_size.CellSize.{CellSize}
+use Rattle.clustered_row.specs.Faces.{row_of}
+use Rattle.clustered_row.specs.Sizes.{is_plain}
+use Rattle.clustered_row.proofs.ColumnLemmas.{plain_are}
+use Rattle.clustered_row.proofs.columns.Columns.set_plain.Goals as goal
+
+pub set-requires-clause-parts : goal.set-requires-clause-parts
+set-requires-clause-parts c =
+    (plain_are c.args.text.now c.deref.result.now c.requires.printable (ap (λ (s : List CellSize). list_all is_plain s) c.deref.ensures.value ∙ c.in_ok-fill_plain.ensures.plain) (ap length c.deref.ensures.value ∙ c.in_ok-fill_plain.ensures.count)).parts
+
+pub set-requires-clause-bytes : goal.set-requires-clause-bytes
+set-requires-clause-bytes c =
+    (plain_are c.args.text.now c.deref.result.now c.requires.printable (ap (λ (s : List CellSize). list_all is_plain s) c.deref.ensures.value ∙ c.in_ok-fill_plain.ensures.plain) (ap length c.deref.ensures.value ∙ c.in_ok-fill_plain.ensures.count)).bytes
+
+pub set-requires-clause-count : goal.set-requires-clause-count
+set-requires-clause-count c =
+    sym (plain_are c.args.text.now c.deref.result.now c.requires.printable (ap (λ (s : List CellSize). list_all is_plain s) c.deref.ensures.value ∙ c.in_ok-fill_plain.ensures.plain) (ap length c.deref.ensures.value ∙ c.in_ok-fill_plain.ensures.count)).columns
+
+pub returns-clause-done : goal.returns-clause-done
+returns-clause-done c =
+    let kept = c.in_ok-overwrite.ensures.not_done c.if-branch.false in
+    let plain = plain_are c.args.text.now c.deref.result.now c.requires.printable (ap (λ (s : List CellSize). list_all is_plain s) c.deref.ensures.value ∙ c.in_ok-fill_plain.ensures.plain) (ap length c.deref.ensures.value ∙ c.in_ok-fill_plain.ensures.count) in
+    c.in_ok-set.ensures.done ∙ (λ i. set_columns (kept i) c.args.at (row_of (plain.shown i) (replicate (length c.args.text.now) c.args.attrs.now)))

@@ -1,0 +1,25 @@
+use Rattle.std.proofs.Common.{arith}
+use Rattle.clustered_row.proofs.BetweenLemmas.{before_sized, place_of_before, bytes_before, found_whole}
+use Rattle.clustered_row.proofs.StepLemmas.{sized_of, place_order}
+use Rattle.clustered_row.proofs.cut_text.CutText.place_before.Goals as goal
+
+pub returns-then-self-at-clause-bytes : goal.returns-then-self-at-clause-bytes
+returns-then-self-at-clause-bytes c =
+    let t = c.args.self.now in
+    bytes_before t.text.items t.sizes.items t.sized_bytes t.sized_columns c.args.from c.plain_byte.result c.args.at (sized_of t) c.requires.from c.requires.order c.plain_byte.ensures.behind c.plain_byte.ensures.column
+
+pub returns-clause-place : goal.returns-clause-place
+returns-clause-place c =
+    let t = c.args.self.now in
+    before_sized t.text.items t.sizes.items t.sized_bytes t.sized_columns c.place.result (sized_of t) c.place.ensures.place
+
+pub returns-clause-column : goal.returns-clause-column
+returns-clause-column c =
+    let t = c.args.self.now in
+    found_whole t.text.items t.sizes.items t.sized_bytes t.sized_columns c.place.result c.args.at (sized_of t) c.place.ensures.place c.place.ensures.columns (omega arith) c.place.ensures.cell c.requires.whole
+
+pub returns-clause-bytes : goal.returns-clause-bytes
+returns-clause-bytes c =
+    let t = c.args.self.now in
+    let from = place_of_before t.text.items t.sizes.items t.sized_bytes t.sized_columns c.args.from (sized_of t) c.requires.from (omega arith) in
+    place_order t.sizes.items c.args.from c.place.result from c.place.ensures.place c.place.ensures.order

@@ -1,0 +1,16 @@
+use Rattle.std.proofs.Common.{arith, ap, sym, ◌∙◌, ◌≡◌, slice_index_or}
+use Rattle.clustered_row.specs.declared.run.Run.{Run}
+use Rattle.clustered_row.specs.Runs.{spread}
+use Rattle.clustered_row.specs.RunSteps.{column_at}
+use Rattle.clustered_row.proofs.RunSteps.{found, place_within}
+use Rattle.clustered_row.proofs.run_steps.at.Goals as goal
+
+pub returns : goal.returns
+returns c =
+    let runs = c.args.runs.now in
+    let place = c.place_of-place.result in
+    let run = c.index-runs-place.result in
+    let x = (slice_index_or runs place.index run).attributes in
+    let here : column_at runs place ≡ c.args.column = omega (arith, c.place_of-place.ensures.column) in
+    let within = place_within runs place c.place_of-place.ensures.place (omega arith) in
+    sym (ap (λ n. slice_index_or (spread runs) n x) (sym here) ∙ found runs place run x c.place_of-place.ensures.place within c.index-runs-place.is ∙ ap (λ (r : Run). r.attributes) c.index-runs-place.is)

@@ -1,0 +1,21 @@
+-- What is asked of a row's columns.
+use Rattle.std.specs.Prelude.{ℕ, Bool, true, false, [], ◌∷◌, drop}
+use Rattle.cell_base.specs.Attributes.{Attributes}
+use Rattle.cell_base.specs.Row.{Column, Narrow, LeftHalf, RightHalf, Row}
+
+-- whether the first column is the right half of a wide text
+abbrev pub starts_halved : Row → Bool
+starts_halved [] = false
+starts_halved (Narrow text attributes ∷ row) = false
+starts_halved (LeftHalf text attributes ∷ row) = false
+starts_halved (RightHalf attributes ∷ row) = true
+
+-- whether a column is the second one of a wide text
+abbrev pub is_halved : ℕ → Row → Bool
+is_halved at row = starts_halved (drop at row)
+
+-- what a column has beside its text
+abbrev pub column_attributes : Column → Attributes
+column_attributes (Narrow text attributes) = attributes
+column_attributes (LeftHalf text attributes) = attributes
+column_attributes (RightHalf attributes) = attributes

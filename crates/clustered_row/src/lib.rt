@@ -1,0 +1,32 @@
+//! Rows that are kept as one text and runs of equal attributes.
+#![tactic(auto)]
+
+mod cell_size;
+mod columns;
+mod cut_text;
+mod items;
+mod lent_text;
+mod place;
+mod row;
+mod row_cells;
+#[cfg(test)]
+mod row_tests;
+mod row_texts;
+mod run;
+mod run_steps;
+mod runs;
+mod runs_left;
+#[cfg(test)]
+mod runs_tests;
+mod text_cells;
+mod texts;
+mod texts_left;
+mod visible;
+mod visible_columns;
+
+pub use cell_size::CellSize;
+pub use lent_text::LentText;
+pub use row::ClusteredRow;
+pub use runs::Runs;
+pub use texts::Texts;
+pub use visible::{ClusteredCell, ClusteredCells};

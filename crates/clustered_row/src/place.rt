@@ -1,0 +1,108 @@
+//! Places between cells.
+ghost use Rattle.std.specs.Prelude.{◌≡◌, ◌+◌, ◌<◌, ◌≤◌, ◌^◌};
+ghost use Rattle.clustered_row.specs.declared.cell_size.CellSize.{CellSize};
+ghost use Rattle.clustered_row.specs.Place.{IsPlace, IsHalved};
+ghost use Rattle.clustered_row.specs.Sizes.{bytes_of, columns_of, width_of};
+
+use crate::cell_size::CellSize;
+
+// So many cells stand before it, with so many bytes, in so many columns.
+#[derive(Clone, Copy)]
+pub(crate) struct Place {
+    pub(crate) index: usize,
+    pub(crate) bytes: usize,
+    pub(crate) columns: usize,
+}
+
+// The place before all cells.
+pub(crate) const START: Place = Place {
+    index: 0,
+    bytes: 0,
+    columns: 0,
+};
+
+impl Place {
+    // The place behind the cell that stands there.
+    #[inline(always)]
+    pub(crate) fn behind(self, size: CellSize) -> Place
+        requires index { self.index + 1 < 2 ^ 64 }
+        requires bytes { self.bytes + size.len < 2 ^ 64 }
+        requires columns { self.columns + width_of size.is_wide < 2 ^ 64 }
+        ensures index { result.index ≡ self.index + 1 }
+        ensures bytes { result.bytes ≡ self.bytes + size.len }
+        ensures columns { result.columns ≡ self.columns + width_of size.is_wide }
+    {
+        Place {
+            index: self.index + 1,
+            bytes: self.bytes + size.len,
+            columns: self.columns + size.columns(),
+        }
+    }
+
+    // The place before the cell that stands before it.
+    #[inline(always)]
+    pub(crate) fn before(self, size: CellSize) -> Place
+        requires index { 1 ≤ self.index }
+        requires bytes { size.len ≤ self.bytes }
+        requires columns { width_of size.is_wide ≤ self.columns }
+        ensures index { result.index + 1 ≡ self.index }
+        ensures bytes { result.bytes + size.len ≡ self.bytes }
+        ensures columns { result.columns + width_of size.is_wide ≡ self.columns }
+    {
+        Place {
+            index: self.index - 1,
+            bytes: self.bytes - size.len,
+            columns: self.columns - size.columns(),
+        }
+    }
+}
+
+// The cell that takes a column begins there, looked for from another place on; the place behind all cells where none
+// does.
+pub(crate) fn find(sizes: &[CellSize], from: Place, at: usize) -> Place
+    requires place { IsPlace sizes.now from }
+    requires order { from.columns ≤ at }
+    requires within { at ≤ columns_of sizes.now }
+    requires bytes { bytes_of sizes.now < 2 ^ 64 }
+    requires columns { columns_of sizes.now < 2 ^ 64 }
+    ensures place { IsPlace sizes.now result }
+    ensures order { from.index ≤ result.index }
+    ensures columns { result.columns ≤ at }
+    ensures cell { (d : CellSize) → result.columns < at → IsHalved sizes.now result at d }
+{
+    let mut index = from.index;
+    let mut bytes = from.bytes;
+    let mut left = at - from.columns;
+    while index < sizes.len() {
+        let size = sizes[index];
+        if left < size.columns() {
+            break;
+        }
+        left -= size.columns();
+        bytes += size.len;
+        index += 1;
+    }
+    Place {
+        index,
+        bytes,
+        columns: at - left,
+    }
+}
+
+// The cell that takes a column begins there, looked for from the place behind all cells; that place where none does.
+pub(crate) fn find_back(sizes: &[CellSize], end: Place, from: Place, at: usize) -> Place
+    requires end { IsPlace sizes.now end }
+    requires last { at ≤ end.columns }
+    requires place { IsPlace sizes.now from }
+    requires order { from.columns ≤ at }
+    ensures place { IsPlace sizes.now result }
+    ensures order { from.index ≤ result.index }
+    ensures columns { result.columns ≤ at }
+    ensures cell { (d : CellSize) → result.columns < at → IsHalved sizes.now result at d }
+{
+    let mut place = end;
+    while at < place.columns {
+        place = place.before(sizes[place.index - 1]);
+    }
+    place
+}

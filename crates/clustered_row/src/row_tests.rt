@@ -1,0 +1,194 @@
+//! Edits of a row against the same edits of a vector of cells.
+use crate::row::ClusteredRow;
+use crate::runs_tests::{Numbers, palette};
+use cell_base::{Cell, CellAttributes, ProgramWidth};
+use cell_edits::{row, runs};
+use std::alloc::Global;
+
+// What is set: ASCII, short and long; ideographs; combining marks; what joins; what shows as a space; and nothing.
+fn text_at(number: usize) -> &'static str {
+    match number {
+        0 => "a",
+        1 => "xyz",
+        2 => "0123456789",
+        3 => "漢",
+        4 => "漢字かな",
+        5 => "e\u{301}",
+        6 => "ab漢e\u{301}c",
+        7 => "\u{301}\u{302}",
+        8 => "αβγδ",
+        9 => "👨\u{200d}👩\u{200d}👧",
+        10 => "abcdefghi\u{301}漢",
+        11 => " 漢 ",
+        12 => "\u{7}",
+        13 => "\r\nq",
+        14 => "각\u{1100}\u{1161}",
+        _ => "",
+    }
+}
+
+// Whether a column that was written shows the first column of this text.
+fn is_written(row: &ClusteredRow, column: usize, text: &str, is_wide: bool) -> bool {
+    let texts = &row.columns.texts;
+    if column >= texts.columns() {
+        return false;
+    }
+    match texts.cell_at(column) {
+        None => false,
+        Some(cell) => cell.text == text && cell.is_wide == is_wide,
+    }
+}
+
+// Whether a column that was written has these attributes.
+fn has(row: &ClusteredRow, column: usize, attributes: &CellAttributes) -> bool {
+    let runs = &row.columns.runs;
+    column < runs.len() && *runs.at(column) == *attributes
+}
+
+// Whether a column shows the first column of this text with these attributes.
+fn shows_text(
+    row: &ClusteredRow,
+    column: usize,
+    text: &str,
+    is_wide: bool,
+    attributes: &CellAttributes,
+) -> bool {
+    if column < row.columns.len() {
+        return is_written(row, column, text, is_wide) && has(row, column, attributes);
+    }
+    if is_wide || text != " " {
+        return false;
+    }
+    row.rest == *attributes
+}
+
+// Whether a column is the second one of a wide text with these attributes.
+fn shows_right_half(row: &ClusteredRow, column: usize, attributes: &CellAttributes) -> bool {
+    let texts = &row.columns.texts;
+    column < texts.columns() && texts.cell_at(column).is_none() && has(row, column, attributes)
+}
+
+// Whether a cell, behind which so many others are stored, is shown from a column on.
+fn shows_cell(row: &ClusteredRow, column: usize, cell: &Cell, behind: usize) -> bool {
+    if cell.width() < 2 {
+        return shows_text(row, column, cell.str(), false, cell.attrs());
+    }
+    if behind == 0 {
+        return shows_text(row, column, " ", false, cell.attrs());
+    }
+    shows_text(row, column, cell.str(), true, cell.attrs())
+        && shows_right_half(row, column.saturating_add(1), cell.attrs())
+}
+
+// Whether the row shows these cells, read from the left.
+fn shows(row: &ClusteredRow, cells: &[Cell]) -> bool {
+    let mut is_right = false;
+    for (column, cell) in cells.iter().enumerate() {
+        if is_right {
+            is_right = false;
+        } else {
+            let behind = cells.len().saturating_sub(column).saturating_sub(1);
+            if !shows_cell(row, column, cell, behind) {
+                return false;
+            }
+            is_right = cell.width() == 2;
+        }
+    }
+    row.len() == cells.len()
+}
+
+// Sets a text on both. Whether both took it alike.
+fn write(
+    row: &mut ClusteredRow,
+    alloc: Global,
+    cells: &mut Vec<Cell>,
+    start: usize,
+    end: usize,
+    text: &str,
+    attributes: &CellAttributes,
+) -> bool {
+    if start > end || end > row.len() || end > cells.len() {
+        return false;
+    }
+    let Ok((column, left)) = row.set_text(start, end, text, attributes, &ProgramWidth) else {
+        return false;
+    };
+    let Ok((other_column, other_left)) = runs::set_text(
+        alloc,
+        cells,
+        start,
+        end,
+        text,
+        attributes,
+        &ProgramWidth,
+    ) else {
+        return false;
+    };
+    column == other_column && left == other_left
+}
+
+// Sets blanks on both. Whether both took them.
+fn erase(
+    row: &mut ClusteredRow,
+    cells: &mut Vec<Cell>,
+    start: usize,
+    end: usize,
+    attributes: &CellAttributes,
+) -> bool {
+    if start > end || end > row.len() || end > cells.len() {
+        return false;
+    }
+    row.set_blanks(start, end, attributes).is_ok()
+        && runs::set_blanks(cells, start, end, attributes).is_ok()
+}
+
+// One edit of both. Whether it was taken.
+fn edit(
+    row: &mut ClusteredRow,
+    alloc: Global,
+    cells: &mut Vec<Cell>,
+    attributes: &CellAttributes,
+    numbers: &mut Numbers,
+) -> bool {
+    let len = row.len();
+    let end = numbers.below(len.saturating_add(1));
+    let start = numbers.below(end.saturating_add(1));
+    match numbers.below(8) {
+        0 => {
+            let width = numbers.below(13);
+            row.resize(width).is_ok() && row::resize(cells, width).is_ok()
+        }
+        1 => erase(row, cells, start, end, attributes),
+        2 => erase(row, cells, start, len, attributes),
+        3 => {
+            let text = text_at(numbers.below(16));
+            write(row, alloc, cells, start, end, text, attributes)
+        }
+        _ => {
+            let text = text_at(numbers.below(16));
+            write(row, alloc, cells, start, len, text, attributes)
+        }
+    }
+}
+
+#[test]
+fn edits_show_what_cells_show(rt: HostRuntime) {
+    let palette = palette(&rt);
+    let mut row = ClusteredRow::new(rt.alloc(), 0);
+    let mut cells = Vec::new(rt.alloc());
+    let mut numbers = Numbers { last: 7 };
+    for _ in 0..6000 {
+        let kind = numbers.below(palette.len());
+        let taken = match palette.get(kind) {
+            Some(attributes) => edit(&mut row, rt.alloc(), &mut cells, attributes, &mut numbers),
+            None => false,
+        };
+        assert!(rt; taken);
+        assert!(rt; shows(&row, &cells));
+    }
+    let copy = ClusteredRow::from_cells(rt.alloc(), &cells).expect(&rt, "memory");
+    assert!(rt; shows(&copy, &cells));
+    row.clear_to(9, &CellAttributes::blank())
+        .expect(&rt, "memory");
+    assert_eq!(rt; row.len(), 9);
+}

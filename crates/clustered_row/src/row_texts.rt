@@ -1,0 +1,265 @@
+//! Texts, single cells and ranges of blanks that are set on a row.
+ghost use Rattle.std.specs.Prelude.{◌≡◌, ◌+◌, ◌-◌, ◌<◌, ◌≤◌, true, length, replicate, IfOk, MatchOption, OnOk, OnErr};
+ghost use Rattle.std.specs.List.{list_all};
+ghost use Rattle.text_clusters.specs.Plain.{is_printable};
+ghost use Rattle.cell_base.specs.CellContent.{cell_of};
+ghost use Rattle.cell_base.specs.CellContent as cells;
+ghost use Rattle.cell_base.specs.Row.{blank, set_columns};
+ghost use Rattle.cell_edits.specs.CellList.{cell_columns};
+ghost use Rattle.cell_edits.specs.RowEdits.{overlaid};
+ghost use Rattle.cell_edits.specs.TextRuns.{place_behind, plain_cells, text_on, text_left, Leads, Stops};
+
+use crate::row::ClusteredRow;
+use crate::text_cells::{lone_cells, size_of};
+use cell_base::{Cell, CellAttributes, Widths};
+use std::alloc::AllocError;
+use std::mem;
+use text_clusters::{begins_printable, split_first_cluster, split_printable};
+
+// So many spaces are set at once.
+const SPACES: &str = "                                                                ";
+
+// Whether a space stands in a cell in place of this text.
+#[inline(always)]
+fn shows_as_space(text: &str) -> bool
+    ensures { result ≡ cells.shows_as_space text.now }
+{
+    Cell::columns_for(text, 2) == 1
+}
+
+// So many spaces.
+#[inline(always)]
+fn spaces(count: usize) -> &'static str
+    requires { count ≤ 64 }
+    ensures { result.now ≡ replicate count 32 }
+{
+    let (front, _) = SPACES.split_at(count);
+    front
+}
+
+impl ClusteredRow {
+    /// Printable ASCII characters (20h to 7Eh) take a column each from one on; where there are none nothing changes.
+    #[inline(always)]
+    pub fn set_ascii_text(
+        &mut self,
+        at: usize,
+        text: &str,
+        attrs: &CellAttributes,
+    ) -> Result<(), AllocError>
+        requires printable { list_all is_printable text.now ≡ true }
+        requires within { at + length text.now ≤ length self.old }
+        ensures len { length self.new ≡ length self.old }
+        ensures done { OnOk result (self.new ≡ overlaid self.old at (plain_cells text.now attrs.now)) }
+    {
+        if text.is_empty() {
+            return Ok(());
+        }
+        self.set_plain(at, text, attrs)?;
+        Ok(())
+    }
+
+    /// The cell of a cluster of `width` columns, of which none count as one, takes its columns from one on. The empty
+    /// text, a lone C0 control or DEL, and CR LF stand as a space of one column.
+    pub fn set_cell(
+        &mut self,
+        at: usize,
+        text: &str,
+        width: usize,
+        attrs: &CellAttributes,
+    ) -> Result<(), AllocError>
+        requires most { width ≤ 2 }
+        requires within { at + length (cell_columns (cell_of text.now width attrs.now)) ≤ length self.old }
+        ensures len { length self.new ≡ length self.old }
+        ensures done { OnOk result
+            (self.new ≡ set_columns self.old at (cell_columns (cell_of text.now width attrs.now))) }
+    {
+        if shows_as_space(text) {
+            self.set_plain(at, " ", attrs)?;
+            return Ok(());
+        }
+        let count = Cell::columns_for(text, width);
+        let size = size_of(text.len(), count);
+        if size.is_plain() {
+            self.set_plain(at, text, attrs)?;
+            return Ok(());
+        }
+        self.set(at, text, &[size], count, attrs)?;
+        Ok(())
+    }
+
+    /// Blanks take the columns of a range.
+    pub fn set_blanks(
+        &mut self,
+        start: usize,
+        end: usize,
+        attrs: &CellAttributes,
+    ) -> Result<(), AllocError>
+        requires order { start ≤ end }
+        requires within { end ≤ length self.old }
+        ensures len { length self.new ≡ length self.old }
+        ensures done { OnOk result
+            (self.new ≡ set_columns self.old start (replicate (end - start) (blank attrs.now))) }
+    {
+        if end == self.width {
+            self.set_blanks_from(start, attrs)?;
+            return Ok(());
+        }
+        self.set_spaces(start, end, attrs)?;
+        Ok(())
+    }
+
+    // Spaces take the columns of a range, in pieces.
+    fn set_spaces(
+        &mut self,
+        start: usize,
+        end: usize,
+        attrs: &CellAttributes,
+    ) -> Result<(), AllocError>
+        requires order { start ≤ end }
+        requires within { end ≤ length self.old }
+        ensures len { length self.new ≡ length self.old }
+        ensures done { OnOk result
+            (self.new ≡ set_columns self.old start (replicate (end - start) (blank attrs.now))) }
+    {
+        let mut at = start;
+        while end - at > 64 {
+            self.set_plain(at, spaces(64), attrs)?;
+            at += 64;
+        }
+        self.set_plain(at, spaces(end - at), attrs)?;
+        Ok(())
+    }
+
+    /// The row becomes so many blanks with these attributes. The memory of what it showed stays. A refused one stays as
+    /// it was.
+    pub fn clear_to(&mut self, width: usize, attrs: &CellAttributes) -> Result<(), AllocError>
+        ensures done { OnOk result (self.new ≡ replicate width (blank attrs.now)) }
+        ensures refused { OnErr result (self.new ≡ self.old) }
+    {
+        let rest = attrs.try_clone()?;
+        self.columns.clear();
+        self.rest = rest;
+        self.width = width;
+        Ok(())
+    }
+
+    // Sets the printable front of a text as far as it fits before `end`; answers the next column and the rest.
+    fn set_plain_front<'a, W: Widths>(
+        &mut self,
+        at: usize,
+        end: usize,
+        text: &'a str,
+        attrs: &CellAttributes,
+        w: &W,
+    ) -> Result<(usize, &'a str), AllocError>
+        requires order { at ≤ end }
+        requires within { end ≤ length self.old }
+        ensures len { length self.new ≡ length self.old }
+        ensures leads { IfOk result
+            (λ next. Leads (W.width_of w.now) end attrs.now self.old at text.now self.new next.0 next.1.now) }
+    {
+        if !begins_printable(text) {
+            return Ok((at, text));
+        }
+        if !w.has_narrow_ascii() {
+            return Ok((at, text));
+        }
+        let (front, rest) = split_printable(text, end - at);
+        self.set_ascii_text(at, front, attrs)?;
+        Ok((at + front.len(), rest))
+    }
+
+    // Sets the characters at the front of a text that are clusters by themselves, as far as they fit before `end`;
+    // answers the next column and the rest.
+    fn set_lone_front<'a, W: Widths>(
+        &mut self,
+        at: usize,
+        end: usize,
+        text: &'a str,
+        attrs: &CellAttributes,
+        w: &W,
+    ) -> Result<(usize, &'a str), AllocError>
+        requires order { at ≤ end }
+        requires within { end ≤ length self.old }
+        ensures len { length self.new ≡ length self.old }
+        ensures leads { IfOk result
+            (λ next. Leads (W.width_of w.now) end attrs.now self.old at text.now self.new next.0 next.1.now) }
+    {
+        let mut sizes = mem::try_take(&mut self.sizes)?;
+        let (count, rest) = lone_cells(&mut sizes, end - at, text, w)?;
+        if count > 0 {
+            let (front, _) = text.split_at(text.len() - rest.len());
+            self.set(at, front, &sizes, count, attrs)?;
+        }
+        self.sizes = sizes;
+        Ok((at + count, rest))
+    }
+
+    // Sets the first cluster of a text if it fits before `end`; answers the next column and the rest.
+    fn set_first_cluster<'a, W: Widths>(
+        &mut self,
+        at: usize,
+        end: usize,
+        text: &'a str,
+        attrs: &CellAttributes,
+        w: &W,
+    ) -> Result<Option<(usize, &'a str)>, AllocError>
+        requires order { at ≤ end }
+        requires within { end ≤ length self.old }
+        ensures len { length self.new ≡ length self.old }
+        ensures leads { IfOk result (λ next. MatchOption next
+            ((self.new ≡ self.old) × Stops (W.width_of w.now) end attrs.now self.old at text.now)
+            (λ n. (at < n.0) × Leads (W.width_of w.now) end attrs.now self.old at text.now self.new n.0 n.1.now)) }
+    {
+        if at == end {
+            return Ok(None);
+        }
+        if text.is_empty() {
+            return Ok(None);
+        }
+        let Some((cluster, rest)) = split_first_cluster(text) else {
+            return Ok(None);
+        };
+        let width = usize::from(w.width(cluster));
+        let count = Cell::columns_for(cluster, width);
+        if end - at < count {
+            return Ok(None);
+        }
+        self.set_cell(at, cluster, width, attrs)?;
+        Ok(Some((at + count, rest)))
+    }
+
+    /// Sets each cluster of a text side by side from `start` on, as far as they fit before `end`; answers the column
+    /// behind them and the text that is left.
+    pub fn set_text<'a, W: Widths>(
+        &mut self,
+        start: usize,
+        end: usize,
+        text: &'a str,
+        attrs: &CellAttributes,
+        w: &W,
+    ) -> Result<(usize, &'a str), AllocError>
+        requires order { start ≤ end }
+        requires within { end ≤ length self.old }
+        ensures len { length self.new ≡ length self.old }
+        ensures row { OnOk result
+            (self.new ≡ text_on (W.width_of w.now) end attrs.now self.old start text.now) }
+        ensures behind { IfOk result (λ r. r.0 ≡ place_behind (W.width_of w.now) end attrs.now start text.now) }
+        ensures left { IfOk result (λ r. r.1.now ≡ text_left (W.width_of w.now) end attrs.now start text.now) }
+    {
+        let mut at = start;
+        let mut left = text;
+        while at < end {
+            let (place, rest) = self.set_plain_front(at, end, left, attrs, w)?;
+            let (place, rest) = self.set_lone_front(place, end, rest, attrs, w)?;
+            match self.set_first_cluster(place, end, rest, attrs, w)? {
+                None => return Ok((place, rest)),
+                Some((next, behind)) => {
+                    at = next;
+                    left = behind;
+                }
+            }
+        }
+        Ok((at, left))
+    }
+}

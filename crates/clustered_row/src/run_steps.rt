@@ -1,0 +1,462 @@
+//! Steps of edits of runs.
+ghost use Rattle.std.specs.Prelude.{◌≡◌, [], ◌∷◌, ◌++◌, ◌+◌, ◌-◌, ◌<◌, ◌≤◌, ◌↔◌, length, take, drop, replicate, slice_index_or, slice_set, vec_len, vec_capacity, IfOk, OnOk, OnErr, IsTrue};
+ghost use Rattle.std.specs.List.{insert};
+ghost use Rattle.clustered_row.specs.Runs.{columns_of, spread, AreMaximal, attributes_set};
+ghost use Rattle.clustered_row.specs.RunSteps.{counted, column_at, IsAt, IsLast, IsRoom, IsPlace, IsParted};
+ghost use Rattle.clustered_row.specs.declared.run.Run.{Run};
+ghost use Rattle.clustered_row.specs.declared.run.Place.{Place};
+
+use crate::run::{Place, Run};
+use cell_base::CellAttributes;
+use std::alloc::{AllocError, Global};
+
+// Whether a run has these attributes.
+fn has(run: &Run, attributes: &CellAttributes) -> bool
+    ensures { IsTrue result ↔ (run.now.attributes ≡ attributes.now) }
+{
+    run.attributes == *attributes
+}
+
+// The run counts so many columns.
+fn set_count(runs: &mut Vec<Run>, at: usize, count: u32)
+    requires { at < length runs.old.items }
+    ensures items { (d : Run) → runs.new.items
+        ≡ slice_set runs.old.items at (counted (slice_index_or runs.old.items at d) count) }
+    ensures capacity { vec_capacity runs.new ≡ vec_capacity runs.old }
+{
+    let run = &mut runs[at];
+    run.count = count;
+}
+
+// The run counts so many columns more.
+fn grow(runs: &mut Vec<Run>, at: usize, by: u32)
+    requires within { at < length runs.old.items }
+    requires fits { (run : Run) → IsAt runs.old.items at run → run.count + by ≤ 4294967295 }
+    ensures { (run : Run) → IsAt runs.old.items at run
+        → runs.new.items ≡ slice_set runs.old.items at (counted run (run.count + by)) }
+{
+    let run = &mut runs[at];
+    run.count += by;
+}
+
+// The place so many columns behind the first column of a run.
+pub(crate) fn place_from(runs: &[Run], index: usize, offset: usize) -> Place
+    requires within { index ≤ length runs.now }
+    requires column { length (spread (take index runs.now)) + offset ≤ length (spread runs.now) }
+    ensures place { IsPlace runs.now result }
+    ensures column { column_at runs.now result ≡ length (spread (take index runs.now)) + offset }
+    ensures order { index ≤ result.index }
+{
+    let mut at = index;
+    let mut left = offset;
+    while at < runs.len() {
+        let count = runs[at].count as usize;
+        if left < count {
+            break;
+        }
+        left -= count;
+        at += 1;
+    }
+    Place {
+        index: at,
+        offset: left,
+    }
+}
+
+// The place of a column: in the last run, which most are asked for, or looked for from the first on.
+fn place_of(runs: &[Run], columns: usize, column: usize) -> Place
+    requires columns { columns ≡ length (spread runs.now) }
+    requires within { column < columns }
+    ensures place { IsPlace runs.now result }
+    ensures column { column_at runs.now result ≡ column }
+{
+    let last = runs.len() - 1;
+    let start = columns - runs[last].count as usize;
+    if start <= column {
+        return Place {
+            index: last,
+            offset: column - start,
+        };
+    }
+    place_from(runs, 0, column)
+}
+
+/// The attributes of a column.
+pub(crate) fn at(runs: &[Run], columns: usize, column: usize) -> &CellAttributes
+    requires columns { columns ≡ length (spread runs.now) }
+    requires within { column < columns }
+    ensures { result.now ≡ slice_index_or (spread runs.now) column result.now }
+{
+    let place = place_of(runs, columns, column);
+    &runs[place.index].attributes
+}
+
+// How many columns with these attributes the last run can count more.
+fn room_behind(runs: &[Run], attributes: &CellAttributes) -> u32
+    ensures { IsRoom runs.now attributes.now result }
+{
+    let len = runs.len();
+    if len == 0 {
+        return 0;
+    }
+    let last = &runs[len - 1];
+    let count = last.count;
+    if has(last, attributes) {
+        return u32::MAX - count;
+    }
+    0
+}
+
+/// Adds columns with these attributes behind the last.
+pub(crate) fn push(
+    runs: &mut Vec<Run>,
+    count: u32,
+    attributes: &CellAttributes,
+) -> Result<(), AllocError>
+    requires { AreMaximal runs.old.items }
+    ensures done { OnOk result (spread runs.new.items ≡ spread runs.old.items ++ replicate count attributes.now) }
+    ensures refused { OnErr result (runs.new.items ≡ runs.old.items) }
+    ensures maximal { AreMaximal runs.new.items }
+{
+    if count == 0 {
+        return Ok(());
+    }
+    let room = room_behind(runs, attributes);
+    if count <= room {
+        grow_last(runs, count);
+        return Ok(());
+    }
+    push_run(runs, room, count - room, attributes)
+}
+
+// The last run counts so many columns more.
+fn grow_last(runs: &mut Vec<Run>, by: u32)
+    requires some { 0 < length runs.old.items }
+    requires fits { (last : Run) → IsLast runs.old.items last → last.count + by ≤ 4294967295 }
+    requires maximal { AreMaximal runs.old.items }
+    ensures columns { (last : Run) → IsLast runs.old.items last
+        → spread runs.new.items ≡ spread runs.old.items ++ replicate by last.attributes }
+    ensures maximal { AreMaximal runs.new.items }
+{
+    let last = runs.len() - 1;
+    grow(runs, last, by);
+}
+
+// Adds columns: to the last run as many as it can count more, and a run of the others, of which there are some.
+#[inline(never)]
+fn push_run(
+    runs: &mut Vec<Run>,
+    room: u32,
+    count: u32,
+    attributes: &CellAttributes,
+) -> Result<(), AllocError>
+    requires room { IsRoom runs.old.items attributes.now room }
+    requires some { 0 < count }
+    requires maximal { AreMaximal runs.old.items }
+    ensures done { OnOk result
+        (spread runs.new.items ≡ spread runs.old.items ++ replicate (room + count) attributes.now) }
+    ensures refused { OnErr result (runs.new.items ≡ runs.old.items) }
+    ensures maximal { AreMaximal runs.new.items }
+{
+    let len = runs.len();
+    runs.push(Run {
+        count,
+        attributes: attributes.try_clone()?,
+    })?;
+    if room == 0 {
+        return Ok(());
+    }
+    grow(runs, len - 1, room);
+    Ok(())
+}
+
+// Drops columns of the last run, at most so many. Answers how many.
+fn shorten(runs: &mut Vec<Run>, by: usize) -> usize
+    requires some { 0 < by }
+    requires within { by ≤ length (spread runs.old.items) }
+    requires maximal { AreMaximal runs.old.items }
+    ensures some { 0 < result }
+    ensures most { result ≤ by }
+    ensures columns { spread runs.new.items ≡ take (length (spread runs.old.items) - result) (spread runs.old.items) }
+    ensures maximal { AreMaximal runs.new.items }
+{
+    let last = runs.len() - 1;
+    let count = runs[last].count;
+    if by < count as usize {
+        set_count(runs, last, count - by as u32);
+        return by;
+    }
+    runs.truncate(last);
+    count as usize
+}
+
+/// Drops the columns from one on.
+pub(crate) fn cut(runs: &mut Vec<Run>, columns: usize, at: usize)
+    requires columns { columns ≡ length (spread runs.old.items) }
+    requires within { at ≤ columns }
+    requires maximal { AreMaximal runs.old.items }
+    ensures columns { spread runs.new.items ≡ take at (spread runs.old.items) }
+    ensures maximal { AreMaximal runs.new.items }
+{
+    let mut left = columns;
+    while left > at {
+        left -= shorten(runs, left - at);
+    }
+}
+
+// Whether one run holds the columns between two places and has these attributes.
+fn is_set(runs: &[Run], from: Place, to: Place, attributes: &CellAttributes) -> bool
+    requires from { IsPlace runs.now from }
+    requires to { IsPlace runs.now to }
+    requires order { from.index ≤ to.index }
+    requires columns { column_at runs.now from < column_at runs.now to }
+    ensures { IsTrue result → spread runs.now
+        ≡ attributes_set (column_at runs.now from) (column_at runs.now to) attributes.now (spread runs.now) }
+{
+    if to.offset > 0 {
+        return to.index == from.index && has(&runs[to.index], attributes);
+    }
+    to.index - from.index == 1 && has(&runs[from.index], attributes)
+}
+
+// Ends the columns before a place with a run of their own, where the place is within one. Answers how many runs they
+// are, and where the second place is then.
+fn end_at(runs: &mut Vec<Run>, from: Place, to: Place) -> Result<(usize, Place), AllocError>
+    requires from { IsPlace runs.old.items from }
+    requires to { IsPlace runs.old.items to }
+    requires order { from.index ≤ to.index }
+    requires columns { column_at runs.old.items from < column_at runs.old.items to }
+    requires fits { length (spread runs.old.items) ≤ 4294967295 }
+    requires maximal { AreMaximal runs.old.items }
+    requires room { vec_len runs.old + 2 ≤ vec_capacity runs.old }
+    ensures parted { IfOk result (λ r. IsParted (column_at runs.old.items from) (column_at runs.old.items to)
+        runs.old.items runs.new.items r.0 r.1) }
+    ensures room { OnOk result (vec_len runs.new < vec_capacity runs.new) }
+    ensures refused { OnErr result (runs.new.items ≡ runs.old.items) }
+{
+    if from.offset == 0 {
+        return Ok((from.index, to));
+    }
+    if from.index == to.index {
+        let place = split(runs, from, to)?;
+        return Ok((place.index, place));
+    }
+    set_count(runs, from.index, from.offset as u32);
+    Ok((from.index + 1, to))
+}
+
+// Makes two runs of one that holds both places. Answers where the second place is then.
+fn split(runs: &mut Vec<Run>, from: Place, to: Place) -> Result<Place, AllocError>
+    requires from { IsPlace runs.old.items from }
+    requires to { IsPlace runs.old.items to }
+    requires one { from.index ≡ to.index }
+    requires order { (0 < from.offset) × (from.offset < to.offset) }
+    requires fits { length (spread runs.old.items) ≤ 4294967295 }
+    requires maximal { AreMaximal runs.old.items }
+    requires room { vec_len runs.old + 2 ≤ vec_capacity runs.old }
+    ensures parted { IfOk result (λ place. IsParted (column_at runs.old.items from) (column_at runs.old.items to)
+        runs.old.items runs.new.items place.index place) }
+    ensures room { OnOk result (vec_len runs.new < vec_capacity runs.new) }
+    ensures refused { OnErr result (runs.new.items ≡ runs.old.items) }
+{
+    let run = &runs[from.index];
+    let count = run.count;
+    let attributes = run.attributes.try_clone()?;
+    let behind = from.index + 1;
+    runs.insert(
+        behind,
+        Run {
+            count: count - from.offset as u32,
+            attributes,
+        },
+    )?;
+    set_count(runs, from.index, from.offset as u32);
+    Ok(Place {
+        index: behind,
+        offset: to.offset - from.offset,
+    })
+}
+
+// Begins the columns from a place on with a run of their own.
+fn begin_at(runs: &mut Vec<Run>, place: Place)
+    requires place { IsPlace runs.old.items place }
+    requires fits { length (spread (drop place.index runs.old.items)) ≤ 4294967295 }
+    requires maximal { AreMaximal (drop place.index runs.old.items) }
+    ensures front { take place.index runs.new.items ≡ take place.index runs.old.items }
+    ensures columns { spread (drop place.index runs.new.items)
+        ≡ drop place.offset (spread (drop place.index runs.old.items)) }
+    ensures maximal { AreMaximal (drop place.index runs.new.items) }
+    ensures len { length runs.new.items ≡ length runs.old.items }
+    ensures capacity { vec_capacity runs.new ≡ vec_capacity runs.old }
+{
+    if place.offset == 0 {
+        return;
+    }
+    let count = runs[place.index].count;
+    set_count(runs, place.index, count - place.offset as u32);
+}
+
+// Counts the run in front to a run that has its attributes. Answers how many runs are left in front.
+fn join_front(runs: &[Run], kept: usize, run: &mut Run) -> usize
+    requires within { kept ≤ length runs.now }
+    requires some { 0 < run.old.count }
+    requires fits { length (spread (take kept runs.now)) + run.old.count ≤ 4294967295 }
+    requires maximal { AreMaximal (take kept runs.now) }
+    ensures order { result ≤ kept }
+    ensures columns { spread (take result runs.now) ++ columns_of run.new
+        ≡ spread (take kept runs.now) ++ columns_of run.old }
+    ensures attributes { run.new.attributes ≡ run.old.attributes }
+    ensures maximal { AreMaximal (take result runs.now ++ run.new ∷ []) }
+{
+    if kept == 0 {
+        return kept;
+    }
+    let front = &runs[kept - 1];
+    if !has(front, &run.attributes) {
+        return kept;
+    }
+    run.count += front.count;
+    kept - 1
+}
+
+// Counts the run behind to a run that has its attributes. Answers where the runs begin that are left behind.
+fn join_behind(runs: &[Run], from: usize, run: &mut Run) -> usize
+    requires within { from ≤ length runs.now }
+    requires some { 0 < run.old.count }
+    requires fits { run.old.count + length (spread (drop from runs.now)) ≤ 4294967295 }
+    requires maximal { AreMaximal (drop from runs.now) }
+    ensures order { from ≤ result }
+    ensures within { result ≤ length runs.now }
+    ensures columns { columns_of run.new ++ spread (drop result runs.now)
+        ≡ columns_of run.old ++ spread (drop from runs.now) }
+    ensures attributes { run.new.attributes ≡ run.old.attributes }
+    ensures some { 0 < run.new.count }
+    ensures maximal { AreMaximal (run.new ∷ drop result runs.now) }
+{
+    if from == runs.len() {
+        return from;
+    }
+    let behind = &runs[from];
+    if !has(behind, &run.attributes) {
+        return from;
+    }
+    run.count += behind.count;
+    from + 1
+}
+
+// The run comes before those at `at`.
+fn put_in(runs: &mut Vec<Run>, at: usize, run: Run)
+    requires within { at ≤ vec_len runs.old }
+    requires room { vec_len runs.old < vec_capacity runs.old }
+    ensures { runs.new.items ≡ insert runs.old.items at run }
+{
+    let _never = runs.insert(at, run);
+}
+
+// The run stands in the place of another.
+fn put(runs: &mut Vec<Run>, at: usize, run: Run)
+    requires { at < vec_len runs.old }
+    ensures { runs.new.items ≡ slice_set runs.old.items at run }
+{
+    runs[at] = run;
+}
+
+// Drops the runs from one on, before another.
+fn remove(runs: &mut Vec<Run>, from: usize, to: usize)
+    requires order { from ≤ to }
+    requires within { to ≤ length runs.old.items }
+    ensures { runs.new.items ≡ take from runs.old.items ++ drop to runs.old.items }
+{
+    if from == to {
+        return;
+    }
+    let behind = runs.len() - to;
+    for k in 0..behind {
+        runs.swap(from + k, to + k);
+    }
+    runs.truncate(from + behind);
+}
+
+// The run stands in the place of those from one on, before another.
+fn replace(runs: &mut Vec<Run>, from: usize, to: usize, run: Run)
+    requires order { from ≤ to }
+    requires within { to ≤ length runs.old.items }
+    requires room { vec_len runs.old < vec_capacity runs.old }
+    ensures { runs.new.items ≡ take from runs.old.items ++ run ∷ drop to runs.old.items }
+{
+    if from == to {
+        put_in(runs, from, run);
+        return;
+    }
+    put(runs, from, run);
+    remove(runs, from + 1, to);
+}
+
+// The run comes between the first runs and a place, joined with what has its attributes on either side.
+fn put_between(runs: &mut Vec<Run>, kept: usize, place: Place, run: Run)
+    requires order { kept ≤ place.index }
+    requires place { IsPlace runs.old.items place }
+    requires some { 0 < run.count }
+    requires part { length (spread (drop place.index runs.old.items)) ≤ 4294967295 }
+    requires fits { length (spread (take kept runs.old.items)) + run.count
+        + length (drop place.offset (spread (drop place.index runs.old.items))) ≤ 4294967295 }
+    requires front { AreMaximal (take kept runs.old.items) }
+    requires behind { AreMaximal (drop place.index runs.old.items) }
+    requires room { vec_len runs.old < vec_capacity runs.old }
+    ensures columns { spread runs.new.items ≡ spread (take kept runs.old.items) ++ columns_of run
+        ++ drop place.offset (spread (drop place.index runs.old.items)) }
+    ensures maximal { AreMaximal runs.new.items }
+{
+    let mut run = run;
+    begin_at(runs, place);
+    let from = join_front(runs, kept, &mut run);
+    let to = join_behind(runs, place.index, &mut run);
+    replace(runs, from, to, run);
+}
+
+/// Gives the columns from `a` on, before `b`, these attributes, where one run could count all columns.
+pub(crate) fn set(
+    runs: &mut Vec<Run>,
+    columns: usize,
+    a: usize,
+    b: usize,
+    attributes: &CellAttributes,
+) -> Result<(), AllocError>
+    requires columns { columns ≡ length (spread runs.old.items) }
+    requires fits { columns ≤ 4294967295 }
+    requires order { a < b }
+    requires within { b ≤ columns }
+    requires maximal { AreMaximal runs.old.items }
+    ensures done { OnOk result
+        (spread runs.new.items ≡ attributes_set a b attributes.now (spread runs.old.items)) }
+    ensures refused { OnErr result (runs.new.items ≡ runs.old.items) }
+    ensures maximal { AreMaximal runs.new.items }
+{
+    let from = place_of(runs, columns, a);
+    let to = place_from(runs, from.index, from.offset + (b - a));
+    if is_set(runs, from, to, attributes) {
+        return Ok(());
+    }
+    runs.reserve(2)?;
+    let run = Run {
+        count: (b - a) as u32,
+        attributes: attributes.try_clone()?,
+    };
+    let (kept, place) = end_at(runs, from, to)?;
+    put_between(runs, kept, place, run);
+    Ok(())
+}
+
+/// A copy of the runs.
+pub(crate) fn copy(alloc: Global, runs: &[Run]) -> Result<Vec<Run>, AllocError>
+    ensures { IfOk result (λ copy. copy.items ≡ runs.now) }
+{
+    let mut copy = Vec::with_capacity(alloc, runs.len())?;
+    for run in runs {
+        copy.push(Run {
+            count: run.count,
+            attributes: run.attributes.try_clone()?,
+        })?;
+    }
+    Ok(copy)
+}

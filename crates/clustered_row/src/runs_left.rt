@@ -1,0 +1,80 @@
+//! Attributes of columns that are left to be lent.
+ghost use Rattle.std.specs.Prelude.{◌≡◌, ◌<◌, ◌≤◌, ◌∷◌, true, length, drop, slice_index_or};
+ghost use Rattle.clustered_row.specs.Runs.{is_begun};
+ghost use Rattle.clustered_row.specs.Sizes.{width_of};
+
+use crate::run::Run;
+use crate::run_steps;
+use crate::runs::Runs;
+use cell_base::CellAttributes;
+
+// Those of the columns of runs, but for so many of the first run, which has more.
+#[derive(Drop)]
+pub(crate) struct RunsLeft<'a> {
+    pub(crate) runs: &'a [Run],
+    pub(crate) used: usize,
+    ghost begun: { is_begun used runs.now ≡ true },
+}
+
+impl<'a> RunsLeft<'a> {
+    ghost use Rattle.clustered_row.specs.VisibleRuns.{attributes_left};
+
+    // The attributes of the next column, which is left no more.
+    #[inline(always)]
+    fn pass(&mut self) -> &'a CellAttributes
+        requires { 0 < length (attributes_left self.old) }
+        ensures { attributes_left self.old ≡ result.now ∷ attributes_left self.new }
+    {
+        let run = &self.runs[0];
+        let count = run.count;
+        let used = self.used + 1;
+        if used < count as usize {
+            self.used = used;
+            return &run.attributes;
+        }
+        self.runs = &self.runs[1..];
+        self.used = 0;
+        &run.attributes
+    }
+
+    // The attributes of the next cell's first column. Its columns are left no more.
+    #[inline(always)]
+    pub(crate) fn pass_cell(&mut self, is_wide: bool) -> &'a CellAttributes
+        requires { width_of is_wide ≤ length (attributes_left self.old) }
+        ensures first { result.now ≡ slice_index_or (attributes_left self.old) 0 result.now }
+        ensures left { attributes_left self.new ≡ drop (width_of is_wide) (attributes_left self.old) }
+    {
+        let attributes = self.pass();
+        if is_wide {
+            let _second = self.pass();
+        }
+        attributes
+    }
+}
+
+impl Runs {
+    ghost use Rattle.clustered_row.specs.VisibleRuns.{attributes_left};
+
+    // All columns.
+    #[inline(always)]
+    pub(crate) fn left(&self) -> RunsLeft<'_>
+        ensures { attributes_left result ≡ self.now }
+    {
+        RunsLeft {
+            runs: &self.runs,
+            used: 0,
+        }
+    }
+
+    // The columns from one on.
+    pub(crate) fn left_from(&self, column: usize) -> RunsLeft<'_>
+        requires { column ≤ length self.now }
+        ensures { attributes_left result ≡ drop column self.now }
+    {
+        let place = run_steps::place_from(&self.runs, 0, column);
+        RunsLeft {
+            runs: &self.runs[place.index..],
+            used: place.offset,
+        }
+    }
+}

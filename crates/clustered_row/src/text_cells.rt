@@ -1,0 +1,105 @@
+//! The cells at the front of a text.
+ghost use Rattle.std.specs.Prelude.{◌≡◌, ◌≤◌, ◌==◌, true, drop, length, IfOk, IfSome, OnOk};
+ghost use Rattle.std.specs.List.{list_all};
+ghost use Rattle.std.specs.Str.{IsCharBoundary};
+ghost use Rattle.text_clusters.specs.Apart.{begins_apart};
+ghost use Rattle.cell_edits.specs.LoneText.{BeginsLone};
+ghost use Rattle.clustered_row.specs.Sizes.{is_plain};
+ghost use Rattle.clustered_row.specs.Walk.{IsWalked};
+
+use crate::cell_size::{CellSize, PLAIN};
+use cell_base::Widths;
+use std::alloc::AllocError;
+use text_clusters::{begins_apart, begins_printable, first_character, stands_apart};
+
+// The size of a cell of so many bytes, which takes one column or two.
+#[inline(always)]
+pub(crate) fn size_of(len: usize, columns: usize) -> CellSize
+    requires { 1 ≤ len }
+    ensures len { result.len ≡ len }
+    ensures wide { result.is_wide ≡ (columns == 2) }
+{
+    CellSize {
+        len,
+        is_wide: columns == 2,
+    }
+}
+
+// The first character of a text, where it stands apart: of how many bytes it is, and how many columns it takes by
+// itself, of which none count as one.
+#[inline(always)]
+fn first_lone<W: Widths>(text: &str, w: &W) -> Option<(usize, usize)>
+    ensures lone { IfSome result (λ first. BeginsLone (W.width_of w.now) text.now first.0 first.1) }
+    ensures cut { IfSome result (λ first. IsCharBoundary text.now first.0) }
+    ensures apart { IfSome result (λ first. begins_apart text.now ≡ true) }
+{
+    if begins_printable(text) && w.has_narrow_ascii() {
+        return Some((1, 1));
+    }
+    let (character, len) = first_character(text)?;
+    if let Some(columns) = w.letter_columns(character) {
+        return Some((len, usize::from(columns)));
+    }
+    if stands_apart(character) {
+        return Some((len, usize::from(w.character_width(character)).max(1)));
+    }
+    None
+}
+
+// What stands behind so many bytes.
+#[inline(always)]
+fn behind(text: &str, len: usize) -> &str
+    requires { IsCharBoundary text.now len }
+    ensures { result.now ≡ drop len text.now }
+{
+    let (_, rest) = text.split_at(len);
+    rest
+}
+
+// The sizes of the cells at the front of a text, of which each is one character that is a cluster by itself, as far as they fit
+// in so many columns. Answers how many columns they take, and the text that is left. Each character is decoded once.
+pub(crate) fn lone_cells<'a, W: Widths>(
+    sizes: &mut Vec<CellSize>,
+    room: usize,
+    text: &'a str,
+    w: &W,
+) -> Result<(usize, &'a str), AllocError>
+    ensures { IfOk result (λ r. IsWalked (W.width_of w.now) room text.now sizes.new.items r.0 r.1.now) }
+{
+    sizes.clear();
+    let Some(one) = first_lone(text, w) else {
+        return Ok((0, text));
+    };
+    let mut columns = 0;
+    let mut left = text;
+    let mut first = one;
+    let mut rest = behind(left, first.0);
+    while let Some(next) = first_lone(rest, w) {
+        if room - columns < first.1 {
+            return Ok((columns, left));
+        }
+        sizes.push(size_of(first.0, first.1))?;
+        columns += first.1;
+        left = rest;
+        first = next;
+        rest = behind(left, first.0);
+    }
+    if !begins_apart(rest) {
+        return Ok((columns, left));
+    }
+    if room - columns < first.1 {
+        return Ok((columns, left));
+    }
+    sizes.push(size_of(first.0, first.1))?;
+    Ok((columns + first.1, rest))
+}
+
+// The list becomes that of the sizes of so many plain cells.
+pub(crate) fn fill_plain(sizes: &mut Vec<CellSize>, count: usize) -> Result<(), AllocError>
+    ensures plain { OnOk result (list_all is_plain sizes.new.items ≡ true) }
+    ensures count { OnOk result (length sizes.new.items ≡ count) }
+{
+    sizes.clear();
+    sizes.resize(count, PLAIN)?;
+    Ok(())
+}

@@ -1,0 +1,129 @@
+//! Texts of cells that are left to be lent.
+ghost use Rattle.std.specs.Prelude.{◌≡◌, ◌≤◌, ◌++◌, true, false, [], length, take, drop, MatchOption};
+ghost use Rattle.clustered_row.specs.Faces.{cell_faces, starts_right};
+ghost use Rattle.clustered_row.specs.Place.{IsBefore};
+ghost use Rattle.clustered_row.specs.Sizes.{bytes_of, is_cut};
+
+use crate::cell_size::CellSize;
+use crate::cut_text::CutText;
+use crate::lent_text::LentText;
+use crate::place::{Place, START};
+use crate::texts::Texts;
+use std::str;
+
+// Cells with these sizes at the front of a text, and one for each byte behind them.
+#[derive(Drop)]
+pub(crate) struct TextsLeft<'a> {
+    pub(crate) text: &'a [u8],
+    pub(crate) sizes: &'a [CellSize],
+    ghost bytes: { bytes_of sizes.now ≤ length text.now },
+    ghost parts: { is_cut text.now sizes.now ≡ true },
+}
+
+impl<'a> TextsLeft<'a> {
+    ghost use Rattle.clustered_row.specs.VisibleTexts.{faces_left};
+
+    // The next cell, which is left no more.
+    #[inline(always)]
+    pub(crate) fn pass(&mut self) -> Option<LentText<'a>>
+        ensures { MatchOption result ((faces_left self.old ≡ []) × (faces_left self.new ≡ [])) (λ cell.
+            faces_left self.old ≡ cell_faces cell.is_wide cell.text.now ++ faces_left self.new) }
+    {
+        if let Some((size, sizes)) = self.sizes.split_first() {
+            let len = size.len;
+            let text = &self.text[..len];
+            self.text = &self.text[len..];
+            self.sizes = sizes;
+            return Some(LentText {
+                text: unsafe { str::from_utf8_unchecked(text) },
+                is_wide: size.is_wide,
+            });
+        }
+        if self.text.is_empty() {
+            return None;
+        }
+        let text = &self.text[..1];
+        self.text = &self.text[1..];
+        Some(LentText {
+            text: unsafe { str::from_utf8_unchecked(text) },
+            is_wide: false,
+        })
+    }
+}
+
+impl CutText {
+    ghost use Rattle.clustered_row.specs.CutTexts.{shown};
+    ghost use Rattle.clustered_row.specs.VisibleTexts.{faces_left};
+
+    // All cells.
+    #[inline(always)]
+    pub(crate) fn left(&self) -> TextsLeft<'_>
+        ensures { faces_left result ≡ shown self.now }
+    {
+        TextsLeft {
+            text: &self.text,
+            sizes: &self.sizes,
+        }
+    }
+
+    // The place of a column at which no cell is cut, looked for from another such place on.
+    fn place_before(&self, from: Place, at: usize) -> Place
+        requires from { IsBefore self.now.text.items self.now.sizes.items from }
+        requires order { from.columns ≤ at }
+        requires within { at ≤ length (shown self.now) }
+        requires whole { starts_right (drop at (shown self.now)) ≡ false }
+        ensures place { IsBefore self.now.text.items self.now.sizes.items result }
+        ensures column { result.columns ≡ at }
+        ensures index { from.index ≤ result.index }
+        ensures bytes { from.bytes ≤ result.bytes }
+    {
+        if self.sized_columns <= at {
+            return Place {
+                index: self.sizes.len(),
+                bytes: self.plain_byte(at),
+                columns: at,
+            };
+        }
+        self.place(from, at)
+    }
+
+    // The cells from a column on and before another, at which no cell is cut.
+    pub(crate) fn between(&self, from: usize, to: usize) -> TextsLeft<'_>
+        requires order { from ≤ to }
+        requires within { to ≤ length (shown self.now) }
+        requires first { starts_right (drop from (shown self.now)) ≡ false }
+        requires last { starts_right (drop to (shown self.now)) ≡ false }
+        ensures { faces_left result ≡ drop from (take to (shown self.now)) }
+    {
+        let first = self.place_before(START, from);
+        let last = self.place_before(first, to);
+        TextsLeft {
+            text: &self.text[first.bytes..last.bytes],
+            sizes: &self.sizes[first.index..last.index],
+        }
+    }
+}
+
+impl Texts {
+    ghost use Rattle.clustered_row.specs.TextsShown.{faces};
+    ghost use Rattle.clustered_row.specs.VisibleTexts.{faces_left};
+
+    // All cells.
+    #[inline(always)]
+    pub(crate) fn left(&self) -> TextsLeft<'_>
+        ensures { faces_left result ≡ faces self.now }
+    {
+        self.cut.left()
+    }
+
+    // The cells from a column on and before another, at which no cell is cut.
+    pub(crate) fn between(&self, from: usize, to: usize) -> TextsLeft<'_>
+        requires order { from ≤ to }
+        requires within { to ≤ length (faces self.now) }
+        requires first { starts_right (drop from (faces self.now)) ≡ false }
+        requires last { starts_right (drop to (faces self.now)) ≡ false }
+        ensures { faces_left result ≡ drop from (take to (faces self.now)) }
+    {
+        self.cut.between(from, to)
+    }
+}
