@@ -1,18 +1,20 @@
 -- Rows that are made of cells, one after another.
-use Rattle.std.proofs.Common.{◌≡◌, ℕ, suc, ◌+◌, ◌-◌, ◌≤◌, ◌<◌, true, false, List, [], ◌∷◌, ◌++◌, length, take, drop, get_or, sym, ap, subst, ◌∙◌, append-nil, length-append, arith, drop-cons}
+use Rattle.std.proofs.Common.{◌≡◌, ℕ, suc, ◌+◌, ◌-◌, ◌≤◌, ◌<◌, true, false, List, [], ◌∷◌, ◌++◌, length, take, drop, get_or, replicate, refl, sym, ap, subst, ◌∙◌, append-nil, length-append, arith, drop-cons}
 use Rattle.std.specs.Prelude.{◌&&◌, max, nat_le, nat_lt, if◌then◌else◌}
 use Rattle.std.proofs.lemmas.Bool.Decides.{nat_tests}
 use Rattle.std.proofs.lemmas.List.{drop-drop, drop_all, length-drop, length-replicate, take_at}
-use Rattle.cell_base.specs.Attributes.{plain}
-use Rattle.cell_base.specs.CellContent.{CellContent, cell_of, row_of_cells}
+use Rattle.cell_base.specs.Attributes.{Attributes, plain}
+use Rattle.cell_base.specs.CellContent.{CellContent, blank_cell, cell_of, row_of_cells}
 use Rattle.cell_base.specs.LawfulCell.{IsCell}
 use Rattle.cell_base.specs.Row.{Row, Narrow, LeftHalf, RightHalf, blank, closed_end, closed_start, plain_row, set_columns}
 use Rattle.cell_rows.specs.WholeRow.{IsWhole}
-use Rattle.cell_rows.proofs.RowLemmas.{length-set_columns, set_columns-again, whole_ends, whole-blanks, whole-set_columns}
+use Rattle.cell_rows.proofs.RowLemmas.{length-set_columns, set_columns-again, whole_ends, whole-append, whole-blanks, whole-set_columns}
 use Rattle.cell_edits.specs.CellList.{cell_columns}
+use Rattle.cell_edits.specs.ShownCells.{lent_cells}
+use Rattle.cell_edits.specs.VisibleCells.{VisibleCell, row_of_visible, visible_from}
 use Rattle.cell_edits.proofs.CellLemmas.{by_test, length-row, row_wide}
 use Rattle.cell_edits.proofs.CutLemmas.{columns_narrow, columns_wide, row_narrow_any}
-use Rattle.cell_edits.proofs.RowLaws.{whole_columns}
+use Rattle.cell_edits.proofs.RowLaws.{row_again, whole_columns}
 use Rattle.clustered_row.specs.FirstCells.{first_columns}
 
 -- ---- a cell that is there whole
@@ -134,3 +136,28 @@ put_last cells row at l h =
     let all : take at row ≡ row = ap (take at) (sym (append-nil row)) ∙ take_at row [] at (omega (arith, len, order, h)) in
     let past : drop (at + 0) row ≡ [] = drop_all (at + 0) row (omega (arith, len, h)) in
     sym (ap (set_columns row at) none ∙ (λ i. closed_end (all i) ++ [] ++ closed_start (past i)) ∙ append-nil (closed_end row ++ []) ∙ append-nil (closed_end row) ∙ whole_ends row l.whole) ∙ l.leads
+
+-- ---- a row's cells
+
+-- read from the left they are the row
+pub row_of_lent : (row : Row) → IsWhole row → row_of_cells (lent_cells row) ≡ row
+row_of_lent [] p = refl
+row_of_lent (Narrow t a ∷ row) p = row_narrow_any (record { text = t; width = 1; attributes = a }) (lent_cells row) refl ∙ ap (λ (r : Row). Narrow t a ∷ r) (row_of_lent row p)
+row_of_lent (RightHalf a ∷ row) p = absurd p
+row_of_lent (LeftHalf t a ∷ []) p = absurd p
+row_of_lent (LeftHalf t a ∷ Narrow u b ∷ row) p = absurd p
+row_of_lent (LeftHalf t a ∷ LeftHalf u b ∷ row) p = absurd p
+row_of_lent (LeftHalf t a ∷ RightHalf b ∷ row) p =
+    row_wide (record { text = t; width = 2; attributes = a }) (blank_cell b) (lent_cells row) refl ∙ (λ j. LeftHalf t a ∷ RightHalf (sym p.0 j) ∷ row_of_lent row p.1 j)
+
+-- what was written is whole, and so are blanks
+pub whole_shown : (columns : Row) (n : ℕ) (rest : Attributes) (row : Row) → IsWhole columns → columns ++ replicate n (blank rest) ≡ row → IsWhole row
+whole_shown columns n rest row w e = subst IsWhole e (whole-append columns (replicate n (blank rest)) w (whole-blanks n rest))
+
+-- none yet, and all
+pub lent_first : (items : List CellContent) (row left : Row) (column : ℕ) → items ≡ [] → left ≡ row → column ≡ 0 → IsWhole row → items ++ lent_cells (row_of_visible (visible_from column left)) ≡ lent_cells row
+lent_first items row left column none same at w = (λ i. none i ++ lent_cells (row_of_visible (visible_from (at i) (same i)))) ∙ ap lent_cells (row_again 0 row w)
+
+pub lent_last : (items : List CellContent) (row : Row) (left : List VisibleCell) → left ≡ [] → items ++ lent_cells (row_of_visible left) ≡ lent_cells row → IsWhole row → row_of_cells items ≡ row
+lent_last items row left none all w =
+    ap row_of_cells (sym (append-nil items) ∙ ap (λ (vs : List VisibleCell). items ++ lent_cells (row_of_visible vs)) (sym none) ∙ all) ∙ row_of_lent row w

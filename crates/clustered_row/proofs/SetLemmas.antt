@@ -4,7 +4,7 @@ use Rattle.std.specs.Prelude.{◌&&◌, ◌==◌, max, not, nat_lt, if◌then◌
 use Rattle.std.specs.Char.{encode_utf8, is_ascii_control}
 use Rattle.std.specs.List.{flat_map, list_all}
 use Rattle.std.specs.Str.{encode_utf8_all, is_utf8}
-use Rattle.std.proofs.lemmas.Bool.{and_parts, eqb-true}
+use Rattle.std.proofs.lemmas.Bool.{and_from, and_parts, eqb-true}
 use Rattle.std.proofs.lemmas.Bool.Decides.{eqb_tells, leb_tells, nat_tests}
 use Rattle.std.proofs.lemmas.List.{length-replicate, nil_from_length, replicate-append-replicate, take_at}
 use Rattle.std.proofs.lemmas.Str.{IsCharBoundary-from_ascii, IsCharBoundary-from_take, is_utf8-from_IsUtf8}
@@ -143,8 +143,8 @@ module _ (text : List ℕ) (width n : ℕ) (size : CellSize) (a : Attributes) (i
   pub cell_is_cut : IsUtf8 text → is_cut text (size ∷ []) ≡ true
   cell_is_cut u = one_cut text size is.len (by_plain (is_plain size) refl)
     where
-      by_plain : (b : Bool) → is_plain size ≡ b → (if b then list_all is_printable text else is_utf8 text) ≡ true
-      by_plain false e = is_utf8-from_IsUtf8 text u
+      by_plain : (b : Bool) → is_plain size ≡ b → (if b then list_all is_printable text else is_utf8 text && not (shows_as_space text)) ≡ true
+      by_plain false e = and_from (is_utf8 text) (not (shows_as_space text)) (is_utf8-from_IsUtf8 text u) (ap not is.kept)
       by_plain true e =
           let one = eqb-true size.len 1 (and_parts (not size.is_wide) (size.len == 1) e).1 in
           let len = is.len in

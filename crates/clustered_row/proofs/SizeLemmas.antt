@@ -1,15 +1,17 @@
 -- Texts that are cut by sizes.
 use Rattle.std.proofs.Common.{◌≡◌, ℕ, zero, suc, ◌+◌, ◌*◌, ◌<◌, ◌≤◌, Bool, true, false, ◌&&◌, not, ◌==◌, List, [], ◌∷◌, ◌++◌, length, take, drop, replicate, get_or, refl, sym, ap, subst, ◌∙◌, arith, append_assoc, length-append, IsUtf8, IsAscii}
 use Rattle.std.specs.Prelude.{if◌then◌else◌}
+use Rattle.std.specs.Char.{is_ascii_control}
 use Rattle.std.specs.List.{list_all}
 use Rattle.std.specs.Str.{is_utf8}
 use Rattle.std.proofs.lemmas.Bool.{and_parts, and_from, eqb-true}
 use Rattle.std.proofs.lemmas.Bool.Decides.{nat_tests}
-use Rattle.std.proofs.lemmas.List.{map-append, length-map, take_more, take-append-le, drop-append-le, take-append-drop, length-drop}
+use Rattle.std.proofs.lemmas.List.{map-append, length-map, take_more, take-append-le, drop-append-le, take-append-drop, length-drop, length-take-le}
 use Rattle.std.proofs.lemmas.List.Folds.{list_all-append}
 use Rattle.std.proofs.lemmas.Str.{IsUtf8-append, IsUtf8-from_ascii, IsUtf8-from_is_utf8}
 use Rattle.std.proofs.lemmas.Str.Ascii.{IsAscii-nil, IsAscii-cons}
 use Rattle.text_clusters.specs.Plain.{is_printable}
+use Rattle.cell_base.specs.CellContent.{shows_as_space}
 use Rattle.clustered_row.specs.declared.cell_size.CellSize.{CellSize}
 use Rattle.clustered_row.specs.Faces.{Own, cell_faces, plain_faces, closed_end, closed_start}
 use Rattle.clustered_row.specs.Sizes.{width_of, bytes_of, columns_of, is_plain, ends_plain, faces_of, is_text, is_cut}
@@ -147,7 +149,7 @@ plain_cell s b text h =
     let one : s.len ≡ suc zero = p.1 ∙ omega arith in
     let taken : take s.len (b ∷ text) ≡ b ∷ [] = ap (λ n. take n (b ∷ text)) one in (
       (λ i. cell_faces (p.0 i) (taken i)),
-      (λ i. if h i then list_all is_printable (taken i) else is_utf8 (taken i)) ∙ and_true (is_printable b),
+      (λ i. if h i then list_all is_printable (taken i) else is_utf8 (taken i) && not (shows_as_space (taken i))) ∙ and_true (is_printable b),
       ap (λ n. drop n (b ∷ text)) one,
     )
 
@@ -200,9 +202,9 @@ IsAscii-printable (b ∷ text) h =
     let p = and_parts (is_printable b) (list_all is_printable text) h in
     IsAscii-cons b text (printable_ascii b p.0) (IsAscii-printable text p.1)
 
-utf8_either : (plain : Bool) (text : List ℕ) → (if plain then list_all is_printable text else is_utf8 text) ≡ true → IsUtf8 text
+utf8_either : (plain : Bool) (text : List ℕ) → (if plain then list_all is_printable text else is_utf8 text && not (shows_as_space text)) ≡ true → IsUtf8 text
 utf8_either true text h = IsUtf8-from_ascii text (IsAscii-printable text h)
-utf8_either false text h = IsUtf8-from_is_utf8 text h
+utf8_either false text h = IsUtf8-from_is_utf8 text (and_parts (is_utf8 text) (not (shows_as_space text)) h).0
 
 pub IsUtf8-cell : (s : CellSize) (text : List ℕ) → is_text s text ≡ true → IsUtf8 text
 IsUtf8-cell s text h = utf8_either (is_plain s) text h
@@ -213,6 +215,34 @@ IsUtf8-cut text (s ∷ sizes) h =
     let p = and_parts (is_text s (take s.len text)) (is_cut (drop s.len text) sizes) h in
     subst IsUtf8 (take-append-drop s.len text)
     (IsUtf8-append (take s.len text) (drop s.len text) (IsUtf8-cell s (take s.len text) p.0) (IsUtf8-cut (drop s.len text) sizes p.1))
+
+-- ---- texts that stand in cells as they are
+
+not_it : (b : Bool) → not b ≡ true → b ≡ false
+not_it true h = absurd cc
+not_it false h = refl
+
+not_control : (b : ℕ) → is_printable b ≡ true → is_ascii_control b ≡ false
+not_control b h = grind (arith, nat_tests)
+
+not_return : (b c : ℕ) → is_printable b ≡ true → (b == 13 && c == 10) ≡ false
+not_return b c h = grind (arith, nat_tests)
+
+pub kept_plain : (text : List ℕ) → list_all is_printable text ≡ true → 0 < length text → shows_as_space text ≡ false
+kept_plain [] h l = absurd (omega (arith, l))
+kept_plain (b ∷ []) h l = not_control b (and_parts (is_printable b) true h).0
+kept_plain (b ∷ c ∷ []) h l = not_return b c (and_parts (is_printable b) (list_all is_printable (c ∷ [])) h).0
+kept_plain (b ∷ c ∷ d ∷ text) h l = refl
+
+kept_either : (plain : Bool) (text : List ℕ) → 0 < length text → (if plain then list_all is_printable text else is_utf8 text && not (shows_as_space text)) ≡ true → shows_as_space text ≡ false
+kept_either true text l h = kept_plain text h l
+kept_either false text l h = not_it (shows_as_space text) (and_parts (is_utf8 text) (not (shows_as_space text)) h).1
+
+pub kept_first : (s : CellSize) (text : List ℕ) (sizes : List CellSize) → bytes_of (s ∷ sizes) ≤ length text → is_cut text (s ∷ sizes) ≡ true → shows_as_space (take s.len text) ≡ false
+kept_first s text sizes l h =
+    let some = s.some in
+    let long = length-take-le s.len text (omega (arith, l)) in
+    kept_either (is_plain s) (take s.len text) (omega (arith, some, long)) (and_parts (is_text s (take s.len text)) (is_cut (drop s.len text) sizes) h).0
 
 -- ---- the cell that takes a column
 

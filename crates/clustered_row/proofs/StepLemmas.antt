@@ -8,6 +8,7 @@ use Rattle.std.proofs.lemmas.Bool.{and_from, cond-true, cases_lt}
 use Rattle.std.proofs.lemmas.List.{length-take, length-take-le, length-drop, length-replicate, take-take, take_at, length_push, take_all, take_more, get_or_default}
 use Rattle.cell_base.specs.Row.{space}
 use Rattle.text_clusters.specs.Plain.{is_printable}
+use Rattle.cell_base.specs.CellContent.{shows_as_space}
 use Rattle.clustered_row.specs.declared.cell_size.CellSize.{CellSize}
 use Rattle.clustered_row.specs.declared.cut_text.CutText.{CutText}
 use Rattle.clustered_row.specs.declared.place.Place.{Place}
@@ -15,7 +16,7 @@ use Rattle.clustered_row.specs.Faces.{Own, Right, first_face, plain_faces, close
 use Rattle.clustered_row.specs.Place.{IsPlace, IsHalved}
 use Rattle.clustered_row.specs.Sizes.{width_of, bytes_of, columns_of, is_plain, ends_plain, faces_of, is_cut}
 use Rattle.clustered_row.proofs.SizeLemmas.{bytes_of-append, columns_of-append, bytes_split, columns_split, bytes_next, columns_next, columns_few, columns_many, join, cut_join, width_bounds, IsUtf8-cut, length-faces, faces_more, cut_more, plain_sizes, plain_sums, plain_copies, ends_plain-push, second_column}
-use Rattle.clustered_row.proofs.TextLemmas.{Placed, IsBehind, replaced, replaced_cut, replaced_bytes, replaced_columns, halved_at, closed_at_place, closed_in_wide, cut_in_wide, cut_parts, opened_at_place, behind_cut, behind_stays_cut, behind_set, behind_set_cut, face_at_place, face_in_wide, cell_utf8}
+use Rattle.clustered_row.proofs.TextLemmas.{Placed, IsBehind, replaced, replaced_cut, replaced_bytes, replaced_columns, halved_at, closed_at_place, closed_in_wide, cut_in_wide, cut_parts, opened_at_place, behind_cut, behind_stays_cut, behind_set, behind_set_cut, face_at_place, face_in_wide, cell_kept, cell_utf8}
 
 -- the sizes of the first cells of a text, with their sums
 pub record IsSized (t : List ℕ) (s : List CellSize) (bytes columns : ℕ) : Type 0 where
@@ -508,6 +509,13 @@ lent_utf8 t s sb sc p x h a l e =
     let len : x.len ≡ p.bytes + x.len - p.bytes = omega arith in
     subst (λ n. IsUtf8 (take n (drop p.bytes t))) len
     (subst (λ (y : CellSize). IsUtf8 (take y.len (drop p.bytes t))) (sym e) (cell_utf8 t s p.index p.bytes p.columns x (placed t s sb sc p h a) l h.parts))
+
+pub lent_kept : (t : List ℕ) (s : List CellSize) (sb sc : ℕ) (p : Place) (x : CellSize) → IsSized t s sb sc → IsPlace s p → p.index < length s → x ≡ get_or s p.index x
+    → shows_as_space (take (p.bytes + x.len - p.bytes) (drop p.bytes t)) ≡ false
+lent_kept t s sb sc p x h a l e =
+    let len : x.len ≡ p.bytes + x.len - p.bytes = omega arith in
+    subst (λ n. shows_as_space (take n (drop p.bytes t)) ≡ false) len
+    (subst (λ (y : CellSize). shows_as_space (take y.len (drop p.bytes t)) ≡ false) (sym e) (cell_kept t s p.index p.bytes p.columns x (placed t s sb sc p h a) l h.parts))
 
 pub lent_right : (t : List ℕ) (s : List CellSize) (sb sc : ℕ) (p : Place) (at : ℕ) (d : CellSize) → IsSized t s sb sc → IsPlace s p → IsHalved s p at d → get_or (faces_of t s) at Right ≡ Right
 lent_right t s sb sc p at d h a w =

@@ -2,16 +2,17 @@
 use Rattle.std.proofs.Common.{◌≡◌, ℕ, zero, suc, ◌+◌, ◌-◌, ◌<◌, ◌≤◌, Bool, true, false, ◌&&◌, List, [], ◌∷◌, ◌++◌, length, take, drop, get_or, refl, sym, ap, ◌∙◌, arith, append_assoc, length-append, IsUtf8}
 use Rattle.std.specs.List.{list_all}
 use Rattle.std.proofs.lemmas.Bool.{and_parts, and_from}
-use Rattle.std.proofs.lemmas.List.{take_at, drop_at, drop_more, get_or_at, length_push, take-append-drop, length-take-le, length-map, map-append, drop-map, drop-drop}
+use Rattle.std.proofs.lemmas.List.{take_at, drop_at, drop_more, get_or_at, length_push, take-append-drop, length-take-le, length-map, map-append, drop-map, drop-drop, length-drop}
 use Rattle.std.proofs.lemmas.List.Folds.{list_all-append}
 use Rattle.std.proofs.Math.Seq.{drop-append-add}
+use Rattle.cell_base.specs.CellContent.{shows_as_space}
 use Rattle.cell_base.specs.Row.{space}
 use Rattle.text_clusters.specs.Plain.{is_printable}
 use Rattle.clustered_row.specs.declared.cell_size.CellSize.{CellSize}
 use Rattle.clustered_row.specs.Faces.{Face, Own, Left, Right, cell_faces, first_face, plain_faces, closed_end, closed_start, opened, set_faces}
 use Rattle.clustered_row.specs.Sizes.{bytes_of, columns_of, faces_of, is_text, is_cut}
 use Rattle.clustered_row.proofs.FaceLemmas.{closed_start-plain, halved, halved_end, opened_whole}
-use Rattle.clustered_row.proofs.SizeLemmas.{bytes_of-append, columns_of-append, bytes_split, columns_split, length-faces, join, cut_join, faces_more, cut_more, closed_end-faces, closed_start-faces, IsUtf8-cell, IsUtf8-cut}
+use Rattle.clustered_row.proofs.SizeLemmas.{bytes_of-append, columns_of-append, bytes_split, columns_split, length-faces, join, cut_join, faces_more, cut_more, closed_end-faces, closed_start-faces, IsUtf8-cell, IsUtf8-cut, kept_first, kept_plain}
 
 -- ---- a place between cells: so many cells before it, with so many bytes and columns
 
@@ -251,6 +252,14 @@ cell_utf8 t s i b c d p l h =
     let behind = sym (ap (is_cut (drop b t)) (drop_more s i d l)) ∙ (cut_parts t s i b c p h).1 in
     IsUtf8-cell size (take size.len (drop b t)) (and_parts (is_text size (take size.len (drop b t))) (is_cut (drop size.len (drop b t)) (drop (i + 1) s)) behind).0
 
+pub cell_kept : (t : List ℕ) (s : List CellSize) (i b c : ℕ) (d : CellSize) → Placed t s i b c → i < length s → is_cut t s ≡ true → shows_as_space (take (get_or s i d).len (drop b t)) ≡ false
+cell_kept t s i b c d p l h =
+    let first = drop_more s i d l in
+    let bytes = p.bytes in
+    let within = p.within in
+    kept_first (get_or s i d) (drop b t) (drop (i + 1) s) (omega (arith, bytes, within, bytes_split i s, ap bytes_of first, length-drop b t))
+    (sym (ap (is_cut (drop b t)) first) ∙ (cut_parts t s i b c p h).1)
+
 first_byte : (bytes : List ℕ) (b : ℕ) (rest : List ℕ) (n : ℕ) → bytes ≡ b ∷ rest → n ≡ 1 → take n bytes ≡ b ∷ []
 first_byte bytes b rest n e one = (λ i. take (one i) (e i))
 
@@ -269,3 +278,11 @@ plain_utf8 t s m at n p l one h =
     let both = and_parts (is_cut (take m t) s) (list_all is_printable (drop m t))
     (sym (ap (λ text. is_cut text s) (sym (take-append-drop m t)) ∙ cut_more (take m t) (drop m t) s (omega (arith, k, sized))) ∙ h) in
     IsUtf8-cut (take n (drop m t)) [] (all-take n (drop m t) both.1)
+
+pub plain_kept : (t : List ℕ) (s : List CellSize) (m at n : ℕ) → IsBehind t s m at → m < length t → n ≡ 1 → is_cut t s ≡ true → shows_as_space (take n (drop m t)) ≡ false
+plain_kept t s m at n p l one h =
+    let sized = p.sized in
+    let k = length-take-le m t p.within in
+    let both = and_parts (is_cut (take m t) s) (list_all is_printable (drop m t))
+    (sym (ap (λ text. is_cut text s) (sym (take-append-drop m t)) ∙ cut_more (take m t) (drop m t) s (omega (arith, k, sized))) ∙ h) in
+    kept_plain (take n (drop m t)) (all-take n (drop m t) both.1) (omega (arith, one, l, length-drop m t, length-take-le n (drop m t) (omega (arith, one, l, length-drop m t))))

@@ -1,20 +1,20 @@
 -- A walk over the cells at the front of a text.
-use Rattle.std.proofs.Common.{◌≡◌, ℕ, zero, suc, ◌+◌, ◌-◌, ◌≤◌, ◌<◌, ◌≢◌, ◌⊎◌, Bool, true, false, List, [], ◌∷◌, ◌++◌, IsUtf8, length, take, drop, replicate, refl, sym, ap, subst, ◌∙◌, append_assoc, append-nil, length-append, arith, inl, inr}
+use Rattle.std.proofs.Common.{◌≡◌, ℕ, zero, suc, ◌+◌, ◌≤◌, ◌≢◌, ◌⊎◌, Bool, true, false, List, [], ◌∷◌, ◌++◌, IsUtf8, length, take, drop, refl, sym, ap, subst, ◌∙◌, append_assoc, length-append, arith, inl, inr}
 use Rattle.std.specs.Prelude.{◌&&◌, ◌==◌, max, not, nat_lt, if◌then◌else◌}
 use Rattle.std.specs.Char.{encode_utf8}
 use Rattle.std.specs.List.{flat_map, list_all}
 use Rattle.std.specs.Str.{is_utf8}
-use Rattle.std.proofs.lemmas.Bool.{and_parts, eqb-true}
+use Rattle.std.proofs.lemmas.Bool.{and_from, and_parts, eqb-true}
 use Rattle.std.proofs.lemmas.Bool.Decides.{eqb_tells, nat_tests}
 use Rattle.std.proofs.lemmas.Str.{is_utf8-from_IsUtf8}
-use Rattle.std.proofs.lemmas.List.{take-append-drop, take_at, drop_at, drop_all, length-drop, length-take-le}
-use Rattle.text_clusters.specs.Apart.{BeginsWith, begins_apart, stands_apart}
+use Rattle.std.proofs.lemmas.List.{take-append-drop, drop_all, length-drop, length-take-le}
+use Rattle.text_clusters.specs.Apart.{begins_apart, stands_apart}
 use Rattle.text_clusters.specs.Plain.{is_printable}
 use Rattle.text_clusters.proofs.ApartLemmas.{cut_before}
 use Rattle.text_clusters.proofs.TextLemmas.{first_alone, joined_clusters}
 use Rattle.cell_base.specs.Attributes.{Attributes, plain}
 use Rattle.cell_base.specs.CellContent.{CellContent, cell_of, shows_as_space}
-use Rattle.cell_base.specs.Row.{Row, set_columns}
+use Rattle.cell_base.specs.Row.{Row}
 use Rattle.cell_edits.specs.CellList.{cell_columns}
 use Rattle.cell_edits.specs.LoneText.{BeginsLone}
 use Rattle.cell_edits.specs.RowEdits.{overlaid}
@@ -24,8 +24,7 @@ use Rattle.cell_edits.proofs.LoneLemmas.{first_bytes, first_inside, first_kept, 
 use Rattle.cell_edits.proofs.RowLaws.{length-overlaid, set_within}
 use Rattle.cell_edits.proofs.RunLemmas.{leads_first, leads_same, overlaid-append, rest_first}
 use Rattle.clustered_row.specs.declared.cell_size.CellSize.{CellSize}
-use Rattle.clustered_row.specs.Faces.{row_of}
-use Rattle.clustered_row.specs.Sizes.{bytes_of, columns_of, faces_of, is_cut, is_plain, is_text, width_of}
+use Rattle.clustered_row.specs.Sizes.{bytes_of, columns_of, is_cut, is_plain, is_text, width_of}
 use Rattle.clustered_row.specs.Walk.{cells_of, IsWalked}
 use Rattle.clustered_row.proofs.SizeLemmas.{bytes_of-append, columns_of-append, cut_join}
 
@@ -98,8 +97,10 @@ module _ (f : List ℕ → ℕ) (text : List ℕ) (n width : ℕ) (lone : Begins
   lone_text : is_text size (take n text) ≡ true
   lone_text = by_plain (is_plain size) refl
     where
-      by_plain : (b : Bool) → is_plain size ≡ b → (if b then list_all is_printable (take n text) else is_utf8 (take n text)) ≡ true
-      by_plain false e = is_utf8-from_IsUtf8 (take n text) (first_utf8 text lone.character n lone.first u)
+      by_plain : (b : Bool) → is_plain size ≡ b → (if b then list_all is_printable (take n text) else is_utf8 (take n text) && not (shows_as_space (take n text))) ≡ true
+      by_plain false e =
+          and_from (is_utf8 (take n text)) (not (shows_as_space (take n text))) (is_utf8-from_IsUtf8 (take n text) (first_utf8 text lone.character n lone.first u))
+          (ap not (first_kept text lone.character n lone.first))
       by_plain true e =
           let one = eqb-true size.len 1 (and_parts (not size.is_wide) (size.len == 1) e).1 in
           let long : size.len ≡ n = is.len in

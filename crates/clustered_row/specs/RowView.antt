@@ -1,5 +1,5 @@
 -- What a clustered row shows.
-use Rattle.std.specs.Prelude.{ℕ, ◌-◌, ◌≤◌, ◌++◌, length, replicate}
+use Rattle.std.specs.Prelude.{◌-◌, ◌≤◌, ◌++◌, length, replicate}
 use Rattle.cell_base.specs.Row.{Row, blank}
 use Rattle.clustered_row.specs.declared.row.ClusteredRow.TheInside.{Inside}
 

@@ -3,6 +3,7 @@ use Rattle.std.specs.Prelude.{ℕ, ◌+◌, Bool, true, false, ◌&&◌, not, �
 use Rattle.std.specs.List.{list_all}
 use Rattle.std.specs.Str.{is_utf8}
 use Rattle.text_clusters.specs.Plain.{is_printable}
+use Rattle.cell_base.specs.CellContent.{shows_as_space}
 use Rattle.clustered_row.specs.declared.cell_size.CellSize.{CellSize}
 use Rattle.clustered_row.specs.Faces.{Face, cell_faces, plain_faces}
 
@@ -35,9 +36,9 @@ abbrev pub faces_of : List ℕ → List CellSize → List Face
 faces_of text [] = plain_faces text
 faces_of text (size ∷ sizes) = cell_faces size.is_wide (take size.len text) ++ faces_of (drop size.len text) sizes
 
--- a cell's text is UTF-8; where it has the size of a plain cell it is printable ASCII
+-- a cell's text is UTF-8 that stands in a cell as it is; where it has the size of a plain cell it is printable ASCII
 abbrev pub is_text : CellSize → List ℕ → Bool
-is_text size text = if is_plain size then list_all is_printable text else is_utf8 text
+is_text size text = if is_plain size then list_all is_printable text else is_utf8 text && not (shows_as_space text)
 
 -- the text can be cut so: each cell's part is such a text, and all that is behind them is printable ASCII
 abbrev pub is_cut : List ℕ → List CellSize → Bool

@@ -1,4 +1,6 @@
 //! Cells' texts that are lent.
+ghost use Rattle.std.specs.Prelude.{◌≡◌, false};
+ghost use Rattle.cell_base.specs.CellContent.{shows_as_space};
 
 /// The text of a cell, and whether it takes two columns.
 #[derive(Debug, Clone, Copy)]
@@ -7,4 +9,5 @@ pub struct LentText<'a> {
     pub text: &'a str,
     /// Whether it takes two columns.
     pub is_wide: bool,
+    pub ghost kept: { shows_as_space text.now ≡ false },
 }

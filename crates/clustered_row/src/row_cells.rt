@@ -1,13 +1,36 @@
-//! Rows made of cells.
-ghost use Rattle.std.specs.Prelude.{◌≡◌, ◌+◌, ◌-◌, ◌<◌, length, IfOk};
+//! Rows made of cells, and cells made of rows.
+ghost use Rattle.std.specs.Prelude.{◌≡◌, ◌+◌, ◌-◌, ◌<◌, ◌++◌, length, IfOk, OnOk};
 ghost use Rattle.cell_base.specs.CellContent.{row_of_cells};
 ghost use Rattle.cell_base.specs.Row.{set_columns};
+ghost use Rattle.cell_rows.specs.WholeRow.{IsWhole};
+ghost use Rattle.cell_edits.specs.CellList.{cell_columns};
+ghost use Rattle.cell_edits.specs.ShownCells.{lent_cells};
 ghost use Rattle.clustered_row.specs.FirstCells.{first_columns};
+ghost use Rattle.clustered_row.specs.VisibleCells.{shown_by};
 
 use crate::row::ClusteredRow;
+use crate::visible::ClusteredCell;
 use cell_base::Cell;
 use cell_base::laws::cells_are_lawful;
 use std::alloc::{AllocError, Global};
+
+// A visible cell comes behind the others, and behind a wide one the blank with its attributes.
+fn push_cell(
+    alloc: Global,
+    cells: &mut Vec<Cell>,
+    cell: &ClusteredCell<'_>,
+) -> Result<(), AllocError>
+    ensures { OnOk result
+        (cells.new.items ≡ cells.old.items ++ lent_cells (cell_columns (shown_by cell.now).cell)) }
+{
+    let attributes = cell.attributes.try_clone()?;
+    cells.push(Cell::new_grapheme_with_width(alloc, cell.text, cell.width(), attributes)?)?;
+    if !cell.is_wide {
+        return Ok(());
+    }
+    cells.push(Cell::blank_with_attrs(cell.attributes.try_clone()?))?;
+    Ok(())
+}
 
 impl ClusteredRow {
     /// The row of cells, read from the left: the one that is stored behind a wide one isn't looked at, and a wide one
@@ -39,5 +62,26 @@ impl ClusteredRow {
         }
         self.set_cell(at, cell.str(), columns, cell.attrs())?;
         Ok(at + columns)
+    }
+
+    // Behind each left half stands its right half.
+    #[inline(always)]
+    fn is_whole(&self)
+        ensures { IsWhole self.now }
+    {
+        let _stored = self.columns.len();
+    }
+
+    /// The cells of the row, one for each column: behind each wide one stands a blank with its attributes.
+    pub fn to_cells(&self, alloc: Global) -> Result<Vec<Cell>, AllocError>
+        ensures cells { IfOk result (λ cells. cells.items ≡ lent_cells self.now) }
+        ensures row { IfOk result (λ cells. row_of_cells cells.items ≡ self.now) }
+    {
+        self.is_whole();
+        let mut cells = Vec::new(alloc);
+        for cell in self.visible_cells() {
+            push_cell(alloc, &mut cells, &cell)?;
+        }
+        Ok(cells)
     }
 }

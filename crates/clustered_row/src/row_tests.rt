@@ -188,6 +188,8 @@ fn edits_show_what_cells_show(rt: HostRuntime) {
     }
     let copy = ClusteredRow::from_cells(rt.alloc(), &cells).expect(&rt, "memory");
     assert!(rt; shows(&copy, &cells));
+    let taken = row.to_cells(rt.alloc()).expect(&rt, "memory");
+    assert!(rt; shows(&row, &taken));
     row.clear_to(9, &CellAttributes::blank())
         .expect(&rt, "memory");
     assert_eq!(rt; row.len(), 9);

@@ -1,5 +1,6 @@
 //! The visible cells of a row.
 ghost use Rattle.std.specs.Prelude.{◌≡◌, ◌+◌, ◌<◌, ◌≤◌, ◌^◌, false, length, take, drop};
+ghost use Rattle.cell_base.specs.CellContent.{shows_as_space};
 ghost use Rattle.clustered_row.specs.Faces.{row_of};
 ghost use Rattle.clustered_row.specs.Sizes.{width_of};
 ghost use Rattle.clustered_row.specs.VisibleColumns.{is_halved};
@@ -23,6 +24,7 @@ pub struct ClusteredCell<'a> {
     pub is_wide: bool,
     /// The attributes.
     pub attributes: &'a CellAttributes,
+    pub ghost kept: { shows_as_space text.now ≡ false },
 }
 
 impl<'a> ClusteredCell<'a> {

@@ -1,4 +1,4 @@
-use Rattle.std.proofs.Common.{◌≡◌, ◌∙◌, ◌+◌, ◌<◌, ap, sym, subst, arith, true, List}
+use Rattle.std.proofs.Common.{◌∙◌, ◌+◌, ap, sym, subst, arith, List}
 use Rattle.text_clusters.specs.Apart.{begins_apart}
 use Rattle.clustered_row.specs.declared.cell_size.CellSize.{CellSize}
 use Rattle.clustered_row.specs.Walk.{IsWalked}

@@ -1,4 +1,4 @@
-use Rattle.std.proofs.Common.{◌≡◌, ◌∙◌, ap, sym, length, take, arith, List}
+use Rattle.std.proofs.Common.{◌∙◌, ap, length, take, arith, List}
 use Rattle.cell_base.specs.Row.{Column, closed_end}
 use Rattle.clustered_row.specs.TextsShown.{faces}
 use Rattle.clustered_row.proofs.ColumnLemmas.{cut_makes}

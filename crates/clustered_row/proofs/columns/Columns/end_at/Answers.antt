@@ -1,4 +1,4 @@
-use Rattle.std.proofs.Common.{◌≡◌, ◌∙◌, ◌<◌, ◌≤◌, length, arith}
+use Rattle.std.proofs.Common.{arith}
 use Rattle.clustered_row.proofs.ColumnLemmas.{ends_there}
 use Rattle.clustered_row.proofs.columns.Columns.end_at.Goals as goal
 

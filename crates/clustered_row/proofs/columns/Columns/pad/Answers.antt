@@ -1,4 +1,4 @@
-use Rattle.std.proofs.Common.{◌≡◌, ◌∙◌, ◌++◌, ◌-◌, ap, sym, length, replicate, arith, List}
+use Rattle.std.proofs.Common.{◌∙◌, ◌++◌, ◌-◌, ap, length, replicate, arith, List}
 use Rattle.cell_base.specs.Row.{Column, blank}
 use Rattle.clustered_row.specs.TextsShown.{faces}
 use Rattle.clustered_row.proofs.ColumnLemmas.{pad_makes}

@@ -1,4 +1,4 @@
-use Rattle.std.proofs.Common.{◌≡◌, ◌≤◌, arith}
+use Rattle.std.proofs.Common.{arith}
 use Rattle.clustered_row.specs.TextsShown.{faces}
 use Rattle.clustered_row.proofs.ColumnLemmas.{counted}
 use Rattle.clustered_row.proofs.columns.Columns.plain_from.Goals as goal

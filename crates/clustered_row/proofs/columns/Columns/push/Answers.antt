@@ -1,4 +1,4 @@
-use Rattle.std.proofs.Common.{◌≡◌, ◌∙◌, ◌++◌, ◌+◌, ◌-◌, ◌<◌, ap, sym, length, replicate, arith, List}
+use Rattle.std.proofs.Common.{◌≡◌, ◌∙◌, ◌++◌, ap, sym, length, replicate, arith, List}
 use Rattle.cell_base.specs.Row.{Column}
 use Rattle.clustered_row.specs.Faces.{row_of}
 use Rattle.clustered_row.specs.Sizes.{faces_of}

@@ -1,4 +1,4 @@
-use Rattle.std.proofs.Common.{◌≡◌, ◌∙◌, ◌++◌, ap, sym, length, replicate, arith, List}
+use Rattle.std.proofs.Common.{◌∙◌, ◌++◌, ap, sym, length, replicate, arith, List}
 use Rattle.cell_base.specs.Row.{Column}
 use Rattle.clustered_row.specs.Faces.{plain_faces, row_of}
 use Rattle.clustered_row.specs.TextsShown.{faces}

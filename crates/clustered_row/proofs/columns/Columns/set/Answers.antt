@@ -1,4 +1,4 @@
-use Rattle.std.proofs.Common.{◌≡◌, ◌∙◌, ◌++◌, ◌+◌, ◌-◌, ◌<◌, ◌≤◌, refl, ap, sym, length, replicate, arith, List}
+use Rattle.std.proofs.Common.{◌≡◌, ◌∙◌, ◌+◌, refl, ap, sym, length, replicate, arith, List}
 use Rattle.cell_base.specs.Row.{Column, set_columns}
 use Rattle.clustered_row.specs.Faces.{row_of, set_faces}
 use Rattle.clustered_row.specs.Sizes.{faces_of}

@@ -1,4 +1,4 @@
-use Rattle.std.proofs.Common.{◌≡◌, ◌∙◌, ap, sym, length, replicate, true, List}
+use Rattle.std.proofs.Common.{◌∙◌, ap, sym, length, replicate, List}
 use Rattle.std.specs.List.{list_all}
 use Rattle.cell_base.specs.Row.{set_columns}
 use Rattle.clustered_row.specs.declared.cell_size.CellSize.{CellSize}

@@ -1,6 +1,7 @@
 use Rattle.std.proofs.Common.{◌≡◌, arith, ap, sym, ◌∙◌}
+use Rattle.cell_base.specs.CellContent.{shows_as_space}
 use Rattle.clustered_row.specs.Faces.{first_face}
-use Rattle.clustered_row.proofs.StepLemmas.{sized_of, a_size, index_inside, next_read, lent_cell, lent_utf8, lent_right}
+use Rattle.clustered_row.proofs.StepLemmas.{sized_of, a_size, index_inside, next_read, lent_cell, lent_kept, lent_utf8, lent_right}
 use Rattle.clustered_row.proofs.cut_text.CutText.sized_cell_at.Goals as goal
 
 pub returns-then-place-column : goal.returns-then-place-column
@@ -42,3 +43,11 @@ returns c =
     let l = index_inside t.sizes.items c.place-place.result place (omega (arith, same, c.requires, t.columns)) in
     lent_cell t.text.items t.sizes.items t.sized_bytes t.sized_columns c.place-place.result c.index-size.result.now c.args.column (sized_of t) place l c.index-size.ensures same
     ∙ ap (first_face c.index-size.result.now.is_wide) (sym c.part.ensures)
+
+pub invariant_of-result : goal.invariant_of-result
+invariant_of-result c =
+    let t = c.args.self.now in
+    let place = c.place-place.ensures.place in
+    let same : c.place-place.result.columns ≡ c.args.column = omega (arith, c.place-place.ensures.columns, c.if-place-column.false) in
+    let l = index_inside t.sizes.items c.place-place.result place (omega (arith, same, c.requires, t.columns)) in
+    record { kept = ap shows_as_space c.part.ensures ∙ lent_kept t.text.items t.sizes.items t.sized_bytes t.sized_columns c.place-place.result c.index-size.result.now (sized_of t) place l c.index-size.ensures }

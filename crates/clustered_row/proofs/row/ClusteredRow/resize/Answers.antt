@@ -1,6 +1,5 @@
-use Rattle.std.proofs.Common.{◌≡◌, ◌∙◌, ◌<◌, ◌≤◌, ap, length, arith}
+use Rattle.std.proofs.Common.{◌∙◌, ap, arith}
 use Rattle.cell_edits.specs.RowEdits.{resized}
-use Rattle.cell_base.specs.Row.{closed_end}
 use Rattle.clustered_row.proofs.ShownLemmas.{length-cut, resize_cut, resize_less}
 use Rattle.clustered_row.proofs.row.ClusteredRow.resize.Goals as goal
 

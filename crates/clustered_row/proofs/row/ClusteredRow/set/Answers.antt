@@ -1,4 +1,4 @@
-use Rattle.std.proofs.Common.{◌≡◌, ◌∙◌, ◌+◌, ◌<◌, ◌≤◌, ap, sym, length, arith}
+use Rattle.std.proofs.Common.{◌∙◌, ap, sym, length, arith}
 use Rattle.clustered_row.specs.Sizes.{faces_of}
 use Rattle.clustered_row.proofs.ShownLemmas.{length-ended, same_length, sets_end, sets_within, width_of_row}
 use Rattle.clustered_row.proofs.StepLemmas.{length-cells}

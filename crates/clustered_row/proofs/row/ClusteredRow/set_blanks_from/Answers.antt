@@ -1,4 +1,4 @@
-use Rattle.std.proofs.Common.{◌≡◌, ◌∙◌, ◌-◌, ◌++◌, ◌≤◌, ap, sym, length, replicate, arith, List}
+use Rattle.std.proofs.Common.{◌≡◌, ◌∙◌, ◌-◌, ◌++◌, ap, length, replicate, arith, List}
 use Rattle.cell_base.specs.Row.{Column, blank, set_columns}
 use Rattle.clustered_row.proofs.ShownLemmas.{blanks_show, length-shown, same_length}
 use Rattle.clustered_row.proofs.row.ClusteredRow.set_blanks_from.Goals as goal

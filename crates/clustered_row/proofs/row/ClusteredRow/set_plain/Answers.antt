@@ -1,4 +1,4 @@
-use Rattle.std.proofs.Common.{◌≡◌, ◌+◌, ◌<◌, ◌≤◌, ap, length, arith}
+use Rattle.std.proofs.Common.{ap, length, arith}
 use Rattle.clustered_row.specs.Faces.{plain_faces}
 use Rattle.clustered_row.proofs.ColumnLemmas.{length-plain}
 use Rattle.clustered_row.proofs.ShownLemmas.{length-ended, same_length, sets_end, sets_within, width_of_row}
