@@ -136,7 +136,7 @@ def one_word(number):
 LARGEST = {"counts": (1, 2, 4), "larger": (60, 200, 600), "text": MB}
 LARGE = {"counts": (3, 6, 12), "larger": (300, 1000, 3000), "text": MB // 10}
 LONG = {"counts": (3, 6, 12), "larger": (100, 200, 400)}
-WIDE = {"counts": (40, 80, 160), "larger": (500, 1000, 2000), "room": 20 * MB, "words": ("--width", "4096", "--show")}
+WIDE = {"counts": (80, 160, 320), "larger": (500, 1000, 2000), "room": 20 * MB, "words": ("--width", "4096", "--show")}
 TALL = {"counts": (5, 10, 20), "larger": (400, 800, 1600), "room": 40 * MB, "words": ("--height", "4096", "--show")}
 STREAMS = [
     Stream("one run of ASCII", one_text, counts=(100, 1000, 10_000), larger=(2000, 4000, 10_000), grows=1, most=50),

@@ -6,7 +6,7 @@ use std::alloc::Global;
 use terminal::{ProgramWidth, Terminal};
 
 pub const NAMES: &str =
-    "bench frame | parse | pieces | collect | encode | show | read_list | write_list | lines | words | due | due_large | large | resizes, and how often";
+    "bench frame | parse | pieces | collect | encode | show | read_list | write_list | lines | words | due | due_large | large | patch | resizes, and how often";
 
 /// A part of the stack.
 #[derive(Clone, Copy)]
@@ -37,6 +37,8 @@ pub enum Part {
     DueLarge,
     /// A surface of 2000 columns and 500 rows, its difference and its repaint.
     Large,
+    /// Two surfaces of which one letter differs, and their difference.
+    Patch,
     /// A terminal that is fed and resized in turn.
     Resizes,
 }
@@ -65,6 +67,7 @@ impl Part {
             "due" => Some(Part::Due),
             "due_large" => Some(Part::DueLarge),
             "large" => Some(Part::Large),
+            "patch" => Some(Part::Patch),
             "resizes" => Some(Part::Resizes),
             _ => None,
         }
@@ -79,6 +82,7 @@ impl Part {
             Part::Words => surfaces::words(alloc, input, count),
             Part::Due => surfaces::due(alloc, input, 80, 24, count),
             Part::DueLarge => surfaces::due(alloc, input, 1600, 480, count),
+            Part::Patch => surfaces::patch(alloc, input, count),
             Part::Resizes => resizes::resizes(alloc, input, count),
             _ => self.run_on_stream(alloc, input, count),
         }

@@ -113,3 +113,19 @@ pub fn large(alloc: Global, input: &[u8]) -> Option<u64> {
     let (_, repaint) = surface.get_changes(0).ok()?;
     Some(difference.len() as u64 + repaint.len() as u64)
 }
+
+/// Makes two surfaces of 80 columns and 24 rows that show the input, of which one has another letter at its end, and takes
+/// the changes that lead from the one to the other, so often.
+pub fn patch(alloc: Global, input: &[u8], count: u32) -> Option<u64> {
+    let lines = split_inclusive(alloc, input, "\n")?;
+    let mut surface = surface_of(alloc, 80, 24)?;
+    add_lines(&mut surface, &lines)?;
+    let mut other = surface_of(alloc, 80, 24)?;
+    add_lines(&mut other, &lines)?;
+    add_text(&mut other, "x")?;
+    let mut sum = 0u64;
+    for _ in 0..count {
+        sum = sum.wrapping_add(surface.diff_screens(&other).ok()?.len() as u64);
+    }
+    Some(sum)
+}

@@ -17,6 +17,7 @@ fn count_of(kind: &str) -> usize {
         | "text"
         | "line"
         | "question"
+        | "kept line"
         | "screen"
         | "settled screen"
         | "terminal"
@@ -38,6 +39,7 @@ fn answer_value(kind: &str, row: &Row<'_>, sheet: &mut Sheet) -> Result<(), Faul
         "attributes" => values::attribute(row, sheet),
         "line" => lines::edited(row, sheet),
         "question" => lines::asked(row, sheet),
+        "kept line" => lines::kept(row, sheet),
         "screen" => screens::screen(row, sheet),
         "settled screen" => screens::settled(row, sheet),
         "terminal" => terminals::terminal(row, sheet),

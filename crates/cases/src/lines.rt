@@ -1,6 +1,7 @@
 //! Lines that are made, edited and asked.
 use crate::call::Call;
 use crate::fault::Fault;
+use crate::keeping::Keeping;
 use crate::row::Row;
 use crate::sheet::Sheet;
 use crate::{changes, edits, makers, questions, runs};
@@ -53,13 +54,18 @@ fn page_of(alloc: Global, text: &str) -> Result<Page, Fault> {
     })
 }
 
-// Makes the calls of a column, which have `; ` between them.
-fn make_calls(page: &mut Page, row: &Row<'_>, sheet: &mut Sheet) -> Result<(), Fault> {
+// The page behind the calls of a row, which have `; ` between them. The line is kept so before each of them and behind
+// the last.
+fn page_behind(row: &Row<'_>, keeping: Keeping, sheet: &mut Sheet) -> Result<Page, Fault> {
+    let text = row.text(0)?;
+    let mut page = page_of(row.alloc(), text.as_str())?;
     for words in row.column(1).split(';') {
         let call = Call::read(row.alloc(), words)?;
-        make_call(page, &call, sheet)?;
+        keeping.keep(&mut page.line)?;
+        make_call(&mut page, &call, sheet)?;
     }
-    Ok(())
+    keeping.keep(&mut page.line)?;
+    Ok(page)
 }
 
 // The size at which the line is shown.
@@ -92,17 +98,54 @@ fn say_line(line: &Line, sheet: &mut Sheet) -> Result<(), Fault> {
     Ok(())
 }
 
-/// `TEXT | CALLS => TEXT | COLUMNS | NUMBER | SIZE`: the line of a text with number 0 behind these calls.
-pub fn edited(row: &Row<'_>, sheet: &mut Sheet) -> Result<(), Fault> {
-    let text = row.text(0)?;
-    let mut page = page_of(row.alloc(), text.as_str())?;
-    make_calls(&mut page, row, sheet)?;
-    say_line(&page.line, sheet)
+// What the calls of a row answer where the line is kept so, and if asked for what the line is behind them.
+fn say_behind(
+    row: &Row<'_>,
+    keeping: Keeping,
+    is_shown: bool,
+    sheet: &mut Sheet,
+) -> Result<Page, Fault> {
+    let page = page_behind(row, keeping, sheet)?;
+    if is_shown {
+        say_line(&page.line, sheet)?;
+    }
+    Ok(page)
 }
 
-/// `TEXT | CALLS => ANSWERS`: what these calls answer of the line of a text.
+// Whether the answers of a row and the line behind its calls are these, however the line is kept.
+fn is_kept_alike(row: &Row<'_>, is_shown: bool, page: &Page, sheet: &Sheet) -> Result<bool, Fault> {
+    for keeping in &[Keeping::Clustered, Keeping::Opened] {
+        let mut answers = Sheet::new(row.alloc());
+        let other = say_behind(row, *keeping, is_shown, &mut answers)?;
+        if other.line != page.line || !answers.is_as(sheet) {
+            return Ok(false);
+        }
+    }
+    Ok(true)
+}
+
+// Says a row's answers, which are the same however the line is kept.
+fn say_each_way(row: &Row<'_>, is_shown: bool, sheet: &mut Sheet) -> Result<(), Fault> {
+    let page = say_behind(row, Keeping::AsMade, is_shown, sheet)?;
+    let is_alike = is_kept_alike(row, is_shown, &page, sheet)?;
+    sheet.word_if(!is_alike, "(kept otherwise another)");
+    Ok(())
+}
+
+/// `TEXT | CALLS => TEXT | COLUMNS | NUMBER | SIZE`: the line of a text with number 0 behind these calls; the same where
+/// it is made clustered before each of them, and where it is opened to cells again.
+pub fn edited(row: &Row<'_>, sheet: &mut Sheet) -> Result<(), Fault> {
+    say_each_way(row, true, sheet)
+}
+
+/// `TEXT | CALLS => ANSWERS`: what these calls answer of the line of a text; the same where it is made clustered before
+/// each of them, and where it is opened to cells again.
 pub fn asked(row: &Row<'_>, sheet: &mut Sheet) -> Result<(), Fault> {
-    let text = row.text(0)?;
-    let mut page = page_of(row.alloc(), text.as_str())?;
-    make_calls(&mut page, row, sheet)
+    say_each_way(row, false, sheet)
+}
+
+/// `TEXT | CALLS => ANSWERS`: what these calls answer of the line of a text, which is kept as they leave it.
+pub fn kept(row: &Row<'_>, sheet: &mut Sheet) -> Result<(), Fault> {
+    page_behind(row, Keeping::AsMade, sheet)?;
+    Ok(())
 }

@@ -1,8 +1,8 @@
 //! What is asked of a line.
-use crate::attributes;
 use crate::call::Call;
 use crate::fault::Fault;
 use crate::sheet::Sheet;
+use crate::{attributes, stored};
 use cell_line::{CellCluster, CellRef, Line};
 
 // Questions that are answered by yes or no.
@@ -119,6 +119,7 @@ pub fn ask(line: &Line, call: &Call<'_>, sheet: &mut Sheet) -> Result<(), Fault>
         "semantic_zone_ranges" => say_zones(line, sheet)?,
         "cluster" => say_clusters(line, call, sheet)?,
         "compute_double_click_range" => say_clicked(line, call.number(1, sheet), sheet),
+        "stored" => stored::say(line, sheet),
         "len" => sheet.show(&line.len()),
         "current_seqno" => sheet.show(&line.current_seqno()),
         _ => {

@@ -40,6 +40,11 @@ impl Sheet {
         }
     }
 
+    /// Whether the same was written.
+    pub fn is_as(&self, other: &Sheet) -> bool {
+        self.bytes.as_slice() == other.bytes.as_slice()
+    }
+
     /// Begins the next column.
     pub fn column(&mut self) {
         self.add(b" | ");

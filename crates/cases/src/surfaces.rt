@@ -3,7 +3,7 @@ use crate::call::Call;
 use crate::fault::Fault;
 use crate::row::{Row, number_up_to};
 use crate::sheet::Sheet;
-use crate::{attributes, changes, steps};
+use crate::{attributes, changes, steps, stored};
 use cell_base::{CellAttributes, CursorVisibility, ProgramWidth};
 use cell_change::Change;
 use cell_line::Line;
@@ -129,6 +129,13 @@ fn say_cells(surface: &Plain, sheet: &mut Sheet) -> Result<(), Fault> {
     Ok(())
 }
 
+// What each row keeps.
+fn say_stored(surface: &Plain, sheet: &mut Sheet) {
+    for line in surface.screen_lines() {
+        stored::say(line, sheet);
+    }
+}
+
 // The size of each row.
 fn say_sizes(surface: &Plain, sheet: &mut Sheet) {
     for line in surface.screen_lines() {
@@ -157,6 +164,7 @@ pub fn ask_surface(surface: &Plain, call: &Call<'_>, sheet: &mut Sheet) -> Resul
         "number" => sheet.show(&surface.current_seqno()),
         "cells" => say_cells(surface, sheet)?,
         "sizes" => say_sizes(surface, sheet),
+        "stored" => say_stored(surface, sheet),
         "changes" => say_changes(surface, call.number(1, sheet), sheet)?,
         _ => return Ok(false),
     }

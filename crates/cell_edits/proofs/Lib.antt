@@ -1,9 +1,7 @@
-pub mod BareLemmas
 pub mod CellLemmas
 pub mod CutLemmas
 pub mod EndLemmas
 pub mod LinkLemmas
-pub mod LoneLemmas
 pub mod RowLaws
 pub mod RunLemmas
 pub mod SettleLemmas

@@ -1,7 +1,5 @@
-pub mod Bare
 pub mod CellList
 pub mod Links
-pub mod LoneText
 pub mod RowEdits
 pub mod ShownCells
 pub mod TextRuns

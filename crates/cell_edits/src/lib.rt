@@ -2,7 +2,6 @@
 //! set as far as they fit, texts as cells.
 #![tactic(auto)]
 
-pub mod bare;
 pub mod row;
 pub mod runs;
 pub mod text;

@@ -1,24 +1,18 @@
 //! Columns of a row that are set at once: blanks, and the cells of a text as far as they fit.
 ghost use Rattle.std.specs.Prelude.{◌≡◌, ◌+◌, ◌-◌, ◌≤◌, ◌<◌, ◌++◌, [], ◌∷◌, true, false, None, length, take, drop, replicate, slice_set, vec_len, OnOk, IfOk, IfSome, IsTrue, MatchOption};
 ghost use Rattle.std.specs.List.{list_all};
-ghost use Rattle.std.specs.Str.{IsCharBoundary, IsUtf8};
-ghost use Rattle.text_clusters.specs.Apart.{begins_apart};
 ghost use Rattle.text_clusters.specs.Plain.{is_printable};
 ghost use Rattle.cell_base.specs.Attributes.{Attributes};
 ghost use Rattle.cell_base.specs.CellContent.{row_of_cells, blank_cell, cell_of, shows_as_space};
 ghost use Rattle.cell_base.specs.Row.{set_columns, blank};
 ghost use Rattle.cell_edits.specs.CellList.{cell_columns, ends_halved};
-ghost use Rattle.cell_edits.specs.LoneText.{BeginsLone};
 ghost use Rattle.cell_edits.specs.RowEdits.{overlaid};
 ghost use Rattle.cell_edits.specs.TextRuns.{place_behind, plain_cells, text_on, text_left, Leads, Stops};
 
-use crate::row::{is_halved, is_halved_behind, open, push_blanks_with};
+use crate::row::{open, push_blanks_with};
 use cell_base::{Cell, CellAttributes, Widths};
 use std::alloc::{AllocError, Global};
-use text_clusters::{
-    begins_apart, begins_plainly, begins_printable, first_character, split_first_cluster,
-    split_printable, stands_apart,
-};
+use text_clusters::{begins_plainly, split_first_cluster, split_printable};
 
 // The cell at a place becomes that of a printable character.
 #[inline(always)]
@@ -46,27 +40,6 @@ fn put_blank(cells: &mut Vec<Cell>, at: usize, attrs: &CellAttributes) -> Result
     cells[at].set_blank(attrs)
 }
 
-// The same with attributes without a link: it can't be refused.
-#[inline(always)]
-fn put_blank_without_link(cells: &mut [Cell], at: usize, attrs: &CellAttributes)
-    requires within { at < length cells.old }
-    requires unlinked { attrs.now.hyperlink ≡ None }
-    ensures { cells.new ≡ slice_set cells.old at (blank_cell attrs.now) }
-{
-    cells[at].set_blank_without_link(attrs);
-}
-
-// The cell at a place becomes that of a printable character, with attributes without a link.
-#[inline(always)]
-fn put_ascii_without_link(cells: &mut [Cell], at: usize, character: u8, attrs: &CellAttributes)
-    requires printable { is_printable character ≡ true }
-    requires within { at < length cells.old }
-    requires unlinked { attrs.now.hyperlink ≡ None }
-    ensures { cells.new ≡ slice_set cells.old at (cell_of (character ∷ []) 1 attrs.now) }
-{
-    cells[at].set_ascii_without_link(character, attrs);
-}
-
 // The cell at a place becomes that of a cluster.
 #[inline(always)]
 fn put_cluster(
@@ -85,50 +58,8 @@ fn put_cluster(
     cells[at].set_grapheme_with_width(alloc, cluster, width, attrs)
 }
 
-// Blanks with attributes without a link stand in all places.
-#[inline(always)]
-fn fill_without_link(cells: &mut [Cell], attrs: &CellAttributes)
-    requires { attrs.now.hyperlink ≡ None }
-    ensures { cells.new ≡ replicate (length cells.old) (blank_cell attrs.now) }
-{
-    for cell in cells.iter_mut() {
-        cell.set_blank_without_link(attrs);
-    }
-}
-
-// The same in the places of a range.
-#[inline(always)]
-fn write_blanks_without_link(cells: &mut [Cell], start: usize, end: usize, attrs: &CellAttributes)
-    requires order { start ≤ end }
-    requires within { end ≤ length cells.old }
-    requires unlinked { attrs.now.hyperlink ≡ None }
-    ensures { cells.new ≡ take start cells.old ++ replicate (end - start) (blank_cell attrs.now) ++ drop end cells.old }
-{
-    fill_without_link(&mut cells[start..end], attrs);
-}
-
 // Blanks stand in the places of a range.
 fn write_blanks(
-    cells: &mut Vec<Cell>,
-    start: usize,
-    end: usize,
-    attrs: &CellAttributes,
-) -> Result<(), AllocError>
-    requires order { start ≤ end }
-    requires within { end ≤ vec_len cells.old }
-    ensures len { vec_len cells.new ≡ vec_len cells.old }
-    ensures items { OnOk result (cells.new.items ≡ take start cells.old.items ++ replicate (end - start) (blank_cell attrs.now) ++ drop end cells.old.items) }
-{
-    if attrs.hyperlink().is_none() {
-        write_blanks_without_link(cells, start, end, attrs);
-        return Ok(());
-    }
-    write_linked_blanks(cells, start, end, attrs)?;
-    Ok(())
-}
-
-// Blanks stand in the places of a range, each of which may share a link.
-fn write_linked_blanks(
     cells: &mut Vec<Cell>,
     start: usize,
     end: usize,
@@ -174,43 +105,9 @@ pub fn clear(cells: &mut Vec<Cell>, width: usize, attrs: &CellAttributes) -> Res
     Ok(())
 }
 
-// Cells of one printable character each stand from a place on, with attributes without a link.
-#[inline(always)]
-fn write_plain_without_link(cells: &mut [Cell], start: usize, bytes: &[u8], attrs: &CellAttributes)
-    requires printable { list_all is_printable bytes.now ≡ true }
-    requires within { start + length bytes.now ≤ length cells.old }
-    requires unlinked { attrs.now.hyperlink ≡ None }
-    ensures { cells.new ≡ take start cells.old ++ plain_cells bytes.now attrs.now ++ drop (start + length bytes.now) cells.old }
-{
-    for index in 0..bytes.len() {
-        put_ascii_without_link(cells, start + index, bytes[index], attrs);
-    }
-}
-
 // Cells of one printable character each stand from a place on.
 #[inline(always)]
 fn write_plain(
-    cells: &mut Vec<Cell>,
-    start: usize,
-    bytes: &[u8],
-    attrs: &CellAttributes,
-) -> Result<(), AllocError>
-    requires printable { list_all is_printable bytes.now ≡ true }
-    requires within { start + length bytes.now ≤ vec_len cells.old }
-    ensures len { vec_len cells.new ≡ vec_len cells.old }
-    ensures items { OnOk result (cells.new.items ≡ take start cells.old.items ++ plain_cells bytes.now attrs.now ++ drop (start + length bytes.now) cells.old.items) }
-{
-    if attrs.hyperlink().is_none() {
-        write_plain_without_link(cells, start, bytes, attrs);
-        return Ok(());
-    }
-    write_linked_plain(cells, start, bytes, attrs)?;
-    Ok(())
-}
-
-// The same where each cell may share a link.
-#[inline(never)]
-fn write_linked_plain(
     cells: &mut Vec<Cell>,
     start: usize,
     bytes: &[u8],
@@ -311,194 +208,6 @@ fn write_cluster(
     Ok(())
 }
 
-// The first character of a text, where it stands apart: of how many bytes it is, and how many columns it takes by itself, of which
-// none count as one.
-#[inline(always)]
-fn first_lone<W: Widths>(text: &str, w: &W) -> Option<(usize, usize)>
-    ensures lone { IfSome result (λ first. BeginsLone (W.width_of w.now) text.now first.0 first.1) }
-    ensures cut { IfSome result (λ first. IsCharBoundary text.now first.0) }
-    ensures apart { IfSome result (λ first. begins_apart text.now ≡ true) }
-{
-    if begins_printable(text) && w.has_narrow_ascii() {
-        return Some((1, 1));
-    }
-    let (character, len) = first_character(text)?;
-    if let Some(columns) = w.letter_columns(character) {
-        return Some((len, usize::from(columns)));
-    }
-    if stands_apart(character) {
-        return Some((len, usize::from(w.character_width(character)).max(1)));
-    }
-    None
-}
-
-// The cell at a place becomes that of the cluster that is the first bytes of a text, with attributes without a link.
-#[inline(always)]
-fn put_front(
-    cells: &mut [Cell],
-    at: usize,
-    text: &str,
-    len: usize,
-    width: usize,
-    attrs: &CellAttributes,
-)
-    requires most { width ≤ 2 }
-    requires few { len ≤ 4 }
-    requires inside { len ≤ length text.now }
-    requires cut { IsUtf8 (take len text.now) }
-    requires kept { shows_as_space (take len text.now) ≡ false }
-    requires within { at < length cells.old }
-    requires unlinked { attrs.now.hyperlink ≡ None }
-    ensures { cells.new ≡ slice_set cells.old at (cell_of (take len text.now) width attrs.now) }
-{
-    cells[at].set_front_without_link(text, len, width, attrs);
-}
-
-// The cell of the cluster that is the first bytes of a text takes its columns, one or two, from `at` on, where no wide cell's
-// columns stand on both sides of `at`. Nothing is written, and `false` is answered, where those of one stand on both sides of what
-// it takes.
-#[inline(always)]
-fn write_front(
-    cells: &mut [Cell],
-    at: usize,
-    text: &str,
-    len: usize,
-    width: usize,
-    attrs: &CellAttributes,
-) -> bool
-    requires some { 1 ≤ width }
-    requires most { width ≤ 2 }
-    requires few { len ≤ 4 }
-    requires inside { len ≤ length text.now }
-    requires cut { IsUtf8 (take len text.now) }
-    requires kept { shows_as_space (take len text.now) ≡ false }
-    requires within { at + width ≤ length cells.old }
-    requires unlinked { attrs.now.hyperlink ≡ None }
-    requires whole { ends_halved (take at cells.old) ≡ false }
-    ensures len { length cells.new ≡ length cells.old }
-    ensures kept { result ≡ false → cells.new ≡ cells.old }
-    ensures whole { IsTrue result → ends_halved (take (at + width) cells.new) ≡ false }
-    ensures row { IsTrue result → row_of_cells cells.new ≡ set_columns (row_of_cells cells.old) at (cell_columns (cell_of (take len text.now) width attrs.now)) }
-{
-    if is_halved_behind(cells, at + (width - 1)) {
-        return false;
-    }
-    if width == 2 {
-        put_blank_without_link(cells, at + 1, attrs);
-    }
-    put_front(cells, at, text, len, width, attrs);
-    true
-}
-
-// Sets the first character of a text, which is a cluster by itself, if it fits before `end` and halves no wide cell, where no wide
-// cell's columns stand on both sides of `at`. Answers whether it is set.
-#[inline(always)]
-fn set_lone<W: Widths>(
-    cells: &mut [Cell],
-    at: usize,
-    end: usize,
-    text: &str,
-    first: (usize, usize),
-    attrs: &CellAttributes,
-    w: &W,
-) -> bool
-    requires lone { BeginsLone (W.width_of w.now) text.now first.0 first.1 }
-    requires apart { begins_apart (drop first.0 text.now) ≡ true }
-    requires order { at ≤ end }
-    requires within { end ≤ length cells.old }
-    requires unlinked { attrs.now.hyperlink ≡ None }
-    requires whole { ends_halved (take at cells.old) ≡ false }
-    ensures len { length cells.new ≡ length cells.old }
-    ensures kept { result ≡ false → cells.new ≡ cells.old }
-    ensures fits { IsTrue result → at + first.1 ≤ end }
-    ensures whole { IsTrue result → ends_halved (take (at + first.1) cells.new) ≡ false }
-    ensures leads { IsTrue result → Leads (W.width_of w.now) end attrs.now (row_of_cells cells.old) at text.now (row_of_cells cells.new) (at + first.1) (drop first.0 text.now) }
-{
-    let _widths = w;
-    let (len, width) = first;
-    if end - at < width {
-        return false;
-    }
-    write_front(cells, at, text, len, width, attrs)
-}
-
-// What stands behind so many bytes.
-#[inline(always)]
-fn behind(text: &str, len: usize) -> &str
-    requires { IsCharBoundary text.now len }
-    ensures { result.now ≡ drop len text.now }
-{
-    let (_, rest) = text.split_at(len);
-    rest
-}
-
-// Sets the characters at the front of a text that are clusters by themselves, as far as they fit before `end` and halve no wide
-// cell, with attributes without a link; answers the next column and the rest. Each character is decoded once. A function of its
-// own, so that no other loop takes its registers.
-#[inline(never)]
-fn set_lone_run<'a, W: Widths>(
-    cells: &mut [Cell],
-    start: usize,
-    end: usize,
-    text: &'a str,
-    attrs: &CellAttributes,
-    w: &W,
-) -> (usize, &'a str)
-    requires order { start ≤ end }
-    requires within { end ≤ length cells.old }
-    requires unlinked { attrs.now.hyperlink ≡ None }
-    ensures len { length cells.new ≡ length cells.old }
-    ensures leads { Leads (W.width_of w.now) end attrs.now (row_of_cells cells.old) start text.now (row_of_cells cells.new) result.0 result.1.now }
-{
-    if is_halved(cells, start) {
-        return (start, text);
-    }
-    let Some(one) = first_lone(text, w) else {
-        return (start, text);
-    };
-    let mut at = start;
-    let mut left = text;
-    let mut first = one;
-    let mut rest = behind(left, first.0);
-    while let Some(next) = first_lone(rest, w) {
-        if !set_lone(cells, at, end, left, first, attrs, w) {
-            return (at, left);
-        }
-        at += first.1;
-        left = rest;
-        first = next;
-        rest = behind(left, first.0);
-    }
-    if !begins_apart(rest) {
-        return (at, left);
-    }
-    if !set_lone(cells, at, end, left, first, attrs, w) {
-        return (at, left);
-    }
-    (at + first.1, rest)
-}
-
-// The same with any attributes: where they have a link nothing is set.
-#[inline(always)]
-fn set_lone_front<'a, W: Widths>(
-    cells: &mut Vec<Cell>,
-    at: usize,
-    end: usize,
-    text: &'a str,
-    attrs: &CellAttributes,
-    w: &W,
-) -> (usize, &'a str)
-    requires order { at ≤ end }
-    requires within { end ≤ vec_len cells.old }
-    ensures len { vec_len cells.new ≡ vec_len cells.old }
-    ensures leads { Leads (W.width_of w.now) end attrs.now (row_of_cells cells.old.items) at text.now (row_of_cells cells.new.items) result.0 result.1.now }
-{
-    if attrs.hyperlink().is_some() {
-        return (at, text);
-    }
-    set_lone_run(cells, at, end, text, attrs, w)
-}
-
 // Sets the first cluster of a text if it fits before `end`; answers the next column and the rest.
 fn set_first_cluster<'a, W: Widths>(
     alloc: Global,
@@ -555,7 +264,6 @@ pub fn set_text<'a, W: Widths>(
     let mut left = text;
     while at < end {
         let (place, rest) = set_plain_front(cells, at, end, left, attrs, w)?;
-        let (place, rest) = set_lone_front(cells, place, end, rest, attrs, w);
         match set_first_cluster(alloc, cells, place, end, rest, attrs, w)? {
             None => return Ok((place, rest)),
             Some((next, behind)) => {

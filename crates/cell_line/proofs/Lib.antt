@@ -4,3 +4,4 @@ pub mod LentSteps
 pub mod NumberLemmas
 pub mod PlacedLemmas
 pub mod WrapLemmas
+pub mod StorageLemmas

@@ -8,5 +8,6 @@ pub mod OpenChanges
 pub mod OpenRows
 pub mod SameLine
 pub mod Samples
+pub mod StoredLines
 pub mod TakenCells
 pub mod Wrapped

@@ -1,5 +1,5 @@
--- What each call of `Line` gives, under the call's own name: a question's answer, and where a call changes the line, the line that it leaves. A call that is given a number makes it the line's if it is the later one (`changed`), unless something else is said here. A half of a wide cell that is left alone becomes a blank with that cell's attributes: the words for rows (`RowEdits`) see to it. A margin counts columns, so the last column within it is the margin less one.
-use Rattle.std.specs.Prelude.{ℕ, ◌-◌, Bool, true, ◌&&◌, ◌||◌, ◌==◌, nat_lt, max, min, List, [], ◌∷◌, ◌++◌, length, map, replicate, Option, if◌then◌else◌}
+-- What each call of `Line` gives, under the call's own name: a question's answer, and where a call changes the line, the line that it leaves. A call that is given a number makes it the line's if it is the later one (`changed`), unless something else is said here; and it keeps the line clustered, or one of cells, as it was. A half of a wide cell that is left alone becomes a blank with that cell's attributes: the words for rows (`RowEdits`) see to it. A margin counts columns, so the last column within it is the margin less one.
+use Rattle.std.specs.Prelude.{ℕ, ◌-◌, Bool, true, false, ◌&&◌, ◌||◌, ◌==◌, nat_lt, max, min, List, [], ◌∷◌, ◌++◌, length, map, replicate, Option, if◌then◌else◌}
 use Rattle.cell_base.specs.declared.attributes.LineAttribute.TheVariants.{SingleWidthLine, DoubleWidthLine, DoubleHeightTopHalfLine, DoubleHeightBottomHalfLine}
 use Rattle.cell_base.specs.declared.ranges.DoubleClickRange.{DoubleClickRange}
 use Rattle.cell_base.specs.declared.ranges.ZoneRange.{ZoneRange}
@@ -9,7 +9,7 @@ use Rattle.cell_base.specs.SameCell.{same_cell}
 use Rattle.cell_base.specs.Row.{blank, plain_row, set_columns}
 use Rattle.cell_change.specs.CellChanges.{row_written}
 use Rattle.cell_change.specs.ChangeValue.{ChangeValue}
-use Rattle.cell_line.specs.LineContent.{LineContent, line_of, changed, changed_unless_empty, with_bits, same_bits}
+use Rattle.cell_line.specs.LineContent.{LineContent, line_of, clustered_line_of, changed, changed_unless_empty, with_bits, same_bits}
 use Rattle.cell_edits.specs.CellList.{text_cells, text_row}
 use Rattle.cell_views.specs.Region.{region}
 use Rattle.cell_edits.specs.RowEdits.{cut, cut_front, resized, with_cell, overlaid, with_inserted, removed, erased, erased_within, pruned_row, filled}
@@ -21,7 +21,7 @@ use Rattle.cell_edits.specs.Links.{has_implicit_link, without_implicit, column_w
 use Rattle.cell_views.specs.Words.{double_click_range}
 use Rattle.cell_views.specs.Clusters.{ClusterContent, cell_clusters}
 
--- ---- makers: each line has the number that is given, and no bits
+-- ---- makers: each line has the number that is given and no bits, and is one of cells unless something else is said
 
 -- so many such cells, read from the left: of a wide cell that many columns
 abbrev pub with_width_and_cell : ℕ → CellContent → ℕ → LineContent
@@ -31,13 +31,17 @@ with_width_and_cell width cell number = line_of number (row_of_cells (replicate 
 abbrev pub with_width : ℕ → ℕ → LineContent
 with_width width number = line_of number (plain_row width)
 
+-- so many plain blanks, clustered
+abbrev pub with_width_clustered : ℕ → ℕ → LineContent
+with_width_clustered width number = clustered_line_of number (plain_row width)
+
 -- the cells, read from the left
 abbrev pub from_cells : List CellContent → ℕ → LineContent
 from_cells cells number = line_of number (row_of_cells cells)
 
--- no column
+-- no column, clustered
 abbrev pub new : ℕ → LineContent
-new number = line_of number []
+new number = clustered_line_of number []
 
 -- a cell with these attributes for each cluster of a text
 abbrev pub from_text : List ℕ → Attributes → ℕ → (List ℕ → ℕ) → LineContent
@@ -61,7 +65,7 @@ resize line width number = changed line number (resized width line.columns)
 abbrev pub resize_and_clear : LineContent → ℕ → ℕ → Attributes → LineContent
 resize_and_clear line width number attributes = record (changed line number (replicate width (blank attributes))) { bits = SingleWidthLine }
 
--- a line with no text but spaces stays as it is, alone; of another the cells behind the last text that isn't one space go, and the rest stand in rows, each a line with this number and no bits: a cell begins a new row where the row would pass the width, unless it is the row's first, and the last cell of each row but the last one is wrapped
+-- a line with no text but spaces stays as it is, alone; of another the cells behind the last text that isn't one space go, and the rest stand in rows, each a line of cells with this number and no bits: a cell begins a new row where the row would pass the width, unless it is the row's first, and the last cell of each row but the last one is wrapped
 abbrev pub wrap : LineContent → ℕ → ℕ → List LineContent
 wrap line width number =
     if is_whitespace_row line.columns then line ∷ []
@@ -124,9 +128,9 @@ invalidate_implicit_hyperlinks line number =
 abbrev pub split_off_kept : LineContent → ℕ → LineContent
 split_off_kept line at = record line { columns = cut (min at (length line.columns)) line.columns }
 
--- and what is answered: the columns from there on, with this number and the same bits
+-- and what is answered: the columns from there on, as a line of cells with this number and the same bits
 abbrev pub split_off : LineContent → ℕ → ℕ → LineContent
-split_off line at number = record line { number = number; columns = cut_front (min at (length line.columns)) line.columns }
+split_off line at number = record line { number = number; columns = cut_front (min at (length line.columns)) line.columns; clustered = false }
 
 -- the other line's columns behind this one's
 abbrev pub append_line : LineContent → LineContent → ℕ → LineContent
@@ -142,7 +146,7 @@ compute_double_click_range line at is_word = double_click_range is_word at line.
 abbrev pub columns_as_str : LineContent → ℕ → ℕ → List ℕ
 columns_as_str line start end = texts_joined (cells_between start end line.columns)
 
--- these cells, whole, side by side; the line's number, no bits
+-- these cells, whole, side by side, as a line of cells; the line's number, no bits
 abbrev pub columns_as_line : LineContent → ℕ → ℕ → LineContent
 columns_as_line line start end = line_of line.number (row_of_visible (cells_between start end line.columns))
 
@@ -256,9 +260,9 @@ get_cell line at = cell_at at line.columns
 abbrev pub is_whitespace : LineContent → Bool
 is_whitespace line = is_whitespace_row line.columns
 
--- no change
+-- clustered
 abbrev pub compress_for_scrollback : LineContent → LineContent
-compress_for_scrollback line = line
+compress_for_scrollback line = record line { clustered = true }
 
 -- whether the line goes on behind its last visible cell; false where there is none
 abbrev pub last_cell_was_wrapped : LineContent → Bool
@@ -270,6 +274,6 @@ set_last_cell_was_wrapped line wrapped number = changed line number (row_end_wra
 
 -- ---- lent cells
 
--- the cells that are left where they were lent, one for each column, are read from the left again; number and bits stay. `cells_mut_for_attr_changes_only` gives the same
+-- the cells that are left where they were lent, one for each column, are read from the left again, and the line is one of cells; number and bits stay. `cells_mut_for_attr_changes_only` gives the same
 abbrev pub cells_mut : LineContent → List CellContent → LineContent
-cells_mut line cells = record line { columns = row_of_cells cells }
+cells_mut line cells = record line { columns = row_of_cells cells; clustered = false }

@@ -1,18 +1,33 @@
--- A line as a value: its number, its bits and its columns.
+-- A line as a value: its number, its bits, its columns, and how these are kept.
 use Rattle.std.specs.Prelude.{◌≡◌, ℕ, Bool, true, false, max, [], ◌∷◌}
 use Rattle.cell_base.specs.declared.attributes.LineAttribute.{LineAttribute}
 use Rattle.cell_base.specs.declared.attributes.LineAttribute.TheVariants.{SingleWidthLine, DoubleWidthLine, DoubleHeightTopHalfLine, DoubleHeightBottomHalfLine}
 use Rattle.cell_base.specs.Row.{Row}
 
--- the number of its last change, its bits (a line of single width has none), and its columns
+-- the number of its last change, its bits (a line of single width has none), its columns, and whether it is clustered: kept as one text and runs of equal attributes, and not as cells. What that means, `IsKept` says of what `stored` lends
 pub record LineContent : Type 0 where
   pub number : ℕ
   pub bits : LineAttribute
   pub columns : Row
+  pub clustered : Bool
 
--- a line with no bits
+-- a line of cells with no bits
 abbrev pub line_of : ℕ → Row → LineContent
-line_of number columns = record { number = number; bits = SingleWidthLine; columns = columns }
+line_of number columns = record { number = number; bits = SingleWidthLine; columns = columns; clustered = false }
+
+-- a clustered line with no bits
+abbrev pub clustered_line_of : ℕ → Row → LineContent
+clustered_line_of number columns = record { number = number; bits = SingleWidthLine; columns = columns; clustered = true }
+
+-- a line is clustered: its columns are kept as one text, the sizes of its cells, runs of equal attributes and the blanks behind these, as `stored` tells
+abbrev pub IsClustered : LineContent → Type 0
+IsClustered line = line.clustered ≡ true
+
+-- two lines show the same, however they are kept
+pub record SameShown (one other : LineContent) : Type 0 where
+  pub number : one.number ≡ other.number
+  pub bits : one.bits ≡ other.bits
+  pub columns : one.columns ≡ other.columns
 
 -- other columns, and the number of a change if that is the later one
 abbrev pub changed : LineContent → ℕ → Row → LineContent
@@ -23,7 +38,7 @@ abbrev pub changed_unless_empty : LineContent → ℕ → Row → LineContent
 changed_unless_empty line number [] = line
 changed_unless_empty line number (column ∷ row) = changed line number (column ∷ row)
 
--- what a refused call leaves: the same number and bits, and columns of which nothing is said
+-- what a refused call leaves: the same number and bits; of the columns nothing is said, nor of how they are kept
 pub record IsRefused (before after : LineContent) : Type 0 where
   pub number : after.number ≡ before.number
   pub bits : after.bits ≡ before.bits

@@ -1,7 +1,6 @@
 //! The changes that write a line.
 ghost use Rattle.std.specs.Prelude.{◌≡◌, ◌++◌, [], ◌∷◌, not, map, filter, OnOk, IfOk, Some, if◌then◌else◌};
 ghost use Rattle.cell_base.specs.Attributes.{blank_of};
-ghost use Rattle.cell_base.specs.CellContent.{row_of_cells};
 ghost use Rattle.cell_change.specs.CellChanges.{cells_written, clear_due, row_written};
 ghost use Rattle.cell_change.specs.CellRuns.{is_blank_of, background_at_end};
 ghost use Rattle.cell_change.specs.ValueOf.{value_of};
@@ -9,13 +8,14 @@ ghost use Rattle.cell_change.specs.Written.{finished, with_cells};
 ghost use Rattle.cell_views.specs.CellRefView.{shown_by};
 ghost use Rattle.cell_line.specs.OpenChanges.{background_of, last_beside, written_with_clear};
 ghost use Rattle.cell_views.specs.OpenZones.{is_kept_by};
+ghost use Rattle.cell_views.specs.StoredCells.{stored_row};
 ghost use Rattle.cell_edits.specs.VisibleCells.{visible_cells, contents};
 
-use cell_base::{Cell, CellAttributes, ColorAttribute};
+use cell_base::{CellAttributes, ColorAttribute};
 use cell_change::{CellWriter, Change};
 use cell_views::query::is_space;
 use cell_views::zones::is_kept;
-use cell_views::{CellRef, VisibleCellIter};
+use cell_views::{CellRef, StoredCells, VisibleCellIter};
 use std::alloc::{AllocError, Global};
 
 // Plain attributes on a background.
@@ -48,8 +48,8 @@ fn background_of(cell: &CellRef<'_>) -> Option<ColorAttribute>
 }
 
 // The background of the blanks at the end.
-fn background_at_end(cells: &[Cell]) -> Option<ColorAttribute>
-    ensures { result ≡ background_at_end (contents (visible_cells (row_of_cells cells.now))) }
+fn background_at_end(cells: StoredCells<'_>) -> Option<ColorAttribute>
+    ensures { result ≡ background_at_end (contents (visible_cells (stored_row cells.entry))) }
 {
     let mut found = None;
     for cell in VisibleCellIter::new(cells) {
@@ -70,8 +70,8 @@ fn column_beside(color: ColorAttribute, last: Option<usize>, cell: &CellRef<'_>)
 }
 
 // The column of the last cell that isn't a blank of this background.
-fn last_beside(cells: &[Cell], color: ColorAttribute) -> Option<usize>
-    ensures { result ≡ last_beside color (visible_cells (row_of_cells cells.now)) }
+fn last_beside(cells: StoredCells<'_>, color: ColorAttribute) -> Option<usize>
+    ensures { result ≡ last_beside color (visible_cells (stored_row cells.entry)) }
 {
     let mut last = None;
     for cell in VisibleCellIter::new(cells) {
@@ -83,10 +83,10 @@ fn last_beside(cells: &[Cell], color: ColorAttribute) -> Option<usize>
 // Writes the cells up to a column, or all.
 fn write_cells<'a>(
     writer: &mut CellWriter<'a>,
-    cells: &'a [Cell],
+    cells: StoredCells<'a>,
     last: Option<usize>,
 ) -> Result<(), AllocError>
-    ensures { OnOk result (writer.new ≡ with_cells writer.old (contents (filter (λ v. is_kept_by last v.column) (visible_cells (row_of_cells cells.now))))) }
+    ensures { OnOk result (writer.new ≡ with_cells writer.old (contents (filter (λ v. is_kept_by last v.column) (visible_cells (stored_row cells.entry))))) }
 {
     for cell in VisibleCellIter::new(cells) {
         if is_kept(last, cell.cell_index()) {
@@ -126,10 +126,10 @@ fn clear_alone(
 // All cells.
 fn all_written(
     alloc: Global,
-    cells: &[Cell],
+    cells: StoredCells<'_>,
     start: &CellAttributes,
 ) -> Result<Vec<Change>, AllocError>
-    ensures { IfOk result (λ changes. map value_of changes.items ≡ cells_written start.now (contents (visible_cells (row_of_cells cells.now)))) }
+    ensures { IfOk result (λ changes. map value_of changes.items ≡ cells_written start.now (contents (visible_cells (stored_row cells.entry)))) }
 {
     let mut writer = CellWriter::new(alloc, start);
     write_cells(&mut writer, cells, None)?;
@@ -140,12 +140,12 @@ fn all_written(
 // The cells up to a column, and a clear behind them.
 fn written_with_clear(
     alloc: Global,
-    cells: &[Cell],
+    cells: StoredCells<'_>,
     start: &CellAttributes,
     last: usize,
     color: ColorAttribute,
 ) -> Result<Vec<Change>, AllocError>
-    ensures { IfOk result (λ changes. map value_of changes.items ≡ written_with_clear start.now (contents (filter (λ v. is_kept_by (Some last) v.column) (visible_cells (row_of_cells cells.now)))) color) }
+    ensures { IfOk result (λ changes. map value_of changes.items ≡ written_with_clear start.now (contents (filter (λ v. is_kept_by (Some last) v.column) (visible_cells (stored_row cells.entry)))) color) }
 {
     let blank = blank_attrs(color);
     let mut writer = CellWriter::new(alloc, start);
@@ -159,10 +159,10 @@ fn written_with_clear(
 // The changes that write the cells on blanks.
 pub(crate) fn changes(
     alloc: Global,
-    cells: &[Cell],
+    cells: StoredCells<'_>,
     start: &CellAttributes,
 ) -> Result<Vec<Change>, AllocError>
-    ensures { IfOk result (λ changes. map value_of changes.items ≡ row_written start.now (contents (visible_cells (row_of_cells cells.now)))) }
+    ensures { IfOk result (λ changes. map value_of changes.items ≡ row_written start.now (contents (visible_cells (stored_row cells.entry)))) }
 {
     let Some(color) = background_at_end(cells) else {
         let changes = all_written(alloc, cells, start)?;

@@ -7,7 +7,7 @@ ghost use Rattle.cell_base.specs.CellContent.{CellContent};
 ghost use Rattle.cell_base.specs.Row.{Narrow, Row, set_columns};
 ghost use Rattle.cell_rows.specs.WholeRow.{IsWhole};
 ghost use Rattle.cell_base.specs.declared.ranges.DoubleClickRange.TheVariants.{Range, RangeWithWrap};
-ghost use Rattle.cell_line.specs.LineContent.{line_of};
+ghost use Rattle.cell_line.specs.LineContent.{line_of, clustered_line_of};
 ghost use Rattle.cell_edits.specs.CellList.{cell_columns};
 ghost use Rattle.cell_edits.specs.RowEdits.{cut, cut_front, with_cell, overlaid, filled};
 ghost use Rattle.cell_line.specs.LineCalls.{new, resize, wrap, split_off_kept, split_off, append_line, compute_double_click_range, columns_as_str, columns_as_line, set_cell, insert_cell, remove_cell, erase_cell, erase_cell_with_margin, prune_trailing_blanks, fill_range, as_str};
@@ -64,7 +64,7 @@ pub fn resized_lines()
 pub fn lines_with_a_cell()
     ensures left { set_cell (line_of 1 (letters (codes "a") ++ wide_letter)) 1 (letter_cell 120) 7 ≡ line_of 7 (letters (codes "ax ")) }
     ensures right { set_cell (line_of 1 (letters (codes "a") ++ wide_letter)) 2 (letter_cell 120) 7 ≡ line_of 7 (letters (codes "a x")) }
-    ensures behind { set_cell (new 1) 2 (letter_cell 120) 7 ≡ line_of 7 (letters (codes "  x")) }
+    ensures behind { set_cell (new 1) 2 (letter_cell 120) 7 ≡ clustered_line_of 7 (letters (codes "  x")) }
 {}
 
 /// A law, which needs no call: what is inserted, erased, removed, filled, cut off and joined.

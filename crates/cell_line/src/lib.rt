@@ -2,13 +2,17 @@
 #![tactic(auto)]
 
 mod changes;
+mod clustered;
 pub mod laws;
 mod lent_cells;
 mod line;
 mod line_bits;
 mod line_runs;
+mod line_storage;
+mod stored_line;
 mod taken_cells;
 mod wrap;
 
 pub use cell_views::{CellCluster, CellRef, RegionIter, VisibleCellIter};
 pub use line::Line;
+pub use stored_line::StoredLine;

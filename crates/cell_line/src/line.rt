@@ -11,9 +11,9 @@ ghost use Rattle.cell_base.specs.Row.{plain_row, blank};
 ghost use Rattle.cell_base.specs.SameCell.{same_cell};
 ghost use Rattle.std.specs.Borrow.{sem};
 ghost use Rattle.cell_change.specs.ValueOf.{value_of};
-ghost use Rattle.cell_line.specs.LineContent.{changed, IsRefused};
-ghost use Rattle.cell_line.specs.LineCalls.{with_width_and_cell, with_width, from_cells, new, from_text, from_text_with_wrapped_last_col, try_from_text, resize, resize_and_clear, wrap, changed_since, update_last_change_seqno, set_single_width, set_double_width, set_double_height_top, set_double_height_bottom, is_single_width, is_double_width, is_double_height_top, is_double_height_bottom, semantic_zone_ranges, invalidate_implicit_hyperlinks, split_off_kept, split_off, append_line, compute_double_click_range, columns_as_str, columns_as_line, set_cell, set_cell_clearing_image_placements, set_cell_grapheme, overlay_text_with_attribute, insert_cell, remove_cell, erase_cell, erase_cell_with_margin, prune_trailing_blanks, fill_range, len, current_seqno, as_str, has_hyperlink, visible_cells, visible_cells_between, cluster, changes, get_cell, is_whitespace, compress_for_scrollback, last_cell_was_wrapped, set_last_cell_was_wrapped};
-ghost use Rattle.cell_edits.specs.RowEdits.{filled};
+ghost use Rattle.cell_line.specs.LineContent.{changed, IsRefused, SameShown};
+ghost use Rattle.cell_line.specs.LineCalls.{with_width_and_cell, with_width, with_width_clustered, from_cells, new, from_text, from_text_with_wrapped_last_col, try_from_text, resize, resize_and_clear, wrap, changed_since, update_last_change_seqno, set_single_width, set_double_width, set_double_height_top, set_double_height_bottom, is_single_width, is_double_width, is_double_height_top, is_double_height_bottom, semantic_zone_ranges, invalidate_implicit_hyperlinks, split_off_kept, split_off, append_line, compute_double_click_range, columns_as_str, columns_as_line, set_cell, set_cell_clearing_image_placements, set_cell_grapheme, overlay_text_with_attribute, insert_cell, remove_cell, erase_cell, erase_cell_with_margin, prune_trailing_blanks, fill_range, len, current_seqno, as_str, has_hyperlink, visible_cells, visible_cells_between, cluster, changes, get_cell, is_whitespace, last_cell_was_wrapped, set_last_cell_was_wrapped};
+ghost use Rattle.cell_edits.specs.RowEdits.{filled, resized, with_cell};
 ghost use Rattle.cell_edits.specs.Links.{without_implicit, column_with};
 ghost use Rattle.cell_views.specs.Words.{Answers};
 ghost use Rattle.cell_line.specs.LentCells.{LendsCells, LendsStored};
@@ -26,13 +26,14 @@ ghost use Rattle.cell_base.specs.Cluster.{clusters};
 ghost use Rattle.cell_rows.specs.WholeRow.{IsWhole};
 
 use crate::line_bits::LineBits;
-use crate::{changes, lent_cells, wrap};
+use crate::{changes, clustered, lent_cells, line_storage, wrap};
 use cell_base::{
     Cell, CellAttributes, DoubleClickRange, LineAttribute, SEQ_ZERO, SequenceNo, Widths, ZoneRange,
 };
 use cell_change::Change;
 use cell_edits::{row, runs, text};
 use cell_views::{CellCluster, CellRef, RegionIter, VisibleCellIter, query, words, zones};
+use clustered_row::ClusteredRow;
 use std::alloc::{AllocError, Global};
 use std::borrow::CowStr;
 use std::marker::Model;
@@ -42,15 +43,23 @@ use std::ops::Range;
 /// own, or is one of the two halves of a wide cell; columns count from 0. Where an edit leaves a
 /// half of a wide cell alone, that half becomes a blank with the wide cell's attributes.
 ///
+/// The columns are kept as cells, or clustered: as one text and runs of equal attributes, as `stored`
+/// tells. A line stays what it is, but for `compress_for_scrollback`, which makes it clustered, and
+/// `cells_mut`, which makes it one of cells. Nothing else tells the two apart.
+///
 /// Calls that change a line are given the number of the change, and the line keeps the greatest.
-/// A call that is refused memory leaves number and bits as they were; of the columns nothing is
-/// said.
+/// A call that is refused memory leaves number and bits as they were; nothing is said of the columns,
+/// nor of how they are kept.
 #[derive(Debug, Drop)]
 pub struct Line {
     pub(crate) alloc: Global,
     number: SequenceNo,
     bits: LineBits,
+    pub(crate) is_clustered: bool,
+    // None where the line is clustered.
     pub(crate) cells: Vec<Cell>,
+    // Of a clustered line.
+    pub(crate) row: ClusteredRow,
 }
 
 impl Model for Line {
@@ -58,13 +67,15 @@ impl Model for Line {
 
     ghost Value = { LineContent };
 
-    ghost use Rattle.cell_line.specs.LineView.{content_of};
+    ghost use Rattle.cell_line.specs.LineView.{content_of, IsKeptOnce};
 
     ghost view = { content_of };
+
+    ghost invariant = { IsKeptOnce };
 }
 
 impl Line {
-    /// A line of `width` such cells, read from the left: of a wide cell, `width` columns.
+    /// A line of cells: `width` such ones, read from the left; of a wide cell, `width` columns.
     pub fn with_width_and_cell(
         alloc: Global,
         width: usize,
@@ -78,8 +89,8 @@ impl Line {
         Ok(Line::from_cells(alloc, cells, seqno))
     }
 
-    /// The cells read from the left: the one stored behind a wide one isn't looked at, and a wide
-    /// cell with none behind it counts as a blank with its attributes.
+    /// A line of these cells, read from the left: the one stored behind a wide one isn't looked at, and
+    /// a wide cell with none behind it counts as a blank with its attributes.
     pub fn from_cells(alloc: Global, cells: Vec<Cell>, seqno: SequenceNo) -> Line
         ensures { result ≡ from_cells cells.items seqno }
     {
@@ -87,18 +98,34 @@ impl Line {
             alloc,
             number: seqno,
             bits: LineBits::new(LineAttribute::SingleWidthLine),
+            is_clustered: false,
             cells,
+            row: ClusteredRow::new(alloc, 0),
         }
     }
 
-    /// A line of no columns.
+    /// A line of no columns, clustered.
     pub fn new(alloc: Global, seqno: SequenceNo) -> Line
         ensures { result ≡ new seqno }
     {
-        Line::from_cells(alloc, Vec::new(alloc), seqno)
+        Line::with_width_clustered(alloc, 0, seqno)
     }
 
-    /// A line of plain blanks.
+    /// A line of plain blanks, clustered. It asks for no memory.
+    pub fn with_width_clustered(alloc: Global, width: usize, seqno: SequenceNo) -> Line
+        ensures { result ≡ with_width_clustered width seqno }
+    {
+        Line {
+            alloc,
+            number: seqno,
+            bits: LineBits::new(LineAttribute::SingleWidthLine),
+            is_clustered: true,
+            cells: Vec::new(alloc),
+            row: ClusteredRow::new(alloc, width),
+        }
+    }
+
+    /// A line of cells, which are plain blanks.
     #[tactic(auto, using(cell_edits::proofs::CutLemmas::row_of_blanks))]
     pub fn with_width(alloc: Global, width: usize, seqno: SequenceNo) -> Result<Line, AllocError>
         ensures { IfOk result (λ line. line ≡ with_width width seqno) }
@@ -113,13 +140,25 @@ impl Line {
         ensures done { OnOk result (self.new ≡ resize self.old width seqno) }
         ensures refused { OnErr result (IsRefused self.old self.new) }
     {
-        row::resize(&mut self.cells, width)?;
+        self.set_width(width)?;
         self.update_last_change_seqno(seqno);
         Ok(())
     }
 
+    // Makes the line as wide as that; the number stays.
+    fn set_width(&mut self, width: usize) -> Result<(), AllocError>
+        ensures done { OnOk result (self.new ≡ record self.old { columns = resized width self.old.columns }) }
+        ensures refused { OnErr result (IsRefused self.old self.new) }
+    {
+        if self.is_clustered {
+            self.row.resize(width)?;
+            return Ok(());
+        }
+        row::resize(&mut self.cells, width)?;
+        Ok(())
+    }
+
     /// Makes the line so many blanks with these attributes, at normal size.
-    #[tactic(auto, using(cell_edits::proofs::CutLemmas::row_of_blanks_with))]
     pub fn resize_and_clear(
         &mut self,
         width: usize,
@@ -129,8 +168,22 @@ impl Line {
         ensures done { OnOk result (self.new ≡ resize_and_clear self.old width seqno blank_attr) }
         ensures refused { OnErr result (IsRefused self.old self.new) }
     {
-        runs::clear(&mut self.cells, width, &blank_attr)?;
+        self.clear_to(width, &blank_attr)?;
         self.set_single_width(seqno);
+        Ok(())
+    }
+
+    // Makes the line so many blanks with these attributes; number and bits stay.
+    #[tactic(auto, using(cell_edits::proofs::CutLemmas::row_of_blanks_with))]
+    fn clear_to(&mut self, width: usize, attrs: &CellAttributes) -> Result<(), AllocError>
+        ensures done { OnOk result (self.new ≡ record self.old { columns = replicate width (blank attrs.now) }) }
+        ensures refused { OnErr result (IsRefused self.old self.new) }
+    {
+        if self.is_clustered {
+            self.row.clear_to(width, attrs)?;
+            return Ok(());
+        }
+        runs::clear(&mut self.cells, width, attrs)?;
         Ok(())
     }
 
@@ -138,7 +191,7 @@ impl Line {
     pub fn len(&self) -> usize
         ensures { result ≡ len self.now }
     {
-        self.cells.len()
+        self.stored_cells().len()
     }
 
     /// Whether the line changed after the change with this number, or never got a number.
@@ -223,28 +276,31 @@ impl Line {
     }
 
     /// Cuts the line at a column, or at its end if that comes first, and answers what stood from
-    /// there on, with the same bits.
+    /// there on, as a line of cells with the same bits.
     pub fn split_off(&mut self, idx: usize, seqno: SequenceNo) -> Result<Line, AllocError>
         ensures kept { OnOk result (self.new ≡ split_off_kept self.old idx) }
         ensures rest { IfOk result (λ rest. rest ≡ split_off self.old idx seqno) }
         ensures refused { OnErr result (IsRefused self.old self.new) }
     {
-        let at = idx.min(self.cells.len());
-        let cells = row::split_off(&mut self.cells, at)?;
-        Ok(Line {
-            alloc: self.alloc,
-            number: seqno,
-            bits: self.bits.copy(),
-            cells,
-        })
+        let at = idx.min(self.len());
+        let mut cells = self.open()?;
+        let rest = row::split_off(&mut cells, at);
+        self.close(cells)?;
+        let mut line = Line::from_cells(self.alloc, rest?, seqno);
+        line.bits = self.bits.copy();
+        Ok(line)
     }
 
     /// Puts the columns of another line behind those of this one.
-    pub fn append_line(&mut self, other: Line, seqno: SequenceNo) -> Result<(), AllocError>
+    pub fn append_line(&mut self, mut other: Line, seqno: SequenceNo) -> Result<(), AllocError>
         ensures done { OnOk result (self.new ≡ append_line self.old other seqno) }
         ensures refused { OnErr result (IsRefused self.old self.new) }
     {
-        row::append(&mut self.cells, other.cells)?;
+        let behind = other.open()?;
+        let mut cells = self.open()?;
+        let appended = row::append(&mut cells, behind);
+        self.close(cells)?;
+        appended?;
         self.update_last_change_seqno(seqno);
         Ok(())
     }
@@ -255,8 +311,21 @@ impl Line {
         ensures done { OnOk result (self.new ≡ set_cell self.old idx cell seqno) }
         ensures refused { OnErr result (IsRefused self.old self.new) }
     {
-        row::set_cell(&mut self.cells, idx, cell)?;
+        self.put_cell(idx, cell)?;
         self.update_last_change_seqno(seqno);
+        Ok(())
+    }
+
+    // Sets a cell; the number stays.
+    fn put_cell(&mut self, at: usize, cell: Cell) -> Result<(), AllocError>
+        ensures done { OnOk result (self.new ≡ record self.old { columns = with_cell self.old.columns at cell }) }
+        ensures refused { OnErr result (IsRefused self.old self.new) }
+    {
+        if self.is_clustered {
+            clustered::set_cell(&mut self.row, at, &cell)?;
+            return Ok(());
+        }
+        row::set_cell(&mut self.cells, at, cell)?;
         Ok(())
     }
 
@@ -287,8 +356,32 @@ impl Line {
         ensures done { OnOk result (self.new ≡ set_cell_grapheme self.old idx text.now width attr seqno) }
         ensures refused { OnErr result (IsRefused self.old self.new) }
     {
-        let cluster = Cell::new_grapheme_with_width(self.alloc, text, width, attr)?;
-        self.set_cell(idx, cluster, seqno)
+        self.put_cluster(idx, text, width, attr)?;
+        self.update_last_change_seqno(seqno);
+        Ok(())
+    }
+
+    // Sets the cell of a cluster; the number stays.
+    #[inline(always)]
+    fn put_cluster(
+        &mut self,
+        at: usize,
+        text: &str,
+        width: usize,
+        attrs: CellAttributes,
+    ) -> Result<(), AllocError>
+        requires some { 1 ≤ width }
+        requires most { width ≤ 2 }
+        ensures done { OnOk result (self.new ≡ record self.old { columns = with_cell self.old.columns at (cell_of text.now width attrs) }) }
+        ensures refused { OnErr result (IsRefused self.old self.new) }
+    {
+        if self.is_clustered {
+            clustered::set_cluster(&mut self.row, at, text, width, &attrs)?;
+            return Ok(());
+        }
+        let cell = Cell::new_grapheme_with_width(self.alloc, text, width, attrs)?;
+        row::set_cell(&mut self.cells, at, cell)?;
+        Ok(())
     }
 
     /// Inserts a cell before column `x`, behind plain blanks where the line doesn't reach so far.
@@ -304,7 +397,10 @@ impl Line {
         ensures done { OnOk result (self.new ≡ insert_cell self.old x cell right_margin seqno) }
         ensures refused { OnErr result (IsRefused self.old self.new) }
     {
-        row::insert_cell(&mut self.cells, x, cell, right_margin)?;
+        let mut cells = self.open()?;
+        let inserted = row::insert_cell(&mut cells, x, cell, right_margin);
+        self.close(cells)?;
+        inserted?;
         self.update_last_change_seqno(seqno);
         Ok(())
     }
@@ -314,10 +410,14 @@ impl Line {
         ensures done { OnOk result (self.new ≡ erase_cell self.old x seqno) }
         ensures refused { OnErr result (IsRefused self.old self.new) }
     {
-        if x < self.len() {
-            row::erase_column(&mut self.cells, x)?;
-            self.update_last_change_seqno(seqno);
+        if self.len() <= x {
+            return Ok(());
         }
+        let mut cells = self.open()?;
+        let erased = row::erase_column(&mut cells, x);
+        self.close(cells)?;
+        erased?;
+        self.update_last_change_seqno(seqno);
         Ok(())
     }
 
@@ -326,10 +426,14 @@ impl Line {
         ensures done { OnOk result (self.new ≡ remove_cell self.old x seqno) }
         ensures refused { OnErr result (IsRefused self.old self.new) }
     {
-        if x < self.len() {
-            row::remove_column(&mut self.cells, x)?;
-            self.update_last_change_seqno(seqno);
+        if self.len() <= x {
+            return Ok(());
         }
+        let mut cells = self.open()?;
+        let removed = row::remove_column(&mut cells, x);
+        self.close(cells)?;
+        removed?;
+        self.update_last_change_seqno(seqno);
         Ok(())
     }
 
@@ -346,12 +450,15 @@ impl Line {
         ensures done { OnOk result (self.new ≡ erase_cell_with_margin self.old x right_margin seqno blank_attr) }
         ensures refused { OnErr result (IsRefused self.old self.new) }
     {
-        row::erase_within(&mut self.cells, x, right_margin, blank_attr)?;
+        let mut cells = self.open()?;
+        let erased = row::erase_within(&mut cells, x, right_margin, blank_attr);
+        self.close(cells)?;
+        erased?;
         self.update_last_change_seqno(seqno);
         Ok(())
     }
 
-    /// A line with a cell for each cluster of a text, as UAX 29 cuts it.
+    /// A line of cells, one for each cluster of a text, as UAX 29 cuts it.
     pub fn from_text<W: Widths>(
         alloc: Global,
         s: &str,
@@ -365,7 +472,7 @@ impl Line {
         Ok(Line::from_cells(alloc, cells, seqno))
     }
 
-    /// A plain line with a cell for each cluster of a text, as UAX 29 cuts it, and number 0.
+    /// A line of plain cells, one for each cluster of a text, as UAX 29 cuts it, with number 0.
     pub fn try_from_text<W: Widths>(alloc: Global, s: &str, w: &W) -> Result<Line, AllocError>
         ensures { IfOk result (λ line. line ≡ try_from_text s.now (W.width_of w.now)) }
     {
@@ -384,7 +491,10 @@ impl Line {
         ensures done { OnOk result (self.new ≡ overlay_text_with_attribute self.old start_idx text.now attr seqno (W.width_of w.now)) }
         ensures refused { OnErr result (IsRefused self.old self.new) }
     {
-        text::overlay(self.alloc, &mut self.cells, start_idx, text, &attr, w)?;
+        let mut cells = self.open()?;
+        let overlaid = text::overlay(self.alloc, &mut cells, start_idx, text, &attr, w);
+        self.close(cells)?;
+        overlaid?;
         self.update_last_change_seqno(seqno);
         Ok(())
     }
@@ -395,7 +505,8 @@ impl Line {
         ensures cells { cells_left result ≡ visible_cells self.now }
         ensures row { row_of_visible (cells_left result) ≡ self.now.columns }
     {
-        VisibleCellIter::new(&self.cells)
+        self.is_whole();
+        VisibleCellIter::new(self.stored_cells())
     }
 
     /// The visible cells of a range of columns, each with its first column, in order. Of a cell that
@@ -405,14 +516,14 @@ impl Line {
         requires within { cols.end ≤ length self.now.columns }
         ensures { region_left result ≡ visible_cells_between self.now cols.start cols.end }
     {
-        RegionIter::new(&self.cells, cols.start, cols.end)
+        RegionIter::new(self.stored_cells(), cols.start, cols.end)
     }
 
     // Each left half has its right half behind it, and no right half stands elsewhere.
     pub(crate) fn is_whole(&self)
         ensures { IsWhole self.now.columns }
     {
-        let _cells = &self.cells;
+        self.stored_cells().is_whole();
     }
 
     /// The clusters of the visible cells, in order.
@@ -431,7 +542,7 @@ impl Line {
     pub fn changes(&self, start_attr: &CellAttributes) -> Result<Vec<Change>, AllocError>
         ensures { IfOk result (λ found. map value_of found.items ≡ changes self.now start_attr.now) }
     {
-        let found = changes::changes(self.alloc, &self.cells, start_attr)?;
+        let found = changes::changes(self.alloc, self.stored_cells(), start_attr)?;
         Ok(found)
     }
 
@@ -439,7 +550,7 @@ impl Line {
     pub fn get_cell(&self, cell_index: usize) -> Option<CellRef<'_>>
         ensures { option_map shown_by result ≡ get_cell self.now cell_index }
     {
-        query::cell_at(&self.cells, cell_index)
+        query::cell_at(self.stored_cells(), cell_index)
     }
 
     /// The texts of the visible cells, joined.
@@ -447,7 +558,7 @@ impl Line {
         ensures { IfOk result (λ text. cow_str_bytes text ≡ as_str self.now) }
     {
         let mut text = String::new(self.alloc);
-        query::push_all_texts(&mut text, &self.cells)?;
+        query::push_all_texts(&mut text, self.stored_cells())?;
         Ok(CowStr::Owned(text))
     }
 
@@ -456,23 +567,23 @@ impl Line {
         ensures { IfOk result (λ text. string_bytes text ≡ columns_as_str self.now range.start range.end) }
     {
         let mut text = String::new(self.alloc);
-        query::push_texts(&mut text, &self.cells, range.start, range.end)?;
+        query::push_texts(&mut text, self.stored_cells(), range.start, range.end)?;
         Ok(text)
     }
 
-    /// The visible cells that begin in a range of columns, whole, as a line at normal size with this
-    /// line's number.
+    /// The visible cells that begin in a range of columns, whole, as a line of cells at normal size
+    /// with this line's number.
     pub fn columns_as_line(&self, range: Range<usize>) -> Result<Line, AllocError>
         ensures { IfOk result (λ line. line ≡ columns_as_line self.now range.start range.end) }
     {
-        let cells = wrap::between(self.alloc, &self.cells, range.start, range.end)?;
+        let cells = wrap::between(self.alloc, self.stored_cells(), range.start, range.end)?;
         Ok(Line::from_cells(self.alloc, cells, self.number))
     }
 
-    /// The line in rows of at most `width` columns, each a line at normal size; a cell alone may pass
-    /// it. The spaces behind the last other text go. The line goes on behind each row but the last.
+    /// The line in rows of at most `width` columns, each a line of cells at normal size; a cell alone may
+    /// pass it. The spaces behind the last other text go. The line goes on behind each row but the last.
     /// A line with no text but spaces stays as it is. If memory is refused the line is dropped.
-    pub fn wrap(self, width: usize, seqno: SequenceNo) -> Result<Vec<Line>, AllocError>
+    pub fn wrap(mut self, width: usize, seqno: SequenceNo) -> Result<Vec<Line>, AllocError>
         ensures { IfOk result (λ lines. lines.items ≡ wrap self width seqno) }
     {
         if self.is_whitespace() {
@@ -480,43 +591,29 @@ impl Line {
             lines.push(self)?;
             return Ok(lines);
         }
-        let Line {
-            alloc,
-            number: _,
-            bits: _,
-            cells,
-        } = self;
-        wrap::rows(alloc, cells, width, seqno)
+        let cells = self.open()?;
+        wrap::rows(self.alloc, cells, width, seqno)
     }
 
     /// Whether a cell has a link.
     pub fn has_hyperlink(&self) -> bool
         ensures { result ≡ has_hyperlink self.now }
     {
-        query::has_link(&self.cells)
+        query::has_link(self.stored_cells())
     }
 
     /// Whether each visible cell is a space, of whatever attributes.
     pub fn is_whitespace(&self) -> bool
         ensures { result ≡ is_whitespace self.now }
     {
-        query::is_whitespace(&self.cells)
+        query::is_whitespace(self.stored_cells())
     }
 
     /// Whether the line goes on behind its last visible cell; false where there is none.
     pub fn last_cell_was_wrapped(&self) -> bool
         ensures { result ≡ last_cell_was_wrapped self.now }
     {
-        query::ends_wrapped(&self.cells)
-    }
-
-    /// Makes the line small for keeping. It reads as before.
-    pub fn compress_for_scrollback(&mut self) -> Result<(), AllocError>
-        ensures done { OnOk result (self.new ≡ compress_for_scrollback self.old) }
-        ensures refused { OnErr result (IsRefused self.old self.new) }
-    {
-        // The cells are kept as they are.
-        Ok(())
+        query::ends_wrapped(self.stored_cells())
     }
 
     /// The same as `from_text`, with the last visible cell one behind which the line goes on.
@@ -540,7 +637,10 @@ impl Line {
         ensures done { OnOk result (self.new ≡ prune_trailing_blanks self.old seqno) }
         ensures refused { OnErr result (IsRefused self.old self.new) }
     {
-        if row::prune(&mut self.cells)? {
+        let mut cells = self.open()?;
+        let pruned = row::prune(&mut cells);
+        self.close(cells)?;
+        if pruned? {
             self.update_last_change_seqno(seqno);
         }
         Ok(())
@@ -580,7 +680,10 @@ impl Line {
         ensures done { OnOk result (self.new ≡ record self.old { columns = filled self.old.columns cols.start (cols.end - cols.start) cell.now }) }
         ensures refused { OnErr result (IsRefused self.old self.new) }
     {
-        row::fill(&mut self.cells, cols.start, cols.end, cell)?;
+        let mut cells = self.open()?;
+        let filled = row::fill(&mut cells, cols.start, cols.end, cell);
+        self.close(cells)?;
+        filled?;
         Ok(())
     }
 
@@ -590,18 +693,23 @@ impl Line {
         ensures done { OnOk result (self.new ≡ invalidate_implicit_hyperlinks self.old seqno) }
         ensures refused { OnErr result (IsRefused self.old self.new) }
     {
-        if query::has_implicit_link(&self.cells) {
-            self.drop_implicit_links();
-            self.update_last_change_seqno(seqno);
+        if !query::has_implicit_link(self.stored_cells()) {
+            return Ok(());
         }
+        self.drop_implicit_links()?;
+        self.update_last_change_seqno(seqno);
         Ok(())
     }
 
     // Drops the links that were found in a text.
-    fn drop_implicit_links(&mut self)
-        ensures { self.new ≡ record self.old { columns = map (column_with without_implicit) self.old.columns } }
+    fn drop_implicit_links(&mut self) -> Result<(), AllocError>
+        ensures done { OnOk result (self.new ≡ record self.old { columns = map (column_with without_implicit) self.old.columns }) }
+        ensures refused { OnErr result (IsRefused self.old self.new) }
     {
-        row::drop_implicit_links(&mut self.cells);
+        let mut cells = self.open()?;
+        row::drop_implicit_links(&mut cells);
+        self.close(cells)?;
+        Ok(())
     }
 
     /// The zones: neighbouring visible cells of one semantic type, each from its first cell's
@@ -610,7 +718,7 @@ impl Line {
     pub fn semantic_zone_ranges(&self) -> Result<Vec<ZoneRange>, AllocError>
         ensures { IfOk result (λ found. found.items ≡ semantic_zone_ranges self.now) }
     {
-        zones::zones(self.alloc, &self.cells)
+        zones::zones(self.alloc, self.stored_cells())
     }
 
     /// The columns of the unbroken words round a column, where `is_word` says of a visible cell's
@@ -629,13 +737,13 @@ impl Line {
         requires { F.IsAlwaysCallable is_word }
         ensures { (test : List ℕ → Bool) → Answers F.Fn is_word test → result ≡ compute_double_click_range self.now click_col test }
     {
-        words::double_click_range(&self.cells, click_col, &is_word)
+        words::double_click_range(self.stored_cells(), click_col, &is_word)
     }
 
     /// Lends a cell for each column: the one that begins there, and behind a wide cell the blank
     /// with its attributes. What is left there is read from the left as the line's columns: the
     /// cell behind a wide one isn't looked at, and a wide cell with none behind it counts as a
-    /// blank with its attributes. Number and bits stay.
+    /// blank with its attributes. Number and bits stay, and the line is one of cells.
     pub fn cells_mut(&mut self) -> Result<&mut [Cell], AllocError>
         ensures* writes_back { sem 𝓛 (LendsCells self.entry result) }
         ensures lent { IfOk result (λ cells. cells.now ≡ lent_cells self.old.columns) }
@@ -666,7 +774,9 @@ impl Line {
         ensures* writes_back { sem 𝓛 (LendsStored self.entry result) }
         ensures cells { IfOk result (λ cells. (cells.now.items ≡ lent_cells self.old.columns) × (row_of_cells cells.now.items ≡ self.old.columns)) }
     {
-        row::settle(&mut self.cells)?;
+        line_storage::settle(self.alloc, self.is_clustered, &self.row, &mut self.cells)?;
+        clustered::forget(self.alloc, &mut self.row);
+        self.is_clustered = false;
         Ok(&mut self.cells)
     }
 
@@ -679,14 +789,16 @@ impl Line {
         ensures done { OnOk result (self.new ≡ set_last_cell_was_wrapped self.old wrapped seqno) }
         ensures refused { OnErr result (IsRefused self.old self.new) }
     {
-        row::set_end_wrapped(&mut self.cells, wrapped);
+        let mut cells = self.open()?;
+        row::set_end_wrapped(&mut cells, wrapped);
+        self.close(cells)?;
         self.update_last_change_seqno(seqno);
         Ok(())
     }
 
-    // Whether number, bits and columns are the same.
+    // Whether number, bits and columns are the same, however these are kept.
     fn is_same(&self, other: &Line) -> bool
-        ensures { IsTrue result ↔ (self.now ≡ other.now) }
+        ensures { IsTrue result ↔ SameShown self.now other.now }
     {
         if self.number != other.number {
             return false;
@@ -694,10 +806,10 @@ impl Line {
         if !self.bits.is_same(&other.bits) {
             return false;
         }
-        query::same_columns(&self.cells, &other.cells)
+        query::same_columns(self.stored_cells(), other.stored_cells())
     }
 
-    /// A copy.
+    /// A copy, kept alike.
     pub fn try_clone(&self) -> Result<Line, AllocError>
         ensures { IfOk result (λ copy. copy ≡ self.now) }
     {
@@ -705,7 +817,9 @@ impl Line {
             alloc: self.alloc,
             number: self.number,
             bits: self.bits.copy(),
+            is_clustered: self.is_clustered,
             cells: row::copy(self.alloc, &self.cells)?,
+            row: self.row.try_clone(self.alloc)?,
         })
     }
 }
@@ -713,6 +827,7 @@ impl Line {
 impl PartialEq for Line {
     ghost use Rattle.std.specs.Prelude.{◌≡◌, ◌↔◌, IsTrue};
     ghost use Rattle.std.specs.Cmp.{partial_equiv_from_equiv};
+    ghost use Rattle.cell_line.specs.LineContent.{SameShown};
     ghost use Rattle.cell_line.specs.SameLine.{same_line, same_line_equivalence};
 
     ghost eq = { same_line };
@@ -721,7 +836,7 @@ impl PartialEq for Line {
 
     fn eq(&self, other: &Line) -> bool
         ensures same { result ≡ same_line self.now other.now }
-        ensures by_value { IsTrue result ↔ (self.now ≡ other.now) }
+        ensures by_value { IsTrue result ↔ SameShown self.now other.now }
     {
         self.is_same(other)
     }

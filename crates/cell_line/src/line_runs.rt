@@ -1,16 +1,15 @@
 //! Columns of a line that are set at once.
-ghost use Rattle.std.specs.Prelude.{◌≡◌, ◌≤◌, ◌<◌, ◌+◌, true, None, length, drop, IfOk, OnOk, OnErr};
+ghost use Rattle.std.specs.Prelude.{◌≡◌, ◌≤◌, ◌+◌, true, length, drop, IfOk, OnOk, OnErr};
 ghost use Rattle.std.specs.List.{list_all};
 ghost use Rattle.text_clusters.specs.Plain.{is_printable};
 ghost use Rattle.cell_base.specs.Cluster.{clusters};
-ghost use Rattle.cell_edits.specs.Bare.{IsBareRow};
 ghost use Rattle.cell_edits.specs.TextRuns.{text_behind};
 ghost use Rattle.cell_line.specs.LineContent.{IsRefused};
 ghost use Rattle.cell_line.specs.LineCalls.{set_blanks, set_plain, set_text, set_clusters, set_text_end};
 
 use crate::line::Line;
 use cell_base::{CellAttributes, Widths};
-use cell_edits::{bare, runs};
+use cell_edits::runs;
 use std::alloc::AllocError;
 use std::ops::Range;
 
@@ -28,6 +27,10 @@ impl Line {
         ensures done { OnOk result (self.new ≡ set_blanks self.old cols.start cols.end attrs.now) }
         ensures refused { OnErr result (IsRefused self.old self.new) }
     {
+        if self.is_clustered {
+            self.row.set_blanks(cols.start, cols.end, attrs)?;
+            return Ok(());
+        }
         runs::set_blanks(&mut self.cells, cols.start, cols.end, attrs)?;
         Ok(())
     }
@@ -51,6 +54,10 @@ impl Line {
         ensures rest { IfOk result (λ r. clusters r.1.now ≡ drop (set_clusters cols.start cols.end text.now attrs.now (W.width_of w.now)) (clusters text.now)) }
         ensures refused { OnErr result (IsRefused self.old self.new) }
     {
+        if self.is_clustered {
+            let (at, left) = self.row.set_text(cols.start, cols.end, text, attrs, w)?;
+            return Ok((at, left));
+        }
         let (at, left) = runs::set_text(
             self.alloc,
             &mut self.cells,
@@ -76,33 +83,11 @@ impl Line {
         ensures done { OnOk result (self.new ≡ set_plain self.old at text.now attrs.now) }
         ensures refused { OnErr result (IsRefused self.old self.new) }
     {
+        if self.is_clustered {
+            self.row.set_ascii_text(at, text, attrs)?;
+            return Ok(());
+        }
         runs::set_plain(&mut self.cells, at, text, attrs)?;
         Ok(())
-    }
-
-    /// The same as `set_plain`, with attributes without a link and before the last column, in a line of which each column has a
-    /// text of its own, of at most four bytes, and no link. So nothing has to be looked at or dropped.
-    #[inline(always)]
-    pub fn set_plain_over_bare(&mut self, at: usize, text: &str, attrs: &CellAttributes)
-        requires printable { list_all is_printable text.now ≡ true }
-        requires within { at + length text.now < length self.old.columns }
-        requires unlinked { attrs.now.hyperlink ≡ None }
-        requires bare { IsBareRow self.old.columns }
-        ensures { self.new ≡ set_plain self.old at text.now attrs.now }
-    {
-        bare::set_plain(&mut self.cells, at, text, attrs);
-    }
-
-    /// The same as `set_blanks`, with attributes without a link and before the last column, in a line of which each column has a
-    /// text of its own, of at most four bytes, and no link. So nothing has to be looked at or dropped.
-    #[inline(always)]
-    pub fn set_blanks_over_bare(&mut self, cols: Range<usize>, attrs: &CellAttributes)
-        requires order { cols.start ≤ cols.end }
-        requires within { cols.end < length self.old.columns }
-        requires unlinked { attrs.now.hyperlink ≡ None }
-        requires bare { IsBareRow self.old.columns }
-        ensures { self.new ≡ set_blanks self.old cols.start cols.end attrs.now }
-    {
-        bare::set_blanks(&mut self.cells, cols.start, cols.end, attrs);
     }
 }

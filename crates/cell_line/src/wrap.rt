@@ -5,6 +5,7 @@ ghost use Rattle.cell_base.specs.Row.{blank};
 ghost use Rattle.cell_edits.specs.CellList.{ends_halved, cell_columns};
 ghost use Rattle.cell_line.specs.LineContent.{line_of};
 ghost use Rattle.cell_edits.specs.VisibleCells.{visible_cells, cells_between, row_of_visible, row_end_wrapped, contents};
+ghost use Rattle.cell_views.specs.StoredCells.{stored_row};
 ghost use Rattle.cell_line.specs.OpenRows.{breaks, rows_from, last_text, texts_up_to};
 
 use crate::line::Line;
@@ -13,12 +14,30 @@ use cell_base::{Cell, SequenceNo};
 use cell_edits::row::{close_end, column_count, is_halved, push_cell, set_end_wrapped};
 use cell_views::query::is_space;
 use cell_views::zones::is_kept;
-use cell_views::{ReadCells, VisibleCellIter};
+use cell_views::{ReadCells, StoredCells, VisibleCellIter};
 use std::alloc::{AllocError, Global};
 use std::mem;
 
 // The cells that begin from `start` on and before `end`.
 pub(crate) fn between(
+    alloc: Global,
+    cells: StoredCells<'_>,
+    start: usize,
+    end: usize,
+) -> Result<Vec<Cell>, AllocError>
+    ensures { IfOk result (λ kept. row_of_cells kept.items ≡ row_of_visible (cells_between start end (stored_row cells.entry))) }
+{
+    match cells {
+        StoredCells::Cells(cells) => read_between(alloc, cells, start, end),
+        StoredCells::Clustered(row) => {
+            let cells = row.to_cells(alloc)?;
+            read_between(alloc, &cells, start, end)
+        }
+    }
+}
+
+// The same of cells that are read from the left.
+fn read_between(
     alloc: Global,
     cells: &[Cell],
     start: usize,
@@ -71,7 +90,7 @@ fn last_text(cells: &[Cell]) -> Option<usize>
     ensures { result ≡ last_text (visible_cells (row_of_cells cells.now)) }
 {
     let mut last = None;
-    for cell in VisibleCellIter::new(cells) {
+    for cell in VisibleCellIter::new(StoredCells::Cells(cells)) {
         if !is_space(cell.str()) {
             last = Some(cell.cell_index());
         }

@@ -1,6 +1,7 @@
 //! Laws of surfaces: each is the contract of a function that does nothing. Here are those of what
 //! stands below too: of the changes that are due, of repaints, and of differences.
-ghost use Rattle.std.specs.Prelude.{◌≡◌, ◌*◌, ◌≤◌, false, length};
+ghost use Rattle.std.specs.Prelude.{◌≡◌, ◌*◌, ◌≤◌, false, length, All};
+ghost use Rattle.cell_line.specs.LineContent.{IsClustered};
 ghost use Rattle.cell_surface.specs.Surface.{number_of, shown_by};
 ghost use Rattle.change_log.specs.Log.{most_due};
 ghost use Rattle.screen_effects.specs.Display.{IsDisplay};
@@ -20,11 +21,12 @@ pub use screen_repaint::laws::repaints_show_the_display;
 
 /// A surface that hasn't failed shows a lawful screen: its rows are whole and as wide as the screen,
 /// the cursor is in it, each cell's text is by itself one cluster (UAX 29) without C0 controls and
-/// DEL, in the columns that it takes; and its log keeps as many changes as may be due. Each change
-/// that the log keeps has a number.
+/// DEL, in the columns that it takes; each line is kept as one text and runs of equal attributes;
+/// and its log keeps as many changes as may be due. Each change that the log keeps has a number.
 pub fn surfaces_stay_lawful<W: Widths + Drop>(surface: &Surface<W>)
     ensures lawful { surface.now.is_failed ≡ false → IsDisplay (shown_by surface.now) }
     ensures cells { surface.now.is_failed ≡ false → IsSoundDisplay (W.width_of surface.now.canvas.widths) (shown_by surface.now) }
+    ensures clustered { surface.now.is_failed ≡ false → All IsClustered surface.now.canvas.lines }
     ensures log { surface.now.is_failed ≡ false → surface.now.log.most ≡ most_due surface.now.canvas.width (length surface.now.canvas.lines) }
     ensures counted { length surface.now.log.log.entries ≤ number_of surface.now }
 {

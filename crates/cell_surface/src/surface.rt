@@ -2,6 +2,7 @@
 ghost use Rattle.std.specs.Prelude.{◌≡◌, ◌≢◌, ◌≤◌, [], OnOk, OnErr, ◌+◌, ◌-◌, ◌<◌, ◌^◌, ◌↔◌, ◌==◌, All, false, true, length, map, not, IsErrOf, IfOk};
 ghost use Rattle.std.specs.String.{string_bytes};
 ghost use Rattle.cell_change.specs.ValueOf.{value_of};
+ghost use Rattle.cell_line.specs.LineContent.{IsClustered};
 ghost use Rattle.cell_surface.specs.Surface.{Adds, AddsAll, Answers, IsSound, Resizes, number_of, shown_by};
 ghost use Rattle.change_log.specs.Log.{due, most_due, new_log};
 ghost use Rattle.change_log.specs.LogSteps.{Forgotten, step_of_kept};
@@ -122,11 +123,13 @@ impl<W: Widths + Drop> Surface<W> {
         self.canvas.pen()
     }
 
-    /// The rows as lines, from the top.
+    /// The rows as lines, from the top. While the surface hasn't failed each is kept as one text and runs of equal
+    /// attributes, which its `stored` lends.
     pub fn screen_lines(&self) -> &[Line]
         ensures rows { map (λ l. l.columns) result.now ≡ (shown_by self.now).screen.rows }
         ensures sizes { map (λ l. l.bits) result.now ≡ (shown_by self.now).sizes }
         ensures numbers { self.now.is_failed ≡ false → All (λ l. l.number ≡ 0) result.now }
+        ensures clustered { self.now.is_failed ≡ false → All IsClustered result.now }
     {
         self.canvas.lines()
     }

@@ -1,7 +1,9 @@
 pub mod ClusterLemmas
 pub mod ColumnLemmas
+pub mod EdgeLemmas
 pub mod GroupLemmas
 pub mod KeptLemmas
+pub mod LeftLemmas
 pub mod PlaceLemmas
 pub mod ReadLemmas
 pub mod RegionLemmas

@@ -1,14 +1,16 @@
 -- The visible cells of cells that are read from the left.
 use Rattle.std.proofs.Common.{◌≡◌, ℕ, ◌+◌, ◌<◌, ◌≤◌, Bool, List, [], ◌∷◌, ◌++◌, refl, sym, ap, ◌∙◌, arith}
-use Rattle.std.specs.Prelude.{nat_le, IsTrue, ◌↔◌, if◌then◌else◌}
+use Rattle.std.specs.Prelude.{IsTrue, ◌↔◌, if◌then◌else◌}
 use Rattle.std.specs.List.{flat_map}
 use Rattle.cell_base.specs.CellContent.{CellContent, row_of_cells}
 use Rattle.cell_base.specs.Row.{Narrow, LeftHalf, RightHalf, Row, space, blank, row_text}
 use Rattle.cell_edits.specs.CellList.{cell_columns}
 use Rattle.cell_edits.specs.VisibleCells.{VisibleCell, visible_at, visible_from, visible_cells, row_of_visible, contents, texts_joined}
 use Rattle.cell_views.specs.CellRefView.{one_or_two}
-use Rattle.cell_edits.proofs.CellLemmas.{by_test, wide_is, narrow_is, row_wide, row_narrow}
+use Rattle.cell_edits.proofs.CellLemmas.{wide_is, narrow_is, row_wide}
 use Rattle.cell_edits.proofs.CutLemmas.{row_narrow_any}
+use Rattle.cell_edits.proofs.RowLaws.{row_again, whole_cells}
+use Rattle.cell_rows.specs.WholeRow.{IsWhole}
 
 pub next_narrow : (i : ℕ) (c : CellContent) (cs : List CellContent) → c.width < 2 → visible_from i (row_of_cells (c ∷ cs)) ≡ visible_at i c.text (one_or_two c.width) c.attributes ∷ visible_from (i + 1) (row_of_cells cs)
 next_narrow i c cs h =
@@ -28,20 +30,18 @@ next_last i c h = ap (λ t. visible_from i ((if t then blank c.attributes else N
 
 -- the columns of the visible cells are the row
 pub rejoined : (i : ℕ) (cells : List CellContent) → row_of_visible (visible_from i (row_of_cells cells)) ≡ row_of_cells cells
-rejoined i [] = refl
-rejoined i (c ∷ []) = by_test (nat_le 2 c.width) (λ e. rw e refl) (λ e. rw e refl)
-rejoined i (c ∷ n ∷ cs) = by_test (nat_le 2 c.width)
-    (λ e. ap (λ r. row_of_visible (visible_from i r)) (row_wide c n cs e) ∙ ap (λ (r : Row). LeftHalf c.text c.attributes ∷ RightHalf c.attributes ∷ r) (rejoined (i + 1 + 1) cs) ∙ sym (row_wide c n cs e))
-    (λ e. ap (λ r. row_of_visible (visible_from i r)) (row_narrow c n cs e) ∙ ap (λ (r : Row). Narrow c.text c.attributes ∷ r) (rejoined (i + 1) (n ∷ cs)) ∙ sym (row_narrow c n cs e))
+rejoined i cells = row_again i (row_of_cells cells) (whole_cells cells)
 
 -- two rows are the same where their visible cells have the same contents
 row_of_contents : (cells : List VisibleCell) → flat_map cell_columns (contents cells) ≡ row_of_visible cells
 row_of_contents [] = refl
 row_of_contents (v ∷ cells) = ap (λ (r : Row). cell_columns v.cell ++ r) (row_of_contents cells)
 
-pub same_rows : (xs ys : List CellContent) → contents (visible_cells (row_of_cells xs)) ≡ contents (visible_cells (row_of_cells ys)) → row_of_cells xs ≡ row_of_cells ys
-same_rows xs ys e =
-    sym (rejoined 0 xs) ∙ sym (row_of_contents (visible_cells (row_of_cells xs))) ∙ ap (flat_map cell_columns) e ∙ row_of_contents (visible_cells (row_of_cells ys)) ∙ rejoined 0 ys
+pub same_rows : (xs ys : Row) → IsWhole xs → IsWhole ys
+    → contents (visible_cells xs) ≡ contents (visible_cells ys) → xs ≡ ys
+same_rows xs ys p q e =
+    sym (row_again 0 xs p) ∙ sym (row_of_contents (visible_cells xs)) ∙ ap (flat_map cell_columns) e
+    ∙ row_of_contents (visible_cells ys) ∙ row_again 0 ys q
 
 pub same_by_parts : (a b : CellContent) (r : Bool) → a.text ≡ b.text → a.width ≡ b.width → (IsTrue r ↔ (a.attributes ≡ b.attributes)) → (IsTrue r ↔ (a ≡ b))
 same_by_parts a b r t w s = (

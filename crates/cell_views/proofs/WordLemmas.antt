@@ -23,7 +23,7 @@ filter_out : {X : Type 0} (p : X → Bool) (x : X) (xs : List X) → p x ≡ fal
 filter_out p x xs e = ap (λ b. cond b (x ∷ filter p xs) (filter p xs)) e
 
 -- a visible cell begins before the end of its row
-abbrev head_column : ℕ → List VisibleCell → ℕ
+abbrev pub head_column : ℕ → List VisibleCell → ℕ
 head_column at [] = at
 head_column at (v ∷ cells) = v.column
 

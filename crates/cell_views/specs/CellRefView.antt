@@ -1,9 +1,15 @@
 -- What a `CellRef` and a `VisibleCellIter` show.
-use Rattle.std.specs.Prelude.{ℕ, nat_le, List, if◌then◌else◌}
+use Rattle.std.specs.Prelude.{ℕ, nat_le, List, ◌++◌, if◌then◌else◌}
 use Rattle.cell_base.specs.CellContent.{CellContent, cell_of, row_of_cells}
 use Rattle.cell_edits.specs.VisibleCells.{VisibleCell, visible_at, visible_from}
+use Rattle.clustered_row.specs.VisibleCells as clustered
+use Rattle.cell_views.specs.Halves.{half_left}
 use Rattle.cell_views.specs.declared.cell_ref.CellRef.{CellRef}
 use Rattle.cell_views.specs.declared.cell_ref.CellRef.TheVariants.{CellRef as of_cell, ClusterRef as of_cluster}
+use Rattle.cell_views.specs.declared.visible_cells.CellsLeft.{CellsLeft}
+use Rattle.cell_views.specs.declared.visible_cells.ClusteredLeft.{ClusteredLeft}
+use Rattle.cell_views.specs.declared.visible_cells.Left.{Left}
+use Rattle.cell_views.specs.declared.visible_cells.Left.TheVariants.{Cells, Clustered}
 use Rattle.cell_views.specs.declared.visible_cells.VisibleCellIter.{VisibleCellIter}
 
 -- a cell takes one or two columns
@@ -24,6 +30,19 @@ copied_by (of_cluster column text width attributes) = cell_of text.now (one_or_t
 abbrev pub copy_of : CellContent → CellContent
 copy_of cell = cell_of cell.text cell.width cell.attributes
 
+-- the cells that are left of those that are read from the left
+abbrev pub left_of_cells : CellsLeft → List VisibleCell
+left_of_cells s = visible_from s.cell_index (row_of_cells s.cells.now)
+
+-- those of a clustered row, and the half behind them
+abbrev pub left_of_clustered : ClusteredLeft → List VisibleCell
+left_of_clustered s = clustered.cells_left s.cells ++ half_left s.half
+
+-- and of either kind of row
+abbrev pub left_of : Left → List VisibleCell
+left_of (Cells cells) = left_of_cells cells
+left_of (Clustered cells) = left_of_clustered cells
+
 -- the cells that are left
 abbrev pub cells_left : VisibleCellIter → List VisibleCell
-cells_left s = visible_from s.cell_index (row_of_cells s.cells.now)
+cells_left s = left_of s.left

@@ -2,9 +2,11 @@ pub mod CellRefView
 pub mod ClusterView
 pub mod Clusters
 pub mod Groups
+pub mod Halves
 pub mod OpenZones
 pub mod Places
 pub mod ReadCells
 pub mod Region
+pub mod StoredCells
 pub mod Words
 pub mod Zones

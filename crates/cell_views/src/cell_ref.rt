@@ -1,11 +1,13 @@
 //! Visible cells, lent from a line.
 ghost use Rattle.std.specs.Prelude.{◌≡◌, ◌↔◌, false, IsTrue, IfOk};
 ghost use Rattle.cell_base.specs.CellContent.{shows_as_space};
+ghost use Rattle.clustered_row.specs.VisibleCells as clustered;
 ghost use Rattle.cell_views.specs.CellRefView.{shown_by, copied_by, copy_of};
 
 use cell_base::laws::cells_are_lawful;
 use cell_base::{Cell, CellAttributes};
 use cell_edits::row::column_count;
+use clustered_row::ClusteredCell;
 use std::alloc::{AllocError, Global};
 
 /// A visible cell of a line, with its first column, counted from 0. It is lent as the cell itself,
@@ -87,6 +89,19 @@ impl<'a> CellRef<'a> {
                 let width = if *width >= 2 { 2 } else { 1 };
                 Cell::new_grapheme_with_width(alloc, text, width, attrs.try_clone()?)
             }
+        }
+    }
+
+    // A cell of a clustered row.
+    #[inline(always)]
+    pub(crate) fn from_clustered(cell: &ClusteredCell<'a>) -> CellRef<'a>
+        ensures { shown_by result ≡ clustered.shown_by cell.now }
+    {
+        CellRef::ClusterRef {
+            cell_index: cell.column,
+            text: cell.text,
+            width: cell.width(),
+            attrs: cell.attributes,
         }
     }
 

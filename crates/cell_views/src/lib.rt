@@ -1,13 +1,15 @@
-//! What a row of cells shows: its visible cells, those between two columns, clusters of them, words,
-//! zones and questions.
+//! What a row shows, whether it is kept as cells or as one text and runs: its visible cells, those
+//! between two columns, clusters of them, words, zones and questions.
 #![tactic(auto)]
 
 mod cell_ref;
 mod clusters;
+mod half;
 mod places;
 pub mod query;
 mod read_cells;
 mod region;
+mod stored_cells;
 mod visible_cells;
 pub mod words;
 pub mod zones;
@@ -16,4 +18,5 @@ pub use cell_ref::CellRef;
 pub use clusters::CellCluster;
 pub use read_cells::ReadCells;
 pub use region::RegionIter;
+pub use stored_cells::StoredCells;
 pub use visible_cells::VisibleCellIter;

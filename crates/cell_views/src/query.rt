@@ -1,4 +1,4 @@
-//! What is asked of the cells of a line, which are read from the left.
+//! What is asked of the cells of a row.
 ghost use Rattle.std.specs.Prelude.{◌≡◌, ◌≤◌, ◌↔◌, ◌++◌, length, drop, not, IsTrue, OnOk, filter, string_bytes};
 ghost use Rattle.std.specs.List.{list_any, list_all};
 ghost use Rattle.std.specs.Str.{bytes_eq};
@@ -10,11 +10,14 @@ ghost use Rattle.cell_base.specs.SameAttributes.{same_attributes};
 ghost use Rattle.cell_edits.specs.VisibleCells.{visible_cells, visible_from, first_of, contents, cell_at, cells_between, texts_joined, has_link, is_whitespace_row, ends_wrapped};
 ghost use Rattle.cell_views.specs.CellRefView.{shown_by};
 ghost use Rattle.cell_edits.specs.Links.{has_implicit_link};
+ghost use Rattle.cell_views.specs.StoredCells.{stored_row};
 
 use crate::cell_ref::CellRef;
+use crate::stored_cells::StoredCells;
 use crate::visible_cells::VisibleCellIter;
 use cell_base::Cell;
 use cell_edits::row::{has_implicit, is_halved, last_read};
+use clustered_row::ClusteredRow;
 use std::alloc::AllocError;
 
 /// Whether the text is one space.
@@ -32,8 +35,9 @@ fn first_from(cells: &[Cell], column: usize) -> Option<CellRef<'_>>
     VisibleCellIter::from_column(&cells[column..], column).next()
 }
 
-/// The cell that begins at the column. Only the wide cells right before it are looked at.
-pub fn cell_at(cells: &[Cell], column: usize) -> Option<CellRef<'_>>
+// The cell that begins at the column, of cells that are read from the left. Only the wide cells right
+// before it are looked at.
+fn cell_read_at(cells: &[Cell], column: usize) -> Option<CellRef<'_>>
     ensures { option_map shown_by result ≡ cell_at column (row_of_cells cells.now) }
 {
     if cells.len() <= column {
@@ -45,14 +49,36 @@ pub fn cell_at(cells: &[Cell], column: usize) -> Option<CellRef<'_>>
     first_from(cells, column)
 }
 
+// The same of a clustered row.
+fn clustered_cell_at(row: &ClusteredRow, column: usize) -> Option<CellRef<'_>>
+    ensures { option_map shown_by result ≡ cell_at column row.now }
+{
+    match row.cell_at(column) {
+        None => None,
+        Some(cell) => Some(CellRef::from_clustered(&cell)),
+    }
+}
+
+/// The cell that begins at the column.
+pub fn cell_at(cells: StoredCells<'_>, column: usize) -> Option<CellRef<'_>>
+    ensures { option_map shown_by result ≡ cell_at column (stored_row cells.entry) }
+{
+    match cells {
+        StoredCells::Cells(cells) => cell_read_at(cells, column),
+        StoredCells::Clustered(row) => clustered_cell_at(row, column),
+    }
+}
+
 /// The texts of the cells that begin from `start` on and before `end` go behind the text.
 pub fn push_texts(
     text: &mut String,
-    cells: &[Cell],
+    cells: StoredCells<'_>,
     start: usize,
     end: usize,
 ) -> Result<(), AllocError>
-    ensures { OnOk result (string_bytes text.new ≡ string_bytes text.old ++ texts_joined (cells_between start end (row_of_cells cells.now))) }
+    ensures { OnOk result
+        (string_bytes text.new
+        ≡ string_bytes text.old ++ texts_joined (cells_between start end (stored_row cells.entry))) }
 {
     for cell in VisibleCellIter::new(cells) {
         let column = cell.cell_index();
@@ -64,8 +90,9 @@ pub fn push_texts(
 }
 
 /// The texts of the cells go behind the text.
-pub fn push_all_texts(text: &mut String, cells: &[Cell]) -> Result<(), AllocError>
-    ensures { OnOk result (string_bytes text.new ≡ string_bytes text.old ++ texts_joined (visible_cells (row_of_cells cells.now))) }
+pub fn push_all_texts(text: &mut String, cells: StoredCells<'_>) -> Result<(), AllocError>
+    ensures { OnOk result
+        (string_bytes text.new ≡ string_bytes text.old ++ texts_joined (visible_cells (stored_row cells.entry))) }
 {
     for cell in VisibleCellIter::new(cells) {
         text.push_str(cell.str())?;
@@ -74,8 +101,8 @@ pub fn push_all_texts(text: &mut String, cells: &[Cell]) -> Result<(), AllocErro
 }
 
 /// Whether a cell has a link.
-pub fn has_link(cells: &[Cell]) -> bool
-    ensures { result ≡ has_link (row_of_cells cells.now) }
+pub fn has_link(cells: StoredCells<'_>) -> bool
+    ensures { result ≡ has_link (stored_row cells.entry) }
 {
     for cell in VisibleCellIter::new(cells) {
         if cell.attrs().hyperlink().is_some() {
@@ -86,8 +113,8 @@ pub fn has_link(cells: &[Cell]) -> bool
 }
 
 /// Whether a cell has a link that was found in a text.
-pub fn has_implicit_link(cells: &[Cell]) -> bool
-    ensures { result ≡ has_implicit_link (row_of_cells cells.now) }
+pub fn has_implicit_link(cells: StoredCells<'_>) -> bool
+    ensures { result ≡ has_implicit_link (stored_row cells.entry) }
 {
     for cell in VisibleCellIter::new(cells) {
         if has_implicit(cell.attrs()) {
@@ -98,8 +125,8 @@ pub fn has_implicit_link(cells: &[Cell]) -> bool
 }
 
 /// Whether each text is one space.
-pub fn is_whitespace(cells: &[Cell]) -> bool
-    ensures { result ≡ is_whitespace_row (row_of_cells cells.now) }
+pub fn is_whitespace(cells: StoredCells<'_>) -> bool
+    ensures { result ≡ is_whitespace_row (stored_row cells.entry) }
 {
     for cell in VisibleCellIter::new(cells) {
         if !is_space(cell.str()) {
@@ -109,16 +136,27 @@ pub fn is_whitespace(cells: &[Cell]) -> bool
     true
 }
 
-/// Whether the line goes on behind the last cell.
-pub fn ends_wrapped(cells: &[Cell]) -> bool
+// Whether the line goes on behind the cell that is read last.
+fn reads_on(cells: &[Cell]) -> bool
     ensures { result ≡ ends_wrapped (visible_cells (row_of_cells cells.now)) }
 {
     !cells.is_empty() && cells[last_read(cells)].attrs().wrapped()
 }
 
+/// Whether the line goes on behind the last cell.
+pub fn ends_wrapped(cells: StoredCells<'_>) -> bool
+    ensures { result ≡ ends_wrapped (visible_cells (stored_row cells.entry)) }
+{
+    match cells {
+        StoredCells::Cells(cells) => reads_on(cells),
+        StoredCells::Clustered(row) => row.ends_wrapped(),
+    }
+}
+
 // Whether the visible cells have the same contents, each in turn.
-fn same_contents(cells: &[Cell], other: &[Cell]) -> bool
-    ensures { IsTrue result ↔ (contents (visible_cells (row_of_cells cells.now)) ≡ contents (visible_cells (row_of_cells other.now))) }
+fn same_contents(cells: StoredCells<'_>, other: StoredCells<'_>) -> bool
+    ensures { IsTrue result
+        ↔ (contents (visible_cells (stored_row cells.entry)) ≡ contents (visible_cells (stored_row other.entry))) }
 {
     let mut theirs = VisibleCellIter::new(other);
     for cell in VisibleCellIter::new(cells) {
@@ -138,8 +176,10 @@ fn same_contents(cells: &[Cell], other: &[Cell]) -> bool
 }
 
 /// Whether the columns are the same.
-pub fn same_columns(cells: &[Cell], other: &[Cell]) -> bool
-    ensures { IsTrue result ↔ (row_of_cells cells.now ≡ row_of_cells other.now) }
+pub fn same_columns(cells: StoredCells<'_>, other: StoredCells<'_>) -> bool
+    ensures { IsTrue result ↔ (stored_row cells.entry ≡ stored_row other.entry) }
 {
+    cells.is_whole();
+    other.is_whole();
     same_contents(cells, other)
 }

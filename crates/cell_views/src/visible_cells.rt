@@ -1,51 +1,31 @@
-//! The visible cells of a line.
-ghost use Rattle.std.specs.Prelude.{◌≡◌, ◌+◌, ◌<◌, ◌^◌, length};
+//! The visible cells of a row.
+ghost use Rattle.std.specs.Prelude.{◌≡◌, ◌+◌, ◌<◌, ◌^◌, ◌++◌, length};
 
 use crate::cell_ref::CellRef;
+use crate::half::Half;
+use crate::stored_cells::StoredCells;
 use cell_base::Cell;
+use clustered_row::ClusteredCells;
 
-/// The visible cells of a line, in the order of their columns.
+// Those of cells that are read from the left, of which the first stands at a column.
 #[derive(Drop)]
-pub struct VisibleCellIter<'a> {
+struct CellsLeft<'a> {
     cells: &'a [Cell],
     cell_index: usize,
     ghost within: { cell_index + length cells.now < 2 ^ 64 },
 }
 
-impl<'a> VisibleCellIter<'a> {
-    /// The visible cells of a row of cells.
-    pub fn new(cells: &'a [Cell]) -> VisibleCellIter<'a>
-        ensures cells { result.cells.now ≡ cells.now }
-        ensures index { result.cell_index ≡ 0 }
-    {
-        VisibleCellIter {
-            cells,
-            cell_index: 0,
-        }
-    }
-}
-
-impl<'a> VisibleCellIter<'a> {
-    /// Those of cells of which the first stands at a column.
-    pub fn from_column(cells: &'a [Cell], cell_index: usize) -> VisibleCellIter<'a>
-        requires { cell_index + length cells.now < 2 ^ 64 }
-        ensures cells { result.cells.now ≡ cells.now }
-        ensures index { result.cell_index ≡ cell_index }
-    {
-        VisibleCellIter { cells, cell_index }
-    }
-}
-
-impl<'a> Iterator for VisibleCellIter<'a> {
+impl<'a> Iterator for CellsLeft<'a> {
     type Item = CellRef<'a>;
 
     ghost use Rattle.std.specs.Iterator.{YieldsFirstBy, item_count};
-    ghost use Rattle.cell_views.specs.CellRefView.{shown_by, cells_left};
+    ghost use Rattle.cell_views.specs.CellRefView.{shown_by, left_of_cells};
 
-    ghost next_gives = { YieldsFirstBy shown_by cells_left };
+    ghost next_gives = { YieldsFirstBy shown_by left_of_cells };
 
-    ghost remaining = { item_count cells_left };
+    ghost remaining = { item_count left_of_cells };
 
+    #[inline(always)]
     fn next(&mut self) -> Option<CellRef<'a>> {
         let (cell, rest) = self.cells.split_first()?;
         let cell_index = self.cell_index;
@@ -69,6 +49,108 @@ impl<'a> Iterator for VisibleCellIter<'a> {
                 self.cell_index = cell_index + 2;
                 Some(CellRef::CellRef { cell_index, cell })
             }
+        }
+    }
+}
+
+// Those of a clustered row that are left, and the half behind them that an edge leaves.
+#[derive(Drop)]
+struct ClusteredLeft<'a> {
+    cells: ClusteredCells<'a>,
+    half: Option<Half<'a>>,
+}
+
+impl<'a> Iterator for ClusteredLeft<'a> {
+    type Item = CellRef<'a>;
+
+    ghost use Rattle.std.specs.Iterator.{YieldsFirstBy, item_count};
+    ghost use Rattle.cell_views.specs.CellRefView.{shown_by, left_of_clustered};
+
+    ghost next_gives = { YieldsFirstBy shown_by left_of_clustered };
+
+    ghost remaining = { item_count left_of_clustered };
+
+    #[inline(always)]
+    fn next(&mut self) -> Option<CellRef<'a>> {
+        if let Some(cell) = self.cells.next() {
+            return Some(CellRef::from_clustered(&cell));
+        }
+        let half = self.half.take()?;
+        Some(half.as_cell_ref())
+    }
+}
+
+// Those that are left, of either kind of row.
+#[derive(Drop)]
+enum Left<'a> {
+    Cells(CellsLeft<'a>),
+    Clustered(ClusteredLeft<'a>),
+}
+
+/// The visible cells of a row, in the order of their columns.
+#[derive(Drop)]
+pub struct VisibleCellIter<'a> {
+    left: Left<'a>,
+}
+
+impl<'a> VisibleCellIter<'a> {
+    ghost use Rattle.cell_base.specs.CellContent.{row_of_cells};
+    ghost use Rattle.cell_edits.specs.VisibleCells.{visible_from};
+    ghost use Rattle.clustered_row.specs.VisibleCells as clustered;
+    ghost use Rattle.cell_views.specs.CellRefView.{cells_left};
+    ghost use Rattle.cell_views.specs.Halves.{half_left};
+    ghost use Rattle.cell_views.specs.StoredCells.{stored_row};
+
+    /// All of a row.
+    #[inline(always)]
+    pub fn new(stored: StoredCells<'a>) -> VisibleCellIter<'a>
+        ensures { cells_left result ≡ visible_from 0 (stored_row stored.entry) }
+    {
+        match stored {
+            StoredCells::Cells(cells) => VisibleCellIter::from_column(cells, 0),
+            StoredCells::Clustered(row) => VisibleCellIter::of_clustered(row.visible_cells(), None),
+        }
+    }
+
+    // Those of cells of which the first stands at a column.
+    #[inline(always)]
+    pub(crate) fn from_column(cells: &'a [Cell], cell_index: usize) -> VisibleCellIter<'a>
+        requires { cell_index + length cells.now < 2 ^ 64 }
+        ensures { cells_left result ≡ visible_from cell_index (row_of_cells cells.now) }
+    {
+        VisibleCellIter {
+            left: Left::Cells(CellsLeft { cells, cell_index }),
+        }
+    }
+
+    // Those of a clustered row that are left, and a half behind them.
+    #[inline(always)]
+    pub(crate) fn of_clustered(
+        cells: ClusteredCells<'a>,
+        half: Option<Half<'a>>,
+    ) -> VisibleCellIter<'a>
+        ensures { cells_left result ≡ clustered.cells_left cells.entry ++ half_left half.entry }
+    {
+        VisibleCellIter {
+            left: Left::Clustered(ClusteredLeft { cells, half }),
+        }
+    }
+}
+
+impl<'a> Iterator for VisibleCellIter<'a> {
+    type Item = CellRef<'a>;
+
+    ghost use Rattle.std.specs.Iterator.{YieldsFirstBy, item_count};
+    ghost use Rattle.cell_views.specs.CellRefView.{shown_by, cells_left};
+
+    ghost next_gives = { YieldsFirstBy shown_by cells_left };
+
+    ghost remaining = { item_count cells_left };
+
+    fn next(&mut self) -> Option<CellRef<'a>> {
+        match &mut self.left {
+            Left::Cells(cells) => cells.next(),
+            Left::Clustered(cells) => cells.next(),
         }
     }
 }

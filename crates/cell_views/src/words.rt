@@ -1,13 +1,14 @@
 //! The columns that a double click takes.
 ghost use Rattle.std.specs.Prelude.{◌≡◌, ℕ, Bool, List, Some, None, length, nat_le, if◌then◌else◌};
 ghost use Rattle.std.specs.Option.{option_or};
-ghost use Rattle.cell_base.specs.CellContent.{row_of_cells};
 ghost use Rattle.cell_edits.specs.VisibleCells.{visible_cells};
+ghost use Rattle.cell_views.specs.StoredCells.{stored_row};
 ghost use Rattle.cell_views.specs.Words.{Answers, word_start, word_end, word_range, goes_on, double_click_range};
 
 use crate::query;
+use crate::stored_cells::StoredCells;
 use crate::visible_cells::VisibleCellIter;
-use cell_base::{Cell, DoubleClickRange};
+use cell_base::DoubleClickRange;
 
 // Where the words begin that are unbroken up to a cell, from where they begin before it.
 fn begun(start: Option<usize>, is_word: bool, column: usize) -> Option<usize>
@@ -21,9 +22,10 @@ fn begun(start: Option<usize>, is_word: bool, column: usize) -> Option<usize>
 }
 
 // The first column of the first of the unbroken words from the last cell at or before a column back.
-fn word_start<F: Fn(&str) -> bool>(cells: &[Cell], at: usize, is_word: &F) -> usize
+fn word_start<F: Fn(&str) -> bool>(cells: StoredCells<'_>, at: usize, is_word: &F) -> usize
     requires { F.IsAlwaysCallable is_word.now }
-    ensures { (test : List ℕ → Bool) → Answers F.Fn is_word.now test → result ≡ word_start test at (visible_cells (row_of_cells cells.now)) }
+    ensures { (test : List ℕ → Bool) → Answers F.Fn is_word.now test
+        → result ≡ word_start test at (visible_cells (stored_row cells.entry)) }
 {
     let mut start = None;
     for cell in VisibleCellIter::new(cells) {
@@ -37,9 +39,10 @@ fn word_start<F: Fn(&str) -> bool>(cells: &[Cell], at: usize, is_word: &F) -> us
 
 // One past the first column of the last of the unbroken words from the first cell at or behind a
 // column on.
-fn word_end<F: Fn(&str) -> bool>(cells: &[Cell], at: usize, is_word: &F) -> usize
+fn word_end<F: Fn(&str) -> bool>(cells: StoredCells<'_>, at: usize, is_word: &F) -> usize
     requires { F.IsAlwaysCallable is_word.now }
-    ensures { (test : List ℕ → Bool) → Answers F.Fn is_word.now test → result ≡ word_end test at (visible_cells (row_of_cells cells.now)) }
+    ensures { (test : List ℕ → Bool) → Answers F.Fn is_word.now test
+        → result ≡ word_end test at (visible_cells (stored_row cells.entry)) }
 {
     let mut end = at;
     for cell in VisibleCellIter::new(cells) {
@@ -55,15 +58,15 @@ fn word_end<F: Fn(&str) -> bool>(cells: &[Cell], at: usize, is_word: &F) -> usiz
 }
 
 // Whether a column is at the end of the row or past it.
-fn reaches_end(cells: &[Cell], end: usize) -> bool
-    ensures { result ≡ nat_le (length (row_of_cells cells.now)) end }
+fn reaches_end(cells: StoredCells<'_>, end: usize) -> bool
+    ensures { result ≡ nat_le (length (stored_row cells.entry)) end }
 {
     end >= cells.len()
 }
 
 // Whether a range reaches to the end of a row that goes on behind it.
-fn goes_on(cells: &[Cell], start: usize, end: usize) -> bool
-    ensures { result ≡ goes_on (row_of_cells cells.now) start end }
+fn goes_on(cells: StoredCells<'_>, start: usize, end: usize) -> bool
+    ensures { result ≡ goes_on (stored_row cells.entry) start end }
 {
     if start >= end {
         return false;
@@ -71,8 +74,8 @@ fn goes_on(cells: &[Cell], start: usize, end: usize) -> bool
     reaches_end(cells, end) && query::ends_wrapped(cells)
 }
 
-fn word_range(cells: &[Cell], start: usize, end: usize) -> DoubleClickRange
-    ensures { result ≡ word_range (row_of_cells cells.now) start end }
+fn word_range(cells: StoredCells<'_>, start: usize, end: usize) -> DoubleClickRange
+    ensures { result ≡ word_range (stored_row cells.entry) start end }
 {
     if goes_on(cells, start, end) {
         DoubleClickRange::RangeWithWrap(start..end)
@@ -83,12 +86,13 @@ fn word_range(cells: &[Cell], start: usize, end: usize) -> DoubleClickRange
 
 /// The words round a column; nothing at and past the end.
 pub fn double_click_range<F: Fn(&str) -> bool>(
-    cells: &[Cell],
+    cells: StoredCells<'_>,
     at: usize,
     is_word: &F,
 ) -> DoubleClickRange
     requires { F.IsAlwaysCallable is_word.now }
-    ensures { (test : List ℕ → Bool) → Answers F.Fn is_word.now test → result ≡ double_click_range test at (row_of_cells cells.now) }
+    ensures { (test : List ℕ → Bool) → Answers F.Fn is_word.now test
+        → result ≡ double_click_range test at (stored_row cells.entry) }
 {
     if reaches_end(cells, at) {
         return DoubleClickRange::Range(at..at);

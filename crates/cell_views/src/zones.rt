@@ -1,16 +1,18 @@
 //! Zones of a line: neighbouring cells of one semantic type.
 ghost use Rattle.std.specs.Prelude.{◌≡◌, IfOk, OnOk};
 ghost use Rattle.cell_base.specs.Attributes.{plain};
-ghost use Rattle.cell_base.specs.CellContent.{row_of_cells, blank_cell};
+ghost use Rattle.cell_base.specs.CellContent.{blank_cell};
 ghost use Rattle.cell_base.specs.SameCell.{same_cell};
 ghost use Rattle.cell_views.specs.CellRefView.{shown_by};
 ghost use Rattle.cell_edits.specs.VisibleCells.{visible_cells};
+ghost use Rattle.cell_views.specs.StoredCells.{stored_row};
 ghost use Rattle.cell_views.specs.Zones.{same_type, zone_column, zones};
 ghost use Rattle.cell_views.specs.OpenZones.{joined_zone, last_kept, is_kept_by};
 
 use crate::cell_ref::CellRef;
+use crate::stored_cells::StoredCells;
 use crate::visible_cells::VisibleCellIter;
-use cell_base::{Cell, CellAttributes, SemanticType, ZoneRange};
+use cell_base::{CellAttributes, SemanticType, ZoneRange};
 use std::alloc::{AllocError, Global};
 
 fn same_type(a: SemanticType, b: SemanticType) -> bool
@@ -44,8 +46,8 @@ fn is_plain_blank(cell: &CellRef<'_>) -> bool
 }
 
 // The column of the last cell that isn't a plain blank.
-fn last_kept(cells: &[Cell]) -> Option<usize>
-    ensures { result ≡ last_kept (visible_cells (row_of_cells cells.now)) }
+fn last_kept(cells: StoredCells<'_>) -> Option<usize>
+    ensures { result ≡ last_kept (visible_cells (stored_row cells.entry)) }
 {
     let mut last = None;
     for cell in VisibleCellIter::new(cells) {
@@ -85,8 +87,8 @@ fn join(zones: &mut Vec<ZoneRange>, cell: &CellRef<'_>) -> Result<(), AllocError
 }
 
 /// The zones of the cells up to the last that isn't a plain blank, or of all if there is none.
-pub fn zones(alloc: Global, cells: &[Cell]) -> Result<Vec<ZoneRange>, AllocError>
-    ensures { IfOk result (λ found. found.items ≡ zones (visible_cells (row_of_cells cells.now))) }
+pub fn zones(alloc: Global, cells: StoredCells<'_>) -> Result<Vec<ZoneRange>, AllocError>
+    ensures { IfOk result (λ found. found.items ≡ zones (visible_cells (stored_row cells.entry))) }
 {
     let last = last_kept(cells);
     let mut zones = Vec::new(alloc);

@@ -6,6 +6,7 @@ pub mod ColumnLemmas
 pub mod FaceLemmas
 pub mod ItemLemmas
 pub mod LeftLemmas
+pub mod LoneLemmas
 pub mod PartLemmas
 pub mod RowLemmas
 mod RunLists

@@ -16,11 +16,11 @@ use Rattle.cell_base.specs.Attributes.{Attributes, plain}
 use Rattle.cell_base.specs.CellContent.{CellContent, cell_of, shows_as_space}
 use Rattle.cell_base.specs.Row.{Row}
 use Rattle.cell_edits.specs.CellList.{cell_columns}
-use Rattle.cell_edits.specs.LoneText.{BeginsLone}
+use Rattle.clustered_row.specs.LoneText.{BeginsLone}
 use Rattle.cell_edits.specs.RowEdits.{overlaid}
 use Rattle.cell_edits.specs.TextRuns.{Leads}
 use Rattle.cell_edits.proofs.CellLemmas.{by_test}
-use Rattle.cell_edits.proofs.LoneLemmas.{first_bytes, first_inside, first_kept, first_utf8, lone_cell, lone_count}
+use Rattle.clustered_row.proofs.LoneLemmas.{first_bytes, first_inside, first_kept, first_utf8, lone_cell, lone_count}
 use Rattle.cell_edits.proofs.RowLaws.{length-overlaid, set_within}
 use Rattle.cell_edits.proofs.RunLemmas.{leads_first, leads_same, overlaid-append, rest_first}
 use Rattle.clustered_row.specs.declared.cell_size.CellSize.{CellSize}

@@ -4,6 +4,7 @@ pub mod Ends
 pub mod Faces
 pub mod FirstCells
 pub mod LentTexts
+pub mod LoneText
 pub mod Place
 pub mod RowView
 pub mod RunSteps
@@ -11,6 +12,7 @@ pub mod Runs
 pub mod RunsView
 pub mod Sizes
 pub mod TextsShown
+pub mod StoredRows
 pub mod VisibleCells
 pub mod VisibleColumns
 pub mod VisibleRuns

@@ -17,7 +17,7 @@ use std::alloc::{AllocError, Global};
 use std::marker::Model;
 
 // Columns side by side: the texts of their cells, and the attributes of each column.
-#[derive(Drop)]
+#[derive(Debug, Drop)]
 pub(crate) struct Columns {
     pub(crate) texts: Texts,
     pub(crate) runs: Runs,
@@ -92,7 +92,11 @@ impl Columns {
         ensures refused { OnErr result (self.new ≡ self.old) }
         ensures whole { IsWhole self.old }
     {
-        if at < self.len() {
+        let len = self.len();
+        if at == len {
+            return Ok(());
+        }
+        if at < len {
             self.cut(at);
             return Ok(());
         }

@@ -17,7 +17,7 @@ use std::marker::Model;
 /// column that was written stand blanks with the same attributes. Columns count from 0.
 ///
 /// A call that is refused memory leaves the count of columns as it was; of what they show nothing is said.
-#[derive(Drop)]
+#[derive(Debug, Drop)]
 pub struct ClusteredRow {
     pub(crate) columns: Columns,
     pub(crate) width: usize,

@@ -64,9 +64,10 @@ impl ClusteredRow {
         Ok(at + columns)
     }
 
-    // Behind each left half stands its right half.
+    /// Does nothing; its contract is a law of rows: behind the first column of a wide cell stands the second one, with
+    /// the same attributes, and none stands elsewhere.
     #[inline(always)]
-    fn is_whole(&self)
+    pub fn is_whole(&self)
         ensures { IsWhole self.now }
     {
         let _stored = self.columns.len();

@@ -2,10 +2,12 @@
 use cell_base::CellAttributes;
 
 /// Columns side by side with equal attributes.
-#[derive(Drop)]
-pub(crate) struct Run {
-    pub(crate) count: u32,
-    pub(crate) attributes: CellAttributes,
+#[derive(Debug, Drop)]
+pub struct Run {
+    /// At least 1.
+    pub count: u32,
+    /// Of each of these columns.
+    pub attributes: CellAttributes,
 }
 
 /// Where a column is: behind so many whole runs, and so many columns of the next one.

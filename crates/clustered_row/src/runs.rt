@@ -14,7 +14,7 @@ const FULL: usize = u32::MAX as usize;
 /// The attributes of columns, which count from 0, kept as runs of equal attributes.
 ///
 /// A call that is refused memory leaves the columns' attributes as they were.
-#[derive(Drop)]
+#[derive(Debug, Drop)]
 pub struct Runs {
     pub(crate) runs: Vec<Run>,
     pub(crate) columns: usize,

@@ -3,7 +3,7 @@ ghost use Rattle.std.specs.Prelude.{◌≡◌, ◌≤◌, ◌==◌, true, drop, 
 ghost use Rattle.std.specs.List.{list_all};
 ghost use Rattle.std.specs.Str.{IsCharBoundary};
 ghost use Rattle.text_clusters.specs.Apart.{begins_apart};
-ghost use Rattle.cell_edits.specs.LoneText.{BeginsLone};
+ghost use Rattle.clustered_row.specs.LoneText.{BeginsLone};
 ghost use Rattle.clustered_row.specs.Sizes.{is_plain};
 ghost use Rattle.clustered_row.specs.Walk.{IsWalked};
 

@@ -16,7 +16,7 @@ use Rattle.escape_framing.proofs.SpellLemmas.{placed_same}
 use Rattle.escape_stream.specs.declared.action.Action.{Action}
 use Rattle.escape_stream.specs.declared.pieces.Piece.{Piece as PieceCode}
 use Rattle.escape_stream.specs.declared.pieces.Piece.TheVariants as code
-use Rattle.escape_stream.specs.declared.pieces.Pieces.{Pieces}
+use Rattle.escape_stream.specs.declared.pieces.Reading.{Reading as Pieces}
 use Rattle.escape_stream.specs.declared.pieces.Stage.{Stage}
 use Rattle.escape_stream.specs.declared.pieces.Stage.TheVariants as stage
 use Rattle.escape_framing.specs.declared.error.ParseError.{ParseError}
@@ -34,7 +34,7 @@ use Rattle.escape_stream.specs.declared.queue.Queue.{Queue}
 use Rattle.escape_framing.specs.declared.lone.Lone.{Lone as Read}
 use Rattle.escape_framing.specs.declared.lone.Lone.TheVariants as lone
 use Rattle.escape_stream.specs.Pieces.{Piece, Text, Lone, pieces_of, pieces}
-use Rattle.escape_stream.specs.PiecesView.{lender_of, parser_of, open_pieces, held_at_end, items_at, items_left, ready_at, IsReady, PiecesGo, IsOpen, IsOver, IsUnderWay, IsGoing, HandsOutAtOnce, HasRead, HasReadLone, HasReadSequence, IsPairAt, IsShortAt, IsCommandAt, lone_values, GivesPiece, HasGiven, GoesOn}
+use Rattle.escape_stream.specs.PiecesView.{parser_of, open_pieces, held_at_end, items_at, items_left, ready_at, IsReady, PiecesGo, IsOpen, IsOver, IsUnderWay, HasRead, HasReadLone, HasReadSequence, IsPairAt, IsShortAt, IsCommandAt, lone_values, GivesPiece, HasGiven, GoesOn}
 use Rattle.escape_stream.proofs.PieceLemmas.{read_none, read_text, read_command, read_behind, command_behind, if_none, comes_closer}
 
 -- only what waits has changed
@@ -52,6 +52,9 @@ ready_too old new s u = record {
 
 ends_too : (old new : Pieces) → SameBut old new → held_at_end new ≡ held_at_end old
 ends_too old new s = rw (s.parser, s.count, s.bytes) refl
+
+pub same_then : (a b c : Pieces) → SameBut a b → SameBut b c → SameBut a c
+same_then a b c s t = record { parser = t.parser ∙ s.parser; bytes = t.bytes ∙ s.bytes; count = t.count ∙ s.count }
 
 -- ---- an action
 
@@ -173,9 +176,6 @@ given_too old mid new piece failed g e b n q = record {
 }
 
 -- ---- what is read at once
-
-pub same_then : (a b c : Pieces) → SameBut a b → SameBut b c → SameBut a c
-same_then a b c s t = record { parser = t.parser ∙ s.parser; bytes = t.bytes ∙ s.bytes; count = t.count ∙ s.count }
 
 -- with what a queue would hold
 abbrev loaded : (new : Pieces) → Queue → Pieces
@@ -395,27 +395,13 @@ forgets old new u q h b n w = record {
 
 -- ---- what is handed out behind the same
 
-given_behind : (old mid new : Pieces) (piece : Option PieceCode) → GoesOn old mid → HasGiven mid piece new → HasGiven old piece new
+pub given_behind : (old mid new : Pieces) (piece : Option PieceCode) → GoesOn old mid → HasGiven mid piece new → HasGiven old piece new
 given_behind old mid new piece g h = record {
   gives = λ start. subst (λ (x : List Piece). GivesPiece x piece (open_pieces start new)) (g.same start) (h.gives start);
   ready = h.ready;
   ends = h.ends ∙ g.ends;
   done = λ z. h.done z ∙ g.ends;
 }
-
-pub goes_behind : (old mid new : Pieces) (answer : Option (Result PieceCode ParseError)) → GoesOn old mid → IsOpen old → lender_of mid ≡ lender_of old → mid.stage ≡ old.stage → PiecesGo mid answer new → PiecesGo old answer new
-goes_behind old mid new (Some (Ok piece)) g o l s p = record { same = p.same ∙ l; items = (o, p.items.1, given_behind old mid new (Some piece) g p.items.2); parser = p.parser }
-goes_behind old mid new (Some (Err refusal.Memory)) g o l s p = record { same = p.same ∙ l; items = (o, p.items.1); parser = p.parser }
-goes_behind old mid new (Some (Err refusal.Failed)) g o l s p = absurd (let e : stage.Open ≡ stage.Failed = sym o ∙ sym s ∙ p.items.0 in cc)
-goes_behind old mid new None g o l s p = record {
-  same = p.same ∙ l;
-  items = (p.items.0, λ x. given_behind old mid new None g (p.items.1 (s ∙ x)), λ x. p.items.2 (s ∙ x));
-  parser = ((λ x. p.parser.0 (s ∙ x)), λ x. absurd (let e : stage.Open ≡ stage.Over = sym o ∙ x in cc));
-}
-
--- what is handed out at once is the next piece of a call
-pub goes_at_once : (old new : Pieces) (piece : PieceCode) → IsGoing old → HandsOutAtOnce old (Ok piece) new → PiecesGo old (Some (Ok piece)) new
-goes_at_once old new piece g h = record { same = h.same; items = (g.open, h.stage ∙ g.open, h.gives g.ready); parser = ap (λ (f : Framing). f.failed) h.parser ∙ g.failed }
 
 -- ---- a short control sequence
 

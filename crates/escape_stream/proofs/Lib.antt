@@ -16,7 +16,8 @@ pub mod SpellLemmas
 mod ApartPieces
 pub mod SpokenLemmas
 pub mod JoinLemmas
-pub mod WalkLemmas
+pub mod HandLemmas
+pub mod StepLemmas
 pub mod LoneReading
 mod EqualActions
 mod PartLemmas

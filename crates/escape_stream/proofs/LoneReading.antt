@@ -9,7 +9,7 @@ use Rattle.escape_framing.specs.declared.lone.Lone.TheVariants as lone
 use Rattle.escape_framing.specs.Dispatched.{dispatches_in}
 use Rattle.escape_framing.specs.Stepped.{Reads}
 use Rattle.escape_framing.specs.Quick.{lone_step}
-use Rattle.escape_stream.specs.declared.pieces.Pieces.{Pieces}
+use Rattle.escape_stream.specs.declared.pieces.Reading.{Reading as Pieces}
 use Rattle.escape_stream.specs.declared.queue.Queue.{Queue}
 use Rattle.escape_stream.specs.StreamAction.{StreamAction}
 use Rattle.escape_stream.specs.StreamActions.{actions_of, actions_of_dispatch}

@@ -8,6 +8,9 @@ pub mod StreamActions
 pub mod Parsing
 pub mod Pending
 pub mod Pieces
+pub mod Items
+pub mod Performing
 pub mod Queue
 pub mod PiecesView
+pub mod Walking
 pub mod ParserView

@@ -1,9 +1,8 @@
 -- What an iterator of pieces has yet to hand out, and of the parser that it borrows.
 use Rattle.std.specs.Prelude.{◌≡◌, ◌≢◌, ◌≤◌, ℕ, ◌+◌, true, false, List, [], ◌∷◌, ◌++◌, length, drop, map, Option, Some, None, Result, Ok, Err, IfOk}
 use base.Fml.{GName}
-use Rattle.std.specs.Str.{chars}
 use Rattle.std.specs.declared.alloc.AllocError.{AllocError}
-use Rattle.escape_stream.specs.StreamAction.{StreamAction, print, esc}
+use Rattle.escape_stream.specs.StreamAction.{StreamAction, esc}
 use Rattle.escape_framing.specs.Held.{Held, hand_out}
 use Rattle.escape_framing.specs.Framing.{Framing}
 use Rattle.escape_framing.specs.Framed.{framed_behind, IsReached, IsCarried}
@@ -15,6 +14,8 @@ use Rattle.escape_stream.specs.declared.control.ControlCode.{ControlCode}
 use Rattle.escape_framing.specs.declared.step.Step.{Step}
 use Rattle.escape_stream.specs.StreamActions.{actions_of, named_control}
 use Rattle.escape_stream.specs.Pieces.{Piece, Text, Lone, pieces_of}
+use Rattle.escape_stream.specs.Items as item
+use Rattle.escape_stream.specs.Items.{Item, items_of}
 use Rattle.escape_stream.specs.Queue.{queue_actions, IsEmpty}
 use Rattle.escape_stream.specs.Pending.{Gives}
 use Rattle.escape_stream.specs.declared.action.Action.{Action}
@@ -31,7 +32,7 @@ use Rattle.escape_stream.specs.declared.pieces.Piece.{Piece as PieceCode}
 use Rattle.escape_stream.specs.declared.pieces.Piece.TheVariants as code
 use Rattle.escape_stream.specs.declared.pieces.Stage.{Stage}
 use Rattle.escape_stream.specs.declared.pieces.Stage.TheVariants as stage
-use Rattle.escape_stream.specs.declared.pieces.Pieces.{Pieces}
+use Rattle.escape_stream.specs.declared.pieces.Reading.{Reading as Pieces}
 
 -- the reference to the parser, by its name
 abbrev pub lender_of : Pieces → GName
@@ -63,10 +64,10 @@ IsPiece (Text from text) (code.Action a) = ⊥
 IsPiece (Lone a) (code.Text t) = ⊥
 IsPiece (Lone a) (code.Action b) = value_of b ≡ a
 
--- the actions of a piece: a text prints its characters
-abbrev pub actions_in : PieceCode → List StreamAction
-actions_in (code.Text t) = map print (chars t.now)
-actions_in (code.Action a) = value_of a ∷ []
+-- the same without its place
+abbrev pub item_handed : PieceCode → Item
+item_handed (code.Text t) = item.Text t.now
+item_handed (code.Action a) = item.Lone (value_of a)
 
 -- the next piece of some, and what is left of them
 abbrev pub GivesPiece : List Piece → Option PieceCode → List Piece → Type 0
@@ -138,6 +139,8 @@ pub record HandsOutAtOnce (old : Pieces) (answer : Result PieceCode AllocError) 
   pub same : lender_of new ≡ lender_of old
   pub stage : new.stage ≡ old.stage
   pub parser : new.parser.now ≡ old.parser.now
+  pub bytes : new.bytes ≡ old.bytes
+  pub count : old.count ≤ new.count
   pub gives : IfOk answer (λ piece. IsUnderWay old → HasGiven old (Some piece) new)
 
 -- The next of the actions that wait is handed out, unless memory is refused; nothing but these has changed.
@@ -217,3 +220,12 @@ items_at stage.Over left = 0
 
 abbrev pub items_left : Pieces → ℕ
 items_left it = items_at it.stage (open_pieces 0 it)
+
+-- what is yet to be handed out
+abbrev pub items_at_stage : Stage → List Item → List Item
+items_at_stage stage.Failed left = []
+items_at_stage stage.Open left = left
+items_at_stage stage.Over left = []
+
+abbrev pub items_to_come : Pieces → List Item
+items_to_come it = items_at_stage it.stage (items_of (open_pieces 0 it))

@@ -7,9 +7,12 @@ mod control;
 mod device;
 mod encoding;
 pub mod encoding_laws;
+mod engine;
+mod handing;
 mod parse;
 mod parser;
 mod pending;
+mod perform;
 mod pieces;
 mod queue;
 
@@ -20,4 +23,5 @@ pub use encoding::encode;
 pub use escape_framing::ParseError;
 pub use escape_osc::{OperatingSystemCommand, Selection};
 pub use parser::Parser;
+pub use perform::{Halted, Perform};
 pub use pieces::{Piece, Pieces};

@@ -6,64 +6,76 @@ ghost use Rattle.escape_stream.specs.StreamAction.{appended, print};
 ghost use Rattle.escape_stream.specs.StreamActionView.{value_of};
 ghost use Rattle.escape_stream.specs.StreamActions.{newly_decided_actions};
 ghost use Rattle.escape_stream.specs.Parsing.{IsCalledAt};
-ghost use Rattle.escape_stream.specs.PiecesView.{actions_in, lender_of, parser_of, open_pieces, held_at_end, IsOpen, IsReady};
-ghost use Rattle.escape_stream.specs.Pieces.{actions_of_pieces};
 
 use crate::action::Action;
 use crate::parser::Parser;
-use crate::pieces::{Piece, Pieces};
+use crate::perform::Perform;
 use escape_framing::ParseError;
 use std::alloc::{AllocError, Global};
 
-// Calls the callback at a print of each byte, and gives it back.
-fn call_at_bytes<F: FnMut(Action)>(bytes: &[u8], mut callback: F) -> F
-    requires { F.IsAlwaysCallable callback }
-    ensures called { IsCalledAt (λ f a f'. F.step f a tt f') callback (map print bytes.now) result }
-    ensures callable { F.IsAlwaysCallable result }
+// Calls the callback at a print of each byte.
+fn call_at_bytes<F: FnMut(Action)>(bytes: &[u8], callback: &mut F)
+    requires { F.IsAlwaysCallable callback.old }
+    ensures called { IsCalledAt (λ f a f'. F.step f a tt f') callback.old (map print bytes.now) callback.new }
+    ensures callable { F.IsAlwaysCallable callback.new }
 {
     for byte in bytes {
         callback(Action::Print(char::from(*byte)));
     }
-    callback
 }
 
-// Calls the callback at a print of each character, and gives it back.
-fn call_at_chars<F: FnMut(Action)>(text: &str, mut callback: F) -> F
-    requires { F.IsAlwaysCallable callback }
-    ensures called { IsCalledAt (λ f a f'. F.step f a tt f') callback (map print (chars text.now)) result }
-    ensures callable { F.IsAlwaysCallable result }
+// Calls the callback at a print of each character.
+fn call_at_chars<F: FnMut(Action)>(text: &str, callback: &mut F)
+    requires { F.IsAlwaysCallable callback.old }
+    ensures called { IsCalledAt (λ f a f'. F.step f a tt f') callback.old (map print (chars text.now)) callback.new }
+    ensures callable { F.IsAlwaysCallable callback.new }
 {
     for character in text.chars() {
         callback(Action::Print(character));
     }
-    callback
 }
 
 // The same, faster where each character is one byte.
-fn call_at_text<F: FnMut(Action)>(text: &str, callback: F) -> F
-    requires { F.IsAlwaysCallable callback }
-    ensures called { IsCalledAt (λ f a f'. F.step f a tt f') callback (map print (chars text.now)) result }
-    ensures callable { F.IsAlwaysCallable result }
+fn call_at_text<F: FnMut(Action)>(text: &str, callback: &mut F)
+    requires { F.IsAlwaysCallable callback.old }
+    ensures called { IsCalledAt (λ f a f'. F.step f a tt f') callback.old (map print (chars text.now)) callback.new }
+    ensures callable { F.IsAlwaysCallable callback.new }
 {
     if text.is_ascii() {
-        call_at_bytes(text.as_bytes(), callback)
+        call_at_bytes(text.as_bytes(), callback);
     } else {
-        call_at_chars(text, callback)
+        call_at_chars(text, callback);
     }
 }
 
-// Calls the callback at each action of a piece, and gives it back.
-fn call_at_piece<F: FnMut(Action)>(piece: Piece<'_>, mut callback: F) -> F
-    requires { F.IsAlwaysCallable callback }
-    ensures called { IsCalledAt (λ f a f'. F.step f a tt f') callback (actions_in piece.entry) result }
-    ensures callable { F.IsAlwaysCallable result }
-{
-    match piece {
-        Piece::Text(text) => call_at_text(text, callback),
-        Piece::Action(action) => {
-            callback(action);
-            callback
-        }
+// Calls a callback at each action.
+#[derive(Drop)]
+pub(crate) struct Calls<F> {
+    callback: F,
+}
+
+impl<'t, F: FnMut(Action)> Perform<'t> for Calls<F> {
+    ghost use Rattle.escape_stream.specs.Items.{actions_of_item};
+    ghost use Rattle.escape_stream.specs.Parsing.{IsCalledAt};
+
+    type Refusal = AllocError;
+
+    ghost ready = { λ calls. F.IsAlwaysCallable calls.callback };
+
+    ghost does = { λ old item new. IsCalledAt (λ f a f'. F.step f a tt f') old.callback (actions_of_item item) new.callback };
+
+    ghost refuses = { λ old item refusal new. ⊥ };
+
+    #[inline(always)]
+    fn text(&mut self, text: &'t str) -> Result<(), AllocError> {
+        call_at_text(text, &mut self.callback);
+        Ok(())
+    }
+
+    #[inline(always)]
+    fn action(&mut self, action: Action) -> Result<(), AllocError> {
+        (self.callback)(action);
+        Ok(())
     }
 }
 
@@ -96,64 +108,66 @@ fn append_text(alloc: Global, text: &str, actions: &mut Vec<Action>) -> Result<(
     }
 }
 
-// Appends the actions of a piece, a print behind a print as one.
-fn append_piece(
-    alloc: Global,
-    piece: Piece<'_>,
-    actions: &mut Vec<Action>,
-) -> Result<(), AllocError>
-    ensures { IfOk result (λ _. map value_of actions.new.items ≡ fold appended (map value_of actions.old.items) (actions_in piece.entry)) }
-{
-    match piece {
-        Piece::Text(text) => append_text(alloc, text, actions),
-        Piece::Action(action) => action.append_to(actions),
-    }
+// Joins actions to a list.
+#[derive(Drop)]
+pub(crate) struct Joined {
+    actions: Vec<Action>,
 }
 
-// Calls the callback at each action of the pieces that are left.
-fn call_at_pieces<F: FnMut(Action)>(
-    pieces: &mut Pieces<'_>,
-    mut callback: F,
-) -> Result<(), ParseError>
-    requires callable { F.IsAlwaysCallable callback }
-    requires ready { IsReady pieces.old }
-    requires going { IsOpen pieces.old }
-    ensures same { lender_of pieces.new ≡ lender_of pieces.old }
-    ensures called { OnOk result ((start : ℕ) → (last : F) × IsCalledAt (λ f a f'. F.step f a tt f') callback (actions_of_pieces (open_pieces start pieces.old)) last) }
-    ensures held { OnOk result ((parser_of pieces.new).held ≡ held_at_end pieces.old) }
-    ensures failed { (parser_of pieces.new).failed ≡ is_err result }
-    ensures memory { IsErrOf result ParseError.Failed → ⊥ }
-{
-    while let Some(piece) = pieces.next() {
-        callback = call_at_piece(piece?, callback);
-    }
-    Ok(())
-}
+impl<'t> Perform<'t> for Joined {
+    ghost use Rattle.std.specs.Prelude.{◌≡◌, ⊤, map, fold};
+    ghost use Rattle.escape_stream.specs.Items.{actions_of_item};
+    ghost use Rattle.escape_stream.specs.StreamAction.{appended};
+    ghost use Rattle.escape_stream.specs.StreamActionView.{value_of};
 
-// Appends the actions of the pieces that are left.
-fn append_pieces(
-    alloc: Global,
-    pieces: &mut Pieces<'_>,
-    actions: &mut Vec<Action>,
-) -> Result<(), ParseError>
-    requires ready { IsReady pieces.old }
-    requires going { IsOpen pieces.old }
-    ensures same { lender_of pieces.new ≡ lender_of pieces.old }
-    ensures joined { OnOk result ((start : ℕ) → map value_of actions.new.items ≡ fold appended (map value_of actions.old.items) (actions_of_pieces (open_pieces start pieces.old))) }
-    ensures held { OnOk result ((parser_of pieces.new).held ≡ held_at_end pieces.old) }
-    ensures failed { (parser_of pieces.new).failed ≡ is_err result }
-    ensures memory { IsErrOf result ParseError.Failed → ⊥ }
-{
-    while let Some(piece) = pieces.next() {
-        append_piece(alloc, piece?, actions)?;
+    type Refusal = AllocError;
+
+    ghost ready = { λ joined. ⊤ };
+
+    ghost does = { λ old item new. map value_of new.actions.items ≡ fold appended (map value_of old.actions.items) (actions_of_item item) };
+
+    ghost refuses = { λ old item refusal new. ⊤ };
+
+    fn text(&mut self, text: &'t str) -> Result<(), AllocError> {
+        let alloc = *self.actions.allocator();
+        append_text(alloc, text, &mut self.actions)
     }
-    Ok(())
+
+    fn action(&mut self, action: Action) -> Result<(), AllocError> {
+        action.append_to(&mut self.actions)
+    }
 }
 
 impl Parser {
+    /// Reads bytes, calls the callback at each action that they decide behind those that were read before, in order,
+    /// and gives it back. A call that was refused memory answers `Memory`, and each later call `Failed`, without
+    /// reading.
+    pub fn parse_with<F: FnMut(Action)>(
+        &mut self,
+        bytes: &[u8],
+        callback: F,
+    ) -> Result<F, ParseError>
+        requires { F.IsAlwaysCallable callback }
+        // Where a stream has been read, in any pieces, the callback is called at each action that the bytes newly decide.
+        ensures called { IfOk result (λ last. (stream : List ℕ) → self.old.held ≡ held_of stream → IsCalledAt (λ f a f'. F.step f a tt f') callback (newly_decided_actions stream bytes.now) last) }
+        ensures callable { IfOk result (λ last. F.IsAlwaysCallable last) }
+        // The bytes have then been read too.
+        ensures held { OnOk result ((stream : List ℕ) → self.old.held ≡ held_of stream → self.new.held ≡ held_of (stream ++ bytes.now)) }
+        // A call fails where an earlier one was refused memory, and only then is that its error.
+        ensures failed { IsErrOf result ParseError.Failed ↔ (self.old.failed ≡ true) }
+        // A parser has failed once it was refused memory.
+        ensures after { self.new.failed ≡ is_err result }
+    {
+        let mut calls = Calls { callback };
+        match self.hand_to(bytes, &mut calls) {
+            Ok(()) => Ok(calls.callback),
+            Err(halted) => Err(ParseError::from(halted)),
+        }
+    }
+
     /// Reads bytes, and calls the callback at each action that they decide behind those that were read before, in order.
     /// A call that was refused memory answers `Memory`, and each later call `Failed`, without reading. Of what the
-    /// callback borrows nothing can be proved behind the call: walk `pieces` where that is wanted.
+    /// callback borrows nothing can be proved behind the call: `parse_with` gives it back.
     pub fn parse<F: FnMut(Action)>(&mut self, bytes: &[u8], callback: F) -> Result<(), ParseError>
         requires { F.IsAlwaysCallable callback }
         // Where a stream has been read, in any pieces, the callback is called at each action that the bytes newly decide.
@@ -165,13 +179,8 @@ impl Parser {
         // A parser has failed once it was refused memory.
         ensures after { self.new.failed ≡ is_err result }
     {
-        if self.is_failed() {
-            return Err(ParseError::Failed);
-        }
-        let mut pieces = self.pieces(bytes);
-        let result = call_at_pieces(&mut pieces, callback);
-        let _ = &*pieces.into_parser();
-        result
+        let _callback = self.parse_with(bytes, callback)?;
+        Ok(())
     }
 
     /// Reads bytes, and answers the actions that they decide behind those that were read before, joined by `append_to`.
@@ -186,15 +195,12 @@ impl Parser {
         // A parser has failed once it was refused memory.
         ensures after { self.new.failed ≡ is_err result }
     {
-        if self.is_failed() {
-            return Err(ParseError::Failed);
+        let mut joined = Joined {
+            actions: Vec::new(self.alloc()),
+        };
+        match self.hand_to(bytes, &mut joined) {
+            Ok(()) => Ok(joined.actions),
+            Err(halted) => Err(ParseError::from(halted)),
         }
-        let alloc = self.alloc();
-        let mut actions = Vec::new(alloc);
-        let mut pieces = self.pieces(bytes);
-        let result = append_pieces(alloc, &mut pieces, &mut actions);
-        let _ = &*pieces.into_parser();
-        result?;
-        Ok(actions)
     }
 }

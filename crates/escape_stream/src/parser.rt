@@ -20,7 +20,7 @@ ghost use Rattle.std.specs.Option.{option_map};
 
 use crate::action::Action;
 use crate::pending::{Pending, push_each};
-use crate::pieces::{Pieces, Stage, behind};
+use crate::pieces::{Pieces, Reading, Stage, behind};
 use crate::queue::Queue;
 use escape_framing::{Dispatch, Framer, Lone, ParseError, ShortSequence, Step};
 use std::alloc::{AllocError, Global};
@@ -232,6 +232,30 @@ impl Parser {
         self.failed = false;
     }
 
+    // Lends what bytes decide.
+    pub(crate) fn reading<'p, 'b>(&'p mut self, bytes: &'b [u8]) -> Reading<'p, 'b>
+        ensures same { lender_of result ≡ self.entry.ghost_name }
+        ensures pieces { (stream : List ℕ) → self.old.held ≡ held_of stream → IsUnderWay result × (open_pieces (length stream) result ≡ pieces stream bytes.now) × (held_at_end result ≡ held_of (stream ++ bytes.now)) }
+        ensures ready { IsReady result }
+        ensures failed { HadFailed result ↔ (self.old.failed ≡ true) }
+        ensures open { IsOpen result ↔ (self.old.failed ≡ false) }
+        ensures parser { (parser_of result).failed ≡ true }
+    {
+        let stage = if self.failed {
+            Stage::Failed
+        } else {
+            Stage::Open
+        };
+        self.fail();
+        Reading {
+            parser: self,
+            bytes,
+            count: 0,
+            queue: Queue::new(),
+            stage,
+        }
+    }
+
     /// Reads bytes, and lends the texts and actions that they decide behind those that were read before, in order. The
     /// parser has failed until these were taken to their first `None`. Where it had failed before, the one item is
     /// `Failed`.
@@ -246,19 +270,7 @@ impl Parser {
         ensures open { IsOpen result ↔ (self.old.failed ≡ false) }
         ensures parser { (parser_of result).failed ≡ true }
     {
-        let stage = if self.failed {
-            Stage::Failed
-        } else {
-            Stage::Open
-        };
-        self.fail();
-        Pieces {
-            parser: self,
-            bytes,
-            count: 0,
-            queue: Queue::new(),
-            stage,
-        }
+        self.reading(bytes)
     }
 
     // Reads the bytes at the front that decide nothing, as many as are read at once.

@@ -42,9 +42,12 @@ pub(crate) enum Stage {
 
 /// The pieces of the bytes of one call, in order. After a refusal, and after the last one, it answers `None`. A parser
 /// has failed unless its pieces are taken to their first `None`.
+pub type Pieces<'a> = Reading<'a, 'a>;
+
+/// The same, where the bytes may live longer than the parser is borrowed.
 #[derive(Drop)]
-pub struct Pieces<'a> {
-    pub(crate) parser: &'a mut Parser,
+pub struct Reading<'p, 'a> {
+    pub(crate) parser: &'p mut Parser,
     pub(crate) bytes: &'a [u8],
     pub(crate) count: usize,
     pub(crate) queue: Queue,
@@ -53,7 +56,7 @@ pub struct Pieces<'a> {
 
 // The action of what was read at once, unless it is a control sequence.
 #[inline(always)]
-fn lone_action(lone: Lone) -> Option<Action>
+pub(crate) fn lone_action(lone: Lone) -> Option<Action>
     ensures { pending_values result None ≡ lone_values lone }
 {
     match lone {
@@ -65,7 +68,7 @@ fn lone_action(lone: Lone) -> Option<Action>
 
 // Whether nothing was read at once.
 #[inline(always)]
-fn is_nothing(lone: Lone) -> bool
+pub(crate) fn is_nothing(lone: Lone) -> bool
     ensures { IsTrue result ↔ (lone ≡ Nothing) }
 {
     matches!(lone, Lone::Nothing)
@@ -109,19 +112,19 @@ fn may_end_pair(first: u8, second: u8, third: u8) -> bool {
     }
 }
 
-impl<'a> Pieces<'a> {
+impl<'p, 'a> Reading<'p, 'a> {
     /// The parser that they are read by, whatever is left of them.
-    pub fn into_parser(self) -> &'a mut Parser
+    pub fn into_parser(self) -> &'p mut Parser
         ensures same { result.ghost_name ≡ lender_of self.entry }
         ensures parser { result.now ≡ parser_of self.entry }
     {
-        let Pieces { parser, .. } = self;
+        let Reading { parser, .. } = self;
         parser
     }
 
     // Reads what stands at the front of the bytes that are left at once, and answers how many bytes of text that is.
     #[inline(never)]
-    fn read(&mut self) -> Result<usize, AllocError>
+    pub(crate) fn read(&mut self) -> Result<usize, AllocError>
         requires within { self.old.count ≤ length self.old.bytes.now }
         requires failed { self.old.parser.now.failed ≡ true }
         ensures same { lender_of self.new ≡ lender_of self.old }
@@ -159,7 +162,7 @@ impl<'a> Pieces<'a> {
 
     // The same, faster where none wait.
     #[inline(always)]
-    fn next_action(&mut self) -> Result<Option<Action>, AllocError>
+    pub(crate) fn next_action(&mut self) -> Result<Option<Action>, AllocError>
         ensures { HandsOutWaiting self.old result self.new }
     {
         if !self.queue.is_waiting() {
@@ -170,7 +173,7 @@ impl<'a> Pieces<'a> {
 
     // The control at the front of the bytes that are left, where nothing is unfinished.
     #[inline(always)]
-    fn control(&self) -> Option<ControlCode>
+    pub(crate) fn control(&self) -> Option<ControlCode>
         requires within { self.now.count ≤ length self.now.bytes.now }
         ensures { IfSome result (λ control. IsControlAt self.now control) }
     {
@@ -181,19 +184,19 @@ impl<'a> Pieces<'a> {
 
     // Hands out a control.
     #[inline(always)]
-    fn take_control(&mut self, control: ControlCode) -> Piece<'a>
+    pub(crate) fn take_control(&mut self, control: ControlCode) -> Action
         requires within { self.old.count ≤ length self.old.bytes.now }
         requires empty { IsEmpty self.old.queue }
         requires stands { IsControlAt self.old control }
-        ensures { HandsOutAtOnce self.old (Ok result) self.new }
+        ensures { HandsOutAtOnce self.old (Ok (piece.Action result)) self.new }
     {
         self.count += 1;
-        Piece::Action(Action::Control(control))
+        Action::Control(control)
     }
 
     // How many bytes of text stand at the front of the bytes that are left, where nothing is unfinished.
     #[inline(always)]
-    fn text_len(&self) -> usize
+    pub(crate) fn text_len(&self) -> usize
         requires within { self.now.count ≤ length self.now.bytes.now }
         ensures { 0 < result → Reads self.now.parser.now.parameters self.now.parser.now.held (drop self.now.count self.now.bytes.now) (text_step result) self.now.parser.now.held }
     {
@@ -203,22 +206,22 @@ impl<'a> Pieces<'a> {
 
     // Hands out so many bytes of text.
     #[inline(always)]
-    fn take_text(&mut self, len: usize) -> Piece<'a>
+    pub(crate) fn take_text(&mut self, len: usize) -> &'a str
         requires within { self.old.count ≤ length self.old.bytes.now }
         requires some { 0 < len }
         requires empty { IsEmpty self.old.queue }
         requires reads { Reads self.old.parser.now.parameters self.old.parser.now.held (drop self.old.count self.old.bytes.now) (text_step len) self.old.parser.now.held }
-        ensures { HandsOutAtOnce self.old (Ok result) self.new }
+        ensures { HandsOutAtOnce self.old (Ok (piece.Text result)) self.new }
     {
         let bytes = self.bytes;
         let before = self.count;
         self.count = before + len;
-        Piece::Text(text_of(part(bytes, before, len)))
+        text_of(part(bytes, before, len))
     }
 
     // Reads a control or a sequence of the bytes that are left, where nothing is unfinished.
     #[inline(always)]
-    fn read_lone(&mut self) -> Lone
+    pub(crate) fn read_lone(&mut self) -> Lone
         requires within { self.old.count ≤ length self.old.bytes.now }
         requires failed { self.old.parser.now.failed ≡ true }
         requires empty { IsEmpty self.old.queue }
@@ -248,7 +251,7 @@ impl<'a> Pieces<'a> {
     // Reads the control sequence at the front of the bytes that are left, where nothing is unfinished and all its bytes
     // stand there, and answers its final byte.
     #[inline(always)]
-    fn read_sequence(&mut self) -> Option<u8>
+    pub(crate) fn read_sequence(&mut self) -> Option<u8>
         requires within { self.old.count ≤ length self.old.bytes.now }
         requires failed { self.old.parser.now.failed ≡ true }
         requires empty { IsEmpty self.old.queue }
@@ -269,7 +272,7 @@ impl<'a> Pieces<'a> {
 
     // The first action of the control sequence that was read last; the others wait.
     #[inline(always)]
-    fn first_action(&mut self, control: u8) -> Result<Option<Action>, AllocError>
+    pub(crate) fn first_action(&mut self, control: u8) -> Result<Option<Action>, AllocError>
         requires { IsEmpty self.old.queue }
         ensures same { lender_of self.new ≡ lender_of self.old }
         ensures parser { self.new.parser.now ≡ self.old.parser.now }
@@ -286,7 +289,7 @@ impl<'a> Pieces<'a> {
 
     // The bytes of a text that was read of those behind so many.
     #[inline(always)]
-    fn text_at(&self, count: usize, len: usize) -> &'a str
+    pub(crate) fn text_at(&self, count: usize, len: usize) -> &'a str
         requires fits { count + len ≤ length self.now.bytes.now }
         requires text { IsText (take len (drop count self.now.bytes.now)) }
         ensures { result.now ≡ take len (drop count self.now.bytes.now) }
@@ -295,72 +298,10 @@ impl<'a> Pieces<'a> {
         text_of(part(bytes, count, len))
     }
 
-    // The next piece, if there is one.
-    #[inline(always)]
-    fn advance(&mut self) -> Result<Option<Piece<'a>>, AllocError>
-        requires ready { IsUnderWay self.old }
-        requires failed { self.old.parser.now.failed ≡ true }
-        ensures same { lender_of self.new ≡ lender_of self.old }
-        ensures stage { self.new.stage ≡ self.old.stage }
-        ensures failed { self.new.parser.now.failed ≡ true }
-        ensures gives { IfOk result (λ piece. HasGiven self.old piece self.new) }
-    {
-        loop {
-            let action = self.next_action()?;
-            if let Some(action) = action {
-                return Ok(Some(Piece::Action(action)));
-            }
-            let count = self.count;
-            if count == self.bytes.len() {
-                return Ok(None);
-            }
-            let lone = self.read_lone();
-            if let Some(action) = lone_action(lone) {
-                return Ok(Some(Piece::Action(action)));
-            }
-            if !is_nothing(lone) {
-                continue;
-            }
-            let text = self.read()?;
-            if text != 0 {
-                return Ok(Some(Piece::Text(self.text_at(count, text))));
-            }
-        }
-    }
-
-    // The next item of pieces that are open, byte by byte where nothing is read at once.
-    #[inline(never)]
-    fn next_of_loop(&mut self) -> Option<Result<Piece<'a>, ParseError>>
-        requires { IsGoing self.old }
-        ensures { PiecesGo self.old result self.new }
-    {
-        match self.advance() {
-            Ok(Some(piece)) => Some(Ok(piece)),
-            Ok(None) => {
-                self.parser.go_on();
-                self.stage = Stage::Over;
-                None
-            }
-            Err(_) => {
-                self.stage = Stage::Over;
-                Some(Err(ParseError::Memory))
-            }
-        }
-    }
-
-    // The same, called where it is wanted: the room for its answer is only cleared there.
-    #[inline(always)]
-    fn next_by_loop(&mut self) -> Option<Result<Piece<'a>, ParseError>>
-        requires { IsGoing self.old }
-        ensures { PiecesGo self.old result self.new }
-    {
-        self.next_of_loop()
-    }
-
     // The short control sequence at the front of the bytes that are left, where nothing is unfinished, and its action, where
     // it is the only one.
     #[inline(always)]
-    fn short(&self) -> Option<(ShortSequence, Action)>
+    pub(crate) fn short(&self) -> Option<(ShortSequence, Action)>
         requires within { self.now.count ≤ length self.now.bytes.now }
         ensures { IfSome result (λ s. IsShortAt self.now s.0 × (sequence_values (short_parameters s.0.numbers) s.0.control ≡ value_of s.1 ∷ [])) }
     {
@@ -372,7 +313,7 @@ impl<'a> Pieces<'a> {
 
     // The same of a control sequence of two or three short numbers.
     #[inline(always)]
-    fn numbers(&self) -> Option<(ShortSequence, Action)>
+    pub(crate) fn numbers(&self) -> Option<(ShortSequence, Action)>
         requires within { self.now.count ≤ length self.now.bytes.now }
         ensures { IfSome result (λ s. IsShortAt self.now s.0 × (sequence_values (short_parameters s.0.numbers) s.0.control ≡ value_of s.1 ∷ [])) }
     {
@@ -385,7 +326,7 @@ impl<'a> Pieces<'a> {
     // Whether two or three numbers with one action may stand behind ESC [: a colour of the palette, or two numbers before
     // another final byte than `m`, before which most numbers mean something by themselves. Whatever it answers is right.
     #[inline(always)]
-    fn may_be_numbers(&self) -> bool
+    pub(crate) fn may_be_numbers(&self) -> bool
         requires { self.now.count ≤ length self.now.bytes.now }
     {
         let bytes = self.bytes;
@@ -404,96 +345,21 @@ impl<'a> Pieces<'a> {
 
     // Hands out the only action of a short control sequence.
     #[inline(always)]
-    fn take_short(&mut self, short: ShortSequence, action: Action) -> Piece<'a>
+    pub(crate) fn take_short(&mut self, short: ShortSequence, action: Action) -> Action
         requires within { self.old.count ≤ length self.old.bytes.now }
         requires empty { IsEmpty self.old.queue }
         requires stands { IsShortAt self.old short }
         requires only { sequence_values (short_parameters short.numbers) short.control ≡ value_of action ∷ [] }
-        ensures { HandsOutAtOnce self.old (Ok result) self.new }
+        ensures { HandsOutAtOnce self.old (Ok (piece.Action result)) self.new }
     {
         self.count += short.count;
-        Piece::Action(action)
-    }
-
-    // The next item of pieces that are open, where nothing waits: of a short control sequence at once.
-    #[inline(always)]
-    fn next_by_step(&mut self) -> Option<Result<Piece<'a>, ParseError>>
-        requires { IsIdle self.old }
-        ensures { PiecesGo self.old result self.new }
-    {
-        match self.short() {
-            Some((short, action)) => Some(Ok(self.take_short(short, action))),
-            None => self.next_by_more(),
-        }
-    }
-
-    // The same, where what stands there isn't a sequence of at most one short number: one of two or three by a call of its
-    // own, anything else as any control sequence.
-    #[inline(always)]
-    fn next_by_more(&mut self) -> Option<Result<Piece<'a>, ParseError>>
-        requires { IsIdle self.old }
-        ensures { PiecesGo self.old result self.new }
-    {
-        if self.may_be_numbers() {
-            self.next_by_numbers()
-        } else {
-            self.next_by_list()
-        }
-    }
-
-    // The same, where two or three numbers may stand there, called where it is wanted, as `next_by_loop` is.
-    #[inline(always)]
-    fn next_by_numbers(&mut self) -> Option<Result<Piece<'a>, ParseError>>
-        requires { IsIdle self.old }
-        ensures { PiecesGo self.old result self.new }
-    {
-        self.next_of_numbers()
-    }
-
-    // The same, where two or three numbers may stand there.
-    #[inline(never)]
-    fn next_of_numbers(&mut self) -> Option<Result<Piece<'a>, ParseError>>
-        requires { IsIdle self.old }
-        ensures { PiecesGo self.old result self.new }
-    {
-        match self.numbers() {
-            Some((short, action)) => Some(Ok(self.take_short(short, action))),
-            None => self.next_by_list(),
-        }
-    }
-
-    // The same of any control sequence whose bytes stand there, called where it is wanted, as `next_by_loop` is.
-    #[inline(always)]
-    fn next_by_list(&mut self) -> Option<Result<Piece<'a>, ParseError>>
-        requires { IsIdle self.old }
-        ensures { PiecesGo self.old result self.new }
-    {
-        self.next_of_list()
-    }
-
-    // The same of any control sequence whose bytes stand there.
-    #[inline(never)]
-    fn next_of_list(&mut self) -> Option<Result<Piece<'a>, ParseError>>
-        requires { IsIdle self.old }
-        ensures { PiecesGo self.old result self.new }
-    {
-        let Some(control) = self.read_sequence() else {
-            return self.next_by_loop();
-        };
-        match self.first_action(control) {
-            Ok(Some(action)) => Some(Ok(Piece::Action(action))),
-            Ok(None) => self.next_by_loop(),
-            Err(_) => {
-                self.stage = Stage::Over;
-                Some(Err(ParseError::Memory))
-            }
-        }
+        action
     }
 
     // The body of the command at the front of the bytes that are left, where nothing is unfinished and they decide it, and
     // how many of them are read with it.
     #[inline(always)]
-    fn command(&self) -> Option<(&'a [u8], usize)>
+    pub(crate) fn command(&self) -> Option<(&'a [u8], usize)>
         requires within { self.now.count ≤ length self.now.bytes.now }
         ensures { IfSome result (λ c. IsCommandAt self.now c.0.now c.1) }
     {
@@ -503,20 +369,23 @@ impl<'a> Pieces<'a> {
 
     // Hands out the command of this body, which is read with so many bytes.
     #[inline(always)]
-    fn take_command(&mut self, body: &[u8], count: usize) -> Result<Piece<'a>, AllocError>
+    pub(crate) fn take_command(&mut self, body: &[u8], count: usize) -> Result<Action, AllocError>
         requires within { self.old.count ≤ length self.old.bytes.now }
         requires empty { IsEmpty self.old.queue }
         requires stands { IsCommandAt self.old body.now count }
-        ensures { HandsOutAtOnce self.old result self.new }
+        ensures hands { IfOk result (λ action. HandsOutAtOnce self.old (Ok (piece.Action action)) self.new) }
+        ensures same { lender_of self.new ≡ lender_of self.old }
+        ensures stage { self.new.stage ≡ self.old.stage }
+        ensures failed { self.new.parser.now.failed ≡ self.old.parser.now.failed }
     {
         let action = command_action(self.parser.alloc(), body)?;
         self.count += count;
-        Ok(Piece::Action(action))
+        Ok(action)
     }
 
     // The final byte of the escape sequence of two bytes at the front of the bytes that are left, where nothing is unfinished.
     #[inline(always)]
-    fn pair(&self) -> Option<u8>
+    pub(crate) fn pair(&self) -> Option<u8>
         requires within { self.now.count ≤ length self.now.bytes.now }
         ensures { IfSome result (λ control. IsPairAt self.now control) }
     {
@@ -526,49 +395,19 @@ impl<'a> Pieces<'a> {
 
     // Hands out an escape sequence of two bytes.
     #[inline(always)]
-    fn take_pair(&mut self, control: u8) -> Piece<'a>
+    pub(crate) fn take_pair(&mut self, control: u8) -> Action
         requires within { self.old.count ≤ length self.old.bytes.now }
         requires empty { IsEmpty self.old.queue }
         requires stands { IsPairAt self.old control }
-        ensures { HandsOutAtOnce self.old (Ok result) self.new }
+        ensures { HandsOutAtOnce self.old (Ok (piece.Action result)) self.new }
     {
         self.count += 2;
-        Piece::Action(Action::Esc(Esc::parse(None, control)))
-    }
-
-    // The next item of pieces that are open, where nothing waits: of an escape sequence of two bytes or a command at once.
-    #[inline(never)]
-    fn next_of_command(&mut self) -> Option<Result<Piece<'a>, ParseError>>
-        requires { IsIdle self.old }
-        ensures { PiecesGo self.old result self.new }
-    {
-        if let Some(control) = self.pair() {
-            return Some(Ok(self.take_pair(control)));
-        }
-        let Some((body, count)) = self.command() else {
-            return self.next_by_loop();
-        };
-        match self.take_command(body, count) {
-            Ok(piece) => Some(Ok(piece)),
-            Err(_) => {
-                self.stage = Stage::Over;
-                Some(Err(ParseError::Memory))
-            }
-        }
-    }
-
-    // The same, called where it is wanted, as `next_by_loop` is.
-    #[inline(always)]
-    fn next_by_command(&mut self) -> Option<Result<Piece<'a>, ParseError>>
-        requires { IsIdle self.old }
-        ensures { PiecesGo self.old result self.new }
-    {
-        self.next_of_command()
+        Action::Esc(Esc::parse(None, control))
     }
 
     // Whether ESC stands at the front of the bytes that are left.
     #[inline(always)]
-    fn is_at_escape(&self) -> bool
+    pub(crate) fn is_at_escape(&self) -> bool
         requires { self.now.count ≤ length self.now.bytes.now }
     {
         let bytes = self.bytes;
@@ -577,54 +416,26 @@ impl<'a> Pieces<'a> {
 
     // Whether ESC [ stands there.
     #[inline(always)]
-    fn is_at_sequence(&self) -> bool
+    pub(crate) fn is_at_sequence(&self) -> bool
         requires { self.now.count ≤ length self.now.bytes.now }
     {
         let bytes = self.bytes;
         matches!(behind(bytes, self.count), [0x1b, b'[', ..])
     }
 
-    // The next item where ESC stands at the front, and nothing waits.
-    #[inline(always)]
-    fn next_of_escape(&mut self) -> Option<Result<Piece<'a>, ParseError>>
-        requires { IsIdle self.old }
-        ensures { PiecesGo self.old result self.new }
-    {
-        if self.is_at_sequence() {
-            self.next_by_step()
-        } else {
-            self.next_by_command()
-        }
-    }
-
     // Whether a C0 control stands at the front of the bytes that are left.
     #[inline(always)]
-    fn is_at_control(&self) -> bool
+    pub(crate) fn is_at_control(&self) -> bool
         requires { self.now.count ≤ length self.now.bytes.now }
     {
         let bytes = self.bytes;
         matches!(behind(bytes, self.count), [0x00..=0x1f, ..])
     }
 
-    // The next item where such a control stands there, and nothing waits: a sequence or the control at once.
-    #[inline(always)]
-    fn next_of_control(&mut self) -> Option<Result<Piece<'a>, ParseError>>
-        requires { IsIdle self.old }
-        ensures { PiecesGo self.old result self.new }
-    {
-        if self.is_at_escape() {
-            return self.next_of_escape();
-        }
-        if let Some(control) = self.control() {
-            return Some(Ok(self.take_control(control)));
-        }
-        self.next_by_byte()
-    }
-
     // The action of the byte at the front of the bytes that are left, where it has one by itself: a byte of the data of a
     // device control string, or one that is ill-formed.
     #[inline(always)]
-    fn byte_action(&self) -> Option<Action>
+    pub(crate) fn byte_action(&self) -> Option<Action>
         requires within { self.now.count ≤ length self.now.bytes.now }
         requires empty { IsEmpty self.now.queue }
         ensures { IfSome result (λ action. HandsOutAtOnce self.now (Ok (piece.Action action)) (record self.now { count = self.now.count + 1 })) }
@@ -636,50 +447,31 @@ impl<'a> Pieces<'a> {
         let replacement = self.parser.read_replacement(bytes)?;
         Some(Action::Print(replacement))
     }
+}
 
-    // The next item of pieces that are open, where nothing waits: of a byte that has an action by itself at once.
-    #[inline(never)]
-    fn next_of_byte(&mut self) -> Option<Result<Piece<'a>, ParseError>>
-        requires { IsIdle self.old }
-        ensures { PiecesGo self.old result self.new }
-    {
-        if let Some(action) = self.byte_action() {
-            self.count += 1;
-            return Some(Ok(Piece::Action(action)));
-        }
-        self.next_by_loop()
-    }
-
-    // `next_of_byte`, called where it is wanted, as `next_by_loop` is.
-    #[inline(always)]
-    fn next_by_byte(&mut self) -> Option<Result<Piece<'a>, ParseError>>
-        requires { IsIdle self.old }
-        ensures { PiecesGo self.old result self.new }
-    {
-        self.next_of_byte()
-    }
-
-    // The next item of pieces that are open: a text, a sequence or a control at once.
+impl<'p, 'a> Reading<'p, 'a> {
+    // The next item of pieces that are open.
     #[inline(always)]
     fn next_open(&mut self) -> Option<Result<Piece<'a>, ParseError>>
         requires { IsGoing self.old }
         ensures { PiecesGo self.old result self.new }
     {
-        if self.queue.is_waiting() {
-            return self.next_by_loop();
+        match self.find() {
+            Ok(Some(piece)) => Some(Ok(piece)),
+            Ok(None) => {
+                self.parser.go_on();
+                self.stage = Stage::Over;
+                None
+            }
+            Err(_) => {
+                self.stage = Stage::Over;
+                Some(Err(ParseError::Memory))
+            }
         }
-        if self.is_at_control() {
-            return self.next_of_control();
-        }
-        let len = self.text_len();
-        if len == 0 {
-            return self.next_by_byte();
-        }
-        Some(Ok(self.take_text(len)))
     }
 }
 
-impl<'a> Iterator for Pieces<'a> {
+impl<'p, 'a> Iterator for Reading<'p, 'a> {
     ghost use Rattle.std.specs.Iterator.{at_most};
     ghost use Rattle.escape_stream.specs.PiecesView.{IsReady, PiecesGo, items_left};
 

@@ -9,7 +9,7 @@ use Rattle.cell_base.specs.declared.attributes.LineAttribute.TheVariants.{Single
 use Rattle.cell_base.specs.Row.{plain_row}
 use Rattle.cell_base.specs.Screen.{height, scrolled}
 use Rattle.cell_line.specs.LineContent.{LineContent, line_of}
-use Rattle.screen_canvas.specs.Canvas.{Canvas, IsDrawn, Shows, display_of, line_at}
+use Rattle.screen_canvas.specs.Canvas.{Canvas, IsDrawn, IsRow, Shows, display_of, line_at}
 use Rattle.screen_canvas.specs.Rows.{cleared}
 use Rattle.screen_canvas.proofs.LineLemmas.{same_display, rows_shown, line_width, shows_by}
 use Rattle.screen_effects.specs.Display.{Display}
@@ -23,7 +23,7 @@ fed last d = record d {
   sizes = if last && true then drop 1 d.sizes ++ SingleWidthLine ∷ [] else d.sizes;
 }
 
-one : (l : LineContent) → l.number ≡ 0 → All (λ (x : LineContent). x.number ≡ 0) (l ∷ [])
+one : (l : LineContent) → IsRow l → All IsRow (l ∷ [])
 one l e zero d h = e
 one l e (suc k) d h = absurd (omega arith)
 
@@ -32,7 +32,7 @@ module _ {W : Type 0} (width_of : List ℕ → ℕ) where
   fed_below c h k =
       let n = rows_shown c in
       let test : (c.row + 1 == height (display_of c).screen) ≡ false = grind (arith, nat_tests) in
-      shows_by c (record c { row = c.row + 1 }) _ (stroke_is width_of (display_of c) LineFeed h.lawful) (sym (ap (λ b. fed b (display_of c)) test)) refl h.numbers
+      shows_by c (record c { row = c.row + 1 }) _ (stroke_is width_of (display_of c) LineFeed h.lawful) (sym (ap (λ b. fed b (display_of c)) test)) refl h.rows
 
   pub fed_last : (c : Canvas W) (lines : List LineContent) → IsDrawn c → length c.lines ≤ c.row + 1 → lines ≡ drop 1 c.lines ++ cleared (line_at c.lines 0) ∷ [] → Shows c (record c { lines = lines }) (stroke_done width_of (display_of c) LineFeed)
   fed_last c lines h k e =
@@ -46,14 +46,14 @@ module _ {W : Type 0} (width_of : List ℕ → ℕ) where
       let sizes : map (λ (l : LineContent). l.bits) lines ≡ drop 1 (map (λ (l : LineContent). l.bits) c.lines) ++ SingleWidthLine ∷ [] =
       ap (map (λ (l : LineContent). l.bits)) e ∙ map-append (λ (l : LineContent). l.bits) (drop 1 c.lines) (cleared (line_at c.lines 0) ∷ [])
       ∙ ap (λ (s : List LineAttribute). s ++ SingleWidthLine ∷ []) (sym (drop-map (λ (l : LineContent). l.bits) 1 c.lines)) in
-      let numbers : All (λ (l : LineContent). l.number ≡ 0) lines =
-      subst (All (λ (l : LineContent). l.number ≡ 0)) (sym e) (All-append (λ (l : LineContent). l.number ≡ 0) (drop 1 c.lines) (cleared (line_at c.lines 0) ∷ []) (All-drop (λ (l : LineContent). l.number ≡ 0) 1 c.lines h.numbers) (one _ (h.numbers 0 (line_of 0 []) some))) in
+      let numbers : All IsRow lines =
+      subst (All IsRow) (sym e) (All-append IsRow (drop 1 c.lines) (cleared (line_at c.lines 0) ∷ []) (All-drop IsRow 1 c.lines h.rows) (one _ (h.rows 0 (line_of 0 []) some))) in
       shows_by c (record c { lines = lines }) _ (stroke_is width_of (display_of c) LineFeed h.lawful)
       (same_display (record c { lines = lines }) (fed true (display_of c)) refl rows refl refl refl refl refl sizes refl ∙ sym (ap (λ b. fed b (display_of c)) test)) refl numbers
 
   -- to the start of the row
   pub returned : (c : Canvas W) → IsDrawn c → Shows c (record c { column = 0 }) (stroke_done width_of (display_of c) CarriageReturn)
-  returned c h = shows_by c (record c { column = 0 }) _ (stroke_is width_of (display_of c) CarriageReturn h.lawful) (sym (by_test (c.row + 1 == height (display_of c).screen))) refl h.numbers
+  returned c h = shows_by c (record c { column = 0 }) _ (stroke_is width_of (display_of c) CarriageReturn h.lawful) (sym (by_test (c.row + 1 == height (display_of c).screen))) refl h.rows
     where
       by_test : (b : Bool) → record (display_of c) { screen = record (display_of c).screen { column = 0 }; sizes = if b && false then drop 1 (display_of c).sizes ++ SingleWidthLine ∷ [] else (display_of c).sizes } ≡ display_of (record c { column = 0 })
       by_test true = refl

@@ -1,6 +1,4 @@
-pub mod BareLines
 pub mod FeedLemmas
-pub mod KnownLemmas
 pub mod LineLemmas
 pub mod MoveLemmas
 pub mod PartLemmas
@@ -8,5 +6,4 @@ pub mod PutLemmas
 pub mod RunLemmas
 pub mod ShowLemmas
 pub mod TextLemmas
-pub mod WrittenLemmas
 pub mod TurningLemmas

@@ -1,14 +1,15 @@
 -- Lines of a canvas, and the display that they show.
 use Rattle.std.proofs.Common.{◌≡◌, ℕ, zero, suc, ◌+◌, ◌-◌, ◌<◌, true, List, [], ◌∷◌, ◌++◌, length, get_or, take, drop, set, map, replicate, refl, sym, ap, subst, ◌∙◌, arith, append-nil}
-use Rattle.std.specs.Prelude.{All, None}
-use Rattle.std.proofs.lemmas.List.{get_or-map, length-map, length-replicate, drop_all}
+use Rattle.std.specs.Prelude.{All, None, max}
+use Rattle.std.proofs.lemmas.List.{get_or_default, get_or-map, length-map, length-replicate, drop_all}
 use Rattle.std.proofs.lemmas.List.Elements.{All-replicate}
+use Rattle.cell_base.specs.declared.attributes.LineAttribute.TheVariants.{SingleWidthLine}
 use Rattle.cell_base.specs.Attributes.{Attributes, plain}
 use Rattle.cell_base.specs.Row.{Row, blank, closed_start, plain_row}
 use Rattle.cell_line.specs.LineCalls.{set_blanks as blanks_set}
-use Rattle.cell_line.specs.LineContent.{LineContent, line_of}
+use Rattle.cell_line.specs.LineContent.{LineContent, clustered_line_of, line_of, with_bits}
 use Rattle.screen_canvas.specs.Rows.{blanked, cleared}
-use Rattle.screen_canvas.specs.Canvas.{Canvas, IsDrawn, Shows, display_of, line_at}
+use Rattle.screen_canvas.specs.Canvas.{Canvas, IsDrawn, IsRow, Shows, display_of, line_at}
 use Rattle.screen_effects.specs.Display.{Display, IsDisplay, new_display}
 use Rattle.screen_effects.proofs.StrokeLaws.{new_display_is}
 
@@ -40,6 +41,21 @@ all_blank l a =
     let none : drop (0 + length (replicate (length l.columns - 0) (blank a))) l.columns ≡ [] = drop_all (0 + length (replicate (length l.columns - 0) (blank a))) l.columns (omega arith) in
     λ i. record l { columns = (ap (λ r. replicate (length l.columns - 0) (blank a) ++ closed_start r) none ∙ append-nil (replicate (length l.columns - 0) (blank a)) ∙ ap (λ n. replicate n (blank a)) same) i }
 
+-- a line that is looked at
+pub line_is : (lines : List LineContent) (row : ℕ) (x : LineContent) → row < length lines → x ≡ get_or lines row x → x ≡ line_at lines row
+line_is lines row x h k = k ∙ get_or_default lines row x (line_of 0 []) h
+
+-- a line that a call changed
+pub line_changed : (lines : List LineContent) (row : ℕ) (x new : LineContent) (f : LineContent → LineContent) → row < length lines → x ≡ get_or lines row x → new ≡ f x → set lines row new ≡ set lines row (f (line_at lines row))
+line_changed lines row x new f h k m = ap (set lines row) (m ∙ ap f (line_is lines row x h k))
+
+-- a line that is blank in all columns and then of single width
+pub line_cleared : (l : LineContent) → with_bits (blanks_set l 0 (length l.columns) plain) 0 SingleWidthLine ≡ cleared l
+line_cleared l =
+    let number : max l.number 0 ≡ l.number = omega arith in
+    let all : (blanks_set l 0 (length l.columns) plain).columns ≡ plain_row (length l.columns) = ap (λ (y : LineContent). y.columns) (all_blank l plain) in
+    λ i. record l { number = number i; bits = SingleWidthLine; columns = all i }
+
 -- ---- what a canvas shows
 
 module _ {W : Type 0} where
@@ -66,11 +82,11 @@ module _ {W : Type 0} where
   line_width c row h k = ap length (sym (row_shown c row k)) ∙ h.lawful.lawful.even row [] (let n = rows_shown c in omega arith)
 
   -- what a step shows that leaves lawful displays
-  pub shows_by : (before after : Canvas W) (d : Display) → IsDisplay d → display_of after ≡ d → after.widths ≡ before.widths → All (λ (l : LineContent). l.number ≡ 0) after.lines → Shows before after d
-  shows_by before after d lawful same widths numbers = record {
+  pub shows_by : (before after : Canvas W) (d : Display) → IsDisplay d → display_of after ≡ d → after.widths ≡ before.widths → All IsRow after.lines → Shows before after d
+  shows_by before after d lawful same widths rows = record {
     same = same;
     widths = widths;
-    drawn = record { lawful = subst IsDisplay (sym same) lawful; numbers = numbers };
+    drawn = record { lawful = subst IsDisplay (sym same) lawful; rows = rows };
   }
 
 -- ---- new canvases
@@ -83,14 +99,14 @@ module _ {W : Type 0} (widths : W) (width rows : ℕ) (lines : List LineContent)
   abbrev pub new_canvas : Canvas W
   new_canvas = record { widths = widths; width = width; lines = lines; column = 0; row = 0; visible = true; shape = None; pen = pen; title = title }
 
-  pub new_shown : lines ≡ replicate rows (line_of 0 (plain_row width)) → pen ≡ plain → title ≡ [] → display_of new_canvas ≡ new_display width rows
+  pub new_shown : lines ≡ replicate rows (clustered_line_of 0 (plain_row width)) → pen ≡ plain → title ≡ [] → display_of new_canvas ≡ new_display width rows
   new_shown e p t =
       same_display new_canvas (new_display width rows) refl
-      (ap (map (λ (l : LineContent). l.columns)) e ∙ map_replicate (λ (l : LineContent). l.columns) rows (line_of 0 (plain_row width))) refl refl refl p t
-      (ap (map (λ (l : LineContent). l.bits)) e ∙ map_replicate (λ (l : LineContent). l.bits) rows (line_of 0 (plain_row width))) refl
+      (ap (map (λ (l : LineContent). l.columns)) e ∙ map_replicate (λ (l : LineContent). l.columns) rows (clustered_line_of 0 (plain_row width))) refl refl refl p t
+      (ap (map (λ (l : LineContent). l.bits)) e ∙ map_replicate (λ (l : LineContent). l.bits) rows (clustered_line_of 0 (plain_row width))) refl
 
-  pub new_drawn : 0 < width → 0 < rows → lines ≡ replicate rows (line_of 0 (plain_row width)) → pen ≡ plain → title ≡ [] → IsDrawn new_canvas
+  pub new_drawn : 0 < width → 0 < rows → lines ≡ replicate rows (clustered_line_of 0 (plain_row width)) → pen ≡ plain → title ≡ [] → IsDrawn new_canvas
   new_drawn w h e p t = record {
     lawful = subst IsDisplay (sym (new_shown e p t)) (new_display_is width rows w h);
-    numbers = subst (All (λ (l : LineContent). l.number ≡ 0)) (sym e) (All-replicate (λ (l : LineContent). l.number ≡ 0) rows (line_of 0 (plain_row width)) refl);
+    rows = subst (All IsRow) (sym e) (All-replicate IsRow rows (clustered_line_of 0 (plain_row width)) (refl, refl));
   }

@@ -14,7 +14,7 @@ use Rattle.cell_line.specs.LineCalls.{set_cell_grapheme as grapheme_set}
 use Rattle.cell_line.specs.LineContent.{LineContent, line_of}
 use Rattle.cell_edits.specs.CellList.{cell_columns}
 use Rattle.cell_edits.proofs.RowLaws.{set_within}
-use Rattle.screen_canvas.specs.Canvas.{Canvas, IsDrawn, Shows, display_of, line_at, line_with, canvas_with}
+use Rattle.screen_canvas.specs.Canvas.{Canvas, IsDrawn, IsRow, Shows, display_of, line_at, line_with, canvas_with}
 use Rattle.screen_canvas.proofs.LineLemmas.{same_display, row_shown, row_in, line_width, shows_by}
 use Rattle.screen_effects.specs.Display.{Display}
 use Rattle.screen_effects.specs.Effect.{on_screen}
@@ -37,8 +37,8 @@ module _ {W : Type 0} where
       same_display (canvas_with c columns count) (on_screen (write_columns columns) (display_of c)) refl rows (ap (λ m. c.column + m) (sym n)) refl refl refl refl
       (map-set_same (λ (l : LineContent). l.bits) c.lines c.row (line_with c columns) (line_of 0 []) refl) refl
 
-  pub numbers_with : (c : Canvas W) (columns : Row) → IsDrawn c → All (λ (l : LineContent). l.number ≡ 0) (set c.lines c.row (line_with c columns))
-  numbers_with c columns h = All-set (λ (l : LineContent). l.number ≡ 0) c.lines c.row (line_with c columns) (h.numbers c.row (line_of 0 []) (row_in c h)) h.numbers
+  pub rows_with : (c : Canvas W) (columns : Row) → IsDrawn c → All IsRow (set c.lines c.row (line_with c columns))
+  rows_with c columns h = All-set IsRow c.lines c.row (line_with c columns) (h.rows c.row (line_of 0 []) (row_in c h)) h.rows
 
   -- what a line's call makes of a cell that fits
   pub line_set : (c : Canvas W) (text : List ℕ) (width : ℕ) (wide : Bool) → IsDrawn c → shows_as_space text ≡ false → nat_le 2 (max 1 width) ≡ wide → c.column + length (columns_of text wide c.pen) ≤ c.width
@@ -48,10 +48,10 @@ module _ {W : Type 0} where
       let cell = cell_of text width c.pen in
       let columns : cell_columns cell ≡ columns_of text wide c.pen =
       (ap (λ b. columns_of (if b then space else text) (nat_le 2 (if b then 1 else max 1 width)) c.pen) s ∙ ap (λ b. columns_of text b c.pen) w) in
-      let zero_is = h.numbers c.row (line_of 0 []) (row_in c h) in
+      let zero_is = (h.rows c.row (line_of 0 []) (row_in c h)).0 in
       let number : max line.number 0 ≡ line.number = omega arith in
       let fits : c.column + length (cell_columns cell) ≤ length line.columns = let n = ap length columns in let m = line_width c c.row h (row_in c h) in omega arith in
-      λ i. record { number = number i; bits = line.bits; columns = (set_within line.columns c.column cell fits ∙ ap (set_columns line.columns c.column) columns) i }
+      λ i. record { number = number i; bits = line.bits; clustered = line.clustered; columns = (set_within line.columns c.column cell fits ∙ ap (set_columns line.columns c.column) columns) i }
 
 -- ---- a cluster
 
@@ -71,7 +71,7 @@ module _ {W : Type 0} (width_of : List ℕ → ℕ) where
       let last = d.screen.row + 1 == height d.screen in
       let same : stroke_done width_of d (Cluster cluster) ≡ on_screen (write_columns columns) d =
       ap (λ (r : Row). put_by (nat_lt d.screen.width (d.screen.column + length r)) last r d) k ∙ ap (λ b. put_by b last columns d) test ∙ not_last last in
-      shows_by c (canvas_with c columns count) _ (stroke_is width_of d (Cluster cluster) h.lawful) (shown_with c columns count h n ∙ sym same) refl (numbers_with c columns h)
+      shows_by c (canvas_with c columns count) _ (stroke_is width_of d (Cluster cluster) h.lawful) (shown_with c columns count h n ∙ sym same) refl (rows_with c columns h)
     where
       not_last : (b : Bool) → put_by false b columns (display_of c) ≡ on_screen (write_columns columns) (display_of c)
       not_last true = refl
@@ -87,7 +87,7 @@ module _ {W : Type 0} (width_of : List ℕ → ℕ) where
       let same : stroke_done width_of d (Cluster cluster) ≡ on_screen (write_columns columns) (stroke_done width_of (stroke_done width_of d LineFeed) CarriageReturn) =
       ap (λ (x : Row). put_by (nat_lt d.screen.width (d.screen.column + length x)) last x d) k ∙ ap (λ b. put_by b last columns d) test ∙ ap (on_screen (write_columns columns)) (not_scrolled ((stroke_done width_of d LineFeed).screen.row + 1 == height (stroke_done width_of d LineFeed).screen) (stroke_done width_of d LineFeed)) in
       let here : display_of home ≡ stroke_done width_of (stroke_done width_of d LineFeed) CarriageReturn = r.same ∙ ap (λ (x : Display). stroke_done width_of x CarriageReturn) f.same in
-      shows_by c (canvas_with home columns count) _ (stroke_is width_of d (Cluster cluster) h.lawful) (shown_with home columns count r.drawn n ∙ ap (on_screen (write_columns columns)) here ∙ sym same) (r.widths ∙ f.widths) (numbers_with home columns r.drawn)
+      shows_by c (canvas_with home columns count) _ (stroke_is width_of d (Cluster cluster) h.lawful) (shown_with home columns count r.drawn n ∙ ap (on_screen (write_columns columns)) here ∙ sym same) (r.widths ∙ f.widths) (rows_with home columns r.drawn)
     where
       not_scrolled : (b : Bool) (d : Display) → record d { screen = carriage_return d.screen } ≡ record d { screen = carriage_return d.screen; sizes = if b && false then drop 1 d.sizes ++ SingleWidthLine ∷ [] else d.sizes }
       not_scrolled true d = refl

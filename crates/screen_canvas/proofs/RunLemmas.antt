@@ -6,27 +6,34 @@ use Rattle.std.proofs.lemmas.Bool.{and_parts}
 use Rattle.std.proofs.lemmas.Bool.Decides.{leb_tells, nat_tests}
 use Rattle.std.proofs.lemmas.List.{append-nil, drop_all, set-get_or, get_or-set_same}
 use Rattle.unicode_segmentation.specs.Grapheme.{graphemes}
-use Rattle.text_clusters.specs.Plain.{is_printable}
-use Rattle.cell_base.specs.Cluster.{clusters}
+use Rattle.text_clusters.specs.Plain.{each, is_printable}
+use Rattle.text_clusters.proofs.PlainLemmas.{graphemes-nil, whole_run}
+use Rattle.cell_base.specs.Cluster.{clusters, read_cluster}
 use Rattle.cell_base.proofs.PlainClusters.{plain_alone}
 use Rattle.cell_base.specs.Attributes.{Attributes}
 use Rattle.cell_base.specs.CellContent.{CellContent, cell_of, shows_as_space}
 use Rattle.cell_base.specs.Row.{Row, space, columns_of}
 use Rattle.cell_line.specs.LineContent.{LineContent, line_of}
-use Rattle.cell_edits.specs.CellList.{cell_columns}
+use Rattle.cell_edits.specs.CellList.{cell_columns, text_cells}
 use Rattle.cell_edits.specs.RowEdits.{overlaid}
 use Rattle.cell_edits.specs.TextRuns.{fitting, plain_cells}
 use Rattle.cell_edits.proofs.RowLaws.{overlaid_next}
-use Rattle.cell_edits.proofs.RunLemmas.{each_length, fitting_cell, fitting_front, fitting_stops, plain_count, plain_length}
+use Rattle.cell_edits.proofs.RunLemmas.{cells_front, each_length, fitting_cell, fitting_front, fitting_stops, plain_count, plain_length}
 use Rattle.cell_line.specs.LineCalls.{set_plain as plain_set}
 use Rattle.screen_canvas.specs.Canvas.{Canvas, IsDrawn, Shows, LeadsOn, clusters_done, stand, canvas_with, display_of, line_at, line_with}
-use Rattle.screen_canvas.proofs.BareLines.{cells_of_plain}
 use Rattle.screen_canvas.proofs.LineLemmas.{line_width, row_in}
 use Rattle.screen_canvas.proofs.PartLemmas.{front_leads}
 use Rattle.screen_canvas.proofs.PutLemmas.{put_here}
 use Rattle.screen_canvas.proofs.TextLemmas.{plain_parts, plain_stands, printable_all}
 use Rattle.screen_effects.specs.Display.{Display}
 use Rattle.screen_effects.specs.Strokes.{Cluster, stroke_done, text_done}
+
+-- the cells of printable characters of one column each
+cells_of_plain : (width_of : List ℕ → ℕ) (text : List ℕ) (a : Attributes) → list_all is_printable text ≡ true → ((byte : ℕ) → is_printable byte ≡ true → width_of (byte ∷ []) ≡ 1) → text_cells width_of text a ≡ plain_cells text a
+cells_of_plain width_of text a p narrow =
+    let none : text_cells width_of [] a ≡ [] = ap (λ xs. map (λ cluster. cell_of cluster (width_of cluster) a) (map read_cluster xs)) graphemes-nil in
+    let each_one : graphemes true text ≡ each text ++ graphemes true [] = whole_run text (printable_all text p) ∙ sym (append-nil (each text)) ∙ ap (λ (xs : List (List ℕ)). each text ++ xs) (sym graphemes-nil) in
+    cells_front width_of a text text [] each_one p narrow ∙ ap (λ (xs : List CellContent). plain_cells text a ++ xs) none ∙ append-nil (plain_cells text a)
 
 set_set : {A : Type 0} (xs : List A) (i : ℕ) (x y : A) → set (set xs i x) i y ≡ set xs i y
 set_set [] i x y = refl

@@ -13,8 +13,8 @@ use Rattle.cell_base.specs.Row.{Row, blank, closed_end, plain_row}
 use Rattle.cell_base.specs.Screen.{height}
 use Rattle.cell_change.specs.ChangeValue.{ClearScreen, ClearToEndOfLine, ClearToEndOfScreen, LineAttribute, ScrollRegionUp, ScrollRegionDown}
 use Rattle.cell_line.specs.LineCalls.{set_blanks as blanks_set}
-use Rattle.cell_line.specs.LineContent.{LineContent, line_of, with_bits}
-use Rattle.screen_canvas.specs.Canvas.{Canvas, IsDrawn, Shows, display_of, line_at}
+use Rattle.cell_line.specs.LineContent.{LineContent, clustered_line_of, line_of, with_bits}
+use Rattle.screen_canvas.specs.Canvas.{Canvas, IsDrawn, IsRow, Shows, display_of, line_at}
 use Rattle.cell_edits.specs.RowEdits.{cut, padded, resized as row_resized}
 use Rattle.cell_rows.specs.WholeRow.{IsWhole}
 use Rattle.cell_rows.proofs.RowLemmas.{whole_ends}
@@ -24,9 +24,6 @@ use Rattle.screen_effects.specs.Effect.{blank_row, cleared_behind, effect}
 use Rattle.screen_effects.specs.Regions.{in_region, moved_up, moved_down}
 use Rattle.screen_effects.specs.Resize.{resized, resized_row}
 use Rattle.screen_effects.proofs.EffectLaws.{effect_is, resized_is}
-
-abbrev IsZero : LineContent → Type 0
-IsZero l = l.number ≡ 0
 
 abbrev columns : LineContent → Row
 columns l = l.columns
@@ -65,7 +62,7 @@ around [] i h = absurd (omega arith)
 around (l ∷ lines) zero h = refl
 around (l ∷ lines) (suc i) h = let e : suc i + 1 ≡ suc (i + 1) = omega arith in ap (λ n. l ∷ (take i lines ++ line_at lines i ∷ drop n (l ∷ lines))) e ∙ ap (λ (ls : List LineContent). l ∷ ls) (around lines i (omega arith))
 
-behind_first : (l : LineContent) (lines : List LineContent) → IsZero l → All IsZero lines → All IsZero (l ∷ lines)
+behind_first : (l : LineContent) (lines : List LineContent) → IsRow l → All IsRow lines → All IsRow (l ∷ lines)
 behind_first l lines p q zero d h = p
 behind_first l lines p q (suc k) d h = q k d (omega arith)
 
@@ -127,21 +124,21 @@ module _ {A : Type 0} (f : LineContent → A) (new : A) (count : ℕ) where
   region_down : (first size : ℕ) (lines : List LineContent) → All (λ l. f (cleared l) ≡ new) lines → map f (in_region (code_down count) first size lines) ≡ in_region (moved_down new count) first size (map f lines)
   region_down first size lines h = around_part first size lines h (code_down count) (moved_down new count) (down_shown _ (All-take (λ l. f (cleared l) ≡ new) size (drop first lines) (All-drop (λ l. f (cleared l) ≡ new) first lines h)))
 
-up_zero : (count : ℕ) (lines : List LineContent) → All IsZero lines → All IsZero (code_up count lines)
-up_zero count lines h =
+up_rows : (count : ℕ) (lines : List LineContent) → All IsRow lines → All IsRow (code_up count lines)
+up_rows count lines h =
     let n = min count (length lines) in
-    All-append IsZero (drop n lines) (map cleared (take n lines)) (All-drop IsZero n lines h) (All-map IsZero cleared (take n lines) (All-take IsZero n lines h))
+    All-append IsRow (drop n lines) (map cleared (take n lines)) (All-drop IsRow n lines h) (All-map IsRow cleared (take n lines) (All-take IsRow n lines h))
 
-down_zero : (count : ℕ) (lines : List LineContent) → All IsZero lines → All IsZero (code_down count lines)
-down_zero count lines h =
+down_rows : (count : ℕ) (lines : List LineContent) → All IsRow lines → All IsRow (code_down count lines)
+down_rows count lines h =
     let n = length lines - min count (length lines) in
-    All-append IsZero (map cleared (drop n lines)) (take n lines) (All-map IsZero cleared (drop n lines) (All-drop IsZero n lines h)) (All-take IsZero n lines h)
+    All-append IsRow (map cleared (drop n lines)) (take n lines) (All-map IsRow cleared (drop n lines) (All-drop IsRow n lines h)) (All-take IsRow n lines h)
 
-region_zero : (change : List LineContent → List LineContent) (first size : ℕ) (lines : List LineContent) → ((xs : List LineContent) → All IsZero xs → All IsZero (change xs)) → All IsZero lines → All IsZero (in_region change first size lines)
-region_zero change first size lines keeps p =
-    All-append IsZero (take first lines ++ change (take size (drop first lines))) (drop (first + size) lines)
-    (All-append IsZero (take first lines) (change (take size (drop first lines))) (All-take IsZero first lines p) (keeps _ (All-take IsZero size (drop first lines) (All-drop IsZero first lines p))))
-    (All-drop IsZero (first + size) lines p)
+region_rows : (change : List LineContent → List LineContent) (first size : ℕ) (lines : List LineContent) → ((xs : List LineContent) → All IsRow xs → All IsRow (change xs)) → All IsRow lines → All IsRow (in_region change first size lines)
+region_rows change first size lines keeps p =
+    All-append IsRow (take first lines ++ change (take size (drop first lines))) (drop (first + size) lines)
+    (All-append IsRow (take first lines) (change (take size (drop first lines))) (All-take IsRow first lines p) (keeps _ (All-take IsRow size (drop first lines) (All-drop IsRow first lines p))))
+    (All-drop IsRow (first + size) lines p)
 
 -- the code's region is cut to the lines
 pub region_cut : (change : ℕ → List LineContent → List LineContent) (lines : List LineContent) (first size count : ℕ)
@@ -184,7 +181,7 @@ module _ {W : Type 0} (width_of : List ℕ → ℕ) where
       let new = blanks_set (line_at c.lines c.row) c.column (length (line_at c.lines c.row).columns) (blank_of color) in
       let rows = ap (map columns) e ∙ map-set columns c.lines c.row new ∙ ap (λ (r : Row). set (map columns c.lines) c.row (cleared_behind c.column color r)) (sym (row_shown c c.row inside)) in
       let sizes = ap (map bits) e ∙ map-set_same bits c.lines c.row new (line_of 0 []) refl in
-      let numbers = subst (All IsZero) (sym e) (All-set IsZero c.lines c.row new (h.numbers c.row (line_of 0 []) inside) h.numbers) in
+      let numbers = subst (All IsRow) (sym e) (All-set IsRow c.lines c.row new (h.rows c.row (line_of 0 []) inside) h.rows) in
       shows_by c (record c { lines = lines; pen = blank_of color }) _ (effect_is width_of (display_of c) (ClearToEndOfLine color) h.lawful)
       (same_display (record c { lines = lines; pen = blank_of color }) (effect width_of (display_of c) (ClearToEndOfLine color)) refl rows refl refl refl refl refl sizes refl) refl numbers
 
@@ -194,7 +191,7 @@ module _ {W : Type 0} (width_of : List ℕ → ℕ) where
       let a = blank_of color in
       let rows = ap (map columns) e ∙ blank_all c.lines a c.width (all_wide c h) ∙ ap (λ n. replicate n (blank_row c.width color)) (sym (length-map c.lines columns)) ∙ sym (constant (blank_row c.width color) (map columns c.lines)) in
       let sizes = ap (map bits) e ∙ same_bits c.lines a in
-      let numbers = subst (All IsZero) (sym e) (All-map IsZero (blanked a) c.lines h.numbers) in
+      let numbers = subst (All IsRow) (sym e) (All-map IsRow (blanked a) c.lines h.rows) in
       shows_by c (record c { lines = lines; pen = a; column = 0; row = 0 }) _ (effect_is width_of (display_of c) (ClearScreen color) h.lawful)
       (same_display (record c { lines = lines; pen = a; column = 0; row = 0 }) (effect width_of (display_of c) (ClearScreen color)) refl rows refl refl refl refl refl sizes refl) refl numbers
 
@@ -205,9 +202,10 @@ module _ {W : Type 0} (width_of : List ℕ → ℕ) where
       let new = with_bits (line_at c.lines c.row) 0 size in
       let rows = ap (map columns) e ∙ map-set_same columns c.lines c.row new (line_of 0 []) refl in
       let sizes = ap (map bits) e ∙ map-set bits c.lines c.row new in
-      let was = h.numbers c.row (line_of 0 []) inside in
+      let was = h.rows c.row (line_of 0 []) inside in
+      let number = was.0 in
       let zero_is : max (line_at c.lines c.row).number 0 ≡ 0 = omega arith in
-      let numbers = subst (All IsZero) (sym e) (All-set IsZero c.lines c.row new zero_is h.numbers) in
+      let numbers = subst (All IsRow) (sym e) (All-set IsRow c.lines c.row new (zero_is, was.1) h.rows) in
       shows_by c (record c { lines = lines }) _ (effect_is width_of (display_of c) (LineAttribute size) h.lawful)
       (same_display (record c { lines = lines }) (effect width_of (display_of c) (LineAttribute size)) refl rows refl refl refl refl refl sizes refl) refl numbers
 
@@ -232,9 +230,9 @@ module _ {W : Type 0} (width_of : List ℕ → ℕ) where
       ap (map bits) all ∙ map-append bits (take c.row c.lines) (new ∷ map (blanked a) (drop (c.row + 1) c.lines))
       ∙ ap (λ (bs : List LineKind). map bits (take c.row c.lines) ++ (line_at c.lines c.row).bits ∷ bs) (same_bits (drop (c.row + 1) c.lines) a)
       ∙ sym (map-append bits (take c.row c.lines) (line_at c.lines c.row ∷ drop (c.row + 1) c.lines)) ∙ ap (map bits) (around c.lines c.row inside) in
-      let numbers : All IsZero lines = subst (All IsZero) (sym all)
-      (All-append IsZero (take c.row c.lines) (new ∷ map (blanked a) (drop (c.row + 1) c.lines)) (All-take IsZero c.row c.lines h.numbers)
-      (behind_first new (map (blanked a) (drop (c.row + 1) c.lines)) (h.numbers c.row (line_of 0 []) inside) (All-map IsZero (blanked a) (drop (c.row + 1) c.lines) (All-drop IsZero (c.row + 1) c.lines h.numbers)))) in
+      let numbers : All IsRow lines = subst (All IsRow) (sym all)
+      (All-append IsRow (take c.row c.lines) (new ∷ map (blanked a) (drop (c.row + 1) c.lines)) (All-take IsRow c.row c.lines h.rows)
+      (behind_first new (map (blanked a) (drop (c.row + 1) c.lines)) (h.rows c.row (line_of 0 []) inside) (All-map IsRow (blanked a) (drop (c.row + 1) c.lines) (All-drop IsRow (c.row + 1) c.lines h.rows)))) in
       shows_by c (record c { lines = lines; pen = a }) _ (effect_is width_of (display_of c) (ClearToEndOfScreen color) h.lawful)
       (same_display (record c { lines = lines; pen = a }) (effect width_of (display_of c) (ClearToEndOfScreen color)) refl rows refl refl refl refl refl sizes refl) refl numbers
 
@@ -247,7 +245,7 @@ module _ {W : Type 0} (width_of : List ℕ → ℕ) where
       let sizes = ap (map bits) e ∙ region_up bits SingleWidthLine count first size c.lines (λ k d p. refl) in
       shows_by c (record c { lines = lines }) _ (effect_is width_of (display_of c) (ScrollRegionUp first size count) h.lawful)
       (same_display (record c { lines = lines }) (effect width_of (display_of c) (ScrollRegionUp first size count)) refl rows refl refl refl refl refl sizes refl) refl
-      (subst (All IsZero) (sym e) (region_zero (code_up count) first size c.lines (up_zero count) h.numbers))
+      (subst (All IsRow) (sym e) (region_rows (code_up count) first size c.lines (up_rows count) h.rows))
 
   pub scrolled_down_shown : (c : Canvas W) (lines : List LineContent) (first size count : ℕ) → IsDrawn c → lines ≡ in_region (code_down count) first size c.lines
       → Shows c (record c { lines = lines }) (effect width_of (display_of c) (ScrollRegionDown first size count))
@@ -256,7 +254,7 @@ module _ {W : Type 0} (width_of : List ℕ → ℕ) where
       let sizes = ap (map bits) e ∙ region_down bits SingleWidthLine count first size c.lines (λ k d p. refl) in
       shows_by c (record c { lines = lines }) _ (effect_is width_of (display_of c) (ScrollRegionDown first size count) h.lawful)
       (same_display (record c { lines = lines }) (effect width_of (display_of c) (ScrollRegionDown first size count)) refl rows refl refl refl refl refl sizes refl) refl
-      (subst (All IsZero) (sym e) (region_zero (code_down count) first size c.lines (down_zero count) h.numbers))
+      (subst (All IsRow) (sym e) (region_rows (code_down count) first size c.lines (down_rows count) h.rows))
 
 -- ---- other sizes
 
@@ -276,8 +274,8 @@ widen_bits : (width : ℕ) (lines : List LineContent) → map bits (map (widened
 widen_bits width [] = refl
 widen_bits width (l ∷ lines) = ap (λ (bs : List LineKind). l.bits ∷ bs) (widen_bits width lines)
 
-widen_zero : (width : ℕ) (lines : List LineContent) → All IsZero lines → All IsZero (map (widened width) lines)
-widen_zero width lines h = All-map IsZero (widened width) lines (λ k d p. let z = h k d p in omega arith)
+widen_rows : (width : ℕ) (lines : List LineContent) → All IsRow lines → All IsRow (map (widened width) lines)
+widen_rows width lines h = All-map IsRow (widened width) lines (λ k d p. let row = h k d p in let number = row.0 in (omega arith, row.1))
 
 whole_lines : (lines : List LineContent) → All IsWhole (map columns lines) → All (λ l. IsWhole l.columns) lines
 whole_lines [] w k d p = absurd (omega arith)
@@ -293,7 +291,7 @@ module _ {W : Type 0} where
   all_whole c h = whole_lines c.lines h.lawful.whole
 
   pub resized_shown : (c : Canvas W) (lines : List LineContent) (width rows : ℕ) → IsDrawn c → 0 < width → 0 < rows
-      → lines ≡ map (widened width) (take rows c.lines) ++ replicate (rows - length (map (widened width) (take rows c.lines))) (line_of 0 (plain_row width))
+      → lines ≡ map (widened width) (take rows c.lines) ++ replicate (rows - length (map (widened width) (take rows c.lines))) (clustered_line_of 0 (plain_row width))
       → Shows c (record c { width = width; lines = lines; column = min c.column (width - 1); row = min c.row (rows - 1) }) (resized width rows (display_of c))
   resized_shown c lines width rows h p q e =
       let kept = take rows c.lines in
@@ -307,12 +305,12 @@ module _ {W : Type 0} where
       let count : more ≡ rows - length all = omega arith in
       let others : more ≡ rows - length (map bits c.lines) = omega arith in
       let row_list : map columns lines ≡ take rows all ++ replicate (rows - length all) (plain_row width) =
-      ap (map columns) e ∙ map-append columns (map (widened width) kept) (replicate more (line_of 0 (plain_row width)))
+      ap (map columns) e ∙ map-append columns (map (widened width) kept) (replicate more (clustered_line_of 0 (plain_row width)))
       ∙ (λ i. (widen_all width kept (All-take (λ l. IsWhole l.columns) rows c.lines (all_whole c h)) ∙ ap (map (resized_row width)) (sym (take-map columns rows c.lines)) ∙ sym (take-map (resized_row width) rows (map columns c.lines))) i
-      ++ (map_replicate columns more (line_of 0 (plain_row width)) ∙ ap (λ n. replicate n (plain_row width)) count) i) in
+      ++ (map_replicate columns more (clustered_line_of 0 (plain_row width)) ∙ ap (λ n. replicate n (plain_row width)) count) i) in
       let size_list : map bits lines ≡ take rows (map bits c.lines) ++ replicate (rows - length (map bits c.lines)) SingleWidthLine =
-      ap (map bits) e ∙ map-append bits (map (widened width) kept) (replicate more (line_of 0 (plain_row width)))
-      ∙ (λ i. (widen_bits width kept ∙ sym (take-map bits rows c.lines)) i ++ (map_replicate bits more (line_of 0 (plain_row width)) ∙ ap (λ n. replicate n SingleWidthLine) others) i) in
-      let numbers : All IsZero lines = subst (All IsZero) (sym e)
-      (All-append IsZero (map (widened width) kept) (replicate more (line_of 0 (plain_row width))) (widen_zero width kept (All-take IsZero rows c.lines h.numbers)) (All-replicate IsZero more (line_of 0 (plain_row width)) refl)) in
+      ap (map bits) e ∙ map-append bits (map (widened width) kept) (replicate more (clustered_line_of 0 (plain_row width)))
+      ∙ (λ i. (widen_bits width kept ∙ sym (take-map bits rows c.lines)) i ++ (map_replicate bits more (clustered_line_of 0 (plain_row width)) ∙ ap (λ n. replicate n SingleWidthLine) others) i) in
+      let numbers : All IsRow lines = subst (All IsRow) (sym e)
+      (All-append IsRow (map (widened width) kept) (replicate more (clustered_line_of 0 (plain_row width))) (widen_rows width kept (All-take IsRow rows c.lines h.rows)) (All-replicate IsRow more (clustered_line_of 0 (plain_row width)) (refl, refl))) in
       shows_by c new _ (resized_is width rows (display_of c) p q h.lawful) (same_display new (resized width rows (display_of c)) refl row_list refl refl refl refl refl size_list refl) refl numbers

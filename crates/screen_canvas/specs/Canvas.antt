@@ -5,7 +5,7 @@ use Rattle.cell_base.specs.declared.attributes.CursorShape.{CursorShape}
 use Rattle.cell_base.specs.Attributes.{Attributes}
 use Rattle.cell_base.specs.CellContent.{shows_as_space}
 use Rattle.cell_base.specs.Row.{Row, set_columns}
-use Rattle.cell_line.specs.LineContent.{LineContent, line_of}
+use Rattle.cell_line.specs.LineContent.{LineContent, IsClustered, line_of}
 use Rattle.cell_base.specs.Screen.{cluster_columns}
 use Rattle.screen_effects.specs.Display.{Display, IsDisplay}
 use Rattle.screen_effects.specs.Strokes.{Cluster, stroke_done}
@@ -30,10 +30,14 @@ display_of c = record {
   shape = c.shape;
 }
 
--- the display is lawful, and the lines have no number
+-- a row's line has no number, and is kept as one text and runs
+abbrev pub IsRow : LineContent → Type 0
+IsRow line = (line.number ≡ 0) × IsClustered line
+
+-- the display is lawful, and so are the lines
 pub record IsDrawn {W : Type 0} (canvas : Canvas W) : Type 0 where
   pub lawful : IsDisplay (display_of canvas)
-  pub numbers : All (λ l. l.number ≡ 0) canvas.lines
+  pub rows : All IsRow canvas.lines
 
 -- what a call leaves that makes the display another one
 pub record Shows {W : Type 0} (before after : Canvas W) (display : Display) : Type 0 where

@@ -2,4 +2,3 @@ pub mod Canvas
 pub mod CanvasView
 pub mod Parts
 pub mod Rows
-pub mod Written

@@ -18,10 +18,11 @@ ghost use Rattle.screen_effects.specs.Strokes.{CarriageReturn, Cluster, Control,
 
 use crate::positions::{column_place, place};
 use crate::rows::{
-    Rows, blank_lines, blank_rows, blank_rows_below, resize, scroll, scroll_down, scroll_up,
+    blank_lines, blank_rows, blank_rows_below, copy, resize, scroll, scroll_down, scroll_up,
     set_blanks, set_cell, set_plain, set_size, set_text,
 };
 use crate::text::{next_cluster, split_at_control, split_control};
+use crate::turning::Turning;
 use cell_base::{
     AttributeChange, CellAttributes, ColorAttribute, CursorShape, CursorVisibility, LineAttribute,
     Position, Widths,
@@ -39,7 +40,7 @@ pub struct Canvas<W> {
     alloc: Global,
     widths: W,
     width: usize,
-    rows: Rows,
+    rows: Turning<Line>,
     column: usize,
     row: usize,
     visibility: CursorVisibility,
@@ -129,7 +130,7 @@ impl<W: Widths + Drop> Canvas<W> {
     pub fn lines(&self) -> &[Line]
         ensures { result.now ≡ self.now.lines }
     {
-        self.rows.lines()
+        self.rows.as_slice()
     }
 
     /// Becomes so many columns wide and so many rows high. The top left stays, and plain blanks come
@@ -489,7 +490,7 @@ impl<W: Widths + Copy + Drop> Canvas<W> {
             alloc: self.alloc,
             widths: self.widths,
             width: self.width,
-            rows: self.rows.try_clone(self.alloc)?,
+            rows: copy(self.alloc, &self.rows)?,
             column: self.column,
             row: self.row,
             visibility: self.visibility,

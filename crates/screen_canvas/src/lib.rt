@@ -2,7 +2,6 @@
 #![tactic(auto)]
 
 mod canvas;
-mod known;
 mod positions;
 mod rows;
 mod text;

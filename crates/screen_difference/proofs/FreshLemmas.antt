@@ -1,11 +1,11 @@
 -- Fresh cells of rows that are walked from the left.
-use Rattle.std.proofs.Common.{◌≡◌, ℕ, zero, suc, ◌+◌, ◌-◌, ◌<◌, ◌≤◌, ◌^◌, ◌∙◌, ◌⊎◌, Bool, true, false, List, [], ◌∷◌, length, take, drop, map, refl, sym, ap, inl, inr, arith}
+use Rattle.std.proofs.Common.{◌≡◌, ℕ, zero, suc, ◌+◌, ◌-◌, ◌<◌, ◌≤◌, ◌^◌, ◌∙◌, ◌⊎◌, Bool, true, false, List, [], ◌∷◌, ◌++◌, append_assoc, length, take, drop, map, refl, sym, ap, inl, inr, arith}
 use Rattle.std.specs.Prelude.{◌&&◌, ◌||◌, ◌==◌, not, nat_lt, min, if◌then◌else◌}
 use Rattle.std.specs.Cmp.{unsigned_Decides}
 use Rattle.std.proofs.lemmas.Bool.{ltb-true, ltb-false}
 use Rattle.std.proofs.lemmas.List.{length-take-le, length-drop, take_min}
 use Rattle.cell_base.specs.Row.{Narrow, LeftHalf, RightHalf, Row, closed_end, closed_start}
-use Rattle.cell_base.specs.SameCell.{same_cell}
+use Rattle.cell_base.specs.SameCell.{same_cell, same_cell_decides}
 use Rattle.cell_change.proofs.TextLemmas.{by_test}
 use Rattle.cell_line.specs.LineContent.{LineContent}
 use Rattle.cell_views.specs.Region.{region}
@@ -129,6 +129,29 @@ row_is_fresh x other_x count old new =
 
 pub none_fresh : (x other_x width : ℕ) (old new : Row) → shared_width width x old other_x new ≡ 0 → row_fresh x other_x width old new ≡ []
 none_fresh x other_x width old new e = ap (λ count. fresh (visible_from x (columns_from x count old)) (visible_from x (columns_from other_x count new))) e
+
+-- each of some cells is shown by them
+shown_there : (done rest : List VisibleCell) (v : VisibleCell) → is_shown (done ++ v ∷ rest) v ≡ true
+shown_there [] rest v =
+    let place : (v.column == v.column) ≡ true = (unsigned_Decides v.column v.column).1 refl in
+    let cell : same_cell v.cell v.cell ≡ true = (same_cell_decides v.cell v.cell).1 refl in
+    λ i. (place i && cell i) || is_shown rest v
+shown_there (old ∷ done) rest v = ap (λ b. (old.column == v.column && same_cell old.cell v.cell) || b) (shown_there done rest v) ∙ or_true (old.column == v.column && same_cell old.cell v.cell)
+  where
+    or_true : (b : Bool) → (b || true) ≡ true
+    or_true true = refl
+    or_true false = refl
+
+none_left : (done news : List VisibleCell) → fresh (done ++ news) news ≡ []
+none_left done [] = refl
+none_left done (v ∷ news) =
+    ap (λ b. if not b then v ∷ fresh (done ++ v ∷ news) news else fresh (done ++ v ∷ news) news) (shown_there done news v)
+    ∙ ap (λ olds. fresh olds news) (sym (append_assoc done (v ∷ []) news)) ∙ none_left (done ++ v ∷ []) news
+
+-- none of rows that are the same
+pub kept_fresh : (x other_x width : ℕ) (old new : Row) → x ≡ other_x → old ≡ new → row_fresh x other_x width old new ≡ []
+kept_fresh x other_x width old new e h =
+    (λ i. row_fresh x (sym e i) width old (sym h i)) ∙ none_left [] (visible_from x (columns_from x (shared_width width x old x old) old))
 
 -- ---- rows in turn
 

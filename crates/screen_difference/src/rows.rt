@@ -1,5 +1,5 @@
 //! Rows that are compared.
-ghost use Rattle.std.specs.Prelude.{◌≡◌, map, OnOk};
+ghost use Rattle.std.specs.Prelude.{◌≡◌, map, IsTrue, OnOk};
 ghost use Rattle.cell_views.specs.Region.{region_left};
 ghost use Rattle.screen_difference.specs.Drawing.{with_all};
 ghost use Rattle.screen_difference.specs.FreshCells.{placed, row_fresh};
@@ -32,6 +32,14 @@ fn write_cells<'a>(
     Ok(())
 }
 
+// Whether the columns of two lines, each from one of its own on, are the same, since the lines are kept alike.
+fn are_kept_alike(x: usize, old: &Line, other_x: usize, new: &Line) -> bool
+    ensures place { IsTrue result → x ≡ other_x }
+    ensures columns { IsTrue result → old.now.columns ≡ new.now.columns }
+{
+    x == other_x && old.is_kept_as(new)
+}
+
 /// Writes the fresh cells of some columns of a line, from `other_x` on, against those of the old line
 /// from `x` on.
 pub(crate) fn write_row<'a>(
@@ -45,6 +53,9 @@ pub(crate) fn write_row<'a>(
 ) -> Result<(), AllocError>
     ensures { OnOk result (writer.new ≡ with_all writer.old (placed row (row_fresh x other_x width old.now.columns new.now.columns))) }
 {
+    if are_kept_alike(x, old, other_x, new) {
+        return Ok(());
+    }
     let count = width
         .min(old.len().saturating_sub(x))
         .min(new.len().saturating_sub(other_x));

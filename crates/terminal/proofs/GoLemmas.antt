@@ -8,13 +8,13 @@ use Rattle.escape_framing.specs.Framed.{IsReached}
 use Rattle.escape_framing.specs.Cut.{the_cut, newly_decided}
 use Rattle.escape_framing.specs.Held.{Held, held_of}
 use Rattle.escape_framing.proofs.PlacedLemmas.{newly_join}
-use Rattle.escape_stream.specs.Pieces.{pieces}
+use Rattle.escape_stream.specs.Items.{items}
 use Rattle.escape_stream.specs.StreamActions.{actions_of_dispatch, actions_of}
 use Rattle.escape_stream.proofs.SpellLemmas.{pieces_spell}
 use Rattle.terminal.specs.Terminal.{Terminal, StandsAt, GoesBy, NeedsNumber}
 use Rattle.terminal_steps.specs.Events as steps
 use Rattle.terminal_steps.specs.Events.{IsReady, Had, view_of}
-use Rattle.terminal_steps.specs.Taking.{piece_events, Leads}
+use Rattle.terminal_steps.specs.Taking.{item_events, Leads}
 use Rattle.terminal_steps.specs.declared.state.TerminalState.{TerminalState}
 use Rattle.terminal_steps.proofs.SpellLemmas.{call_state, call_held, call_logged, call_events, none_newly}
 use Rattle.terminal_table.specs.History.{History, Piece, Look, Resize, Forget, Event, Act, Looked, Resized, Forgot}
@@ -44,7 +44,7 @@ resized width height f view = record { state = refl; run = refl; logged = refl }
 pub forgot : (number : ℕ) (f : List ℕ → ℕ) (view : View) → AreOf f view (Forgot number ∷ []) (Forget number ∷ [])
 forgot number f view = record { state = refl; run = refl; logged = refl }
 
-pub pieced : (bytes : List ℕ) (f : List ℕ → ℕ) (view : View) → AreOf f view (piece_events (pieces view.stream bytes)) (Piece bytes ∷ [])
+pub pieced : (bytes : List ℕ) (f : List ℕ → ℕ) (view : View) → AreOf f view (item_events (items view.stream bytes)) (Piece bytes ∷ [])
 pieced bytes f view = record {
   state = call_state newly_join pieces_spell f view bytes;
   run = call_held newly_join pieces_spell f view bytes;
@@ -114,7 +114,7 @@ module _ {W : Type 0} (width_of : W → List ℕ → ℕ) where
 
   -- ---- a piece
 
-  pub events_are : (stream bytes : List ℕ) → AreEvents (piece_events (pieces stream bytes))
+  pub events_are : (stream bytes : List ℕ) → AreEvents (item_events (items stream bytes))
   events_are stream bytes = call_events (λ s. (the_cut s).is_cut) newly_join pieces_spell stream bytes
 
   -- what is unfinished behind it
@@ -122,30 +122,30 @@ module _ {W : Type 0} (width_of : W → List ℕ → ℕ) where
   piece_ends u w bytes ends view e = ends view.stream e ∙ ap (λ xs. held_of (view.stream ++ xs)) (sym (nothing_behind bytes))
 
   pub fed : (s r : TerminalState W) (u w : Held) (now : Terminal W) (bytes : List ℕ) → IsReached u → IsReady s → with_parts s u ≡ now
-      → ((stream : List ℕ) → u ≡ held_of stream → Leads width_of s r (pieces stream bytes))
+      → ((stream : List ℕ) → u ≡ held_of stream → Leads width_of s r (items stream bytes))
       → ((stream : List ℕ) → u ≡ held_of stream → w ≡ held_of (stream ++ bytes))
       → GoesBy width_of now (with_parts r w) (Piece bytes ∷ [])
   fed s r u w now bytes reached ready same takes ends =
       subst (λ t. GoesBy width_of t (with_parts r w) (Piece bytes ∷ [])) same
-      (went s r u w (Piece bytes ∷ []) (λ view. piece_events (pieces view.stream bytes)) reached (pieced bytes (width_of s.surface.canvas.widths)) (piece_ends u w bytes ends)
+      (went s r u w (Piece bytes ∷ []) (λ view. item_events (items view.stream bytes)) reached (pieced bytes (width_of s.surface.canvas.widths)) (piece_ends u w bytes ends)
       (λ view e. takes view.stream e ready (events_are view.stream bytes)))
 
   pub fed_ready : (s r : TerminalState W) (u : Held) (bytes : List ℕ) → IsReached u → IsReady s
-      → ((stream : List ℕ) → u ≡ held_of stream → Leads width_of s r (pieces stream bytes)) → IsReady r
+      → ((stream : List ℕ) → u ≡ held_of stream → Leads width_of s r (items stream bytes)) → IsReady r
   fed_ready s r u bytes reached ready takes = (takes reached.0 reached.1 ready (events_are reached.0 bytes)).ready
 
   pub fed_reached : (u w : Held) (bytes : List ℕ) → IsReached u → ((stream : List ℕ) → u ≡ held_of stream → w ≡ held_of (stream ++ bytes)) → IsReached w
   fed_reached u w bytes reached ends = (reached.0 ++ bytes, ends reached.0 reached.1)
 
   pub fed_past : (s : TerminalState W) (u : Held) (now : Terminal W) (bytes : List ℕ) → IsReady s → with_parts s u ≡ now
-      → ((stream : List ℕ) → u ≡ held_of stream → steps.NeedsNumber width_of s (piece_events (pieces stream bytes))) → NeedsNumber width_of now (Piece bytes ∷ [])
+      → ((stream : List ℕ) → u ≡ held_of stream → steps.NeedsNumber width_of s (item_events (items stream bytes))) → NeedsNumber width_of now (Piece bytes ∷ [])
   fed_past s u now bytes ready same numbers =
       subst (λ t. NeedsNumber width_of t (Piece bytes ∷ [])) same
-      (past s u (Piece bytes ∷ []) (λ view. piece_events (pieces view.stream bytes)) (pieced bytes (width_of s.surface.canvas.widths))
+      (past s u (Piece bytes ∷ []) (λ view. item_events (items view.stream bytes)) (pieced bytes (width_of s.surface.canvas.widths))
       (λ view e. numbers view.stream e ready (events_are view.stream bytes)))
 
   pub fed_sound : (s : TerminalState W) (u : Held) (bytes : List ℕ) → IsReached u → IsReady s
-      → ((stream : List ℕ) → u ≡ held_of stream → IsReady s → AreEvents (piece_events (pieces stream bytes)) → ⊥) → ⊥
+      → ((stream : List ℕ) → u ≡ held_of stream → IsReady s → AreEvents (item_events (items stream bytes)) → ⊥) → ⊥
   fed_sound s u bytes reached ready never = never reached.0 reached.1 ready (events_are reached.0 bytes)
 
   -- ---- histories in turn

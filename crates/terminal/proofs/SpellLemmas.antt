@@ -9,7 +9,7 @@ use Rattle.change_log.specs.LogSteps.{Sized}
 use Rattle.escape_framing.specs.Cut.{the_cut}
 use Rattle.escape_framing.specs.Framed.{IsReached}
 use Rattle.escape_framing.specs.Held.{Held, held_of}
-use Rattle.escape_stream.specs.Pieces.{pieces}
+use Rattle.escape_stream.specs.Items.{items}
 use Rattle.escape_stream.specs.StreamAction.{StreamAction, is_print}
 use Rattle.escape_stream.specs.StreamActions.{newly_decided_actions}
 use Rattle.screen_effects.specs.Resize.{resized_row, resized_screen}
@@ -20,7 +20,7 @@ use Rattle.terminal_spelling.proofs.LogLemmas.{history_keeps}
 use Rattle.terminal_spelling.proofs.StreamLemmas.{history_spelled}
 use Rattle.terminal_spelling.proofs.ViewLemmas.{HasSize, new_spelled, settled_is, settled_size, step_size}
 use Rattle.terminal_steps.specs.Events.{IsReady, Had}
-use Rattle.terminal_steps.specs.Taking.{Leads, piece_events}
+use Rattle.terminal_steps.specs.Taking.{Leads, item_events}
 use Rattle.terminal_steps.specs.declared.state.TerminalState.{TerminalState}
 use Rattle.terminal_table.specs.Functions.{function_of}
 use Rattle.terminal_table.specs.History.{History, Piece, Look, Resize, Forget, Event, Act, Looked, Resized, Forgot, events}
@@ -194,9 +194,9 @@ module _ {W : Type 0} (width_of : W → List ℕ → ℕ) where
       (went width_of s r u u (Forget number ∷ []) (λ view. Forgot number ∷ []) reached (forgot number (width_of s.surface.canvas.widths)) (still_held u) (λ view e. had)) had
 
   pub fed_spelled : (s r : TerminalState W) (u w : Held) (bytes : List ℕ) → IsReached u → IsReady s → IsSpelled (with_parts s u)
-      → ((stream : List ℕ) → u ≡ held_of stream → Leads width_of s r (pieces stream bytes))
+      → ((stream : List ℕ) → u ≡ held_of stream → Leads width_of s r (items stream bytes))
       → ((stream : List ℕ) → u ≡ held_of stream → w ≡ held_of (stream ++ bytes))
       → IsSpelled (with_parts r w)
   fed_spelled s r u w bytes reached ready p takes ends =
-      parts_spelled s r u w (Piece bytes ∷ []) (piece_events (pieces reached.0 bytes)) reached ready tt tt p
+      parts_spelled s r u w (Piece bytes ∷ []) (item_events (items reached.0 bytes)) reached ready tt tt p
       (fed width_of s r u w (with_parts s u) bytes reached ready refl takes ends) (takes reached.0 reached.1 ready (events_are_lawful width_of reached.0 bytes))

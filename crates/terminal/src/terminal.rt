@@ -14,7 +14,7 @@ use escape_stream::Parser;
 use std::alloc::{AllocError, Global};
 use std::marker::Model;
 use terminal_patch::patch;
-use terminal_steps::{TerminalError, TerminalState, take_bytes};
+use terminal_steps::{TerminalError, TerminalState};
 use terminal_update::update;
 
 /// A terminal that keeps the screen which an application's bytes lead to, and the replies that they ask for.
@@ -85,7 +85,7 @@ impl<W: Widths + Drop> Terminal<W> {
             return Ok(());
         }
         self.is_failed = true;
-        take_bytes(&mut self.parser, &mut self.state, piece)?;
+        self.parser.hand_to(piece, &mut self.state)?;
         self.is_failed = false;
         Ok(())
     }

@@ -2,6 +2,7 @@
 use Rattle.std.proofs.Common.{◌≡◌, ℕ, ◌+◌, ◌-◌, ◌<◌, ◌≤◌, ◌^◌, Bool, true, false, List, [], ◌∷◌, ◌++◌, length, map, fold, refl, sym, ap, subst, ◌∙◌, arith}
 use Rattle.std.specs.Prelude.{◌==◌, ◌≢◌, if◌then◌else◌, nat_lt}
 use Rattle.std.specs.String.{string_bytes}
+use Rattle.std.specs.List.{FoldsTo}
 use Rattle.std.proofs.lemmas.List.Sums.{fold-append}
 use Rattle.cell_change.specs.ChangeValue.{ChangeValue}
 use Rattle.cell_surface.specs.Surface.{Surface, shown_by, number_of, Resizes}
@@ -19,12 +20,17 @@ use Rattle.terminal_table.specs.Logged.{run_logged, event_logged, events_logged}
 use Rattle.terminal_table.specs.Turns.{AreEvents, IsPrinted}
 use Rattle.terminal_table.proofs.JoinLemmas.{events_logged-append}
 use Rattle.terminal_table.proofs.ListLemmas.{append_nil}
-use Rattle.std.specs.Prelude.{Some}
-use Rattle.escape_stream.specs.PiecesView.{GivesPiece, HasGiven, open_pieces}
-use Rattle.escape_stream.specs.declared.pieces.Piece.{Piece as PieceCode}
-use Rattle.escape_stream.specs.declared.pieces.Pieces.{Pieces}
-use Rattle.terminal_steps.specs.Taking.{piece_events, code_event, IsTaking}
-use Rattle.terminal_steps.proofs.TakeLemmas.{are_front, are_behind, same_event}
+use Rattle.std.proofs.lemmas.List.{map-append}
+use Rattle.cell_surface.specs.declared.error.SurfaceError.{SurfaceError}
+use Rattle.cell_surface.specs.declared.error.SurfaceError.TheVariants as refusal
+use Rattle.escape_stream.specs.Items.{Item}
+use Rattle.escape_stream.specs.Performing.{StopsAt, HaltsAt}
+use Rattle.escape_stream.specs.declared.perform.Halted.{Halted}
+use Rattle.escape_stream.specs.declared.perform.Halted.TheVariants as halted
+use Rattle.terminal_steps.specs.Refusals.{of_halted}
+use Rattle.terminal_steps.specs.Taking.{item_event, item_events, DoesItem, RefusesItem}
+use Rattle.terminal_steps.specs.declared.error.TerminalError.TheVariants.{Failed, Number}
+use Rattle.terminal_steps.proofs.TakeLemmas.{are_front, are_behind, leads}
 use Rattle.terminal_steps.specs.Applying.{state_of}
 use Rattle.terminal_steps.specs.Events.{view_of, IsReady, Had, NeedsNumber, log_behind}
 use Rattle.terminal_steps.specs.declared.state.TerminalState.{TerminalState}
@@ -150,32 +156,41 @@ module _ {W : Type 0} (width_of : W → List ℕ → ℕ) where
       subst Past (sym (fold-append step_of_kept t.surface.log first rest))
       (past_behind (fold step_of_kept t.surface.log first) rest (subst (λ xs. Past (fold step_of_kept t.surface.log xs)) (append_nil first) h))
 
-  -- ---- pieces in turn
+  -- ---- items in turn
 
-  -- the pieces of a call, where one is taken behind others
-  taken_all : (t now : TerminalState W) (first it new : Pieces) (piece : PieceCode) (h : IsTaking width_of t now first it) → HasGiven it (Some piece) new → (start : ℕ)
-      → piece_events (open_pieces start first) ≡ (h.goes start).done ++ code_event piece ∷ piece_events (open_pieces start new)
-  taken_all t now first it new piece h given start =
-      let g : GivesPiece (open_pieces start it) (Some piece) (open_pieces start new) = given.gives start in
-      let done = (h.goes start).done in
-      (h.goes start).whole ∙ ap (λ ps. done ++ piece_events ps) g.2 ∙ ap (λ e. done ++ e ∷ piece_events (open_pieces start new)) (same_event g.0 piece g.1)
+  -- the events of items, where one is refused behind others
+  stopped_all : (done left : List Item) (item : Item) (items : List Item) → items ≡ done ++ (item ∷ left) → item_events items ≡ item_events done ++ (item_event item ∷ item_events left)
+  stopped_all done left item items e = ap item_events e ∙ map-append item_event done (item ∷ left)
 
-  pub taking_number : (t now : TerminalState W) (first it new : Pieces) (piece : PieceCode) → IsTaking width_of t now first it → HasGiven it (Some piece) new
-      → NeedsNumber width_of now (code_event piece ∷ []) → (start : ℕ) → NeedsNumber width_of t (piece_events (open_pieces start first))
-  taking_number t now first it new piece h given n start = λ ready events.
-      let all = taken_all t now first it new piece h given start in
-      let done = (h.goes start).done in
-      let rest = piece_events (open_pieces start new) in
-      let es : AreEvents (done ++ code_event piece ∷ rest) = subst AreEvents all events in
-      let had = (h.goes start).had ready (are_front done (code_event piece ∷ rest) es) in
-      let one : AreEvents (code_event piece ∷ []) = ((are_behind done (code_event piece ∷ rest) es).0, tt) in
+  stopped_had : (t before : TerminalState W) (done left : List Item) (item : Item) (items : List Item) → items ≡ done ++ (item ∷ left) → FoldsTo (DoesItem width_of) t done before
+      → IsReady t → AreEvents (item_events items) → Had width_of t before (item_events done)
+  stopped_had t before done left item items e f ready events =
+      leads width_of t before done f ready (are_front (item_events done) (item_event item ∷ item_events left) (subst AreEvents (stopped_all done left item items e) events))
+
+  stopped_number : (t last : TerminalState W) (items : List Item) → StopsAt (DoesItem width_of) (RefusesItem width_of) t items refusal.Number last → NeedsNumber width_of t (item_events items)
+  stopped_number t last items s = λ ready events.
+      let all = stopped_all s.done s.left s.item items s.whole in
+      let rest = item_events s.left in
+      let had = stopped_had t s.before s.done s.left s.item items s.whole s.performed ready events in
+      let es : AreEvents (item_events s.done ++ (item_event s.item ∷ rest)) = subst AreEvents all events in
+      let one : AreEvents (item_event s.item ∷ []) = ((are_behind (item_events s.done) (item_event s.item ∷ rest) es).0, tt) in
       subst (λ xs. Past (log_behind width_of t xs)) (sym all)
-      (subst Past (sym (behind_had t now done (code_event piece ∷ rest) had)) (past_first now (code_event piece) rest (n had.ready one)))
+      (subst Past (sym (behind_had t s.before (item_events s.done) (item_event s.item ∷ rest) had)) (past_first s.before (item_event s.item) rest (s.refused had.ready one)))
 
-  pub taking_ready : (t now : TerminalState W) (first it new : Pieces) (piece : PieceCode) → IsTaking width_of t now first it → HasGiven it (Some piece) new
-      → (IsReady now → ⊥) → (start : ℕ) → IsReady t → AreEvents (piece_events (open_pieces start first)) → ⊥
-  taking_ready t now first it new piece h given n start ready events =
-      let all = taken_all t now first it new piece h given start in
-      let done = (h.goes start).done in
-      let es : AreEvents (done ++ code_event piece ∷ piece_events (open_pieces start new)) = subst AreEvents all events in
-      n ((h.goes start).had ready (are_front done (code_event piece ∷ piece_events (open_pieces start new)) es)).ready
+  stopped_ready : (t last : TerminalState W) (items : List Item) → StopsAt (DoesItem width_of) (RefusesItem width_of) t items refusal.Failed last → IsReady t → AreEvents (item_events items) → ⊥
+  stopped_ready t last items s ready events = s.refused (stopped_had t s.before s.done s.left s.item items s.whole s.performed ready events).ready
+
+  -- what the error of a call tells
+  pub halted_number : (t last : TerminalState W) (items : List Item) (h : Halted SurfaceError) → of_halted h ≡ Number → HaltsAt (DoesItem width_of) (RefusesItem width_of) t items h last → NeedsNumber width_of t (item_events items)
+  halted_number t last items halted.Failed e s = cc
+  halted_number t last items halted.Memory e s = cc
+  halted_number t last items (halted.Refused refusal.Failed) e s = cc
+  halted_number t last items (halted.Refused refusal.Number) e s = stopped_number t last items s
+  halted_number t last items (halted.Refused refusal.Memory) e s = cc
+
+  pub halted_ready : (t last : TerminalState W) (items : List Item) (h : Halted SurfaceError) → of_halted h ≡ Failed → (h ≡ halted.Failed → ⊥) → HaltsAt (DoesItem width_of) (RefusesItem width_of) t items h last → IsReady t → AreEvents (item_events items) → ⊥
+  halted_ready t last items halted.Failed e n s ready events = n refl
+  halted_ready t last items halted.Memory e n s ready events = cc
+  halted_ready t last items (halted.Refused refusal.Failed) e n s ready events = stopped_ready t last items s ready events
+  halted_ready t last items (halted.Refused refusal.Number) e n s ready events = cc
+  halted_ready t last items (halted.Refused refusal.Memory) e n s ready events = cc

@@ -5,6 +5,7 @@ use Rattle.std.proofs.lemmas.List.Sums.{fold-append}
 use Rattle.escape_framing.specs.Cut.{dispatches, newly_decided}
 use Rattle.escape_framing.specs.Dispatch.{Dispatch}
 use Rattle.escape_framing.specs.Placed.{placed_from}
+use Rattle.escape_stream.specs.Items.{items, items_of}
 use Rattle.escape_stream.specs.Pieces.{Piece, pieces, Spells, nothing, alone, in_text}
 use Rattle.escape_stream.specs.StreamAction.{StreamAction, print}
 use Rattle.escape_stream.specs.StreamActions.{actions_of, newly_decided_actions}
@@ -17,7 +18,7 @@ use Rattle.terminal_table.proofs.ListLemmas.{append_nil, drop_past}
 use Rattle.terminal_table.proofs.PrintLemmas.{AllCut, events_are}
 use Rattle.terminal_table.proofs.RunLemmas.{printed_append}
 use Rattle.terminal_table.proofs.TextLemmas.{prints, with_text, text_logged}
-use Rattle.terminal_steps.specs.Taking.{piece_events}
+use Rattle.terminal_steps.specs.Taking.{item_events}
 
 map-append : {A B : Type 0} (f : A → B) (xs ys : List A) → map f (xs ++ ys) ≡ map f xs ++ map f ys
 map-append f [] ys = refl
@@ -52,31 +53,31 @@ text_printed (c ∷ cs) others h = let rest = text_printed cs others h.1 in (pri
 acts_of : (cs : List ℕ) (actions all : List StreamAction) → all ≡ map print cs ++ actions → map Act all ≡ prints cs ++ map Act actions
 acts_of cs actions all e = ap (map Act) e ∙ map-append Act (map print cs) actions
 
-spelled_view : (width_of : List ℕ → ℕ) (items : List Piece) (actions : List StreamAction) → Spells items actions → (v : View) → fold (event_done width_of) v (piece_events items) ≡ fold (event_done width_of) v (map Act actions)
+spelled_view : (width_of : List ℕ → ℕ) (ps : List Piece) (actions : List StreamAction) → Spells ps actions → (v : View) → fold (event_done width_of) v (item_events (items_of ps)) ≡ fold (event_done width_of) v (map Act actions)
 spelled_view width_of [] [] nothing v = refl
-spelled_view width_of _ _ (alone a items actions rest) v = spelled_view width_of items actions rest (event_done width_of v (Act a))
-spelled_view width_of _ _ (in_text from c cs text items actions all e f rest) v =
-    (λ i. fold (event_done width_of) (record v { held = v.held ++ e i }) (piece_events items))
-    ∙ spelled_view width_of items actions rest (record v { held = v.held ++ encode_utf8_all (c ∷ cs) })
+spelled_view width_of _ _ (alone a ps actions rest) v = spelled_view width_of ps actions rest (event_done width_of v (Act a))
+spelled_view width_of _ _ (in_text from c cs text ps actions all e f rest) v =
+    (λ i. fold (event_done width_of) (record v { held = v.held ++ e i }) (item_events (items_of ps)))
+    ∙ spelled_view width_of ps actions rest (record v { held = v.held ++ encode_utf8_all (c ∷ cs) })
     ∙ ap (λ x. fold (event_done width_of) x (map Act actions)) (sym (with_text width_of v (c ∷ cs)))
     ∙ sym (fold-append (event_done width_of) v (prints (c ∷ cs)) (map Act actions))
     ∙ ap (fold (event_done width_of) v) (sym (acts_of (c ∷ cs) actions all f))
 
-spelled_logged : (width_of : List ℕ → ℕ) (items : List Piece) (actions : List StreamAction) → Spells items actions → (v : View) → events_logged width_of v (piece_events items) ≡ events_logged width_of v (map Act actions)
+spelled_logged : (width_of : List ℕ → ℕ) (ps : List Piece) (actions : List StreamAction) → Spells ps actions → (v : View) → events_logged width_of v (item_events (items_of ps)) ≡ events_logged width_of v (map Act actions)
 spelled_logged width_of [] [] nothing v = refl
-spelled_logged width_of _ _ (alone a items actions rest) v = ap (λ xs. event_logged width_of v (Act a) ++ xs) (spelled_logged width_of items actions rest (event_done width_of v (Act a)))
-spelled_logged width_of _ _ (in_text from c cs text items actions all e f rest) v =
-    (λ i. events_logged width_of (record v { held = v.held ++ e i }) (piece_events items))
-    ∙ spelled_logged width_of items actions rest (record v { held = v.held ++ encode_utf8_all (c ∷ cs) })
+spelled_logged width_of _ _ (alone a ps actions rest) v = ap (λ xs. event_logged width_of v (Act a) ++ xs) (spelled_logged width_of ps actions rest (event_done width_of v (Act a)))
+spelled_logged width_of _ _ (in_text from c cs text ps actions all e f rest) v =
+    (λ i. events_logged width_of (record v { held = v.held ++ e i }) (item_events (items_of ps)))
+    ∙ spelled_logged width_of ps actions rest (record v { held = v.held ++ encode_utf8_all (c ∷ cs) })
     ∙ sym (text_logged width_of v (c ∷ cs) (map Act actions))
     ∙ ap (events_logged width_of v) (sym (acts_of (c ∷ cs) actions all f))
 
-spelled_events : (items : List Piece) (actions : List StreamAction) → Spells items actions → AreEvents (map Act actions) → AreEvents (piece_events items)
+spelled_events : (ps : List Piece) (actions : List StreamAction) → Spells ps actions → AreEvents (map Act actions) → AreEvents (item_events (items_of ps))
 spelled_events [] [] nothing h = tt
-spelled_events _ _ (alone a items actions rest) h = (h.0, spelled_events items actions rest h.1)
-spelled_events _ _ (in_text from c cs text items actions all e f rest) h =
+spelled_events _ _ (alone a ps actions rest) h = (h.0, spelled_events ps actions rest h.1)
+spelled_events _ _ (in_text from c cs text ps actions all e f rest) h =
     let both = text_printed (c ∷ cs) (map Act actions) (subst AreEvents (acts_of (c ∷ cs) actions all f) h) in
-    (subst IsPrinted (sym e) both.0, spelled_events items actions rest both.1)
+    (subst IsPrinted (sym e) both.0, spelled_events ps actions rest both.1)
 
 -- ---- the pieces of a call
 
@@ -90,20 +91,20 @@ no_more : (es : List Event) → es ++ [] ≡ es
 no_more [] = refl
 no_more (e ∷ es) = ap (λ xs. e ∷ xs) (no_more es)
 
-call_view : DispatchesJoin → AllSpell → (width_of : List ℕ → ℕ) (v : View) (bytes : List ℕ) → fold (event_done width_of) v (piece_events (pieces v.stream bytes)) ≡ fold (event_done width_of) v (events v.stream (history.Piece bytes ∷ []))
+call_view : DispatchesJoin → AllSpell → (width_of : List ℕ → ℕ) (v : View) (bytes : List ℕ) → fold (event_done width_of) v (item_events (items v.stream bytes)) ≡ fold (event_done width_of) v (events v.stream (history.Piece bytes ∷ []))
 call_view joins spell width_of v bytes = spelled_view width_of (pieces v.stream bytes) (newly_decided_actions v.stream bytes) (spell_newly joins spell v.stream bytes) v
     ∙ ap (fold (event_done width_of) v) (sym (no_more (map Act (newly_decided_actions v.stream bytes))))
 
-pub call_state : DispatchesJoin → AllSpell → (width_of : List ℕ → ℕ) (v : View) (bytes : List ℕ) → (fold (event_done width_of) v (piece_events (pieces v.stream bytes))).state ≡ (after width_of v (history.Piece bytes ∷ [])).state
+pub call_state : DispatchesJoin → AllSpell → (width_of : List ℕ → ℕ) (v : View) (bytes : List ℕ) → (fold (event_done width_of) v (item_events (items v.stream bytes))).state ≡ (after width_of v (history.Piece bytes ∷ [])).state
 call_state joins spell width_of v bytes = ap (λ x. x.state) (call_view joins spell width_of v bytes)
 
-pub call_held : DispatchesJoin → AllSpell → (width_of : List ℕ → ℕ) (v : View) (bytes : List ℕ) → (fold (event_done width_of) v (piece_events (pieces v.stream bytes))).held ≡ (after width_of v (history.Piece bytes ∷ [])).held
+pub call_held : DispatchesJoin → AllSpell → (width_of : List ℕ → ℕ) (v : View) (bytes : List ℕ) → (fold (event_done width_of) v (item_events (items v.stream bytes))).held ≡ (after width_of v (history.Piece bytes ∷ [])).held
 call_held joins spell width_of v bytes = ap (λ x. x.held) (call_view joins spell width_of v bytes)
 
-pub call_logged : DispatchesJoin → AllSpell → (width_of : List ℕ → ℕ) (v : View) (bytes : List ℕ) → events_logged width_of v (piece_events (pieces v.stream bytes)) ≡ logged width_of v (history.Piece bytes ∷ [])
+pub call_logged : DispatchesJoin → AllSpell → (width_of : List ℕ → ℕ) (v : View) (bytes : List ℕ) → events_logged width_of v (item_events (items v.stream bytes)) ≡ logged width_of v (history.Piece bytes ∷ [])
 call_logged joins spell width_of v bytes = spelled_logged width_of (pieces v.stream bytes) (newly_decided_actions v.stream bytes) (spell_newly joins spell v.stream bytes) v
     ∙ ap (events_logged width_of v) (sym (no_more (map Act (newly_decided_actions v.stream bytes))))
 
-pub call_events : AllCut → DispatchesJoin → AllSpell → (stream bytes : List ℕ) → AreEvents (piece_events (pieces stream bytes))
+pub call_events : AllCut → DispatchesJoin → AllSpell → (stream bytes : List ℕ) → AreEvents (item_events (items stream bytes))
 call_events cut joins spell stream bytes = spelled_events (pieces stream bytes) (newly_decided_actions stream bytes) (spell_newly joins spell stream bytes)
     (subst AreEvents (no_more (map Act (newly_decided_actions stream bytes))) (events_are cut stream (history.Piece bytes ∷ []) tt))

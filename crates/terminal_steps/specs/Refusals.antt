@@ -1,8 +1,8 @@
 -- The refusals of what a terminal stands on, as its own.
 use Rattle.cell_surface.specs.declared.error.SurfaceError.{SurfaceError}
 use Rattle.cell_surface.specs.declared.error.SurfaceError.TheVariants as surface
-use Rattle.escape_framing.specs.declared.error.ParseError.{ParseError}
-use Rattle.escape_framing.specs.declared.error.ParseError.TheVariants as parser
+use Rattle.escape_stream.specs.declared.perform.Halted.{Halted}
+use Rattle.escape_stream.specs.declared.perform.Halted.TheVariants as halted
 use Rattle.terminal_steps.specs.declared.error.TerminalError.{TerminalError}
 use Rattle.terminal_steps.specs.declared.error.TerminalError.TheVariants.{Failed, Number, Memory}
 
@@ -11,6 +11,7 @@ of_surface surface.Failed = Failed
 of_surface surface.Number = Number
 of_surface surface.Memory = Memory
 
-abbrev pub of_parser : ParseError → TerminalError
-of_parser parser.Failed = Failed
-of_parser parser.Memory = Memory
+abbrev pub of_halted : Halted SurfaceError → TerminalError
+of_halted halted.Failed = Failed
+of_halted halted.Memory = Memory
+of_halted (halted.Refused error) = of_surface error

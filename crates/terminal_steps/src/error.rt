@@ -4,7 +4,7 @@ ghost use Rattle.terminal_steps.specs.declared.error.TerminalError.TheVariants.{
 ghost use Rattle.terminal_steps.specs.Refusals.{of_surface};
 
 use cell_surface::SurfaceError;
-use escape_stream::ParseError;
+use escape_stream::Halted;
 use std::alloc::AllocError;
 use thiserror::Error;
 
@@ -42,15 +42,16 @@ impl From<SurfaceError> for TerminalError {
     }
 }
 
-impl From<ParseError> for TerminalError {
-    ghost use Rattle.terminal_steps.specs.Refusals.{of_parser};
+impl From<Halted<SurfaceError>> for TerminalError {
+    ghost use Rattle.terminal_steps.specs.Refusals.{of_halted};
 
-    ghost from_gives = { λ refusal e. e ≡ of_parser refusal };
+    ghost from_gives = { λ halted e. e ≡ of_halted halted };
 
-    fn from(error: ParseError) -> TerminalError {
-        match error {
-            ParseError::Failed => TerminalError::Failed,
-            ParseError::Memory => TerminalError::Memory,
+    fn from(halted: Halted<SurfaceError>) -> TerminalError {
+        match halted {
+            Halted::Failed => TerminalError::Failed,
+            Halted::Memory => TerminalError::Memory,
+            Halted::Refused(error) => TerminalError::from(error),
         }
     }
 }

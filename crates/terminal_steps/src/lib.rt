@@ -21,4 +21,3 @@ pub use applying::{apply, print};
 pub use error::TerminalError;
 pub use saved::SavedCursor;
 pub use state::TerminalState;
-pub use taking::{take_bytes, take_pieces};

@@ -1,6 +1,6 @@
 //! What a terminal keeps beside its parser, and what events make of it.
 ghost use Rattle.std.specs.Prelude.{◌≡◌, ◌<◌, ◌^◌, true, false, IsOk, IfOk, OnOk, IsErrOf, None, [], ◌∷◌};
-ghost use Rattle.escape_stream.specs.StreamAction.{is_print, print_string};
+ghost use Rattle.escape_stream.specs.StreamAction.{is_print};
 ghost use Rattle.escape_stream.specs.StreamActionView.{value_of};
 ghost use Rattle.cell_surface.specs.Surface.{shown_by};
 ghost use Rattle.change_log.specs.Log.{new_log};
@@ -109,15 +109,8 @@ impl<W: Widths + Drop> TerminalState<W> {
         Ok(())
     }
 
-    /// A text joins the run, unless memory is refused.
-    pub fn hold(&mut self, text: &str) -> Result<(), AllocError>
-        ensures { OnOk result (Does (λ w. W.width_of w) self.old self.new (Act (print_string text.now) ∷ [])) }
-    {
-        self.held.push_str(text)
-    }
-
     // An action that is no print ends the run, and is applied.
-    fn apply(&mut self, action: Action) -> Result<(), SurfaceError>
+    pub(crate) fn apply(&mut self, action: Action) -> Result<(), SurfaceError>
         requires { is_print (value_of action) ≡ false }
         ensures done { OnOk result (Does (λ w. W.width_of w) self.old self.new (Act (value_of action) ∷ [])) }
         ensures failed { IsErrOf result SurfaceError.Failed → IsReady self.old → ⊥ }
@@ -131,24 +124,5 @@ impl<W: Widths + Drop> TerminalState<W> {
             action,
         )?;
         Ok(())
-    }
-
-    /// A print joins the run, and every other action ends it. Refusals are those of the surface, and want of memory.
-    pub fn act(&mut self, action: Action) -> Result<(), SurfaceError>
-        ensures done { OnOk result (Does (λ w. W.width_of w) self.old self.new (Act (value_of action) ∷ [])) }
-        ensures failed { IsErrOf result SurfaceError.Failed → IsReady self.old → ⊥ }
-        ensures numbers { IsErrOf result SurfaceError.Number → NeedsNumber (λ w. W.width_of w) self.old (Act (value_of action) ∷ []) }
-    {
-        match action {
-            Action::Print(character) => {
-                self.held.push(character)?;
-                Ok(())
-            }
-            Action::PrintString(text) => {
-                self.held.push_str(&text)?;
-                Ok(())
-            }
-            other => self.apply(other),
-        }
     }
 }

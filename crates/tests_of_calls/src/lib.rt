@@ -21,6 +21,8 @@ mod debugs;
 #[cfg(test)]
 mod fronts;
 #[cfg(test)]
+mod line_forms;
+#[cfg(test)]
 mod lines;
 #[cfg(test)]
 mod partial;

@@ -1,19 +1,19 @@
 use Rattle.std.proofs.Common.{◌∙◌, sym}
-use Rattle.cell_base.specs.CellContent.{row_of_cells}
 use Rattle.cell_base.specs.Row.{Row}
 use Rattle.cell_edits.specs.VisibleCells.{visible_cells}
 use Rattle.cell_line.proofs.ChangeLemmas.{row_of_blanks, row_before_blanks}
 use Rattle.cell_views.proofs.KeptLemmas.{in_order}
+use Rattle.cell_views.specs.StoredCells.{stored_row}
 use Rattle.cell_line.proofs.changes.changes.Goals as goal
 
 pub returns-in_ok-changes-in-None : goal.returns-in_ok-changes-in-None
 returns-in_ok-changes-in-None c =
-    let row : Row = row_of_cells c.args.cells.now in
+    let row : Row = stored_row c.args.cells in
     c.in_ok-changes-in-None.ensures
     ∙ sym (row_of_blanks c.args.start.now c.in-Some.color (visible_cells row) (in_order 0 row) (sym c.in-Some.ensures) (sym c.in-None.ensures))
 
 pub returns-in_ok-changes-in-Some-last_beside : goal.returns-in_ok-changes-in-Some-last_beside
 returns-in_ok-changes-in-Some-last_beside c =
-    let row : Row = row_of_cells c.args.cells.now in
+    let row : Row = stored_row c.args.cells in
     c.in_ok-changes-in-Some-last_beside.ensures
     ∙ sym (row_before_blanks c.args.start.now c.in-Some.color c.in-Some-last_beside.last (visible_cells row) (in_order 0 row) (sym c.in-Some.ensures) (sym c.in-Some-last_beside.ensures))

@@ -1,12 +1,12 @@
 use Rattle.std.proofs.Common.{◌≡◌}
 use Rattle.std.specs.Prelude.{filter}
-use Rattle.cell_base.specs.CellContent.{row_of_cells}
 use Rattle.cell_change.specs.Written.{with_cells}
 use Rattle.cell_views.specs.CellRefView.{cells_left}
 use Rattle.cell_views.specs.OpenZones.{is_kept_by}
 use Rattle.cell_edits.specs.VisibleCells.{visible_cells, contents}
+use Rattle.cell_views.specs.StoredCells.{stored_row}
 use Rattle.cell_line.proofs.changes.write_cells.Given as goal
 
 -- what is written, and then what is left, are the whole
 abbrev pub invariant-loop-cell : goal.invariant-loop-cell
-invariant-loop-cell l = with_cells l.writer (contents (filter (λ v. is_kept_by l.last v.column) (cells_left l.cell-iterator))) ≡ with_cells l.initial.writer (contents (filter (λ v. is_kept_by l.last v.column) (visible_cells (row_of_cells l.cells))))
+invariant-loop-cell l = with_cells l.writer (contents (filter (λ v. is_kept_by l.last v.column) (cells_left l.cell-iterator))) ≡ with_cells l.initial.writer (contents (filter (λ v. is_kept_by l.last v.column) (visible_cells (stored_row l.cells))))

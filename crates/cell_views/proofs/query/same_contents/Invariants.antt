@@ -1,5 +1,5 @@
 use Rattle.std.proofs.Common.{◌≡◌}
-use Rattle.cell_base.specs.CellContent.{row_of_cells}
+use Rattle.cell_views.specs.StoredCells.{stored_row}
 use Rattle.cell_views.specs.CellRefView.{cells_left}
 use Rattle.cell_edits.specs.VisibleCells.{visible_cells, contents}
 use Rattle.cell_views.proofs.query.same_contents.Given as goal
@@ -7,6 +7,6 @@ use Rattle.cell_views.proofs.query.same_contents.Given as goal
 -- what is left on both sides is the same exactly where the whole is
 abbrev pub invariant-loop-cell : goal.invariant-loop-cell
 invariant-loop-cell l = record {
-  back : contents (cells_left l.cell-iterator) ≡ contents (cells_left l.theirs) → contents (visible_cells (row_of_cells l.cells)) ≡ contents (visible_cells (row_of_cells l.other));
-  on : contents (visible_cells (row_of_cells l.cells)) ≡ contents (visible_cells (row_of_cells l.other)) → contents (cells_left l.cell-iterator) ≡ contents (cells_left l.theirs);
+  back : contents (cells_left l.cell-iterator) ≡ contents (cells_left l.theirs) → contents (visible_cells (stored_row l.cells)) ≡ contents (visible_cells (stored_row l.other));
+  on : contents (visible_cells (stored_row l.cells)) ≡ contents (visible_cells (stored_row l.other)) → contents (cells_left l.cell-iterator) ≡ contents (cells_left l.theirs);
 }

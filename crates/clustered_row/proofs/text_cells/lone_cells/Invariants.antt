@@ -1,7 +1,7 @@
 use denote.Shadow.{shadow}
 use denote.Text.{Utf8}
 use Rattle.std.proofs.Common.{◌≡◌, ◌-◌, drop}
-use Rattle.cell_edits.specs.LoneText.{BeginsLone}
+use Rattle.clustered_row.specs.LoneText.{BeginsLone}
 use Rattle.clustered_row.specs.Walk.{IsWalked}
 use Rattle.clustered_row.proofs.text_cells.lone_cells.Given as goal
 

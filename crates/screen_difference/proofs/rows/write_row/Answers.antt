@@ -5,7 +5,7 @@ use Rattle.cell_edits.specs.VisibleCells.{VisibleCell, visible_from}
 use Rattle.screen_difference.specs.Drawing.{with_all}
 use Rattle.screen_difference.specs.FreshCells.{columns_from, fresh, placed}
 use Rattle.screen_difference.specs.ShownCells.{moved, passed_fresh, Fit}
-use Rattle.screen_difference.proofs.FreshLemmas.{region_fits, row_is_fresh}
+use Rattle.screen_difference.proofs.FreshLemmas.{region_fits, row_is_fresh, kept_fresh}
 use Rattle.screen_difference.proofs.rows.write_row.Goals as goal
 
 pub write_cells-requires : goal.write_cells-requires
@@ -34,3 +34,9 @@ returns c =
     (λ i. passed_fresh ((c.new-olds.ensures ∙ c.visible_cells_between.ensures) i) (map (moved x other_x) (c.visible_cells_between-news.ensures i)))
     ∙ row_is_fresh x other_x c.min-count.result old new
     ∙ ap (λ n. fresh (visible_from x (columns_from x n old)) (visible_from x (columns_from other_x n new))) is)
+
+pub returns-then-are_kept_alike : goal.returns-then-are_kept_alike
+returns-then-are_kept_alike c =
+    let told = c.if-are_kept_alike.true in
+    ap (λ (cells : List VisibleCell). with_all c.args.writer.now (placed c.args.row cells))
+    (sym (kept_fresh c.args.x c.args.other_x c.args.width c.args.old.now.columns c.args.new.now.columns (c.are_kept_alike.ensures.place told) (c.are_kept_alike.ensures.columns told)))

@@ -1,11 +1,6 @@
-use Rattle.std.proofs.Common.{ap, length, arith}
-use Rattle.cell_line.specs.LineContent.{LineContent}
-use Rattle.cell_edits.proofs.CellLemmas.{length-row}
+use Rattle.std.proofs.Common.{arith}
+use Rattle.cell_line.proofs.StorageLemmas.{length_of_cells}
 use Rattle.cell_line.proofs.line.Line.set_blanks.Goals as goal
 
-pub set_blanks-requires : goal.set_blanks-requires
-set_blanks-requires c =
-    let n = length-row c.self.inside.cells.items in
-    let v = ap (λ (l : LineContent). length l.columns) c.self.view_is in
-    let k = c.self.inside.cells.ok.0 in
-    record { order = omega arith; within = omega arith }
+pub set_blanks-requires-2-clause-within : goal.set_blanks-requires-2-clause-within
+set_blanks-requires-2-clause-within c = let n = length_of_cells c.self.inside c.args.self.now c.self.view_is c.if-self.false in omega arith

@@ -1,11 +1,6 @@
-use Rattle.std.proofs.Common.{ap, length, arith}
-use Rattle.cell_line.specs.LineContent.{LineContent}
-use Rattle.cell_edits.proofs.CellLemmas.{length-row}
+use Rattle.std.proofs.Common.{arith}
+use Rattle.cell_line.proofs.StorageLemmas.{length_of_cells}
 use Rattle.cell_line.proofs.line.Line.set_plain.Goals as goal
 
 pub set_plain-requires-clause-within : goal.set_plain-requires-clause-within
-set_plain-requires-clause-within c =
-    let n = length-row c.self.inside.cells.items in
-    let v = ap (λ (l : LineContent). length l.columns) c.self.view_is in
-    let k = c.self.inside.cells.ok.0 in
-    omega arith
+set_plain-requires-clause-within c = let n = length_of_cells c.self.inside c.args.self.now c.self.view_is c.if-self.false in omega arith

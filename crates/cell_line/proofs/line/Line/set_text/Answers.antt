@@ -1,15 +1,13 @@
-use Rattle.std.proofs.Common.{ap, length, arith}
-use Rattle.cell_line.specs.LineContent.{LineContent}
-use Rattle.cell_edits.proofs.CellLemmas.{length-row}
+use Rattle.std.proofs.Common.{arith}
 use Rattle.cell_views.proofs.RegionLemmas.{clusters_left}
+use Rattle.cell_line.proofs.StorageLemmas.{length_of_cells}
 use Rattle.cell_line.proofs.line.Line.set_text.Goals as goal
 
-pub set_text-requires-clause-within : goal.set_text-requires-clause-within
-set_text-requires-clause-within g c =
-    let n = length-row c.self.inside.cells.items in
-    let v = ap (λ (l : LineContent). length l.columns) c.self.view_is in
-    let k = c.self.inside.cells.ok.0 in
-    omega arith
+pub set_text-requires-2-clause-within : goal.set_text-requires-2-clause-within
+set_text-requires-2-clause-within g c = let n = length_of_cells c.self.inside c.args.self.now c.self.view_is c.if-self.false in omega arith
+
+pub returns-then-self-clause-rest : goal.returns-then-self-clause-rest
+returns-then-self-clause-rest g c = clusters_left _ c.args.text.now c.in_ok-at.left.now c.utf8.text c.in_ok-at.ensures.left
 
 pub returns-clause-rest : goal.returns-clause-rest
-returns-clause-rest g c = clusters_left _ c.args.text.now c.in_ok-at.left.now c.utf8.text c.in_ok-at.ensures.left
+returns-clause-rest g c = clusters_left _ c.args.text.now c.in_ok-at-2.left.now c.utf8.text c.in_ok-at-2.ensures.left

@@ -3,7 +3,7 @@ use Rattle.std.specs.Prelude.{map, if◌then◌else◌}
 use Rattle.std.proofs.lemmas.Result.{IfOk-weaker}
 use Rattle.cell_base.specs.CellContent.{row_of_cells}
 use Rattle.cell_base.specs.Row.{Row}
-use Rattle.cell_line.specs.LineContent.{LineContent, line_of}
+use Rattle.cell_line.specs.LineContent.{line_of}
 use Rattle.cell_edits.specs.VisibleCells.{visible_cells, contents, is_space, is_whitespace_row}
 use Rattle.cell_line.specs.Wrapped.{rows_of, texts_kept}
 use Rattle.cell_line.specs.OpenRows.{rows_from, texts_up_to}
@@ -15,7 +15,7 @@ pub returns : goal.returns
 returns c =
     let line = c.args.self in
     let spaces : is_whitespace_row line.columns ≡ false = sym c.is_whitespace.ensures ∙ c.if-is_whitespace.false in
-    let columns : row_of_cells c.self.inside.cells.items ≡ line.columns = ap (λ (l : LineContent). l.columns) c.self.view_is in
+    let columns : row_of_cells c.in_ok-cells.cells.items ≡ line.columns = c.in_ok-cells.ensures.cells in
     let kept = texts_kept (visible_cells line.columns) in
     IfOk-weaker c.rows.result _ _
     (λ lines p. p

@@ -1,5 +1,5 @@
 use Rattle.std.proofs.Common.{ap, sym, subst, ◌∙◌, take, drop, map, ◌++◌}
-use Rattle.cell_base.specs.Attributes.{Attributes, blank_of}
+use Rattle.cell_base.specs.Attributes.{Attributes}
 use Rattle.cell_change.specs.ChangeValue.{ClearScreen}
 use Rattle.screen_canvas.specs.Canvas.{Canvas, IsDrawn, Shows, display_of}
 use Rattle.screen_canvas.specs.CanvasView.{canvas_of}
@@ -7,11 +7,6 @@ use Rattle.screen_canvas.specs.Rows.{blanked}
 use Rattle.screen_canvas.proofs.ShowLemmas.{screen_blanked}
 use Rattle.screen_effects.specs.Effect.{effect}
 use Rattle.screen_canvas.proofs.canvas.Canvas.clear_screen.Goals as goal
-
-pub blank_rows-requires-clause-blank : goal.blank_rows-requires-clause-blank
-blank_rows-requires-clause-blank g c =
-    let e = c.blank_of-pen.ensures in
-    e ∙ ap blank_of (sym (ap (λ (a : Attributes). a.background) e))
 
 pub returns : goal.returns
 returns g c =

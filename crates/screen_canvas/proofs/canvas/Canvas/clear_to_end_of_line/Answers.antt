@@ -1,5 +1,5 @@
 use Rattle.std.proofs.Common.{ap, sym, subst, ◌∙◌, set, length, arith}
-use Rattle.cell_base.specs.Attributes.{Attributes, blank_of}
+use Rattle.cell_base.specs.Attributes.{Attributes}
 use Rattle.cell_change.specs.ChangeValue.{ClearToEndOfLine}
 use Rattle.cell_line.specs.LineCalls.{set_blanks as blanks_set}
 use Rattle.screen_canvas.specs.Canvas.{Canvas, IsDrawn, Shows, display_of, line_at}
@@ -16,11 +16,6 @@ set_blanks-requires-clause-within g c =
     let wide = line_width old old.row h (row_in old h) in
     let column = h.lawful.lawful.column_in in
     omega arith
-
-pub set_blanks-requires-clause-blank : goal.set_blanks-requires-clause-blank
-set_blanks-requires-clause-blank g c =
-    let e = c.blank_of-pen.ensures in
-    e ∙ ap blank_of (sym (ap (λ (a : Attributes). a.background) e))
 
 pub returns : goal.returns
 returns g c =

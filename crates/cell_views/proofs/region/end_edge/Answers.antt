@@ -1,0 +1,14 @@
+use Rattle.std.proofs.Common.{◌∙◌, ◌-◌, ◌∷◌, [], sym, ap, true}
+use Rattle.cell_base.specs.Attributes.{Attributes}
+use Rattle.cell_base.specs.Row.{space}
+use Rattle.cell_edits.specs.VisibleCells.{visible_at}
+use Rattle.cell_views.proofs.EdgeLemmas.{end_half_is, same_at, halved_within}
+use Rattle.cell_views.proofs.region.end_edge.Goals as goal
+
+pub returns-then-is_halved-clause-half : goal.returns-then-is_halved-clause-half
+returns-then-is_halved-clause-half c =
+    let row = c.args.row.now in
+    let at = c.args.end in
+    let cut = sym c.is_halved.ensures ∙ c.if-is_halved.true in
+    let same = same_at row at c.attributes_at.result.now (halved_within at row cut) c.attributes_at.ensures in
+    ap (λ (a : Attributes). visible_at (at - 1) space 1 a ∷ []) same ∙ sym (end_half_is at row true cut)

@@ -1,0 +1,128 @@
+-- Steps of a walk over the bytes of a call.
+use Rattle.std.proofs.Common.{◌≡◌, ℕ, List, [], ◌∷◌, ◌++◌, map, Option, Some, refl, ap, subst, sym, ◌∙◌, append_assoc, append-nil}
+use Rattle.std.specs.Prelude.{Result, Ok, Err}
+use Rattle.std.specs.List.{FoldsTo}
+use Rattle.std.specs.declared.alloc.AllocError.{AllocError}
+use Rattle.std.proofs.lemmas.Fn.{FoldsTo-push}
+use Rattle.std.proofs.lemmas.List.{map-append}
+use Rattle.escape_framing.specs.Framing.{Framing}
+use Rattle.escape_stream.specs.declared.action.Action.{Action}
+use Rattle.escape_stream.specs.declared.perform.Halted.{Halted}
+use Rattle.escape_stream.specs.declared.perform.Halted.TheVariants as halted
+use Rattle.escape_stream.specs.declared.pieces.Piece.{Piece as PieceCode}
+use Rattle.escape_stream.specs.declared.pieces.Reading.{Reading}
+use Rattle.escape_stream.specs.Queue.{queue_actions, IsEmpty}
+use Rattle.escape_stream.specs.Pieces.{Piece}
+use Rattle.escape_stream.specs.Items.{Item, item_of, items_of}
+use Rattle.escape_stream.specs.Performing.{PerformsSome, HaltsAt}
+use Rattle.escape_stream.specs.PiecesView.{lender_of, open_pieces, item_handed, IsPiece, IsUnderWay, IsGoing, HasGiven, HandsOutAtOnce, HandsOutWaiting, GoesOn}
+use Rattle.escape_stream.specs.Walking.{Finds, Performs, ArePieces, HandsOver, Reaches, WalksAll, WalksTo}
+use Rattle.escape_stream.proofs.AdvanceLemmas.{SameBut, given_behind}
+use Rattle.escape_stream.proofs.HandLemmas.{same_item}
+
+-- ---- what was found
+
+pub finds_at_once : (old new : Reading) (x : PieceCode) → IsGoing old → HandsOutAtOnce old (Ok x) new → Finds old (Ok (Some x)) new
+finds_at_once old new x g h = record { same = h.same; stage = h.stage; failed = ap (λ (f : Framing). f.failed) h.parser ∙ g.failed; gives = h.gives g.ready }
+
+-- behind the same
+pub finds_behind : (old mid new : Reading) (answer : Result (Option PieceCode) AllocError) → GoesOn old mid → lender_of mid ≡ lender_of old → mid.stage ≡ old.stage → Finds mid answer new → Finds old answer new
+finds_behind old mid new (Ok piece) g l s h = record { same = h.same ∙ l; stage = h.stage ∙ s; failed = h.failed; gives = given_behind old mid new piece g h.gives }
+finds_behind old mid new (Err e) g l s h = record { same = h.same ∙ l; stage = h.stage ∙ s; failed = h.failed; gives = tt }
+
+-- ---- what waits
+
+pub same_waiting : (old new : Reading) (answer : Result (Option Action) AllocError) → HandsOutWaiting old answer new → SameBut old new
+same_waiting old new answer h = record { parser = h.parser; bytes = h.bytes; count = h.count }
+
+pub waiting_over : (old new : Reading) → IsUnderWay old → SameBut old new → queue_actions old.parser.now.parameters old.queue ≡ [] → IsEmpty new.queue → GoesOn old new
+waiting_over old new u s e q = record {
+  same = λ start. rw (s.parser, s.bytes, s.count, q old.parser.now.parameters, e) refl;
+  ready = record { within = rw (s.count, s.bytes) u.within; reached = rw s.parser u.reached; carried = rw (s.parser, s.count, s.bytes) u.carried };
+  ends = rw (s.parser, s.bytes, s.count) refl;
+}
+
+-- ---- how far a walk has come
+
+are_pushed : (ps : List Piece) (xs : List PieceCode) (p : Piece) (x : PieceCode) → ArePieces ps xs → IsPiece p x → ArePieces (ps ++ (p ∷ [])) (xs ++ (x ∷ []))
+are_pushed [] [] p x h k = (k, tt)
+are_pushed [] (y ∷ ys) p x h k = absurd h
+are_pushed (q ∷ qs) [] p x h k = absurd h
+are_pushed (q ∷ qs) (y ∷ ys) p x h k = (h.0, are_pushed qs ys p x h.1 k)
+
+are_items : (ps : List Piece) (xs : List PieceCode) → ArePieces ps xs → items_of ps ≡ map item_handed xs
+are_items [] [] h = refl
+are_items [] (y ∷ ys) h = absurd h
+are_items (q ∷ qs) [] h = absurd h
+are_items (q ∷ qs) (y ∷ ys) h = λ i. same_item q y h.0 i ∷ are_items qs ys h.1 i
+
+pub items_over : (done : List PieceCode) (old new : Reading) (start : ℕ) → HandsOver done old new start → items_of (open_pieces start old) ≡ map item_handed done ++ items_of (open_pieces start new)
+items_over done old new start h = ap items_of h.whole ∙ map-append item_of h.pieces (open_pieces start new) ∙ ap (λ (l : List Item). l ++ items_of (open_pieces start new)) (are_items h.pieces done h.are)
+
+module _ {P : Type 0} (does : P → Item → P → Type 0) where
+  abbrev by_code : P → PieceCode → P → Type 0
+  by_code before x after = does before (item_handed x) after
+
+  pub reaches_here : (it : Reading) (p : P) → IsUnderWay it → Reaches does it p it p
+  reaches_here it p u = record { done = []; performed = refl; handed = λ start. record { pieces = []; are = tt; whole = refl }; ready = u; ends = refl }
+
+  pub reaches_given : (old mid new : Reading) (p q last : P) (x : PieceCode) → Reaches does old p mid q → HasGiven mid (Some x) new → does q (item_handed x) last → Reaches does old p new last
+  reaches_given old mid new p q last x r g d = record {
+    done = r.done ++ (x ∷ []);
+    performed = FoldsTo-push by_code p r.done q x last r.performed d;
+    handed = λ start.
+        let h = r.handed start in
+        let k = g.gives start in
+        record {
+          pieces = h.pieces ++ (k.0 ∷ []);
+          are = are_pushed h.pieces r.done k.0 x h.are k.1;
+          whole = h.whole ∙ ap (λ (l : List Piece). h.pieces ++ l) k.2 ∙ sym (append_assoc h.pieces (k.0 ∷ []) (open_pieces start new));
+        };
+    ready = g.ready;
+    ends = g.ends ∙ r.ends;
+  }
+
+  folds_items : (p q : P) (xs : List PieceCode) → FoldsTo by_code p xs q → FoldsTo does p (map item_handed xs) q
+  folds_items p q [] s = s
+  folds_items p q (x ∷ xs) s = (s.0, s.1, folds_items s.0 q xs s.2)
+
+  -- ---- a whole walk
+
+  pub walks_done : (old new : Reading) (first last : P) → WalksAll does old first new last → (start : ℕ) → FoldsTo does first (items_of (open_pieces start old)) last
+  walks_done old new first last w start =
+      subst (λ (l : List Item). FoldsTo does first l last)
+      (sym (items_over w.reached.done old w.it start (w.reached.handed start) ∙ ap (λ (l : List Piece). map item_handed w.reached.done ++ items_of l) (w.none.gives start) ∙ append-nil (map item_handed w.reached.done)))
+      (folds_items first last w.reached.done w.reached.performed)
+
+  some_done : (old new : Reading) (first last : P) → Reaches does old first new last → (start : ℕ) → PerformsSome does first (items_of (open_pieces start old)) last
+  some_done old new first last r start = record {
+    done = map item_handed r.done;
+    left = items_of (open_pieces start new);
+    whole = items_over r.done old new start (r.handed start);
+    performed = folds_items first last r.done r.performed;
+  }
+
+  pub walks_halted : {E : Type 0} (refuses : P → Item → E → P → Type 0) (old new : Reading) (first last : P) (h : Halted E) → WalksTo does refuses old first (Err h) new last → (start : ℕ) → HaltsAt does refuses first (items_of (open_pieces start old)) h last
+  unfolding some_done
+  walks_halted refuses old new first last halted.Failed w start = absurd w
+  walks_halted refuses old new first last halted.Memory w start = some_done old w.it first last w.reached start
+  walks_halted refuses old new first last (halted.Refused r) w start =
+      let k = w.refused.given.gives start in
+      let s = some_done old w.it first w.before w.reached start in
+      record {
+        done = s.done;
+        item = item_handed w.refused.piece;
+        left = items_of (open_pieces start new);
+        before = w.before;
+        whole = s.whole ∙ ap (λ (l : List Piece). s.done ++ items_of l) k.2 ∙ ap (λ (i : Item). s.done ++ (i ∷ items_of (open_pieces start new))) (same_item k.0 w.refused.piece k.1);
+        performed = s.performed;
+        refused = w.refused.performed;
+      }
+
+-- ---- a refusal
+
+module _ {P E : Type 0} (does : P → Item → P → Type 0) (refuses : P → Item → E → P → Type 0) where
+  pub walks_refused : (old mid new : Reading) (first p last : P) (x : PieceCode) (h : Halted E) → Reaches does old first mid p → HasGiven mid (Some x) new → Performs does refuses p (item_handed x) (Err h) last → WalksTo does refuses old first (Err h) new last
+  walks_refused old mid new first p last x halted.Failed r g d = absurd d
+  walks_refused old mid new first p last x halted.Memory r g d = absurd d
+  walks_refused old mid new first p last x (halted.Refused e) r g d = record { it = mid; before = p; reached = r; refused = record { piece = x; given = g; performed = d } }

@@ -1,6 +1,0 @@
-use Rattle.std.proofs.Common.{refl}
-use Rattle.escape_stream.proofs.AdvanceLemmas.{gives_command}
-use Rattle.escape_stream.proofs.pieces.Pieces.take_command.Goals as goal
-
-pub returns : goal.returns
-returns c = record { same = refl; stage = refl; parser = refl; gives = λ u. gives_command c.args.self.now _ c.in_ok-action.action c.args.body.now c.args.count u c.requires.empty c.requires.stands c.in_ok-action.ensures refl refl refl refl }

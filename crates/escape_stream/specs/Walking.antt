@@ -1,0 +1,74 @@
+-- Words of the private steps of a walk over the bytes of a call.
+use Rattle.std.specs.Prelude.{◌≡◌, ℕ, true, List, [], ◌∷◌, ◌++◌, Option, Some, None, Result, Ok, Err, IfOk}
+use Rattle.std.specs.List.{FoldsTo}
+use Rattle.std.specs.declared.alloc.AllocError.{AllocError}
+use Rattle.escape_stream.specs.Pieces.{Piece}
+use Rattle.escape_stream.specs.Items.{Item}
+use Rattle.escape_stream.specs.PiecesView.{lender_of, parser_of, open_pieces, held_at_end, item_handed, IsPiece, IsUnderWay, HasGiven}
+use Rattle.escape_stream.specs.declared.perform.Halted.{Halted}
+use Rattle.escape_stream.specs.declared.perform.Halted.TheVariants as halted
+use Rattle.escape_stream.specs.declared.pieces.Piece.{Piece as PieceCode}
+use Rattle.escape_stream.specs.declared.pieces.Reading.{Reading}
+
+-- an item was performed, or refused
+abbrev pub Performs : {P E : Type 0} → (P → Item → P → Type 0) → (P → Item → E → P → Type 0) → P → Item → Result (Unit {0}) (Halted E) → P → Type 0
+Performs does refuses first item (Ok done) last = does first item last
+Performs does refuses first item (Err halted.Failed) last = ⊥
+Performs does refuses first item (Err halted.Memory) last = ⊥
+Performs does refuses first item (Err (halted.Refused refusal)) last = refuses first item refusal last
+
+-- what the next piece was found to be, if there is one, unless memory is refused
+pub record Finds (old : Reading) (answer : Result (Option PieceCode) AllocError) (new : Reading) : Type 0 where
+  pub same : lender_of new ≡ lender_of old
+  pub stage : new.stage ≡ old.stage
+  pub failed : (parser_of new).failed ≡ true
+  pub gives : IfOk answer (λ piece. HasGiven old piece new)
+
+-- a piece was handed to the performer
+pub record HandsPiece (happens : Item → Type 0) (old new : Reading) : Type 0 where
+  pub piece : PieceCode
+  pub given : HasGiven old (Some piece) new
+  pub performed : happens (item_handed piece)
+
+-- these are pieces as values
+abbrev pub ArePieces : List Piece → List PieceCode → Type 0
+ArePieces [] [] = Unit {0}
+ArePieces [] (x ∷ xs) = ⊥
+ArePieces (p ∷ ps) [] = ⊥
+ArePieces (p ∷ ps) (x ∷ xs) = IsPiece p x × ArePieces ps xs
+
+-- what was handed out between two times, in each call
+pub record HandsOver (done : List PieceCode) (old new : Reading) (start : ℕ) : Type 0 where
+  pub pieces : List Piece
+  pub are : ArePieces pieces done
+  pub whole : open_pieces start old ≡ pieces ++ open_pieces start new
+
+-- a walk has come so far: the performer did what was handed out
+pub record Reaches {P : Type 0} (does : P → Item → P → Type 0) (old : Reading) (first : P) (new : Reading) (last : P) : Type 0 where
+  pub done : List PieceCode
+  pub performed : FoldsTo (λ before x after. does before (item_handed x) after) first done last
+  pub handed : (start : ℕ) → HandsOver done old new start
+  pub ready : IsUnderWay new
+  pub ends : held_at_end new ≡ held_at_end old
+
+-- a walk that ended: at the end, or early
+pub record WalksAll {P : Type 0} (does : P → Item → P → Type 0) (old : Reading) (first : P) (new : Reading) (last : P) : Type 0 where
+  pub it : Reading
+  pub reached : Reaches does old first it last
+  pub none : HasGiven it None new
+
+pub record WalksSome {P : Type 0} (does : P → Item → P → Type 0) (old : Reading) (first : P) (last : P) : Type 0 where
+  pub it : Reading
+  pub reached : Reaches does old first it last
+
+pub record WalksUpTo {P E : Type 0} (does : P → Item → P → Type 0) (refuses : P → Item → E → P → Type 0) (old : Reading) (first : P) (refusal : E) (new : Reading) (last : P) : Type 0 where
+  pub it : Reading
+  pub before : P
+  pub reached : Reaches does old first it before
+  pub refused : HandsPiece (λ item. refuses before item refusal last) it new
+
+abbrev pub WalksTo : {P E : Type 0} → (P → Item → P → Type 0) → (P → Item → E → P → Type 0) → Reading → P → Result (Unit {0}) (Halted E) → Reading → P → Type 0
+WalksTo does refuses old first (Ok done) new last = WalksAll does old first new last
+WalksTo does refuses old first (Err halted.Failed) new last = ⊥
+WalksTo does refuses old first (Err halted.Memory) new last = WalksSome does old first last
+WalksTo does refuses old first (Err (halted.Refused refusal)) new last = WalksUpTo does refuses old first refusal new last

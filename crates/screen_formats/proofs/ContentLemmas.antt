@@ -1,0 +1,134 @@
+-- What is read of pieces.
+use Rattle.std.proofs.Common.{◌≡◌, ℕ, Bool, true, false, List, [], ◌∷◌, ◌++◌, refl, sym, ap, ◌∙◌, subst, append_assoc}
+use Rattle.std.specs.Prelude.{◌||◌, ◌==◌, Option, Some, None, unwrap_or, if◌then◌else◌, codes, length}
+use Rattle.std.specs.List.{flat_map, list_any}
+use Rattle.std.specs.Char.{encode_utf8}
+use Rattle.std.specs.Str.{chars}
+use Rattle.std.proofs.lemmas.Bool.{eqb-true, or_parts}
+use Rattle.std.proofs.lemmas.List.Folds.{list_any-append}
+use Rattle.cell_edits.proofs.CellLemmas.{by_test}
+use Rattle.screen_formats.specs.Content.{untagged, content, piece_content, pieces_content, is_end, AreNamed, IsNamed, AreTagged}
+use Rattle.screen_formats.specs.Escape.{entity_of, escaped, escaped_char, held, is_markup, put_before, read_behind}
+use Rattle.screen_formats.specs.Pieces.{Attribute, Piece, Opening, Closing, Words, attribute_text, piece_text, pieces_text}
+use Rattle.screen_formats.specs.declared.escape.Markup.{Markup}
+use Rattle.screen_formats.proofs.EscapeLemmas.{is_special, own_bytes, text_back}
+
+-- ---- an escaped text begins and ends no tag
+
+joined : (test : ℕ → Bool) (xs ys : List ℕ) → list_any test xs ≡ false → list_any test ys ≡ false → list_any test (xs ++ ys) ≡ false
+joined test xs ys p q = list_any-append test xs ys ∙ (λ i. p i || q i)
+
+no_markup : (bytes : List ℕ) → list_any is_special bytes ≡ false → list_any is_markup bytes ≡ false
+no_markup [] e = refl
+no_markup (b ∷ bytes) e =
+    let parts = or_parts (is_special b) (list_any is_special bytes) e in
+    let plain = or_parts (b == 38) (is_markup b) parts.0 in
+    λ i. plain.1 i || no_markup bytes parts.1 i
+
+abbrev IsClosed : ℕ → Type 0
+IsClosed c = list_any is_markup (escaped_char c) ≡ false
+
+same_closed : (c d : ℕ) → (c == d) ≡ true → IsClosed d → IsClosed c
+same_closed c d e p = subst IsClosed (sym (eqb-true c d e)) p
+
+plain_closed : (c : ℕ) → entity_of c ≡ None → is_special c ≡ false → IsClosed c
+plain_closed c none plain = ap (λ e. list_any is_markup (unwrap_or e (encode_utf8 c))) none ∙ no_markup (encode_utf8 c) (own_bytes c plain)
+
+char_closed : (c : ℕ) → IsClosed c
+char_closed c =
+    by_test (c == 38) (λ e. same_closed c 38 e refl) (λ amp.
+    by_test (c == 60) (λ e. same_closed c 60 e refl) (λ lt.
+    by_test (c == 62) (λ e. same_closed c 62 e refl) (λ gt.
+    by_test (c == 34) (λ e. same_closed c 34 e refl) (λ quot.
+    by_test (c == 39) (λ e. same_closed c 39 e refl) (λ apostrophe.
+    by_test (c == 13) (λ e. same_closed c 13 e refl) (λ return.
+    plain_closed c (rw (amp, lt, gt, quot, apostrophe, return) refl) (rw (amp, lt, gt, quot, apostrophe) refl)))))))
+
+chars_closed : (markup : Markup) (cs : List ℕ) → list_any is_markup (flat_map (λ c. escaped_char (held markup c)) cs) ≡ false
+chars_closed markup [] = refl
+chars_closed markup (c ∷ cs) = joined is_markup (escaped_char (held markup c)) (flat_map (λ c. escaped_char (held markup c)) cs) (char_closed (held markup c)) (chars_closed markup cs)
+
+text_closed : (markup : Markup) (text : List ℕ) → list_any is_markup (escaped markup text) ≡ false
+text_closed markup text = chars_closed markup (chars text)
+
+no_tag : (b : ℕ) → is_markup b ≡ false → ((b == 60) ≡ false) × ((b == 62) ≡ false)
+no_tag b e =
+    let first = or_parts ((b == 60) || (b == 62) || (b == 34)) (b == 39) e in
+    let second = or_parts ((b == 60) || (b == 62)) (b == 34) first.0 in
+    or_parts (b == 60) (b == 62) second.0
+
+no_end : (bytes : List ℕ) → list_any is_markup bytes ≡ false → list_any is_end bytes ≡ false
+no_end [] e = refl
+no_end (b ∷ bytes) e =
+    let parts = or_parts (is_markup b) (list_any is_markup bytes) e in
+    λ i. (no_tag b parts.0).1 i || no_end bytes parts.1 i
+
+-- ---- tags are passed over
+
+untagged_text : (bytes rest : List ℕ) → list_any is_markup bytes ≡ false → untagged false (bytes ++ rest) ≡ bytes ++ untagged false rest
+untagged_text [] rest e = refl
+untagged_text (b ∷ bytes) rest e =
+    let parts = or_parts (is_markup b) (list_any is_markup bytes) e in
+    ap (λ t. if t then untagged true (bytes ++ rest) else b ∷ untagged false (bytes ++ rest)) (no_tag b parts.0).0
+    ∙ ap (λ (t : List ℕ). b ∷ t) (untagged_text bytes rest parts.1)
+
+untagged_tag : (bytes rest : List ℕ) → list_any is_end bytes ≡ false → untagged true (bytes ++ 62 ∷ rest) ≡ untagged false rest
+untagged_tag [] rest e = refl
+untagged_tag (b ∷ bytes) rest e =
+    let parts = or_parts (is_end b) (list_any is_end bytes) e in
+    ap (λ t. if t then untagged false (bytes ++ 62 ∷ rest) else untagged true (bytes ++ 62 ∷ rest)) parts.0
+    ∙ untagged_tag bytes rest parts.1
+
+attribute_closed : (markup : Markup) (a : Attribute) → list_any is_end a.0 ≡ false → list_any is_end (attribute_text markup a) ≡ false
+attribute_closed markup a named =
+    by_test (length a.1 == 0)
+    (λ e. rw e refl)
+    (λ e.
+    let name = joined is_end (32 ∷ a.0) (codes "=\"") named refl in
+    let value = joined is_end (32 ∷ (a.0 ++ codes "=\"")) (escaped markup a.1) name (no_end (escaped markup a.1) (text_closed markup a.1)) in
+    rw e (joined is_end (32 ∷ (a.0 ++ codes "=\"" ++ escaped markup a.1)) (34 ∷ []) value refl))
+
+attributes_closed : (markup : Markup) (attributes : List Attribute) → AreNamed attributes → list_any is_end (flat_map (attribute_text markup) attributes) ≡ false
+attributes_closed markup [] named = refl
+attributes_closed markup (a ∷ attributes) named = joined is_end (attribute_text markup a) (flat_map (attribute_text markup) attributes) (attribute_closed markup a named.0) (attributes_closed markup attributes named.1)
+
+-- ---- pieces
+
+-- what is left of a piece without its tags
+abbrev bare : Markup → Piece → List ℕ
+bare markup (Opening name attributes) = []
+bare markup (Closing name) = []
+bare markup (Words text) = escaped markup text
+
+bare_piece : (markup : Markup) (piece : Piece) (rest : List ℕ) → IsNamed piece → untagged false (piece_text markup piece ++ rest) ≡ bare markup piece ++ untagged false rest
+bare_piece markup (Opening name attributes) rest named =
+    let inside = name ++ flat_map (attribute_text markup) attributes in
+    ap (untagged true) (append_assoc inside (62 ∷ []) rest)
+    ∙ untagged_tag inside rest (joined is_end name (flat_map (attribute_text markup) attributes) named.0 (attributes_closed markup attributes named.1))
+bare_piece markup (Closing name) rest named = ap (untagged true) (append_assoc (47 ∷ name) (62 ∷ []) rest) ∙ untagged_tag (47 ∷ name) rest named
+bare_piece markup (Words text) rest named = untagged_text (escaped markup text) rest (text_closed markup text)
+
+bare_pieces : (markup : Markup) (pieces : List Piece) → AreTagged pieces → untagged false (flat_map (piece_text markup) pieces) ≡ flat_map (bare markup) pieces
+bare_pieces markup [] named = refl
+bare_pieces markup (piece ∷ pieces) named =
+    bare_piece markup piece (flat_map (piece_text markup) pieces) named.0
+    ∙ ap (λ (t : List ℕ). bare markup piece ++ t) (bare_pieces markup pieces named.1)
+
+put_nothing : (text : Option (List ℕ)) → put_before [] text ≡ text
+put_nothing None = refl
+put_nothing (Some t) = refl
+
+piece_back : (markup : Markup) (piece : Piece) (rest : List ℕ) → read_behind None (bare markup piece ++ rest) ≡ put_before (piece_content markup piece) (read_behind None rest)
+piece_back markup (Opening name attributes) rest = sym (put_nothing (read_behind None rest))
+piece_back markup (Closing name) rest = sym (put_nothing (read_behind None rest))
+piece_back markup (Words text) rest = text_back markup text rest
+
+pieces_back : (markup : Markup) (pieces : List Piece) → read_behind None (flat_map (bare markup) pieces) ≡ Some (pieces_content markup pieces)
+pieces_back markup [] = refl
+pieces_back markup (piece ∷ pieces) =
+    piece_back markup piece (flat_map (bare markup) pieces)
+    ∙ ap (put_before (piece_content markup piece)) (pieces_back markup pieces)
+
+pub content_back : (markup : Markup) (pieces : List Piece) → AreTagged pieces → content (pieces_text markup pieces) ≡ Some (pieces_content markup pieces)
+unfolding pieces_text
+content_back markup pieces named = ap (read_behind None) (bare_pieces markup pieces named) ∙ pieces_back markup pieces

@@ -1,0 +1,62 @@
+-- Runs that are made cell by cell are those of the groups.
+use Rattle.std.proofs.Common.{◌≡◌, ℕ, ◌+◌, Bool, true, false, List, [], ◌∷◌, ◌++◌, map, refl, sym, ap, ◌∙◌, arith}
+use Rattle.std.specs.Prelude.{not, sum_by, flat_map, fold, if◌then◌else◌}
+use Rattle.std.proofs.lemmas.List.{append-nil}
+use Rattle.std.proofs.lemmas.List.Sums.{sum_by-append}
+use Rattle.std.proofs.lemmas.Grind.{flat_map-append}
+use Rattle.cell_edits.specs.VisibleCells.{VisibleCell, texts_joined}
+use Rattle.cell_views.specs.Groups.{joined, groups_by, IsCut}
+use Rattle.cell_views.proofs.GroupLemmas.{cut_joined, groups_are_cut}
+use Rattle.screen_formats.specs.Runs.{Run, begins_run, goes_on, run_of, runs_of}
+use Rattle.screen_formats.specs.RunSteps.{grown, with_cell}
+
+flat_map-one : {A : Type 0} (f : VisibleCell → List A) (cells : List VisibleCell) (v : VisibleCell) → flat_map f cells ++ f v ≡ flat_map f (cells ++ v ∷ [])
+flat_map-one f cells v = ap (λ xs. flat_map f cells ++ xs) (sym (append-nil (f v))) ∙ sym (flat_map-append f cells (v ∷ []))
+
+grown_run : (first : VisibleCell) (cells : List VisibleCell) (v : VisibleCell) → grown (run_of (first ∷ cells)) v ≡ run_of (first ∷ cells ++ v ∷ [])
+grown_run first cells v =
+    let columns : sum_by (λ w. w.cell.width) (first ∷ cells) + v.cell.width ≡ sum_by (λ w. w.cell.width) (first ∷ cells ++ v ∷ []) = omega (arith, sum_by-append (λ w. w.cell.width) (first ∷ cells) (v ∷ [])) in
+    λ i. record {
+      attributes = first.cell.attributes;
+      width = first.cell.width;
+      column = first.column;
+      columns = columns i;
+      text = flat_map-one (λ w. w.cell.text) (first ∷ cells) v i;
+    }
+
+either_run : (b : Bool) (first : VisibleCell) (cells : List VisibleCell) (v : VisibleCell)
+    → map run_of (if not b then (first ∷ cells) ∷ (v ∷ []) ∷ [] else (first ∷ cells ++ v ∷ []) ∷ []) ≡ (if b then grown (run_of (first ∷ cells)) v ∷ [] else run_of (first ∷ cells) ∷ run_of (v ∷ []) ∷ [])
+either_run true first cells v = ap (λ (run : Run). run ∷ []) (sym (grown_run first cells v))
+either_run false first cells v = refl
+
+joined_run : (groups : List (List VisibleCell)) (v : VisibleCell) → IsCut begins_run groups → map run_of (joined begins_run groups v) ≡ with_cell (map run_of groups) v
+joined_run [] v cut = refl
+joined_run ([] ∷ []) v cut = absurd cut
+joined_run ((first ∷ cells) ∷ []) v cut = either_run (goes_on (run_of (first ∷ cells)) v) first cells v
+joined_run (cells ∷ next ∷ groups) v cut = ap (λ (runs : List Run). run_of cells ∷ runs) (joined_run (next ∷ groups) v cut.2)
+
+runs_made : (groups : List (List VisibleCell)) (cells : List VisibleCell) → IsCut begins_run groups → fold with_cell (map run_of groups) cells ≡ map run_of (fold (joined begins_run) groups cells)
+runs_made groups [] cut = refl
+runs_made groups (v ∷ cells) cut =
+    ap (λ runs. fold with_cell runs cells) (sym (joined_run groups v cut))
+    ∙ runs_made (joined begins_run groups v) cells (cut_joined begins_run groups v cut)
+
+pub runs_are_made : (cells : List VisibleCell) → fold with_cell [] cells ≡ runs_of cells
+runs_are_made cells = runs_made [] cells tt
+
+-- the last run alone sees the cell
+pub with_cell_last : (runs : List Run) (last : Run) (v : VisibleCell) → with_cell (runs ++ last ∷ []) v ≡ runs ++ with_cell (last ∷ []) v
+with_cell_last [] last v = refl
+with_cell_last (run ∷ []) last v = refl
+with_cell_last (run ∷ next ∷ runs) last v = ap (λ (rest : List Run). run ∷ rest) (with_cell_last (next ∷ runs) last v)
+
+-- ---- the texts of the runs
+
+texts_of_groups : (groups : List (List VisibleCell)) → flat_map (λ run. run.text) (map run_of groups) ≡ texts_joined (flat_map (λ g. g) groups)
+texts_of_groups [] = refl
+texts_of_groups (cells ∷ groups) =
+    ap (λ (t : List ℕ). texts_joined cells ++ t) (texts_of_groups groups)
+    ∙ sym (flat_map-append (λ (v : VisibleCell). v.cell.text) cells (flat_map (λ g. g) groups))
+
+pub texts_of_runs : (cells : List VisibleCell) → flat_map (λ run. run.text) (runs_of cells) ≡ texts_joined cells
+texts_of_runs cells = texts_of_groups (groups_by begins_run cells) ∙ ap texts_joined (groups_are_cut begins_run cells).whole

@@ -1,0 +1,147 @@
+-- What is read of a screen as HTML and as SVG.
+use Rattle.std.proofs.Common.{◌≡◌, ℕ, ◌+◌, ◌-◌, Bool, true, false, List, [], ◌∷◌, ◌++◌, refl, ap, ◌∙◌}
+use Rattle.std.specs.Prelude.{◌==◌, min, Some, codes, length, if◌then◌else◌}
+use Rattle.std.specs.List.{flat_map, list_any}
+use Rattle.std.specs.Char.{encode_utf8}
+use Rattle.std.specs.Str.{chars}
+use Rattle.std.proofs.lemmas.List.{append-nil}
+use Rattle.std.proofs.lemmas.Grind.{flat_map-append}
+use Rattle.cell_base.specs.Row.{Row}
+use Rattle.cell_base.specs.Screen.{Screen}
+use Rattle.cell_edits.specs.VisibleCells.{visible_cells}
+use Rattle.screen_formats.specs.Colors.{default_background, default_foreground, has_background, hex_color, paper}
+use Rattle.screen_formats.specs.Content.{AreTagged, content, html_content, is_end, piece_content, pieces_content, row_content, svg_content}
+use Rattle.screen_formats.specs.Escape.{held_text}
+use Rattle.screen_formats.specs.Html.{html_pieces, html_row, html_rows, html_run, html_text}
+use Rattle.screen_formats.specs.Links.{link_uri}
+use Rattle.screen_formats.specs.Pieces.{Piece, Opening, Closing, Words, element}
+use Rattle.screen_formats.specs.Runs.{Run, runs_of}
+use Rattle.screen_formats.specs.Svg.{column_units, placed_text, rectangle, row_units, sized_opening, svg_cursor, svg_front, svg_letters, svg_opening, svg_paper, svg_pieces, svg_row, svg_rows, svg_text, svg_text_of, Text}
+use Rattle.screen_formats.specs.declared.escape.Markup.{Markup}
+use Rattle.screen_formats.specs.declared.escape.Markup.TheVariants.{Html, Xml}
+use Rattle.screen_formats.proofs.ContentLemmas.{content_back}
+
+-- ---- pieces, and what they hold
+
+-- the pieces are named, and hold this text
+abbrev Holds : Markup → List Piece → List ℕ → Type 0
+Holds markup pieces text = AreTagged pieces × (pieces_content markup pieces ≡ text)
+
+tagged_both : (xs ys : List Piece) → AreTagged xs → AreTagged ys → AreTagged (xs ++ ys)
+tagged_both [] ys p q = q
+tagged_both (x ∷ xs) ys p q = (p.0, tagged_both xs ys p.1 q)
+
+holds_both : (markup : Markup) (xs ys : List Piece) (text rest : List ℕ) → Holds markup xs text → Holds markup ys rest → Holds markup (xs ++ ys) (text ++ rest)
+holds_both markup xs ys text rest p q = (tagged_both xs ys p.0 q.0, flat_map-append (piece_content markup) xs ys ∙ (λ i. p.1 i ++ q.1 i))
+
+holds_each : {A : Type 0} (markup : Markup) (f : A → List Piece) (text : A → List ℕ) → ((x : A) → Holds markup (f x) (text x)) → (xs : List A) → Holds markup (flat_map f xs) (flat_map text xs)
+holds_each markup f text each [] = (tt, refl)
+holds_each markup f text each (x ∷ xs) = holds_both markup (f x) (flat_map f xs) (text x) (flat_map text xs) (each x) (holds_each markup f text each xs)
+
+holds_none : {A : Type 0} (markup : Markup) (f : A → List Piece) → ((x : A) → Holds markup (f x) []) → (xs : List A) → Holds markup (flat_map f xs) []
+holds_none markup f each [] = (tt, refl)
+holds_none markup f each (x ∷ xs) = holds_both markup (f x) (flat_map f xs) [] [] (each x) (holds_none markup f each xs)
+
+line_feed : (markup : Markup) → Holds markup (Words (10 ∷ []) ∷ []) (10 ∷ [])
+unfolding chars encode_utf8
+line_feed Html = ((tt, tt), refl)
+line_feed Xml = ((tt, tt), refl)
+
+closing : (markup : Markup) (name : List ℕ) → list_any is_end name ≡ false → Holds markup (Closing name ∷ Words (10 ∷ []) ∷ []) (10 ∷ [])
+closing markup name named = ((named, (line_feed markup).0), (line_feed markup).1)
+
+-- ---- HTML
+
+name_of : (b : Bool) → list_any is_end (if b then codes "span" else codes "a") ≡ false
+name_of true = refl
+name_of false = refl
+
+run_holds : (run : Run) → Holds Html (html_run run) (held_text Html run.text)
+unfolding html_run
+run_holds run =
+    let named = name_of (length (link_uri run.attributes) == 0) in
+    (((named, (refl, (refl, (refl, tt)))), (tt, (named, tt))), append-nil (held_text Html run.text))
+
+html_row_holds : (row : Row) → Holds Html (html_row row) (row_content Html row ++ 10 ∷ [])
+html_row_holds row =
+    let runs = runs_of (visible_cells row) in
+    holds_both Html (flat_map html_run runs) (Words (10 ∷ []) ∷ []) (row_content Html row) (10 ∷ []) (holds_each Html html_run (λ run. held_text Html run.text) run_holds runs) (line_feed Html)
+
+html_holds : (screen : Screen) → Holds Html (html_pieces screen) (html_content screen)
+html_holds screen =
+    let rows = holds_each Html html_row (λ row. row_content Html row ++ 10 ∷ []) html_row_holds screen.rows in
+    let all = holds_both Html (html_rows screen.rows) (Closing (codes "pre") ∷ Words (10 ∷ []) ∷ []) (flat_map (λ row. row_content Html row ++ 10 ∷ []) screen.rows) (10 ∷ []) rows (closing Html (codes "pre") refl) in
+    (((refl, (refl, (refl, tt))), all.0), all.1)
+
+pub html_read : (screen : Screen) → content (html_text screen) ≡ Some (html_content screen)
+html_read screen = content_back Html (html_pieces screen) (html_holds screen).0 ∙ ap Some (html_holds screen).1
+
+-- ---- SVG
+
+rectangle_holds : (x y width height fill opacity : Text) → Holds Xml (rectangle x y width height fill opacity) []
+unfolding rectangle chars
+rectangle_holds x y width height fill opacity = (((refl, (refl, (refl, (refl, (refl, (refl, (refl, tt))))))), (tt, (refl, tt))), refl)
+
+letters_hold : (row : ℕ) (run : Run) → Holds Xml (svg_letters row run) (held_text Xml run.text)
+unfolding placed_text
+letters_hold row run = (((refl, (refl, (refl, (refl, (refl, (refl, tt)))))), (tt, (refl, tt))), append-nil (held_text Xml run.text))
+
+either : (b : Bool) (xs ys : List Piece) (text : List ℕ) → Holds Xml xs text → Holds Xml ys text → Holds Xml (if b then xs else ys) text
+either true xs ys text p q = p
+either false xs ys text p q = q
+
+in_link : (uri : Text) (pieces : List Piece) (text : List ℕ) → Holds Xml pieces text → Holds Xml (Opening (codes "a") ((codes "href", uri) ∷ []) ∷ (pieces ++ Closing (codes "a") ∷ [])) text
+in_link uri pieces text p =
+    let all = holds_both Xml pieces (Closing (codes "a") ∷ []) text [] p ((refl, tt), refl) in
+    (((refl, (refl, tt)), all.0), all.1 ∙ append-nil text)
+
+text_holds : (row : ℕ) (run : Run) → Holds Xml (svg_text_of row run) (held_text Xml run.text)
+unfolding svg_text_of
+text_holds row run =
+    let uri = link_uri run.attributes in
+    either (length uri == 0) (svg_letters row run) _ (held_text Xml run.text) (letters_hold row run) (in_link uri (svg_letters row run) (held_text Xml run.text) (letters_hold row run))
+
+paper_holds : (row : ℕ) (run : Run) → Holds Xml (svg_paper row run) []
+unfolding svg_paper
+paper_holds row run =
+    either (has_background run.attributes) _ [] [] (rectangle_holds (column_units run.column) (row_units row) (column_units run.columns) (codes "20") (hex_color (paper run.attributes)) []) (tt, refl)
+
+svg_row_holds : (at : ℕ) (row : Row) → Holds Xml (svg_row at row) (row_content Xml row)
+unfolding svg_row
+svg_row_holds at row =
+    let runs = runs_of (visible_cells row) in
+    holds_both Xml (flat_map (svg_paper at) runs) (flat_map (svg_text_of at) runs) [] (row_content Xml row) (holds_none Xml (svg_paper at) (paper_holds at) runs) (holds_each Xml (svg_text_of at) (λ run. held_text Xml run.text) (text_holds at) runs)
+
+svg_rows_hold : (at : ℕ) (rows : List Row) → Holds Xml (svg_rows at rows) (flat_map (row_content Xml) rows)
+svg_rows_hold at [] = (tt, refl)
+svg_rows_hold at (row ∷ rows) = holds_both Xml (svg_row at row) (svg_rows (at + 1) rows) (row_content Xml row) (flat_map (row_content Xml) rows) (svg_row_holds at row) (svg_rows_hold (at + 1) rows)
+
+cursor_holds : (screen : Screen) → Holds Xml (svg_cursor screen) []
+unfolding svg_cursor
+cursor_holds screen = either screen.visible _ [] [] (rectangle_holds (column_units (min screen.column (screen.width - 1))) (row_units screen.row) (codes "10") (codes "20") (hex_color default_foreground) (codes "0.5")) (tt, refl)
+
+opening_holds : (width height : Text) → Holds Xml (svg_opening width height) []
+unfolding svg_opening sized_opening
+opening_holds width height = (((refl, (refl, (refl, (refl, (refl, (refl, (refl, (refl, tt)))))))), tt), refl)
+
+title_holds : (title : Text) → Holds Xml (Opening (codes "title") [] ∷ Words title ∷ Closing (codes "title") ∷ []) (held_text Xml title)
+title_holds title = (((refl, tt), (tt, (refl, tt))), append-nil (held_text Xml title))
+
+front_holds : (width height title : Text) → Holds Xml (svg_front width height title) (held_text Xml title)
+front_holds width height title =
+    let behind = rectangle (codes "0") (codes "0") width height (hex_color default_background) [] in
+    let titled = holds_both Xml (element (codes "title") [] title) behind (held_text Xml title) [] (title_holds title) (rectangle_holds (codes "0") (codes "0") width height (hex_color default_background) []) in
+    let all = holds_both Xml (svg_opening width height) (element (codes "title") [] title ++ behind) [] (held_text Xml title ++ []) (opening_holds width height) titled in
+    (all.0, all.1 ∙ append-nil (held_text Xml title))
+
+svg_holds : (screen : Screen) → Holds Xml (svg_pieces screen) (svg_content screen)
+svg_holds screen =
+    let width = column_units screen.width in
+    let height = row_units (length screen.rows) in
+    let closed = Closing (codes "svg") ∷ Words (10 ∷ []) ∷ [] in
+    let back = holds_both Xml (svg_cursor screen) closed [] (10 ∷ []) (cursor_holds screen) (closing Xml (codes "svg") refl) in
+    let rows = holds_both Xml (svg_rows 0 screen.rows) (svg_cursor screen ++ closed) (flat_map (row_content Xml) screen.rows) (10 ∷ []) (svg_rows_hold 0 screen.rows) back in
+    holds_both Xml (svg_front width height screen.title) (svg_rows 0 screen.rows ++ (svg_cursor screen ++ closed)) (held_text Xml screen.title) (flat_map (row_content Xml) screen.rows ++ 10 ∷ []) (front_holds width height screen.title) rows
+
+pub svg_read : (screen : Screen) → content (svg_text screen) ≡ Some (svg_content screen)
+svg_read screen = content_back Xml (svg_pieces screen) (svg_holds screen).0 ∙ ap Some (svg_holds screen).1

@@ -1,0 +1,82 @@
+-- The colours of cells, as red, green and blue from 0 to 255.
+use Rattle.std.specs.Prelude.{ℕ, ◌+◌, ◌-◌, ◌*◌, ◌/◌, ◌%◌, Bool, true, false, not, ◌||◌, ◌==◌, nat_lt, List, [], ◌∷◌, ◌++◌, slice_index_or, if◌then◌else◌}
+use Rattle.cell_base.specs.Attributes.{Attributes}
+use Rattle.cell_base.specs.ColorText.{hex_byte}
+use Rattle.cell_base.specs.declared.attributes.Intensity.{Intensity}
+use Rattle.cell_base.specs.declared.attributes.Intensity.TheVariants.{Normal, Bold, Half}
+use Rattle.cell_base.specs.declared.color.ColorAttribute.{ColorAttribute}
+use Rattle.cell_base.specs.declared.color.ColorAttribute.TheVariants.{Default, PaletteIndex, TrueColorWithDefaultFallback, TrueColorWithPaletteFallback}
+
+abbrev pub Rgb : Type 0
+Rgb = ℕ × ℕ × ℕ
+
+-- ---- xterm's palette
+
+-- black, red, green, yellow, blue, magenta, cyan and white, and then the bright ones
+abbrev pub system_colors : List Rgb
+system_colors = (0, 0, 0) ∷ (205, 0, 0) ∷ (0, 205, 0) ∷ (205, 205, 0) ∷ (0, 0, 238) ∷ (205, 0, 205) ∷ (0, 205, 205) ∷ (229, 229, 229)
+    ∷ (127, 127, 127) ∷ (255, 0, 0) ∷ (0, 255, 0) ∷ (255, 255, 0) ∷ (92, 92, 255) ∷ (255, 0, 255) ∷ (0, 255, 255) ∷ (255, 255, 255) ∷ []
+
+abbrev pub system_color : ℕ → Rgb
+system_color n = slice_index_or system_colors n (0, 0, 0)
+
+-- the six levels of the cube: 0, 95, 135, 175, 215 and 255
+abbrev pub level : ℕ → ℕ
+level step = if step == 0 then 0 else 55 + 40 * step
+
+abbrev pub cube_color : ℕ → Rgb
+cube_color place = (level (place / 36), level (place / 6 % 6), level (place % 6))
+
+abbrev pub grey : ℕ → ℕ
+grey step = 8 + 10 * step
+
+abbrev pub palette_color : ℕ → Rgb
+palette_color n = if nat_lt n 16 then system_color n else (if nat_lt n 232 then cube_color (n - 16) else (grey (n - 232), grey (n - 232), grey (n - 232)))
+
+-- ---- the colours of a cell
+
+-- white on black, of the palette, stand for the default colours
+abbrev pub default_foreground : Rgb
+default_foreground = palette_color 7
+
+abbrev pub default_background : Rgb
+default_background = palette_color 0
+
+abbrev pub color_of : Rgb → ColorAttribute → Rgb
+color_of default Default = default
+color_of default (PaletteIndex n) = palette_color n
+color_of default (TrueColorWithDefaultFallback c) = (c.0, c.1, c.2)
+color_of default (TrueColorWithPaletteFallback c n) = (c.0, c.1, c.2)
+
+abbrev pub front_color : Attributes → Rgb
+front_color a = if a.reverse then color_of default_background a.background else color_of default_foreground a.foreground
+
+-- the colour behind the text
+abbrev pub paper : Attributes → Rgb
+paper a = if a.reverse then color_of default_foreground a.foreground else color_of default_background a.background
+
+abbrev pub midway : Rgb → Rgb → Rgb
+midway one other = ((one.0 + other.0) / 2, (one.1 + other.1) / 2, (one.2 + other.2) / 2)
+
+-- a text that is half as bright is midway to what is behind it
+abbrev pub dimmed : Intensity → Rgb → Rgb → Rgb
+dimmed Normal front behind = front
+dimmed Bold front behind = front
+dimmed Half front behind = midway front behind
+
+-- the colour of the text; one that is hidden has that of what is behind it
+abbrev pub ink : Attributes → Rgb
+ink a = if a.invisible then paper a else dimmed a.intensity (front_color a) (paper a)
+
+abbrev pub is_default : ColorAttribute → Bool
+is_default Default = true
+is_default (PaletteIndex n) = false
+is_default (TrueColorWithDefaultFallback c) = false
+is_default (TrueColorWithPaletteFallback c n) = false
+
+abbrev pub has_background : Attributes → Bool
+has_background a = a.reverse || not (is_default a.background)
+
+-- `#rrggbb`
+unfoldable pub hex_color : Rgb → List ℕ
+hex_color c = 35 ∷ (hex_byte c.0 ++ (hex_byte c.1 ++ hex_byte c.2))

@@ -1,0 +1,53 @@
+-- A screen as HTML.
+use Rattle.std.specs.Prelude.{ℕ, ◌==◌, List, [], ◌∷◌, ◌++◌, codes, decimal, length, if◌then◌else◌}
+use Rattle.std.specs.List.{flat_map}
+use Rattle.cell_base.specs.Attributes.{Attributes}
+use Rattle.cell_base.specs.Row.{Row}
+use Rattle.cell_base.specs.Screen.{Screen}
+use Rattle.cell_edits.specs.VisibleCells.{visible_cells}
+use Rattle.screen_formats.specs.Colors.{default_background, default_foreground, has_background, hex_color, ink, paper}
+use Rattle.screen_formats.specs.Links.{link_uri}
+use Rattle.screen_formats.specs.Looks.{color_style, look_style, look_words}
+use Rattle.screen_formats.specs.Pieces.{Piece, Opening, Closing, Words, element, pieces_text}
+use Rattle.screen_formats.specs.Runs.{Run, runs_of}
+use Rattle.screen_formats.specs.declared.escape.Markup.TheVariants.{Html}
+
+abbrev pub background_style : Attributes → List ℕ
+background_style a = if has_background a then color_style (codes "background-color") (hex_color (paper a)) else []
+
+-- cells of two columns take their columns whatever the font; `ch` is the width of a digit
+abbrev pub width_style : ℕ → ℕ → List ℕ
+width_style width columns = if width == 2 then codes "display:inline-block;width:" ++ decimal columns ++ codes "ch;" else []
+
+abbrev pub ink_style : Attributes → List ℕ
+ink_style a = color_style (codes "color") (hex_color (ink a))
+
+-- the style of cells of a width that take some columns
+unfoldable pub html_style : Attributes → ℕ → ℕ → List ℕ
+html_style a width columns = ink_style a ++ (background_style a ++ (look_style a ++ width_style width columns))
+
+-- a link where there is one
+abbrev pub html_name : List ℕ → List ℕ
+html_name uri = if length uri == 0 then codes "span" else codes "a"
+
+abbrev pub html_element : List ℕ → List ℕ → List ℕ → List ℕ → List Piece
+html_element uri words style text = element (html_name uri) ((codes "href", uri) ∷ (codes "class", words) ∷ (codes "style", style) ∷ []) text
+
+unfoldable pub html_run : Run → List Piece
+html_run run = html_element (link_uri run.attributes) (look_words run.attributes) (html_style run.attributes run.width run.columns) run.text
+
+-- the runs of a row, and a line feed
+abbrev pub html_row : Row → List Piece
+html_row row = flat_map html_run (runs_of (visible_cells row)) ++ Words (10 ∷ []) ∷ []
+
+abbrev pub html_rows : List Row → List Piece
+html_rows rows = flat_map html_row rows
+
+unfoldable pub screen_style : List ℕ
+screen_style = color_style (codes "color") (hex_color default_foreground) ++ color_style (codes "background-color") (hex_color default_background)
+
+abbrev pub html_pieces : Screen → List Piece
+html_pieces screen = Opening (codes "pre") ((codes "class", codes "screen") ∷ (codes "style", screen_style) ∷ []) ∷ html_rows screen.rows ++ Closing (codes "pre") ∷ Words (10 ∷ []) ∷ []
+
+abbrev pub html_text : Screen → List ℕ
+html_text screen = pieces_text Html (html_pieces screen)

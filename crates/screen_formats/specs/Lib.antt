@@ -1,0 +1,13 @@
+pub mod Ansi
+pub mod Colors
+pub mod Content
+pub mod Escape
+pub mod Html
+pub mod Json
+pub mod Links
+pub mod Looks
+pub mod Pieces
+pub mod RunSteps
+pub mod RunView
+pub mod Runs
+pub mod Svg

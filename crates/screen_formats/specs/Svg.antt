@@ -1,0 +1,110 @@
+-- A screen as SVG: a column is 10 units wide, and a row 20 units high.
+use Rattle.std.specs.Prelude.{ℕ, ◌+◌, ◌-◌, ◌*◌, ◌==◌, min, List, [], ◌∷◌, ◌++◌, codes, decimal, length, if◌then◌else◌}
+use Rattle.std.specs.List.{flat_map}
+use Rattle.cell_base.specs.Attributes.{Attributes}
+use Rattle.cell_base.specs.Row.{Row}
+use Rattle.cell_base.specs.Screen.{Screen}
+use Rattle.cell_edits.specs.VisibleCells.{visible_cells}
+use Rattle.screen_formats.specs.Colors.{default_background, default_foreground, has_background, hex_color, ink, paper}
+use Rattle.screen_formats.specs.Links.{link_uri}
+use Rattle.screen_formats.specs.Looks.{color_style, look_style, look_words}
+use Rattle.screen_formats.specs.Pieces.{Piece, Opening, Closing, Words, element, pieces_text}
+use Rattle.screen_formats.specs.Runs.{Run, runs_of}
+use Rattle.screen_formats.specs.declared.escape.Markup.TheVariants.{Xml}
+
+abbrev pub Text : Type 0
+Text = List ℕ
+
+-- numbers of columns and of rows, in units
+abbrev pub column_units : ℕ → Text
+column_units columns = decimal (10 * columns)
+
+abbrev pub row_units : ℕ → Text
+row_units rows = decimal (20 * rows)
+
+-- where the letters of a row stand
+abbrev pub base_line : ℕ → Text
+base_line row = decimal (20 * row + 15)
+
+-- ---- elements
+
+unfoldable pub rectangle : Text → Text → Text → Text → Text → Text → List Piece
+rectangle x y width height fill opacity =
+    element (codes "rect") ((codes "x", x) ∷ (codes "y", y) ∷ (codes "width", width) ∷ (codes "height", height) ∷ (codes "fill", fill) ∷ (codes "fill-opacity", opacity) ∷ []) []
+
+-- a text that is as long as its columns
+unfoldable pub placed_text : Text → Text → Text → Text → Text → Text → List Piece
+placed_text x y len words style text =
+    element (codes "text") ((codes "x", x) ∷ (codes "y", y) ∷ (codes "textLength", len) ∷ (codes "class", words) ∷ (codes "style", style) ∷ []) text
+
+-- in a link, where there is one
+abbrev pub linked : Text → List Piece → List Piece
+linked uri pieces = if length uri == 0 then pieces else Opening (codes "a") ((codes "href", uri) ∷ []) ∷ (pieces ++ Closing (codes "a") ∷ [])
+
+-- ---- runs
+
+unfoldable pub svg_style : Attributes → Text
+svg_style a = color_style (codes "fill") (hex_color (ink a)) ++ look_style a
+
+-- what is behind a run, if a colour is seen there
+unfoldable pub svg_paper : ℕ → Run → List Piece
+svg_paper row run =
+    if has_background run.attributes then rectangle (column_units run.column) (row_units row) (column_units run.columns) (codes "20") (hex_color (paper run.attributes)) [] else []
+
+abbrev pub svg_letters : ℕ → Run → List Piece
+svg_letters row run = placed_text (column_units run.column) (base_line row) (column_units run.columns) (look_words run.attributes) (svg_style run.attributes) run.text
+
+unfoldable pub svg_text_of : ℕ → Run → List Piece
+svg_text_of row run = linked (link_uri run.attributes) (svg_letters row run)
+
+-- ---- the screen
+
+abbrev pub svg_runs : ℕ → List Run → List Piece
+svg_runs row runs = flat_map (svg_paper row) runs ++ flat_map (svg_text_of row) runs
+
+unfoldable pub svg_row : ℕ → Row → List Piece
+svg_row row columns = svg_runs row (runs_of (visible_cells columns))
+
+-- the rows from a number on
+abbrev pub svg_rows : ℕ → List Row → List Piece
+svg_rows row [] = []
+svg_rows row (columns ∷ rows) = svg_row row columns ++ svg_rows (row + 1) rows
+
+-- the cursor, if it is shown; in the last column where a wrap is pending
+unfoldable pub svg_cursor : Screen → List Piece
+svg_cursor screen =
+    if screen.visible then rectangle (column_units (min screen.column (screen.width - 1))) (row_units screen.row) (codes "10") (codes "20") (hex_color default_foreground) (codes "0.5") else []
+
+unfoldable pub sized_opening : Text → Text → Text → List Piece
+sized_opening width height view_box =
+    Opening (codes "svg") (
+    (codes "xmlns", codes "http://www.w3.org/2000/svg")
+    ∷ (codes "width", width)
+    ∷ (codes "height", height)
+    ∷ (codes "viewBox", view_box)
+    ∷ (codes "font-family", codes "monospace")
+    ∷ (codes "font-size", codes "16")
+    ∷ (codes "xml:space", codes "preserve")
+    ∷ []
+    ) ∷ []
+
+-- a picture of which all is seen
+unfoldable pub svg_opening : Text → Text → List Piece
+svg_opening width height = sized_opening width height (codes "0 0 " ++ (width ++ 32 ∷ height))
+
+-- the picture's size, the title, and what is behind everything
+abbrev pub svg_front : Text → Text → Text → List Piece
+svg_front width height title =
+    svg_opening width height
+    ++ (element (codes "title") [] title
+    ++ rectangle (codes "0") (codes "0") width height (hex_color default_background) [])
+
+abbrev pub svg_pieces : Screen → List Piece
+svg_pieces screen =
+    svg_front (column_units screen.width) (row_units (length screen.rows)) screen.title
+    ++ (svg_rows 0 screen.rows
+    ++ (svg_cursor screen
+    ++ (Closing (codes "svg") ∷ Words (10 ∷ []) ∷ [])))
+
+abbrev pub svg_text : Screen → List ℕ
+svg_text screen = pieces_text Xml (svg_pieces screen)

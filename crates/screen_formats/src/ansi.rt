@@ -1,0 +1,208 @@
+//! A screen as rows for a terminal.
+ghost use Rattle.std.specs.Prelude.{◌≡◌, ◌++◌, map, IfOk, OnOk};
+ghost use Rattle.std.specs.String.{string_bytes};
+ghost use Rattle.std.specs.List.{flat_map};
+ghost use Rattle.cell_surface.specs.Surface.{shown_by};
+ghost use Rattle.screen_formats.specs.Ansi.{align_code, ansi_row, ansi_run, ansi_text, blink_code, color_code, color_codes, intensity_code, look_codes, sent_text, sent_uri, underline_code, underline_color_code};
+
+use crate::links::link_uri;
+use crate::looks::text_if;
+use crate::runs::{Run, line_runs};
+use cell_base::{
+    Blink, CellAttributes, ColorAttribute, Intensity, Underline, VerticalAlign, Widths,
+};
+use cell_line::Line;
+use cell_surface::Surface;
+use std::alloc::{AllocError, Global};
+use text_clusters::are_printable;
+
+fn intensity_code(intensity: Intensity) -> &'static str
+    ensures { result.now ≡ intensity_code intensity }
+{
+    match intensity {
+        Intensity::Normal => "",
+        Intensity::Bold => ";1",
+        Intensity::Half => ";2",
+    }
+}
+
+fn underline_code(underline: Underline) -> &'static str
+    ensures { result.now ≡ underline_code underline }
+{
+    match underline {
+        Underline::None => "",
+        Underline::Single => ";4",
+        Underline::Double => ";21",
+        Underline::Curly => ";4:3",
+        Underline::Dotted => ";4:4",
+        Underline::Dashed => ";4:5",
+    }
+}
+
+fn blink_code(blink: Blink) -> &'static str
+    ensures { result.now ≡ blink_code blink }
+{
+    match blink {
+        Blink::None => "",
+        Blink::Slow => ";5",
+        Blink::Rapid => ";6",
+    }
+}
+
+fn align_code(align: VerticalAlign) -> &'static str
+    ensures { result.now ≡ align_code align }
+{
+    match align {
+        VerticalAlign::BaseLine => "",
+        VerticalAlign::SuperScript => ";73",
+        VerticalAlign::SubScript => ";74",
+    }
+}
+
+// The parameters of how a text looks, less its colours.
+#[tactic(auto, unfolding(crate::specs::Ansi::look_codes))]
+fn look_codes(alloc: Global, attrs: &CellAttributes) -> Result<String, AllocError>
+    ensures { IfOk result (λ codes. string_bytes codes ≡ look_codes attrs.now) }
+{
+    let intensity = intensity_code(attrs.intensity());
+    let italic = text_if(attrs.italic(), ";3");
+    let underline = underline_code(attrs.underline());
+    let blink = blink_code(attrs.blink());
+    let reverse = text_if(attrs.reverse(), ";7");
+    let invisible = text_if(attrs.invisible(), ";8");
+    let strikethrough = text_if(attrs.strikethrough(), ";9");
+    let overline = text_if(attrs.overline(), ";53");
+    let align = align_code(attrs.vertical_align());
+    let text = format!(in alloc;
+        "{intensity}{italic}{underline}{blink}{reverse}{invisible}{strikethrough}{overline}{align}"
+    )?;
+    Ok(text)
+}
+
+// The parameters of a layer's colour, if one was set.
+#[tactic(auto, unfolding(crate::specs::Ansi::color_code))]
+fn color_code(alloc: Global, layer: &str, color: ColorAttribute) -> Result<String, AllocError>
+    ensures { IfOk result (λ code. string_bytes code ≡ color_code layer.now color) }
+{
+    match color {
+        ColorAttribute::Default => Ok(String::new(alloc)),
+        ColorAttribute::PaletteIndex(index) => {
+            let text = format!(in alloc; ";{layer};5;{index}")?;
+            Ok(text)
+        }
+        ColorAttribute::TrueColorWithDefaultFallback(tuple)
+        | ColorAttribute::TrueColorWithPaletteFallback(tuple, _) => {
+            let (red, green, blue) = (tuple.0, tuple.1, tuple.2);
+            let text = format!(in alloc; ";{layer};2;{red};{green};{blue}")?;
+            Ok(text)
+        }
+    }
+}
+
+// The parameters of the underline's colour, if one was set.
+#[tactic(auto, unfolding(crate::specs::Ansi::underline_color_code))]
+fn underline_color_code(alloc: Global, color: ColorAttribute) -> Result<String, AllocError>
+    ensures { IfOk result (λ code. string_bytes code ≡ underline_color_code color) }
+{
+    match color {
+        ColorAttribute::Default => Ok(String::new(alloc)),
+        ColorAttribute::PaletteIndex(index) => {
+            let text = format!(in alloc; ";58:5:{index}")?;
+            Ok(text)
+        }
+        ColorAttribute::TrueColorWithDefaultFallback(tuple)
+        | ColorAttribute::TrueColorWithPaletteFallback(tuple, _) => {
+            let (red, green, blue) = (tuple.0, tuple.1, tuple.2);
+            let text = format!(in alloc; ";58:2::{red}:{green}:{blue}")?;
+            Ok(text)
+        }
+    }
+}
+
+// The parameters of the colours.
+#[tactic(auto, unfolding(crate::specs::Ansi::color_codes))]
+fn color_codes(alloc: Global, attrs: &CellAttributes) -> Result<String, AllocError>
+    ensures { IfOk result (λ codes. string_bytes codes ≡ color_codes attrs.now) }
+{
+    let foreground = color_code(alloc, "38", attrs.foreground())?;
+    let background = color_code(alloc, "48", attrs.background())?;
+    let underline = underline_color_code(alloc, attrs.underline_color())?;
+    let text = format!(in alloc; "{foreground}{background}{underline}")?;
+    Ok(text)
+}
+
+// The URI, if it holds nothing but printable ASCII.
+fn sent_uri(uri: &str) -> &str
+    ensures { result.now ≡ sent_uri uri.now }
+{
+    if are_printable(uri.as_bytes()) {
+        uri
+    } else {
+        ""
+    }
+}
+
+// Writes a text, in a link where there is one.
+#[tactic(auto, unfolding(crate::specs::Ansi::sent_text))]
+fn push_text(out: &mut String, uri: &str, text: &str) -> Result<(), AllocError>
+    ensures { OnOk result (string_bytes out.new ≡ string_bytes out.old ++ sent_text uri.now text.now) }
+{
+    if uri.is_empty() {
+        out.push_str(text)?;
+        return Ok(());
+    }
+    write!(out, "\x1b]8;;{uri}\x1b\\{text}\x1b]8;;\x1b\\")?;
+    Ok(())
+}
+
+// Writes a run: its attributes behind plain ones, and its text.
+#[tactic(auto, unfolding(crate::specs::Ansi::ansi_run))]
+fn push_run(alloc: Global, out: &mut String, run: &Run<'_>) -> Result<(), AllocError>
+    ensures { OnOk result (string_bytes out.new ≡ string_bytes out.old ++ ansi_run run.now) }
+{
+    let looks = look_codes(alloc, run.attrs)?;
+    let colors = color_codes(alloc, run.attrs)?;
+    write!(out, "\x1b[0{looks}{colors}m")?;
+    push_text(out, sent_uri(link_uri(run.attrs)), &run.text)?;
+    Ok(())
+}
+
+// Writes the runs of a line, and plain attributes and a line feed.
+#[tactic(auto, unfolding(crate::specs::Ansi::ansi_row))]
+fn push_row(alloc: Global, out: &mut String, line: &Line) -> Result<(), AllocError>
+    ensures { OnOk result (string_bytes out.new ≡ string_bytes out.old ++ ansi_row line.now.columns) }
+{
+    let runs = line_runs(alloc, line)?;
+    for run in &runs {
+        push_run(alloc, out, run)?;
+    }
+    out.push_str("\x1b[0m\n")?;
+    Ok(())
+}
+
+// Writes lines.
+fn push_rows(alloc: Global, out: &mut String, lines: &[Line]) -> Result<(), AllocError>
+    ensures { OnOk result
+        (string_bytes out.new ≡ string_bytes out.old ++ flat_map ansi_row (map (λ line. line.columns) lines.now)) }
+{
+    for line in lines {
+        push_row(alloc, out, line)?;
+    }
+    Ok(())
+}
+
+/// Writes the rows of a screen as a text that a terminal shows: each run with SGR (ECMA-48 8.3.117) for its attributes
+/// before it, in a link (OSC 8) where it has one of the scheme http, https, mailto or file that is printable ASCII; and
+/// behind each row plain attributes and a line feed.
+///
+/// Of a surface that has failed nothing is said but that its cells are written.
+pub fn write_ansi<W: Widths + Drop>(
+    alloc: Global,
+    out: &mut String,
+    surface: &Surface<W>,
+) -> Result<(), AllocError>
+    ensures { OnOk result (string_bytes out.new ≡ string_bytes out.old ++ ansi_text (shown_by surface.now).screen) }
+{
+    push_rows(alloc, out, surface.screen_lines())?;
+    Ok(())
+}

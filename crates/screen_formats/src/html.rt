@@ -1,0 +1,169 @@
+//! A screen as HTML.
+ghost use Rattle.std.specs.Prelude.{◌≡◌, ◌++◌, map, IfOk, OnOk};
+ghost use Rattle.std.specs.String.{string_bytes};
+ghost use Rattle.cell_surface.specs.Surface.{shown_by};
+ghost use Rattle.screen_formats.specs.Html.{background_style, html_element, html_name, html_row, html_rows, html_run, html_style, html_text, ink_style, screen_style, width_style};
+ghost use Rattle.screen_formats.specs.Pieces.{pieces_text};
+ghost use Rattle.screen_formats.specs.declared.escape.Markup.TheVariants.{Html};
+
+use crate::colors::{DEFAULT_BACKGROUND, DEFAULT_FOREGROUND, has_background, ink, paper};
+use crate::escape::Markup;
+use crate::links::link_uri;
+use crate::looks::{color_style, look_style, look_words};
+use crate::pieces::{push_closing, push_element, push_opening, push_words};
+use crate::runs::{Run, line_runs};
+use cell_base::{CellAttributes, Widths};
+use cell_line::Line;
+use cell_surface::Surface;
+use std::alloc::{AllocError, Global};
+
+// The declaration of the colour behind a text, if one is seen.
+fn background_style(alloc: Global, attrs: &CellAttributes) -> Result<String, AllocError>
+    ensures { IfOk result (λ style. string_bytes style ≡ background_style attrs.now) }
+{
+    if !has_background(attrs) {
+        return Ok(String::new(alloc));
+    }
+    let style = color_style(alloc, "background-color", paper(attrs))?;
+    Ok(style)
+}
+
+// The declaration of the columns that wide cells take.
+fn width_style(alloc: Global, width: usize, columns: usize) -> Result<String, AllocError>
+    ensures { IfOk result (λ style. string_bytes style ≡ width_style width columns) }
+{
+    if width != 2 {
+        return Ok(String::new(alloc));
+    }
+    let style = format!(in alloc; "display:inline-block;width:{columns}ch;")?;
+    Ok(style)
+}
+
+// The declaration of the colour of a text.
+fn ink_style(alloc: Global, attrs: &CellAttributes) -> Result<String, AllocError>
+    ensures { IfOk result (λ style. string_bytes style ≡ ink_style attrs.now) }
+{
+    let style = color_style(alloc, "color", ink(attrs))?;
+    Ok(style)
+}
+
+// How cells of a width that take some columns look, as declarations of CSS.
+#[tactic(auto, unfolding(crate::specs::Html::html_style))]
+fn html_style(
+    alloc: Global,
+    attrs: &CellAttributes,
+    width: usize,
+    columns: usize,
+) -> Result<String, AllocError>
+    ensures { IfOk result (λ style. string_bytes style ≡ html_style attrs.now width columns) }
+{
+    let color = ink_style(alloc, attrs)?;
+    let background = background_style(alloc, attrs)?;
+    let look = look_style(alloc, attrs)?;
+    let width = width_style(alloc, width, columns)?;
+    let style = format!(in alloc; "{color}{background}{look}{width}")?;
+    Ok(style)
+}
+
+// The name of a run's element: that of a link where there is one.
+fn html_name(uri: &str) -> &'static str
+    ensures { result.now ≡ html_name uri.now }
+{
+    if uri.is_empty() { "span" } else { "a" }
+}
+
+// Writes the element of a run.
+fn push_html_element<'a>(
+    out: &mut String,
+    uri: &'a str,
+    words: &'a str,
+    style: &'a str,
+    text: &str,
+) -> Result<(), AllocError>
+    ensures { OnOk result
+        (string_bytes out.new ≡ string_bytes out.old
+        ++ pieces_text Html (html_element uri.now words.now style.now text.now)) }
+{
+    push_element(
+        out,
+        Markup::Html,
+        html_name(uri),
+        &[("href", uri), ("class", words), ("style", style)],
+        text,
+    )?;
+    Ok(())
+}
+
+// Writes a run.
+#[tactic(auto, unfolding(crate::specs::Html::html_run))]
+fn push_run(alloc: Global, out: &mut String, run: &Run<'_>) -> Result<(), AllocError>
+    ensures { OnOk result (string_bytes out.new ≡ string_bytes out.old ++ pieces_text Html (html_run run.now)) }
+{
+    let words = look_words(alloc, run.attrs)?;
+    let style = html_style(alloc, run.attrs, run.width, run.columns)?;
+    push_html_element(out, link_uri(run.attrs), &words, &style, &run.text)?;
+    Ok(())
+}
+
+// Writes the runs of a line, and a line feed.
+fn push_row(alloc: Global, out: &mut String, line: &Line) -> Result<(), AllocError>
+    ensures { OnOk result
+        (string_bytes out.new ≡ string_bytes out.old ++ pieces_text Html (html_row line.now.columns)) }
+{
+    let runs = line_runs(alloc, line)?;
+    for run in &runs {
+        push_run(alloc, out, run)?;
+    }
+    push_words(out, Markup::Html, "\n")?;
+    Ok(())
+}
+
+// Writes lines.
+fn push_rows(alloc: Global, out: &mut String, lines: &[Line]) -> Result<(), AllocError>
+    ensures { OnOk result
+        (string_bytes out.new ≡ string_bytes out.old
+        ++ pieces_text Html (html_rows (map (λ line. line.columns) lines.now))) }
+{
+    for line in lines {
+        push_row(alloc, out, line)?;
+    }
+    Ok(())
+}
+
+// The default colours, as declarations of CSS.
+#[tactic(auto, unfolding(crate::specs::Html::screen_style))]
+fn screen_style(alloc: Global) -> Result<String, AllocError>
+    ensures { IfOk result (λ style. string_bytes style ≡ screen_style) }
+{
+    let color = color_style(alloc, "color", DEFAULT_FOREGROUND)?;
+    let background = color_style(alloc, "background-color", DEFAULT_BACKGROUND)?;
+    let style = format!(in alloc; "{color}{background}")?;
+    Ok(style)
+}
+
+/// Writes a screen as HTML: an element `pre` of class `screen`, in which each row has a line feed behind it. A run is a
+/// `span`, or an `a` where it has a link of the scheme http, https, mailto or file. Its class tells how it looks, in
+/// the
+/// words of `look_words`, and its style is complete but for texts that blink or are raised or lowered. Wide cells take
+/// two columns each.
+///
+/// Of a surface that has failed nothing is said but that its cells are written.
+pub fn write_html<W: Widths + Drop>(
+    alloc: Global,
+    out: &mut String,
+    surface: &Surface<W>,
+) -> Result<(), AllocError>
+    ensures { OnOk result (string_bytes out.new ≡ string_bytes out.old ++ html_text (shown_by surface.now).screen) }
+{
+    let style = screen_style(alloc)?;
+    push_opening(
+        out,
+        Markup::Html,
+        "pre",
+        &[("class", "screen"), ("style", &style)],
+    )?;
+    push_rows(alloc, out, surface.screen_lines())?;
+    push_closing(out, Markup::Html, "pre")?;
+    push_words(out, Markup::Html, "\n")?;
+    Ok(())
+}

@@ -1,0 +1,114 @@
+//! A line as runs: neighbouring cells that look alike.
+ghost use Rattle.std.specs.Prelude.{◌≡◌, [], ◌∷◌, ◌++◌, IfOk, OnOk};
+ghost use Rattle.cell_edits.specs.VisibleCells.{visible_cells};
+ghost use Rattle.cell_views.specs.CellRefView.{shown_by};
+ghost use Rattle.screen_formats.specs.Runs.{goes_on, run_of, runs_of};
+ghost use Rattle.screen_formats.specs.RunSteps.{grown, with_cell};
+
+use cell_base::CellAttributes;
+use cell_line::{CellRef, Line};
+use std::alloc::{AllocError, Global};
+use std::marker::Model;
+
+/// Visible cells side by side, of the same attributes and the same width.
+#[derive(Debug, Drop)]
+pub struct Run<'a> {
+    /// The attributes of each cell.
+    pub attrs: &'a CellAttributes,
+    /// How many columns each cell takes: 1 or 2.
+    pub width: usize,
+    /// The first column of the first cell, counted from 0.
+    pub column: usize,
+    /// How many columns the cells take.
+    pub columns: usize,
+    /// The texts of the cells, joined.
+    pub text: String,
+}
+
+impl<'a> Model for Run<'a> {
+    ghost use Rattle.screen_formats.specs.Runs.{Run as Value_of};
+
+    ghost Value = { Value_of };
+
+    ghost use Rattle.screen_formats.specs.RunView.{content_of};
+
+    ghost view = { content_of };
+}
+
+impl<'a> Run<'a> {
+    // The run of one cell.
+    fn of_cell(alloc: Global, cell: &CellRef<'a>) -> Result<Run<'a>, AllocError>
+        ensures { IfOk result (λ run. run ≡ run_of (shown_by cell.now ∷ [])) }
+    {
+        Ok(Run {
+            attrs: cell.attrs(),
+            width: cell.width(),
+            column: cell.cell_index(),
+            columns: cell.width(),
+            text: String::from_str(alloc, cell.str())?,
+        })
+    }
+
+    // Whether the cell looks as those of the run.
+    fn goes_on(&self, cell: &CellRef<'_>) -> bool
+        ensures { result ≡ goes_on self.now (shown_by cell.now) }
+    {
+        *self.attrs == *cell.attrs() && self.width == cell.width()
+    }
+
+    // The cell goes behind those of the run.
+    fn grow(&mut self, cell: &CellRef<'_>) -> Result<(), AllocError>
+        ensures { OnOk result (self.new ≡ grown self.old (shown_by cell.now)) }
+    {
+        let columns = self.columns.checked_add(cell.width()).ok_or(AllocError)?;
+        self.text.push_str(cell.str())?;
+        self.columns = columns;
+        Ok(())
+    }
+}
+
+// The cell joins a run, or begins one behind it.
+fn push_behind<'a>(
+    alloc: Global,
+    runs: &mut Vec<Run<'a>>,
+    mut last: Run<'a>,
+    cell: &CellRef<'a>,
+) -> Result<(), AllocError>
+    ensures { OnOk result (runs.new.items ≡ runs.old.items ++ with_cell (last.entry ∷ []) (shown_by cell.now)) }
+{
+    if last.goes_on(cell) {
+        last.grow(cell)?;
+        runs.push(last)?;
+    } else {
+        runs.push(last)?;
+        runs.push(Run::of_cell(alloc, cell)?)?;
+    }
+    Ok(())
+}
+
+// The cell joins the last run, or begins one.
+#[tactic(auto, using(crate::proofs::RunLemmas::with_cell_last))]
+fn push_cell<'a>(
+    alloc: Global,
+    runs: &mut Vec<Run<'a>>,
+    cell: &CellRef<'a>,
+) -> Result<(), AllocError>
+    ensures { OnOk result (runs.new.items ≡ with_cell runs.old.items (shown_by cell.now)) }
+{
+    match runs.pop() {
+        Some(last) => push_behind(alloc, runs, last, cell)?,
+        None => runs.push(Run::of_cell(alloc, cell)?)?,
+    }
+    Ok(())
+}
+
+/// The runs of a line, each as long as may be, in order. Memory in proportion to the line.
+pub fn line_runs(alloc: Global, line: &Line) -> Result<Vec<Run<'_>>, AllocError>
+    ensures { IfOk result (λ runs. runs.items ≡ runs_of (visible_cells line.now.columns)) }
+{
+    let mut runs = Vec::new(alloc);
+    for cell in line.visible_cells() {
+        push_cell(alloc, &mut runs, &cell)?;
+    }
+    Ok(runs)
+}
