@@ -1,18 +1,15 @@
 //! The parts of the stack that can be measured.
 use crate::{lists, resizes, surfaces};
-use escape_framing::Framer;
 use escape_stream::{Parser, encode};
 use std::alloc::Global;
 use terminal::{ProgramWidth, Terminal};
 
 pub const NAMES: &str =
-    "bench frame | parse | pieces | collect | encode | show | read_list | write_list | lines | words | due | due_large | large | patch | resizes, and how often";
+    "bench parse | pieces | collect | encode | show | read_list | write_list | lines | words | due | due_large | large | patch | resizes, and how often";
 
 /// A part of the stack.
 #[derive(Clone, Copy)]
 pub enum Part {
-    /// The framer, byte by byte.
-    Frame,
     /// `Parser::parse`, with a callback that counts.
     Parse,
     /// `Parser::pieces`, to their end.
@@ -47,7 +44,6 @@ impl Part {
     /// The part of that name.
     pub fn named(name: &str) -> Option<Part> {
         match name {
-            "frame" => Some(Part::Frame),
             "parse" => Some(Part::Parse),
             "pieces" => Some(Part::Pieces),
             "collect" => Some(Part::Collect),
@@ -98,7 +94,6 @@ impl Part {
 
     fn run_once(self, alloc: Global, input: &[u8]) -> Option<u64> {
         match self {
-            Part::Frame => frame(alloc, input),
             Part::Parse => parse(alloc, input),
             Part::Pieces => pieces(alloc, input),
             Part::Collect => collect(alloc, input),
@@ -110,19 +105,6 @@ impl Part {
 }
 
 // Each part is a function of its own, so that no other's loop takes its registers.
-#[inline(never)]
-fn frame(alloc: Global, input: &[u8]) -> Option<u64> {
-    let mut framer = Framer::new(alloc);
-    let mut sum = 0u64;
-    for byte in input {
-        let dispatches = framer.feed(*byte).ok()?;
-        if dispatches[0].is_some() {
-            sum = sum.wrapping_add(1);
-        }
-    }
-    Some(sum)
-}
-
 #[inline(never)]
 fn parse(alloc: Global, input: &[u8]) -> Option<u64> {
     let mut sum = 0u64;

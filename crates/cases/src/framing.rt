@@ -1,8 +1,8 @@
-//! Dispatches of streams.
+//! Events of streams.
 use crate::fault::Fault;
 use crate::row::Row;
 use crate::sheet::Sheet;
-use escape_framing::{Dispatch, Framer};
+use escape_framing::{Event, Framer, Read};
 
 // The tokens of a control sequence in brackets, with `!` behind them where some were dropped.
 fn say_parameters(framer: &Framer, sheet: &mut Sheet) {
@@ -26,49 +26,65 @@ fn say_body(name: &str, body: &[u8], behind: &[u8], sheet: &mut Sheet) {
     sheet.add(behind);
 }
 
+// A character between quotes.
+fn say_character(character: char, sheet: &mut Sheet) {
+    sheet.word("'");
+    sheet.add_shown(&character);
+    sheet.add(b"'");
+}
+
 // A character between quotes, a control or data by its number, an escape sequence behind ESC, and what others hold in
 // brackets.
-fn say_dispatch(framer: &Framer, dispatch: &Dispatch, sheet: &mut Sheet) {
-    match dispatch {
-        Dispatch::Print(character) => {
-            sheet.word("'");
-            sheet.add_shown(character);
-            sheet.add(b"'");
-        }
-        Dispatch::Control(byte) => {
+fn say_event(framer: &Framer, event: Event, sheet: &mut Sheet) {
+    match event {
+        Event::Print(character) => say_character(character, sheet),
+        Event::Control(byte) => {
             sheet.word("^");
-            sheet.add_hex(*byte);
+            sheet.add_hex(byte);
         }
-        Dispatch::Escape {
+        Event::Escape {
             intermediate,
             control,
         } => {
             sheet.word("ESC");
             if let Some(byte) = intermediate {
-                sheet.add(&[*byte]);
+                sheet.add(&[byte]);
             }
-            sheet.add(&[*control]);
+            sheet.add(&[control]);
         }
-        Dispatch::ControlSequence { control } => {
+        Event::ControlSequence(control) => {
             say_parameters(framer, sheet);
-            sheet.add(&[*control]);
+            sheet.add(&[control]);
         }
-        Dispatch::OperatingSystemCommand(body) => say_body("OSC", body, b"", sheet),
-        Dispatch::Enter { header, byte } => say_body("DCS", header, &[*byte], sheet),
-        Dispatch::Data(byte) => {
+        Event::OperatingSystemCommand => say_body("OSC", framer.body(), b"", sheet),
+        Event::Enter(byte) => say_body("DCS", framer.body(), &[byte], sheet),
+        Event::Data(byte) => {
             sheet.word("=");
-            sheet.add_hex(*byte);
+            sheet.add_hex(byte);
         }
-        Dispatch::Exit => sheet.word("END"),
+        Event::Exit => sheet.word("END"),
     }
 }
 
+// How often a byte may be read at most: three times it ends something else first.
+const READS: usize = 4;
+
 // What a byte hands out.
 fn say_fed(framer: &mut Framer, byte: u8, sheet: &mut Sheet) -> Result<(), Fault> {
-    let dispatches = framer.feed(byte)?;
-    for dispatch in &dispatches {
-        if let Some(dispatch) = dispatch {
-            say_dispatch(framer, dispatch, sheet);
+    for _ in 0..READS {
+        match framer.next(&[byte])? {
+            Read::Text(_) => {
+                say_character(char::from(byte), sheet);
+                return Ok(());
+            }
+            Read::Bytes { event, count } => {
+                if let Some(event) = event {
+                    say_event(framer, event, sheet);
+                }
+                if count == 1 {
+                    return Ok(());
+                }
+            }
         }
     }
     Ok(())
@@ -90,7 +106,7 @@ fn say_all(
     Ok(())
 }
 
-/// `BYTES => DISPATCHES | idle or open`: what a stream hands out, and whether something is unfinished behind it.
+/// `BYTES => EVENTS | idle or open`: what a stream hands out, and whether something is unfinished behind it.
 pub fn framing(row: &Row<'_>, sheet: &mut Sheet) -> Result<(), Fault> {
     let bytes = row.bytes(0)?;
     let mut framer = Framer::new(row.alloc());
@@ -100,7 +116,7 @@ pub fn framing(row: &Row<'_>, sheet: &mut Sheet) -> Result<(), Fault> {
     Ok(())
 }
 
-/// `BYTES => DISPATCHES`: the same with a `/` behind what each byte hands out.
+/// `BYTES => EVENTS`: what a stream hands out, with a `/` behind what each byte does.
 pub fn places(row: &Row<'_>, sheet: &mut Sheet) -> Result<(), Fault> {
     let bytes = row.bytes(0)?;
     say_all(&mut Framer::new(row.alloc()), &bytes, Some("/"), sheet)

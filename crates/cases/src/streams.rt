@@ -30,7 +30,7 @@ fn collected_on(
     Ok(())
 }
 
-// The same by the actions that `parse` calls the callback at.
+// Reads the bytes by `parse`, and joins the actions that it calls the callback at with those that were read before.
 fn called_on(
     parser: &mut Parser,
     bytes: &[u8],
@@ -57,7 +57,7 @@ fn append_text(text: &str, actions: &mut Vec<Action>) -> Result<(), ParseError> 
     Ok(())
 }
 
-// The same by the pieces that `pieces` lends.
+// Reads the bytes by `pieces`, and joins the actions of what it lends with those that were read before.
 fn lent_on(parser: &mut Parser, bytes: &[u8], actions: &mut Vec<Action>) -> Result<(), ParseError> {
     for piece in parser.pieces(bytes) {
         match piece? {
@@ -264,7 +264,7 @@ fn say_settled(alloc: Global, found: Option<(Vec<Action>, usize)>, sheet: &mut S
     sheet.word("+");
 }
 
-/// The same by `parse_first_as_vec`, which answers all actions that the first deciding byte decides.
+/// The case of `parse_first_as_vec`, which answers all actions that the first deciding byte decides.
 pub fn first_settled(row: &Row<'_>, sheet: &mut Sheet) -> Result<(), Fault> {
     let mut parser = Parser::new(row.alloc());
     for piece in row.column(0).split(" + ") {

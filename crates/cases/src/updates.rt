@@ -104,7 +104,7 @@ impl Pair {
         Ok(())
     }
 
-    /// The same, and the viewer reads the bytes one by one; says so where it then shows another screen.
+    /// Writes the number and the bytes of an update, which the viewer reads one by one; says so where it then shows another screen.
     pub fn say_sent(&mut self, number: usize, sheet: &mut Sheet) -> Result<(), Fault> {
         let bytes = self.take_update(number, sheet)?;
         self.say_read(&bytes, sheet)

@@ -9,4 +9,4 @@ pub mod TextsReading
 pub mod PlainClusters
 pub mod NarrowAscii
 pub mod LoneWidths
-mod FewTexts
+mod LookLaws

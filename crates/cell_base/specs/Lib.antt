@@ -3,6 +3,9 @@ pub mod AttributeValue
 pub mod AttributeValueOf
 pub mod Attributes
 pub mod AttributesView
+pub mod LookView
+pub mod LookBytes
+pub mod ColorBytes
 pub mod Color
 pub mod ColorText
 pub mod Link
@@ -12,6 +15,7 @@ pub mod Style
 pub mod CellContent
 pub mod CellLent
 pub mod CellText
+pub mod InlineText
 pub mod CellView
 pub mod LawfulCell
 pub mod Cluster

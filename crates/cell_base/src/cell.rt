@@ -1,15 +1,16 @@
 //! Cells: a text of one cluster with its width and attributes.
-ghost use Rattle.std.specs.Prelude.{◌≡◌, ◌≤◌, ◌↔◌, ◌==◌, ◌&&◌, true, false, not, None, [], ◌∷◌, length, take, encode_utf8, IfOk, IfSome, IsOk, OnOk, OnErr, IsTrue};
+ghost use Rattle.std.specs.Prelude.{◌≡◌, ◌≤◌, ◌↔◌, ◌==◌, ◌&&◌, true, false, not, None, [], ◌∷◌, encode_utf8};
+ghost use Rattle.std.specs.Prelude.{IfOk, IsOk, OnOk, OnErr, IsTrue};
 ghost use Rattle.std.specs.Borrow.{sem};
-ghost use Rattle.std.specs.Str.{IsUtf8};
 ghost use Rattle.cell_base.specs.Attributes.{Attributes, plain};
 ghost use Rattle.cell_base.specs.CellContent.{cell_of, blank_cell, shows_as_space};
+ghost use Rattle.cell_base.specs.CellText.{cell_with, text_bytes};
+ghost use Rattle.cell_base.specs.InlineText.{LiesInline};
 ghost use Rattle.cell_base.specs.LawfulCell.{IsCell};
-ghost use Rattle.cell_base.specs.declared.cell_text.LongText.TheVariants.{Absent};
 ghost use Rattle.text_clusters.specs.Plain.{is_printable};
 
 use crate::cell_attributes::CellAttributes;
-use crate::cell_text::{CellText, is_few, shows_as_space};
+use crate::cell_text::{CellText, shows_as_space};
 use crate::widths::Widths;
 use std::alloc::{AllocError, Global};
 use std::marker::Model;
@@ -38,36 +39,37 @@ impl Model for Cell {
 impl Cell {
     ghost use Rattle.cell_base.specs.CellLent.{LendsAttributes};
 
-    /// The cell of a character, with the width that `w` gives its text.
+    /// The cell of a character, with the width that `w` gives its text. It takes no memory.
     pub fn new<W: Widths>(
         alloc: Global,
         text: char,
         attrs: CellAttributes,
         w: &W,
     ) -> Result<Cell, AllocError>
-        ensures { IfOk result
+        ensures cell { IfOk result
             (λ c. c ≡ cell_of (encode_utf8 text) (W.width_of w.now (encode_utf8 text)) attrs) }
+        ensures succeeds { IsOk result }
     {
         let mut buffer = [0u8; 4];
         let text: &str = text.encode_utf8(&mut buffer);
         Cell::new_grapheme(alloc, text, attrs, w)
     }
 
-    /// The cell of a cluster, with the width that `w` gives it.
+    /// The cell of a cluster, with the width that `w` gives it. One of at most 15 bytes takes no memory.
     pub fn new_grapheme<W: Widths>(
         alloc: Global,
         text: &str,
         attrs: CellAttributes,
         w: &W,
     ) -> Result<Cell, AllocError>
-        ensures { IfOk result (λ c. c ≡ cell_of text.now (W.width_of w.now text.now) attrs) }
+        ensures cell { IfOk result (λ c. c ≡ cell_of text.now (W.width_of w.now text.now) attrs) }
+        ensures succeeds { LiesInline text.now → IsOk result }
     {
         let width = usize::from(w.width(text)).max(1);
         Cell::new_grapheme_with_width(alloc, text, width, attrs)
     }
 
-    /// The cell of a cluster that takes `width` columns.
-    #[inline(always)]
+    /// The cell of a cluster that takes `width` columns. One of at most 15 bytes takes no memory.
     pub fn new_grapheme_with_width(
         alloc: Global,
         text: &str,
@@ -76,11 +78,12 @@ impl Cell {
     ) -> Result<Cell, AllocError>
         requires some { 1 ≤ width }
         requires most { width ≤ 2 }
-        ensures { IfOk result (λ c. c ≡ cell_of text.now width attrs) }
+        ensures cell { IfOk result (λ c. c ≡ cell_of text.now width attrs) }
+        ensures succeeds { LiesInline text.now → IsOk result }
     {
-        let wide = is_wide(text, width);
+        let text = CellText::new(alloc, text, is_wide(text, width))?;
         Ok(Cell {
-            text: CellText::new(alloc, text, wide)?,
+            text,
             attributes: attrs,
         })
     }
@@ -107,86 +110,28 @@ impl Cell {
         }
     }
 
-    /// Becomes the cell of a printable ASCII character (20h to 7Eh), of one column. It is refused only where the attributes
-    /// have a link, and stays as it was then.
-    #[inline(always)]
+    /// Becomes the cell of a printable ASCII character (20h to 7Eh), of one column. It is refused only where the
+    /// attributes have a link, and stays as it was then.
     pub fn set_ascii(&mut self, character: u8, attrs: &CellAttributes) -> Result<(), AllocError>
         requires { is_printable character ≡ true }
         ensures done { OnOk result (self.new ≡ cell_of (character ∷ []) 1 attrs.now) }
         ensures succeeds { attrs.now.hyperlink ≡ None → IsOk result }
         ensures refused { OnErr result (self.new ≡ self.old) }
     {
-        self.attributes.copy_from(attrs)?;
-        self.text.set_ascii(character);
-        shed_text(&mut self.text);
-        Ok(())
+        self.set(CellText::of_ascii(character), attrs)
     }
 
     /// Becomes a space with attributes. It is refused only where these have a link, and stays as it was then.
-    #[inline(always)]
     pub fn set_blank(&mut self, attrs: &CellAttributes) -> Result<(), AllocError>
         ensures done { OnOk result (self.new ≡ blank_cell attrs.now) }
         ensures succeeds { attrs.now.hyperlink ≡ None → IsOk result }
         ensures refused { OnErr result (self.new ≡ self.old) }
     {
-        self.attributes.copy_from(attrs)?;
-        self.text.set_space();
-        shed_text(&mut self.text);
-        Ok(())
-    }
-
-    /// The same as `set_ascii`, with attributes that have no link: it can't be refused.
-    #[inline(always)]
-    pub fn set_ascii_without_link(&mut self, character: u8, attrs: &CellAttributes)
-        requires printable { is_printable character ≡ true }
-        requires unlinked { attrs.now.hyperlink ≡ None }
-        ensures { self.new ≡ cell_of (character ∷ []) 1 attrs.now }
-    {
-        self.attributes.copy_look(attrs);
-        self.text.set_ascii(character);
-        shed(&mut self.text, &mut self.attributes);
-    }
-
-    /// The same as `set_blank`, with attributes that have no link: it can't be refused.
-    #[inline(always)]
-    pub fn set_blank_without_link(&mut self, attrs: &CellAttributes)
-        requires { attrs.now.hyperlink ≡ None }
-        ensures { self.new ≡ blank_cell attrs.now }
-    {
-        self.attributes.copy_look(attrs);
-        self.text.set_space();
-        shed(&mut self.text, &mut self.attributes);
-    }
-
-    /// The same as `set_ascii_without_link`, where this cell has a text of at most four bytes and no link. So it holds nothing
-    /// that would have to be dropped, and isn't looked at.
-    #[inline(always)]
-    pub fn set_ascii_over_bare(&mut self, character: u8, attrs: &CellAttributes)
-        requires printable { is_printable character ≡ true }
-        requires unlinked { attrs.now.hyperlink ≡ None }
-        requires few { length self.old.text ≤ 4 }
-        requires bare { self.old.attributes.hyperlink ≡ None }
-        ensures { self.new ≡ cell_of (character ∷ []) 1 attrs.now }
-    {
-        self.attributes.copy_look(attrs);
-        self.text.become_ascii(character);
-    }
-
-    /// The same as `set_blank_without_link`, where this cell has a text of at most four bytes and no link.
-    #[inline(always)]
-    pub fn set_blank_over_bare(&mut self, attrs: &CellAttributes)
-        requires unlinked { attrs.now.hyperlink ≡ None }
-        requires few { length self.old.text ≤ 4 }
-        requires bare { self.old.attributes.hyperlink ≡ None }
-        ensures { self.new ≡ blank_cell attrs.now }
-    {
-        self.attributes.copy_look(attrs);
-        self.text.become_space();
+        self.set(CellText::of_ascii(b' '), attrs)
     }
 
     /// Becomes the cell of a cluster of `width` columns, of which none count as one; a refused one
-    /// stays as it was.
-    #[inline(always)]
+    /// stays as it was. It is not refused where the text has at most 15 bytes and the attributes no link.
     pub fn set_grapheme_with_width(
         &mut self,
         alloc: Global,
@@ -197,77 +142,19 @@ impl Cell {
         requires { width ≤ 2 }
         ensures done { OnOk result (self.new ≡ cell_of text.now width attrs.now) }
         ensures refused { OnErr result (self.new ≡ self.old) }
+        ensures succeeds { LiesInline text.now → attrs.now.hyperlink ≡ None → IsOk result }
     {
-        if is_few(text) {
-            self.set_few(text, width, attrs)?;
-            return Ok(());
-        }
-        if let Some(character) = lone_ascii(text, width) {
-            self.set_ascii(character, attrs)?;
-            return Ok(());
-        }
-        self.set_text(alloc, text, width, attrs)?;
-        Ok(())
+        let text = CellText::new(alloc, text, is_wide(text, width))?;
+        self.set(text, attrs)
     }
 
-    // The same for a text of two to four bytes that is kept as it is.
-    #[inline(always)]
-    fn set_few(
-        &mut self,
-        text: &str,
-        width: usize,
-        attrs: &CellAttributes,
-    ) -> Result<(), AllocError>
-        requires most { width ≤ 2 }
-        requires few { length text.now ≤ 4 }
-        requires kept { shows_as_space text.now ≡ false }
-        ensures done { OnOk result (self.new ≡ cell_of text.now width attrs.now) }
+    // Takes over a text, and a copy of attributes.
+    fn set(&mut self, text: CellText, attrs: &CellAttributes) -> Result<(), AllocError>
+        requires { shows_as_space (text_bytes text) ≡ false }
+        ensures done { OnOk result (self.new ≡ cell_with text attrs.now) }
+        ensures succeeds { attrs.now.hyperlink ≡ None → IsOk result }
         ensures refused { OnErr result (self.new ≡ self.old) }
     {
-        self.attributes.copy_from(attrs)?;
-        self.text.set_front(text, text.len(), width == 2);
-        shed_text(&mut self.text);
-        Ok(())
-    }
-
-    /// The same as `set_grapheme_with_width` for the cluster that is the first `len` bytes of a text, at most four, and is kept as
-    /// it is, with attributes that have no link: it can't be refused.
-    #[inline(always)]
-    pub fn set_front_without_link(
-        &mut self,
-        text: &str,
-        len: usize,
-        width: usize,
-        attrs: &CellAttributes,
-    )
-        requires most { width ≤ 2 }
-        requires few { len ≤ 4 }
-        requires within { len ≤ length text.now }
-        requires cut { IsUtf8 (take len text.now) }
-        requires kept { shows_as_space (take len text.now) ≡ false }
-        requires unlinked { attrs.now.hyperlink ≡ None }
-        ensures { self.new ≡ cell_of (take len text.now) width attrs.now }
-    {
-        self.attributes.copy_look(attrs);
-        self.text.set_front(text, len, width == 2);
-        shed(&mut self.text, &mut self.attributes);
-    }
-
-    // What `set_grapheme_with_width` does, for any text, by a call.
-    #[inline(never)]
-    fn set_text(
-        &mut self,
-        alloc: Global,
-        text: &str,
-        width: usize,
-        attrs: &CellAttributes,
-    ) -> Result<(), AllocError>
-        requires { width ≤ 2 }
-        ensures done { OnOk result (self.new ≡ cell_of text.now width attrs.now) }
-        ensures refused { OnErr result (self.new ≡ self.old) }
-    {
-        let wide = is_wide(text, width);
-        let text = CellText::new(alloc, text, wide)?;
         self.attributes.copy_from(attrs)?;
         self.text = text;
         Ok(())
@@ -337,59 +224,15 @@ impl Cell {
             && self.attributes == other.attributes
     }
 
-    /// A copy that shares the link.
+    /// A copy that shares the link. It is refused only where there is one, or where the text has more than 15 bytes.
     pub fn try_clone(&self) -> Result<Cell, AllocError>
-        ensures { IfOk result (λ copy. copy ≡ self.now) }
+        ensures copy { IfOk result (λ copy. copy ≡ self.now) }
+        ensures succeeds { LiesInline self.now.text → self.now.attributes.hyperlink ≡ None → IsOk result }
     {
         Ok(Cell {
             text: self.text.try_clone()?,
             attributes: self.attributes.try_clone()?,
         })
-    }
-}
-
-// No longer text and no link are left.
-#[inline(always)]
-fn shed(text: &mut CellText, attributes: &mut CellAttributes)
-    ensures text { text.new ≡ record text.old { long = Absent } }
-    ensures attributes { attributes.new ≡ record attributes.old { hyperlink = None } }
-{
-    if (text.long_mark() != 0) | (attributes.link_mark() != 0) {
-        drop_both(text, attributes);
-    }
-}
-
-// The same where there is either.
-#[cold]
-#[inline(never)]
-fn drop_both(text: &mut CellText, attributes: &mut CellAttributes)
-    ensures text { text.new ≡ record text.old { long = Absent } }
-    ensures attributes { attributes.new ≡ record attributes.old { hyperlink = None } }
-{
-    text.drop_long();
-    attributes.drop_link();
-}
-
-// No longer text is left.
-#[inline(always)]
-fn shed_text(text: &mut CellText)
-    ensures { text.new ≡ record text.old { long = Absent } }
-{
-    if text.long_mark() != 0 {
-        text.drop_long();
-    }
-}
-
-// The printable ASCII character that a cluster of at most one column is, if it is one.
-#[inline(always)]
-fn lone_ascii(text: &str, width: usize) -> Option<u8>
-    requires { width ≤ 2 }
-    ensures printable { IfSome result (λ character. is_printable character ≡ true) }
-    ensures cell { (attributes : Attributes) → IfSome result (λ character. cell_of text.now width attributes ≡ cell_of (character ∷ []) 1 attributes) }
-{
-    match text.as_bytes() {
-        [byte @ 0x20..=0x7e] if width < 2 => Some(*byte),
-        _ => None,
     }
 }
 

@@ -9,48 +9,11 @@ use crate::attribute_change::AttributeChange;
 use crate::attributes::{Blink, Intensity, SemanticType, Underline, VerticalAlign};
 use crate::color::ColorAttribute;
 use crate::hyperlink::Hyperlink;
+use crate::look::{Flags, Look, Marks, Style};
+use crate::stored_color::StoredColor;
 use std::alloc::AllocError;
 use std::marker::Model;
 use std::rc::Rc;
-
-// The attributes that are on or off.
-#[derive(Debug, Clone, Copy)]
-struct Flags {
-    italic: bool,
-    reverse: bool,
-    strikethrough: bool,
-    invisible: bool,
-    wrapped: bool,
-    overline: bool,
-}
-
-// The attributes that say how much.
-#[derive(Debug, Clone, Copy)]
-struct Marks {
-    intensity: Intensity,
-    underline: Underline,
-    blink: Blink,
-}
-
-// The attributes less colours and link.
-#[derive(Debug, Clone, Copy)]
-struct Style {
-    marks: Marks,
-    flags: Flags,
-    semantic_type: SemanticType,
-    vertical_align: VerticalAlign,
-}
-
-// The attributes less the link, which are copied as one value: of 32 bytes, since two moves copy
-// these.
-#[derive(Debug, Clone, Copy)]
-struct Look {
-    style: Style,
-    foreground: ColorAttribute,
-    background: ColorAttribute,
-    underline_color: ColorAttribute,
-    padding: [u8; 3],
-}
 
 /// The attributes of a cell, compared by value, its link too.
 #[derive(Debug, Drop)]
@@ -93,9 +56,9 @@ impl CellAttributes {
                     semantic_type: SemanticType::Output,
                     vertical_align: VerticalAlign::BaseLine,
                 },
-                foreground: ColorAttribute::Default,
-                background: ColorAttribute::Default,
-                underline_color: ColorAttribute::Default,
+                foreground: StoredColor::new(ColorAttribute::Default),
+                background: StoredColor::new(ColorAttribute::Default),
+                underline_color: StoredColor::new(ColorAttribute::Default),
                 padding: [0; 3],
             },
             hyperlink: None,
@@ -282,7 +245,7 @@ impl CellAttributes {
     pub fn foreground(&self) -> ColorAttribute
         ensures { result ≡ self.now.foreground }
     {
-        self.look.foreground
+        self.look.foreground.color()
     }
 
     /// Sets the colour of the text, and lends the attributes on.
@@ -291,7 +254,7 @@ impl CellAttributes {
         ensures set { (c : ColorAttribute) × C.converts color c
             × (result.now ≡ record self.old { foreground = c }) }
     {
-        self.look.foreground = color.into();
+        self.look.foreground = StoredColor::new(color.into());
         self
     }
 
@@ -299,7 +262,7 @@ impl CellAttributes {
     pub fn background(&self) -> ColorAttribute
         ensures { result ≡ self.now.background }
     {
-        self.look.background
+        self.look.background.color()
     }
 
     /// Sets the colour behind the text, and lends the attributes on.
@@ -308,7 +271,7 @@ impl CellAttributes {
         ensures set { (c : ColorAttribute) × C.converts color c
             × (result.now ≡ record self.old { background = c }) }
     {
-        self.look.background = color.into();
+        self.look.background = StoredColor::new(color.into());
         self
     }
 
@@ -316,7 +279,7 @@ impl CellAttributes {
     pub fn underline_color(&self) -> ColorAttribute
         ensures { result ≡ self.now.underline_color }
     {
-        self.look.underline_color
+        self.look.underline_color.color()
     }
 
     /// Sets the colour of the underline, and lends the attributes on.
@@ -325,7 +288,7 @@ impl CellAttributes {
         ensures set { (c : ColorAttribute) × C.converts color c
             × (result.now ≡ record self.old { underline_color = c }) }
     {
-        self.look.underline_color = color.into();
+        self.look.underline_color = StoredColor::new(color.into());
         self
     }
 
@@ -349,7 +312,9 @@ impl CellAttributes {
     pub fn attribute_bits_equal(&self, other: &CellAttributes) -> bool
         ensures { IsTrue result ↔ (style_of self.now ≡ style_of other.now) }
     {
-        same_style(&self.look.style, &other.look.style)
+        self.look
+            .without_colors()
+            .is_same(&other.look.without_colors())
     }
 
     /// Makes the attributes plain.
@@ -364,23 +329,13 @@ impl CellAttributes {
     pub fn clone_sgr_only(&self) -> CellAttributes
         ensures { result ≡ sgr_only self.now }
     {
+        let mut look = self.look;
+        look.style.semantic_type = SemanticType::Output;
+        look.style.marks.underline = Underline::None;
+        look.style.flags.overline = false;
+        look.style.flags.strikethrough = false;
         CellAttributes {
-            look: Look {
-                style: Style {
-                    semantic_type: SemanticType::Output,
-                    marks: Marks {
-                        underline: Underline::None,
-                        ..self.look.style.marks
-                    },
-                    flags: Flags {
-                        overline: false,
-                        strikethrough: false,
-                        ..self.look.style.flags
-                    },
-                    ..self.look.style
-                },
-                ..self.look
-            },
+            look,
             hyperlink: None,
         }
     }
@@ -397,8 +352,8 @@ impl CellAttributes {
             AttributeChange::Reverse(value) => self.look.style.flags.reverse = value,
             AttributeChange::StrikeThrough(value) => self.look.style.flags.strikethrough = value,
             AttributeChange::Invisible(value) => self.look.style.flags.invisible = value,
-            AttributeChange::Foreground(value) => self.look.foreground = value,
-            AttributeChange::Background(value) => self.look.background = value,
+            AttributeChange::Foreground(value) => self.look.foreground = StoredColor::new(value),
+            AttributeChange::Background(value) => self.look.background = StoredColor::new(value),
             AttributeChange::Hyperlink(value) => self.hyperlink = value,
         }
     }
@@ -407,7 +362,7 @@ impl CellAttributes {
     fn is_same(&self, other: &CellAttributes) -> bool
         ensures { IsTrue result ↔ (self.now ≡ other.now) }
     {
-        same_look(&self.look, &other.look) && same_hyperlink(self.hyperlink(), other.hyperlink())
+        self.look.is_same(&other.look) && same_hyperlink(self.hyperlink(), other.hyperlink())
     }
 
     // Shares the link of other attributes, or drops its own where they have none.
@@ -460,32 +415,6 @@ impl CellAttributes {
         Ok(())
     }
 
-    // Becomes a copy of other attributes, but keeps its link.
-    #[inline(always)]
-    pub(crate) fn copy_look(&mut self, other: &CellAttributes)
-        ensures { self.new ≡ record other.now { hyperlink = self.old.hyperlink } }
-    {
-        self.look = other.look;
-    }
-
-    // 0 where there is no link.
-    #[inline(always)]
-    pub(crate) fn link_mark(&self) -> u8
-        ensures { result ≡ 0 → self.now.hyperlink ≡ None }
-    {
-        match self.hyperlink {
-            None => 0,
-            Some(_) => 1,
-        }
-    }
-
-    // No link is left.
-    pub(crate) fn drop_link(&mut self)
-        ensures { self.new ≡ record self.old { hyperlink = None } }
-    {
-        self.hyperlink = None;
-    }
-
     /// A copy that shares the link; it is refused only where there is one.
     pub fn try_clone(&self) -> Result<CellAttributes, AllocError>
         ensures copy { IfOk result (λ copy. copy ≡ self.now) }
@@ -531,44 +460,6 @@ impl Default for CellAttributes {
     fn default() -> CellAttributes {
         CellAttributes::blank()
     }
-}
-
-fn same_look(a: &Look, b: &Look) -> bool
-    ensures { IsTrue result ↔ ((a.now.style ≡ b.now.style)
-        × (a.now.foreground ≡ b.now.foreground)
-        × (a.now.background ≡ b.now.background)
-        × (a.now.underline_color ≡ b.now.underline_color)) }
-{
-    same_style(&a.style, &b.style)
-        && a.foreground == b.foreground
-        && a.background == b.background
-        && a.underline_color == b.underline_color
-}
-
-fn same_style(a: &Style, b: &Style) -> bool
-    ensures { IsTrue result ↔ (a.now ≡ b.now) }
-{
-    same_marks(&a.marks, &b.marks)
-        && same_flags(&a.flags, &b.flags)
-        && a.semantic_type == b.semantic_type
-        && a.vertical_align == b.vertical_align
-}
-
-fn same_marks(a: &Marks, b: &Marks) -> bool
-    ensures { IsTrue result ↔ (a.now ≡ b.now) }
-{
-    a.intensity == b.intensity && a.underline == b.underline && a.blink == b.blink
-}
-
-fn same_flags(a: &Flags, b: &Flags) -> bool
-    ensures { IsTrue result ↔ (a.now ≡ b.now) }
-{
-    a.italic == b.italic
-        && a.reverse == b.reverse
-        && a.strikethrough == b.strikethrough
-        && a.invisible == b.invisible
-        && a.wrapped == b.wrapped
-        && a.overline == b.overline
 }
 
 fn same_hyperlink(a: Option<&Rc<Hyperlink>>, b: Option<&Rc<Hyperlink>>) -> bool

@@ -177,6 +177,7 @@ impl Hyperlink {
     }
 
     // Whether the texts are the same, and whether both are implicit or neither.
+    #[inline(never)]
     fn is_same(&self, other: &Hyperlink) -> bool
         ensures { IsTrue result ↔ (self.now ≡ other.now) }
     {

@@ -10,14 +10,15 @@ mod cell_text;
 mod color;
 mod color_reading;
 mod columns;
-mod few_text;
 mod hyperlink;
+mod inline_text;
 pub mod laws;
 mod link_error;
 mod link_reading;
-mod owned_text;
+mod long_text;
+mod look;
 mod ranges;
-mod short_text;
+mod stored_color;
 mod widths;
 
 pub use attribute_change::AttributeChange;

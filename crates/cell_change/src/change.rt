@@ -25,7 +25,7 @@ pub enum Change {
     /// The columns from the cursor to the end of its row become blanks, none where a wrap is pending,
     /// and the pen becomes plain with that background.
     ClearToEndOfLine(ColorAttribute),
-    /// The same, and all rows below become blanks.
+    /// The columns from the cursor to the end of its row, and all rows below, become blanks.
     ClearToEndOfScreen(ColorAttribute),
     /// The cursor's place.
     CursorPosition {

@@ -42,7 +42,7 @@ fn are_clusters(text: &str, cells: &[&str]) -> bool
     clusters.next().is_none()
 }
 
-// The same, where plain text at the front is not walked cluster by cluster.
+// Whether the cells are the clusters of the text; plain text at the front is not walked cluster by cluster.
 fn has_clusters(text: &str, cells: &[&str]) -> bool
     ensures { result ≡ same_texts (graphemes true text.now) (map (λ cell. cell.now) cells.now) }
 {

@@ -23,34 +23,9 @@ pub fn column_count(cell: &Cell) -> usize
     if cell.width() >= 2 { 2 } else { 1 }
 }
 
-/// Whether the cell that is read last before `at` is a wide one whose second column is at `at`.
-#[inline(always)]
+/// Whether the cell that is read last before `at` is a wide one whose second column is at `at`: of a run of wide cells every
+/// second one is read.
 pub fn is_halved(cells: &[Cell], at: usize) -> bool
-    requires { at ≤ length cells.now }
-    ensures { result ≡ ends_halved (take at cells.now) }
-{
-    if at == 0 {
-        return false;
-    }
-    is_halved_behind(cells, at - 1)
-}
-
-// The same behind the cell at a place.
-#[inline(always)]
-pub(crate) fn is_halved_behind(cells: &[Cell], place: usize) -> bool
-    requires { place < length cells.now }
-    ensures { result ≡ ends_halved (take (place + 1) cells.now) }
-{
-    if cells[place].width() < 2 {
-        return false;
-    }
-    is_halved_behind_wide(cells, place + 1)
-}
-
-// The same where a wide cell is stored before `at`, by the run of wide cells there.
-#[cold]
-#[inline(never)]
-fn is_halved_behind_wide(cells: &[Cell], at: usize) -> bool
     requires { at ≤ length cells.now }
     ensures { result ≡ ends_halved (take at cells.now) }
 {

@@ -329,7 +329,7 @@ impl Line {
         Ok(())
     }
 
-    /// The same as `set_cell`.
+    /// Sets a cell, as `set_cell` does: a line holds no images.
     pub fn set_cell_clearing_image_placements(
         &mut self,
         idx: usize,
@@ -616,7 +616,7 @@ impl Line {
         query::ends_wrapped(self.stored_cells())
     }
 
-    /// The same as `from_text`, with the last visible cell one behind which the line goes on.
+    /// The line of a text, as `from_text` makes it, with the last visible cell one behind which the line goes on.
     pub fn from_text_with_wrapped_last_col<W: Widths>(
         alloc: Global,
         s: &str,
@@ -756,7 +756,7 @@ impl Line {
         }
     }
 
-    /// The same as `cells_mut`, for callers that change attributes alone.
+    /// Lends the cells, as `cells_mut` does, to callers that change attributes alone.
     pub fn cells_mut_for_attr_changes_only(&mut self) -> Result<&mut [Cell], AllocError>
         ensures* writes_back { sem 𝓛 (LendsCells self.entry result) }
         ensures lent { IfOk result (λ cells. cells.now ≡ lent_cells self.old.columns) }

@@ -100,7 +100,7 @@ impl LineBits {
         }
     }
 
-    // The same bits.
+    // A copy.
     pub(crate) fn copy(&self) -> LineBits
         ensures { result ≡ self.now }
     {

@@ -36,7 +36,7 @@ pub(crate) fn between(
     }
 }
 
-// The same of cells that are read from the left.
+// The cells between two columns, which are read from the left.
 fn read_between(
     alloc: Global,
     cells: &[Cell],
@@ -65,7 +65,7 @@ fn push_blank_for(cells: &mut Vec<Cell>, cell: &Cell) -> Result<(), AllocError>
     Ok(())
 }
 
-// The same, where no wide cell is stored last.
+// Copies the cells between two columns, where no wide cell is stored last.
 fn copy_between(
     alloc: Global,
     cells: &[Cell],

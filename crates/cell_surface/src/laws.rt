@@ -22,13 +22,15 @@ pub use screen_repaint::laws::repaints_show_the_display;
 /// A surface that hasn't failed shows a lawful screen: its rows are whole and as wide as the screen,
 /// the cursor is in it, each cell's text is by itself one cluster (UAX 29) without C0 controls and
 /// DEL, in the columns that it takes; each line is kept as one text and runs of equal attributes;
-/// and its log keeps as many changes as may be due. Each change that the log keeps has a number.
+/// and its log keeps as many changes as may be due. Each change that the log keeps has a number, and no more are kept
+/// than may be due.
 pub fn surfaces_stay_lawful<W: Widths + Drop>(surface: &Surface<W>)
     ensures lawful { surface.now.is_failed ≡ false → IsDisplay (shown_by surface.now) }
     ensures cells { surface.now.is_failed ≡ false → IsSoundDisplay (W.width_of surface.now.canvas.widths) (shown_by surface.now) }
     ensures clustered { surface.now.is_failed ≡ false → All IsClustered surface.now.canvas.lines }
     ensures log { surface.now.is_failed ≡ false → surface.now.log.most ≡ most_due surface.now.canvas.width (length surface.now.canvas.lines) }
     ensures counted { length surface.now.log.log.entries ≤ number_of surface.now }
+    ensures bounded { length surface.now.log.log.entries ≤ surface.now.log.most }
 {
     let _canvas = &surface.canvas;
     kept_changes_are_counted(&surface.log);

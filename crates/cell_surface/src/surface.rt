@@ -1,5 +1,5 @@
 //! The surface.
-ghost use Rattle.std.specs.Prelude.{◌≡◌, ◌≢◌, ◌≤◌, [], OnOk, OnErr, ◌+◌, ◌-◌, ◌<◌, ◌^◌, ◌↔◌, ◌==◌, All, false, true, length, map, not, IsErrOf, IfOk};
+ghost use Rattle.std.specs.Prelude.{◌≡◌, ◌≢◌, ◌≤◌, [], None, OnOk, OnErr, ◌+◌, ◌-◌, ◌<◌, ◌^◌, ◌↔◌, ◌==◌, All, false, true, length, map, not, IsErrOf, IfOk};
 ghost use Rattle.std.specs.String.{string_bytes};
 ghost use Rattle.cell_change.specs.ValueOf.{value_of};
 ghost use Rattle.cell_line.specs.LineContent.{IsClustered};
@@ -285,7 +285,7 @@ impl<W: Widths + Drop> Surface<W> {
     /// The current number, and the changes from a number on, lent from the log; or, at 0, before the
     /// first change of the log, above the current number, while that is 0, and where more than
     /// 3 + 6wh/5 changes (rounded down, of w columns and h rows) are due, the repaint: changes which
-    /// paint this screen on any screen of its size. At the current number no change is due.
+    /// paint this screen on any screen of its size. At the current number no change is due. What is lent takes no memory.
     pub fn get_changes(
         &self,
         seq: SequenceNo,
@@ -294,6 +294,7 @@ impl<W: Widths + Drop> Surface<W> {
         ensures changes { IfOk result (λ r. Answers (due self.now.log.most self.now.log.log seq) (repaint (shown_by self.now)) r.1) }
         ensures failed { IsErrOf result SurfaceError.Failed ↔ (self.now.is_failed ≡ true) }
         ensures numbers { IsErrOf result SurfaceError.Number → ⊥ }
+        ensures memory { IsErrOf result SurfaceError.Memory → due self.now.log.most self.now.log.log seq ≡ None }
     {
         if self.is_failed {
             return Err(SurfaceError::Failed);

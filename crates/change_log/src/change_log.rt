@@ -120,22 +120,8 @@ fn drop_in_place(changes: &mut [Change], from: usize, to: usize, spare: &mut Spa
     }
 }
 
-// Drops the last changes, so that so many are left.
-fn drop_last(changes: &mut Vec<Change>, left: usize, spare: &mut SpareTexts)
-    requires within { left ≤ vec_len changes.old }
-    requires spare { spare.old ≤ MOST_SPARE }
-    ensures left { changes.new.items ≡ take left changes.old.items }
-    ensures spare { spare.new ≤ MOST_SPARE }
-{
-    while left < changes.len() {
-        if let Some(change) = changes.pop() {
-            drop_change(change, spare);
-        }
-    }
-}
-
-// Drops the changes before a place, of which those before `start` are dropped: where they stand, or, where no more are left,
-// by bringing these to the front. So each change that is dropped moves at most one other.
+// Drops the changes before a place, of which those before `start` are dropped, where they stand. Where no more are left
+// behind it these are brought to the front: so each change that is dropped moves at most one other.
 #[inline(always)]
 fn drop_before(changes: &mut Vec<Change>, start: &mut usize, place: usize, spare: &mut SpareTexts)
     requires order { start.old ≤ place }
@@ -148,14 +134,14 @@ fn drop_before(changes: &mut Vec<Change>, start: &mut usize, place: usize, spare
     ensures dropped { take start.new changes.new.items ≡ replicate start.new nothing }
     ensures spare { spare.new ≤ MOST_SPARE }
 {
+    drop_in_place(changes, *start, place, spare);
     let left = changes.len() - place;
     if place < left {
-        drop_in_place(changes, *start, place, spare);
         *start = place;
         return;
     }
     bring_to_front(changes, place);
-    drop_last(changes, left, spare);
+    changes.truncate(left);
     *start = 0;
 }
 

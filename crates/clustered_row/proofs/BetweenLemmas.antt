@@ -212,7 +212,7 @@ written_front xs n stop b past w =
     let on : stop ≡ length xs + (stop - length xs) = omega (arith, past) in
     ap (λ m. take m (xs ++ replicate n b)) on ∙ take-append-add xs (replicate n b) (stop - length xs) ∙ ap (λ (r : Row). xs ++ r) (take-replicate (stop - length xs) n b (omega (arith, w, past)))
 
-written_behind : (xs : Row) (n start : ℕ) (b : Column) → length xs ≤ start → drop start (xs ++ replicate n b) ≡ replicate (n - (start - length xs)) b
+pub written_behind : (xs : Row) (n start : ℕ) (b : Column) → length xs ≤ start → drop start (xs ++ replicate n b) ≡ replicate (n - (start - length xs)) b
 written_behind xs n start b past =
     let on : start ≡ length xs + (start - length xs) = omega (arith, past) in
     ap (λ m. drop m (xs ++ replicate n b)) on ∙ drop-append-add xs (replicate n b) (start - length xs) ∙ drop-replicate (start - length xs) n b

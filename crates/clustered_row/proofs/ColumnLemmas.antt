@@ -1,5 +1,5 @@
 -- Columns whose faces and attributes are changed alike.
-use Rattle.std.proofs.Common.{◌≡◌, ℕ, suc, ◌+◌, ◌-◌, ◌≤◌, Bool, true, false, List, [], ◌∷◌, ◌++◌, length, take, drop, replicate, refl, sym, ap, subst, ◌∙◌, arith, append-nil, length-append}
+use Rattle.std.proofs.Common.{◌≡◌, ℕ, zero, suc, ◌+◌, ◌-◌, ◌≤◌, Bool, true, false, List, [], ◌∷◌, ◌++◌, length, take, drop, replicate, refl, sym, ap, subst, ◌∙◌, arith, append-nil, length-append}
 use Rattle.std.proofs.lemmas.List.{length-take, length-drop, length-replicate, take_at}
 use Rattle.std.specs.List.{list_all}
 use Rattle.text_clusters.specs.Plain.{is_printable}
@@ -9,6 +9,7 @@ use Rattle.cell_base.specs.Row as rows
 use Rattle.cell_rows.specs.WholeRow.{IsWhole}
 use Rattle.cell_rows.proofs.RowLemmas.{whole_ends, whole-append, whole-blanks, whole-front, whole-set_columns}
 use Rattle.clustered_row.specs.declared.cell_size.CellSize.{CellSize}
+use Rattle.clustered_row.specs.Ends.{EndsAt}
 use Rattle.clustered_row.specs.Faces.{Face, Own, Left, Right, cell_faces, plain_faces, row_of, closed_end, padded, set_faces}
 use Rattle.clustered_row.specs.Sizes.{bytes_of, columns_of, faces_of, is_cut, is_plain}
 use Rattle.clustered_row.proofs.SizeLemmas.{plain_sizes, plain_sums}
@@ -129,3 +130,12 @@ ends_there old new at a whole h k e =
     let none : at - length old ≡ 0 = omega (arith, h, k) in
     let same : length old ≡ at = omega (arith, h, k) in
     e ∙ ap (λ n. old ++ replicate n (blank a)) none ∙ append-nil old ∙ sym (whole_ends old whole) ∙ ap rows.closed_end (sym (take_at old [] at same) ∙ ap (take at) (append-nil old))
+
+pub ends_here : (columns : Row) (at : ℕ) (a : Attributes) → IsWhole columns → at ≡ length columns → EndsAt columns columns at a
+ends_here columns at a whole e =
+    let none : zero ≡ at - length columns = omega (arith, e) in
+    let same : columns ≡ columns ++ replicate (at - length columns) (blank a) = sym (append-nil columns) ∙ ap (λ n. columns ++ replicate n (blank a)) none in
+    record {
+      cut = λ h. ends_there columns columns at a whole h (omega (arith, e)) same;
+      padded = λ h. same;
+    }

@@ -3,6 +3,7 @@ pub mod BetweenLemmas
 pub mod BlankLemmas
 pub mod CellRows
 pub mod ColumnLemmas
+mod EqualLemmas
 pub mod FaceLemmas
 pub mod ItemLemmas
 pub mod LeftLemmas

@@ -1,6 +1,7 @@
 pub mod ColumnsView
 pub mod CutTexts
 pub mod Ends
+pub mod EqualColumns
 pub mod Faces
 pub mod FirstCells
 pub mod LentTexts

@@ -105,6 +105,7 @@ impl Columns {
     }
 
     // A column for each byte of printable ASCII comes behind.
+    #[inline(never)]
     pub(crate) fn push_plain(
         &mut self,
         text: &str,

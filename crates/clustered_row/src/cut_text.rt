@@ -11,7 +11,7 @@ ghost use Rattle.clustered_row.specs.Place.{IsPlace, IsHalved, KeepsPlaces, HasP
 ghost use Rattle.clustered_row.specs.Sizes.{bytes_of, columns_of, faces_of, is_cut, ends_plain};
 
 use crate::cell_size::{CellSize, PLAIN};
-use crate::items::{push_all, put, replace_items, replace_text};
+use crate::items::{push_all, push_bytes, put, replace_items, replace_text};
 use crate::lent_text::LentText;
 use crate::place::{Place, START, find, find_back};
 use std::alloc::{AllocError, Global};
@@ -188,7 +188,7 @@ impl CutText {
         ensures bytes_left { bytes_left self.old ≤ bytes_left self.new + length text.now }
         ensures sizes_left { sizes_left self.new ≡ sizes_left self.old }
     {
-        self.text.extend_from_slice(text.as_bytes())?;
+        push_bytes(&mut self.text, text.as_bytes())?;
         Ok(())
     }
 

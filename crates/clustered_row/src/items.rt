@@ -1,10 +1,11 @@
 //! Items of a vector that are replaced by others.
-ghost use Rattle.std.specs.Prelude.{◌≡◌, ℕ, ◌+◌, ◌≤◌, ◌++◌, length, take, drop};
+ghost use Rattle.std.specs.Prelude.{◌≡◌, ℕ, ◌+◌, ◌≤◌, ◌++◌, length, take, drop, is_ok, if◌then◌else◌, IsOk};
 ghost use Rattle.std.specs.List.{splice};
 ghost use Rattle.std.specs.Str.{IsUtf8};
 ghost use Rattle.std.specs.String.Boundary.{IsSplitPoint};
 ghost use Rattle.std.specs.Vec.{vec_len, vec_capacity};
 
+use std::alloc::AllocError;
 use std::mem;
 
 // The items are copied over those from `at` on.
@@ -27,6 +28,23 @@ pub(crate) fn push_all<T: Copy>(items: &mut Vec<T>, with: &[T])
     ensures capacity { vec_capacity items.old ≤ vec_capacity items.new }
 {
     let _pushed = items.extend_from_slice(with);
+}
+
+// The bytes come behind. One alone is stored, in place of a block copy.
+#[inline(always)]
+pub(crate) fn push_bytes(items: &mut Vec<u8>, bytes: &[u8]) -> Result<(), AllocError>
+    ensures items { items.new.items ≡ (if is_ok result then items.old.items ++ bytes.now else items.old.items) }
+    ensures len { vec_len items.new
+        ≡ (if is_ok result then vec_len items.old + length bytes.now else vec_len items.old) }
+    ensures capacity { vec_capacity items.old ≤ vec_capacity items.new }
+    ensures succeeds { vec_len items.old + length bytes.now ≤ vec_capacity items.old → IsOk result }
+{
+    if let [byte] = bytes {
+        items.push(*byte)?;
+        return Ok(());
+    }
+    items.extend_from_slice(bytes)?;
+    Ok(())
 }
 
 // What stands from `from` on stands from `to` on, further behind, where there is room for it.

@@ -18,7 +18,7 @@ fn same_bytes(bytes: &[u8], others: &[u8]) -> bool
 
 // Whether two sizes are the same.
 #[inline(always)]
-fn same_size(size: &CellSize, other: &CellSize) -> bool
+pub(crate) fn same_size(size: &CellSize, other: &CellSize) -> bool
     ensures { IsTrue result → size.now ≡ other.now }
 {
     size.len == other.len && size.is_wide == other.is_wide
@@ -41,7 +41,7 @@ fn same_sizes(sizes: &[CellSize], others: &[CellSize]) -> bool
 
 // Whether two runs are the same.
 #[inline(always)]
-fn same_run(run: &Run, other: &Run) -> bool
+pub(crate) fn same_run(run: &Run, other: &Run) -> bool
     ensures { IsTrue result → run.now ≡ other.now }
 {
     run.count == other.count && run.attributes == other.attributes

@@ -4,6 +4,7 @@
 mod cell_size;
 mod columns;
 mod cut_text;
+mod equal_columns;
 mod items;
 mod kept_alike;
 mod lent_text;

@@ -80,7 +80,29 @@ impl ClusteredRow {
     }
 
     /// Printable ASCII characters (20h to 7Eh) take a column each from one on.
+    #[inline(always)]
     pub fn set_plain(
+        &mut self,
+        at: usize,
+        text: &str,
+        attrs: &CellAttributes,
+    ) -> Result<(), AllocError>
+        requires printable { list_all is_printable text.now ≡ true }
+        requires within { at + length text.now ≤ length self.old }
+        ensures len { length self.new ≡ length self.old }
+        ensures done { OnOk result (self.new ≡ set_columns self.old at (row_of (plain_faces text.now) (replicate (length text.now) attrs.now))) }
+    {
+        if at != self.columns.len() {
+            self.set_plain_elsewhere(at, text, attrs)?;
+            return Ok(());
+        }
+        self.columns.push_plain(text, attrs)?;
+        Ok(())
+    }
+
+    // They take their columns from any one on, not alone behind the last that was written.
+    #[inline(never)]
+    fn set_plain_elsewhere(
         &mut self,
         at: usize,
         text: &str,

@@ -11,6 +11,7 @@ use cell_base::CellAttributes;
 use std::alloc::{AllocError, Global};
 
 // Whether a run has these attributes.
+#[inline(always)]
 fn has(run: &Run, attributes: &CellAttributes) -> bool
     ensures { IsTrue result ↔ (run.now.attributes ≡ attributes.now) }
 {
@@ -29,6 +30,7 @@ fn set_count(runs: &mut Vec<Run>, at: usize, count: u32)
 }
 
 // The run counts so many columns more.
+#[inline(always)]
 fn grow(runs: &mut Vec<Run>, at: usize, by: u32)
     requires within { at < length runs.old.items }
     requires fits { (run : Run) → IsAt runs.old.items at run → run.count + by ≤ 4294967295 }
@@ -92,6 +94,7 @@ pub(crate) fn at(runs: &[Run], columns: usize, column: usize) -> &CellAttributes
 }
 
 // How many columns with these attributes the last run can count more.
+#[inline(always)]
 fn room_behind(runs: &[Run], attributes: &CellAttributes) -> u32
     ensures { IsRoom runs.now attributes.now result }
 {
@@ -108,6 +111,7 @@ fn room_behind(runs: &[Run], attributes: &CellAttributes) -> u32
 }
 
 /// Adds columns with these attributes behind the last.
+#[inline(always)]
 pub(crate) fn push(
     runs: &mut Vec<Run>,
     count: u32,
@@ -130,6 +134,7 @@ pub(crate) fn push(
 }
 
 // The last run counts so many columns more.
+#[inline(always)]
 fn grow_last(runs: &mut Vec<Run>, by: u32)
     requires some { 0 < length runs.old.items }
     requires fits { (last : Run) → IsLast runs.old.items last → last.count + by ≤ 4294967295 }
@@ -159,10 +164,9 @@ fn push_run(
     ensures maximal { AreMaximal runs.new.items }
 {
     let len = runs.len();
-    runs.push(Run {
-        count,
-        attributes: attributes.try_clone()?,
-    })?;
+    runs.reserve(1)?;
+    let attributes = attributes.try_clone()?;
+    runs.push_reserved(Run { count, attributes });
     if room == 0 {
         return Ok(());
     }

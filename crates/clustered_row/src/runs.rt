@@ -60,7 +60,7 @@ impl Runs {
     }
 
     /// Adds columns with these attributes behind the last. They are counted to the last run where it has them.
-    #[inline]
+    #[inline(always)]
     pub fn push(&mut self, count: usize, attributes: &CellAttributes) -> Result<(), AllocError>
         requires { length self.old + count < 2 ^ 64 }
         ensures done { OnOk result (self.new ≡ self.old ++ replicate count attributes.now) }
@@ -73,6 +73,7 @@ impl Runs {
     }
 
     // Adds at most as many columns as a run can count.
+    #[inline(always)]
     fn push_some(&mut self, count: u32, attributes: &CellAttributes) -> Result<(), AllocError>
         requires { length self.old + count < 2 ^ 64 }
         ensures done { OnOk result (self.new ≡ self.old ++ replicate count attributes.now) }

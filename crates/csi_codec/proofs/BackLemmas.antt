@@ -7,11 +7,11 @@ use Rattle.csi_codec.specs.declared.parameters.CsiParam.{CsiParam}
 use Rattle.csi_codec.specs.declared.parameters.CsiParam.TheVariants.{Integer, P}
 use Rattle.csi_codec.specs.declared.cursors.Cursor.{Cursor}
 use Rattle.csi_codec.specs.declared.edits.Edit.{Edit}
-use Rattle.csi_codec.specs.Parameters.{word_max, or_default, place, one_slot, two_slots, count, place_pair, Lines, read_by, number_tokens, count_tokens, pair_tokens}
+use Rattle.csi_codec.specs.Parameters.{word_max, or_default, place, one_slot, two_slots, count, place_pair, Lines, read_by, number_tokens, count_tokens, pair_tokens, extent_tokens}
+use Rattle.csi_codec.specs.Slots.{Slots, nothing, counted, placed, paired, named, extent, spaced, slots_tokens, IsPlace}
 use Rattle.csi_codec.specs.Cursors.{cursor_reading}
 use Rattle.csi_codec.specs.Edits.{edit_reading}
 use Rattle.csi_codec.specs.Devices.{device_reading}
-use Rattle.csi_codec.specs.Writable.{IsPlace}
 use Rattle.csi_codec.specs.Actions.{Action, cursor, edit, device, unspecified, lone_reading, standard_reading, other_reading, csi_reading}
 
 -- ---- Places and counts
@@ -88,46 +88,42 @@ module _ {A : Type 0} (Q : A → Type 0) where
   made make R None valid h x e = cc
   made make R (Some y) valid h x e = let q : make y ≡ x = cc in subst Q q (h y (valid y refl))
 
-count_back : (n : ℕ) → IsPlace n → count (number_tokens n) ≡ Some n
+pub count_back : (n : ℕ) → IsPlace n → count (number_tokens n) ≡ Some n
 count_back n h = place_number 1 n h
 
-count_tokens_back : (n : ℕ) → IsPlace n → count (count_tokens n) ≡ Some n
+pub count_tokens_back : (n : ℕ) → IsPlace n → count (count_tokens n) ≡ Some n
 count_tokens_back n h = by (eqb n 1) refl
   where
     by : (b : Bool) → eqb n 1 ≡ b → count (cond b [] (number_tokens n)) ≡ Some n
     by true e = ap Some (sym (eqb-true n 1 e))
     by false e = count_back n h
 
+extent_tokens_plain : (n : ℕ) → is_plain (extent_tokens n) ≡ true
+extent_tokens_plain n = elim (eqb n 0) as (λ b. is_plain (cond b [] (number_tokens n)) ≡ true) [ true ↦ refl | false ↦ refl ]
+
 count_tokens_plain : (n : ℕ) → is_plain (count_tokens n) ≡ true
 count_tokens_plain n = elim (eqb n 1) as (λ b. is_plain (cond b [] (number_tokens n)) ≡ true) [ true ↦ refl | false ↦ refl ]
 
+pub slots_plain : (s : Slots) → is_plain (slots_tokens s) ≡ true
+slots_plain nothing = refl
+slots_plain (counted n) = count_tokens_plain n
+slots_plain (placed n) = refl
+slots_plain (paired a b) = refl
+slots_plain (named n) = refl
+slots_plain (extent n) = extent_tokens_plain n
+slots_plain (spaced n) = refl
+
 -- ---- Cursor sequences
 
-cursor_found : (final : ℕ) (ts : List CsiParam) (c : Cursor) → cursor_reading final ts ≡ Some c → lone_reading final ts ≡ Some (cursor c)
+pub cursor_found : (final : ℕ) (ts : List CsiParam) (c : Cursor) → cursor_reading final ts ≡ Some c → lone_reading final ts ≡ Some (cursor c)
 cursor_found final ts c e = ap (λ found. option_or (option_map cursor found) (option_or (option_map edit (edit_reading final ts)) (option_map device (device_reading final ts)))) e
 
-edit_found : (final : ℕ) (ts : List CsiParam) (e : Edit) → cursor_reading final ts ≡ None → edit_reading final ts ≡ Some e → lone_reading final ts ≡ Some (edit e)
+pub edit_found : (final : ℕ) (ts : List CsiParam) (e : Edit) → cursor_reading final ts ≡ None → edit_reading final ts ≡ Some e → lone_reading final ts ≡ Some (edit e)
 edit_found final ts e p q = ap (λ found. option_or (option_map cursor found) (option_or (option_map edit (edit_reading final ts)) (option_map device (device_reading final ts)))) p
     ∙ ap (λ found. option_or (option_map edit found) (option_map device (device_reading final ts))) q
 
--- ---- One family of a table
-
-module _ (truncated : Bool) (final : ℕ) (lone : IsLone final) (make : ℕ → Cursor) (reads : (ts : List CsiParam) → cursor_reading final ts ≡ option_map make (count ts)) where
-  pub cursor_count_back : (n : ℕ) → IsPlace n → csi_reading (count_tokens n) truncated final ≡ cursor (make n) ∷ []
-  cursor_count_back n h = lone_back truncated final (count_tokens n) (cursor (make n)) lone (count_tokens_plain n)
-      (cursor_found final (count_tokens n) (make n) (reads (count_tokens n) ∙ ap (option_map make) (count_tokens_back n h)))
-
-  pub cursor_number_back : (n : ℕ) → IsPlace n → csi_reading (number_tokens n) truncated final ≡ cursor (make n) ∷ []
-  cursor_number_back n h = lone_back truncated final (number_tokens n) (cursor (make n)) lone refl
-      (cursor_found final (number_tokens n) (make n) (reads (number_tokens n) ∙ ap (option_map make) (count_back n h)))
-
-module _ (truncated : Bool) (final : ℕ) (lone : IsLone final) (make : ℕ → Edit) (no_cursor : (ts : List CsiParam) → cursor_reading final ts ≡ None) (reads : (ts : List CsiParam) → edit_reading final ts ≡ option_map make (count ts)) where
-  pub edit_count_back : (n : ℕ) → IsPlace n → csi_reading (count_tokens n) truncated final ≡ edit (make n) ∷ []
-  edit_count_back n h = lone_back truncated final (count_tokens n) (edit (make n)) lone (count_tokens_plain n)
-      (edit_found final (count_tokens n) (make n) (no_cursor (count_tokens n)) (reads (count_tokens n) ∙ ap (option_map make) (count_tokens_back n h)))
-
 -- two places
-pair_back : (d a b : ℕ) → IsPlace a → IsPlace b → place_pair d (pair_tokens a b) ≡ Some (a, b)
+pub pair_back : (d a b : ℕ) → IsPlace a → IsPlace b → place_pair d (pair_tokens a b) ≡ Some (a, b)
 pair_back d a b h k = ap (λ x. option_zip x (place d (Some (pos b)))) (place_number 1 a h) ∙ ap (λ y. option_zip (Some a) y) (place_number d b k)
 
 pub pair_valid : (d : ℕ) (ts : List CsiParam) (m : ℕ × ℕ) → IsPlace d → place_pair d ts ≡ Some m → IsPlace m.0 × IsPlace m.1
@@ -141,9 +137,3 @@ pair_valid d ts m h e = by (two_slots ts) e
     by : (slots : Option (Option ℤ × Option ℤ)) → option_and_then (λ s. option_zip (place 1 s.0) (place d s.1)) slots ≡ Some m → IsPlace m.0 × IsPlace m.1
     by None q = cc
     by (Some s) q = both (place 1 s.0) (place d s.1) (λ n. place_valid 1 s.0 n (omega arith, omega arith)) (λ n. place_valid d s.1 n h) q
-
-module _ (truncated : Bool) (final : ℕ) (lone : IsLone final) (d : ℕ) (make : ℕ → ℕ → Cursor)
-    (reads : (a b : ℕ) → cursor_reading final (pair_tokens a b) ≡ option_map (λ m. make m.0 m.1) (place_pair d (pair_tokens a b))) where
-  pub cursor_pair_back : (a b : ℕ) → IsPlace a → IsPlace b → csi_reading (pair_tokens a b) truncated final ≡ cursor (make a b) ∷ []
-  cursor_pair_back a b h k = lone_back truncated final (pair_tokens a b) (cursor (make a b)) lone refl
-      (cursor_found final (pair_tokens a b) (make a b) (reads a b ∙ ap (option_map (λ m. make m.0 m.1)) (pair_back d a b h k)))

@@ -4,7 +4,6 @@ use Rattle.std.proofs.lemmas.List.{take-append-drop}
 use Rattle.std.proofs.Math.Seq.{take-append_seam, drop-append_seam}
 use Rattle.std.proofs.lemmas.Bool.{and_from, and_parts}
 use Rattle.std.proofs.lemmas.Bool.Decides.{nat_tests}
-use Rattle.csi_codec.specs.declared.parameters.CsiParam.{CsiParam}
 use Rattle.csi_codec.specs.Rendition.{is_between}
 use Rattle.csi_codec.specs.Texts.{tokens_of, all_parameter_bytes}
 use Rattle.csi_codec.specs.Fronts.{most_tokens, Front, IsSequence, HasNoFront, OneFront}

@@ -15,9 +15,7 @@ use Rattle.cell_base.specs.declared.attributes.Blink.TheVariants as blink
 use Rattle.cell_base.specs.declared.attributes.VerticalAlign.TheVariants as align
 use Rattle.csi_codec.specs.declared.parameters.CsiParam.{CsiParam}
 use Rattle.csi_codec.specs.declared.cursors.Cursor.{Cursor}
-use Rattle.csi_codec.specs.declared.cursors.Cursor.TheVariants as variant
 use Rattle.csi_codec.specs.declared.edits.Edit.{Edit}
-use Rattle.csi_codec.specs.declared.edits.Edit.TheVariants as change
 use Rattle.csi_codec.specs.declared.devices.Device.{Device}
 use Rattle.csi_codec.specs.declared.devices.Device.TheVariants.{SoftReset, RequestPrimaryDeviceAttributes, StatusReport}
 use Rattle.csi_codec.specs.declared.modes.Mode.{Mode}
@@ -25,9 +23,9 @@ use Rattle.csi_codec.specs.declared.modes.Mode.TheVariants as does
 use Rattle.csi_codec.specs.declared.rendition.Sgr.{Sgr}
 use Rattle.csi_codec.specs.declared.rendition.Sgr.TheVariants as value
 use Rattle.csi_codec.specs.declared.rendition.Font.TheVariants as font
-use Rattle.csi_codec.specs.Parameters.{token_text, number_tokens, count_tokens, extent_tokens}
-use Rattle.csi_codec.specs.Cursors.{cursor_spelling}
-use Rattle.csi_codec.specs.Edits.{edit_spelling, erase_in_display_number, erase_in_line_number}
+use Rattle.csi_codec.specs.Parameters.{token_text, number_tokens}
+use Rattle.csi_codec.specs.Cursors.{cursor_slots, cursor_spelling}
+use Rattle.csi_codec.specs.Edits.{edit_slots, edit_spelling}
 use Rattle.csi_codec.specs.Devices.{device_spelling}
 use Rattle.csi_codec.specs.Modes.{mode_spelling}
 use Rattle.csi_codec.specs.Rendition.{palette_tokens, opaque_tokens, alpha_tokens, colour_tokens, short_colour_tokens, underline_colour_tokens, underline_tokens, sgr_spelling}
@@ -36,6 +34,7 @@ use Rattle.csi_codec.specs.Laws.{KeepsRests}
 use Rattle.csi_codec.specs.Sequences.{csi_text}
 use Rattle.csi_codec.specs.Texts.{tokens_of}
 use Rattle.csi_codec.specs.Fronts.{most_tokens, HasFront, whole_front, EachTextIsFront, TextsAreFronts}
+use Rattle.csi_codec.proofs.SlotLemmas.{slots_few}
 use Rattle.csi_codec.proofs.ReadingLemmas.{csi_reading-keeps}
 use Rattle.csi_codec.proofs.TextLemmas.{list_back}
 use Rattle.csi_codec.specs.Writable.{WritableTextsAreFronts}
@@ -47,54 +46,13 @@ use Rattle.csi_codec.proofs.TextTrip.{list_bytes, EachIsWritten, reading-written
 abbrev Short : List CsiParam → Type 0
 Short ts = length ts ≤ 12
 
-count_short : (n : ℕ) → Short (count_tokens n)
-count_short n = cond_both (eqb n 1) [] (number_tokens n) Short (λ e. omega arith) (λ e. omega arith)
-
-extent_short : (n : ℕ) → Short (extent_tokens n)
-extent_short n = cond_both (eqb n 0) [] (number_tokens n) Short (λ e. omega arith) (λ e. omega arith)
-
 cursor_short : (c : Cursor) → Short (cursor_spelling c).params
 unfolding cursor_spelling
-cursor_short (variant.Up n) = count_short n
-cursor_short (variant.Down n) = count_short n
-cursor_short (variant.Right n) = count_short n
-cursor_short (variant.Left n) = count_short n
-cursor_short (variant.NextLine n) = count_short n
-cursor_short (variant.PrecedingLine n) = count_short n
-cursor_short (variant.CharacterPositionForward n) = count_short n
-cursor_short (variant.CharacterPositionBackward n) = count_short n
-cursor_short (variant.LinePositionForward n) = count_short n
-cursor_short (variant.LinePositionBackward n) = count_short n
-cursor_short (variant.ForwardTabulation n) = count_short n
-cursor_short (variant.BackwardTabulation n) = count_short n
-cursor_short (variant.LineTabulation n) = count_short n
-cursor_short (variant.CharacterAbsolute n) = omega arith
-cursor_short (variant.CharacterPositionAbsolute n) = omega arith
-cursor_short (variant.LinePositionAbsolute n) = omega arith
-cursor_short (variant.TabulationClear n) = omega arith
-cursor_short (variant.TabulationControl n) = omega arith
-cursor_short (variant.CursorStyle n) = omega arith
-cursor_short (variant.Position a b) = omega arith
-cursor_short (variant.CharacterAndLinePosition a b) = omega arith
-cursor_short (variant.ActivePositionReport a b) = omega arith
-cursor_short (variant.SetTopAndBottomMargins a b) = omega arith
-cursor_short (variant.SetLeftAndRightMargins a b) = omega arith
-cursor_short variant.SaveCursor = omega arith
-cursor_short variant.RestoreCursor = omega arith
-cursor_short variant.RequestActivePositionReport = omega arith
+cursor_short c = slots_few (cursor_slots c).0
 
 edit_short : (e : Edit) → Short (edit_spelling e).params
 unfolding edit_spelling
-edit_short (change.InsertCharacter n) = count_short n
-edit_short (change.DeleteCharacter n) = count_short n
-edit_short (change.InsertLine n) = count_short n
-edit_short (change.DeleteLine n) = count_short n
-edit_short (change.EraseCharacter n) = count_short n
-edit_short (change.ScrollUp n) = count_short n
-edit_short (change.ScrollDown n) = count_short n
-edit_short (change.Repeat n) = count_short n
-edit_short (change.EraseInDisplay extent) = extent_short (erase_in_display_number extent)
-edit_short (change.EraseInLine extent) = extent_short (erase_in_line_number extent)
+edit_short e = slots_few (edit_slots e).0
 
 device_short : (d : Device) → Short (device_spelling d).params
 unfolding device_spelling
@@ -105,11 +63,7 @@ device_short StatusReport = omega arith
 mode_short : (m : Mode) → Short (mode_spelling m).params
 unfolding mode_spelling
 mode_short (does.SetDecPrivateMode m) = omega arith
-mode_short (does.ResetDecPrivateMode m) = omega arith
-mode_short (does.SaveDecPrivateMode m) = omega arith
-mode_short (does.RestoreDecPrivateMode m) = omega arith
-mode_short (does.SetMode m) = omega arith
-mode_short (does.ResetMode m) = omega arith
+mode_short _ = omega arith
 
 colour_short : (target : ℕ) (c : SrgbaTuple) → Short (colour_tokens target c)
 colour_short target c = cond_both (eqb c.3 255) (opaque_tokens target c.0 c.1 c.2) (alpha_tokens target c.0 c.1 c.2 c.3) Short (λ e. omega arith) (λ e. omega arith)
@@ -127,11 +81,7 @@ line_colour_short (color.TrueColor c) = colour_short 58 c
 
 underline_short : (line : Underline) → Short (underline_tokens line)
 underline_short underline.None = omega arith
-underline_short underline.Single = omega arith
-underline_short underline.Double = omega arith
-underline_short underline.Curly = omega arith
-underline_short underline.Dotted = omega arith
-underline_short underline.Dashed = omega arith
+underline_short _ = omega arith
 
 sgr_short : (v : Sgr) → Short (sgr_spelling v).params
 unfolding sgr_spelling
@@ -143,11 +93,6 @@ sgr_short (value.Underline line) = underline_short line
 sgr_short (value.Blink blink.Slow) = omega arith
 sgr_short (value.Blink blink.Rapid) = omega arith
 sgr_short (value.Blink blink.None) = omega arith
-sgr_short (value.Italic on) = omega arith
-sgr_short (value.Inverse on) = omega arith
-sgr_short (value.Invisible on) = omega arith
-sgr_short (value.StrikeThrough on) = omega arith
-sgr_short (value.Overline on) = omega arith
 sgr_short (value.Font font.Default) = omega arith
 sgr_short (value.Font (font.Alternate n)) = omega arith
 sgr_short (value.VerticalAlign align.SuperScript) = omega arith
@@ -156,6 +101,7 @@ sgr_short (value.VerticalAlign align.BaseLine) = omega arith
 sgr_short (value.Foreground c) = named_short 38 39 30 82 c
 sgr_short (value.Background c) = named_short 48 49 40 92 c
 sgr_short (value.UnderlineColor c) = line_colour_short c
+sgr_short _ = omega arith
 
 -- ---- One text, and each
 

@@ -1,3 +1,4 @@
+mod SlotLemmas
 mod ShapeLemmas
 mod SgrLemmas
 mod PieceLemmas
@@ -21,8 +22,6 @@ mod FrontLemmas
 mod FrontTrip
 mod PairTrip
 mod SizeLemmas
-pub mod EqualValues
 mod LongestLemmas
 mod ColourLemmas
-mod SemicolonLemmas
-pub mod ShortLemmas
+mod ChosenLemmas

@@ -9,12 +9,12 @@ use Rattle.csi_codec.specs.declared.rendition.Sgr.{Sgr}
 use Rattle.csi_codec.specs.declared.rendition.Sgr.TheVariants as value
 use Rattle.csi_codec.specs.Parameters.{is_number}
 use Rattle.csi_codec.specs.Rendition.{Part, number_part, stands, Form, first_form, colour_forms, colour_form, colour_shape, taking, underline_numbered, underline_or_single, underline_shape, numbered_shape, sgr_shape, colon}
-use Rattle.csi_codec.specs.Longest.{lone_numbers, underline_shapes, colour_shapes, sgr_shapes, NoneIsLonger, LongestShapeDecides}
+use Rattle.csi_codec.specs.Longest.{lone_numbers, underline_shapes, colour_shapes, sgr_shapes, NoneIsLonger}
 use Rattle.csi_codec.proofs.ShapeLemmas.{number_is, numbered_shape-by}
 use Rattle.csi_codec.proofs.SgrLemmas.{Takes, sgr_shape_takes}
 
 -- how many tokens a value took
-second : {X : Type 0} (x y : X) (k n : ℕ) → ◌≡◌ {A = Option (X × ℕ)} (Some (x, k)) (Some (y, n)) → k ≡ n
+pub second : {X : Type 0} (x y : X) (k n : ℕ) → ◌≡◌ {A = Option (X × ℕ)} (Some (x, k)) (Some (y, n)) → k ≡ n
 second {X} x y k n e = let q : ◌≡◌ {A = X × ℕ} (x, k) (y, n) = cc in ap (λ (p : X × ℕ). p.1) q
 
 none-append : (a b : List (List Part)) (ts : List CsiParam) (n : ℕ) → NoneIsLonger a ts n → NoneIsLonger b ts n → NoneIsLonger (a ++ b) ts n
@@ -29,15 +29,15 @@ ones (k ∷ numbers) ts n h = (λ s. omega arith, ones numbers ts n h)
 -- ---- Colours
 
 -- the lengths go down
-abbrev AllShorter : ℕ → List Form → Type 0
+abbrev pub AllShorter : ℕ → List Form → Type 0
 AllShorter n [] = Unit {0}
 AllShorter n (form ∷ forms) = (length form.0 ≤ n) × AllShorter n forms
 
-abbrev LongestFirst : List Form → Type 0
+abbrev pub LongestFirst : List Form → Type 0
 LongestFirst [] = Unit {0}
 LongestFirst (form ∷ forms) = AllShorter (length form.0) forms × LongestFirst forms
 
-listed : LongestFirst colour_forms
+pub listed : LongestFirst colour_forms
 listed = (
   (omega arith, (omega arith, (omega arith, (omega arith, (omega arith, (omega arith, tt)))))),
   (
@@ -49,10 +49,10 @@ listed = (
   ),
 )
 
-abbrev shapes_of : List Form → List (List Part)
+abbrev pub shapes_of : List Form → List (List Part)
 shapes_of forms = map (λ form. form.0) forms
 
-all_shorter : (forms : List Form) (ts : List CsiParam) (n : ℕ) → AllShorter n forms → NoneIsLonger (shapes_of forms) ts n
+pub all_shorter : (forms : List Form) (ts : List CsiParam) (n : ℕ) → AllShorter n forms → NoneIsLonger (shapes_of forms) ts n
 all_shorter [] ts n h = tt
 all_shorter (form ∷ forms) ts n h = (λ s. h.0, all_shorter forms ts n h.1)
 
@@ -69,15 +69,15 @@ first_longest (form ∷ forms) ts c n h e =
     (λ p q. (λ s. cc, first_longest forms ts c n h.1 q)) e
 
 -- behind its number
-abbrev behind : ℕ → List Form → List (List Part)
+abbrev pub behind : ℕ → List Form → List (List Part)
 behind target forms = map (λ form. number_part target ∷ form.0) forms
 
-chosen_colour : (target : ℕ) (forms : List Form) (z : ℤ) (ts : List CsiParam) (n : ℕ) → NoneIsLonger (shapes_of forms) ts n → NoneIsLonger (behind target forms) (Integer z ∷ ts) (n + 1)
+pub chosen_colour : (target : ℕ) (forms : List Form) (z : ℤ) (ts : List CsiParam) (n : ℕ) → NoneIsLonger (shapes_of forms) ts n → NoneIsLonger (behind target forms) (Integer z ∷ ts) (n + 1)
 chosen_colour target [] z ts n h = tt
 chosen_colour target (form ∷ forms) z ts n h =
     (λ s. let stood : stands form.0 ts ≡ true = (and_parts (is_number target z) (stands form.0 ts) s).1 in let short = h.0 stood in omega arith, chosen_colour target forms z ts n h.1)
 
-other_colour : (target : ℕ) (forms : List Form) (z : ℤ) (ts : List CsiParam) (n : ℕ) → is_number target z ≡ false → NoneIsLonger (behind target forms) (Integer z ∷ ts) n
+pub other_colour : (target : ℕ) (forms : List Form) (z : ℤ) (ts : List CsiParam) (n : ℕ) → is_number target z ≡ false → NoneIsLonger (behind target forms) (Integer z ∷ ts) n
 other_colour target [] z ts n h = tt
 other_colour target (form ∷ forms) z ts n h =
     (λ s. let is : is_number target z ≡ true = (and_parts (is_number target z) (stands form.0 ts) s).0 in cc, other_colour target forms z ts n h)
@@ -88,10 +88,10 @@ byte_colour target (form ∷ forms) b ts n = (λ s. cc, byte_colour target forms
 
 -- ---- Underlines
 
-abbrev lines : List ℕ → List (List Part)
+abbrev pub lines : List ℕ → List (List Part)
 lines kinds = map (λ k. number_part 4 ∷ colon ∷ number_part k ∷ []) kinds
 
-other_line : (kinds : List ℕ) (z : ℤ) (ts : List CsiParam) (n : ℕ) → is_number 4 z ≡ false → NoneIsLonger (lines kinds) (Integer z ∷ ts) n
+pub other_line : (kinds : List ℕ) (z : ℤ) (ts : List CsiParam) (n : ℕ) → is_number 4 z ≡ false → NoneIsLonger (lines kinds) (Integer z ∷ ts) n
 other_line [] z ts n h = tt
 other_line (k ∷ kinds) z ts n h =
     (λ s. let is : is_number 4 z ≡ true = (and_parts (is_number 4 z) (stands (colon ∷ number_part k ∷ []) ts) s).0 in cc, other_line kinds z ts n h)
@@ -137,7 +137,7 @@ underlines = ((_, refl), ((_, refl), ((_, refl), ((_, refl), ((_, refl), ((_, re
 -- ---- Every shape
 
 module _ (ts : List CsiParam) (n : ℕ) (some : 1 ≤ n) where
-  every : NoneIsLonger underline_shapes ts n → NoneIsLonger (colour_shapes 38) ts n → NoneIsLonger (colour_shapes 48) ts n → NoneIsLonger (colour_shapes 58) ts n → NoneIsLonger sgr_shapes ts n
+  pub every : NoneIsLonger underline_shapes ts n → NoneIsLonger (colour_shapes 38) ts n → NoneIsLonger (colour_shapes 48) ts n → NoneIsLonger (colour_shapes 58) ts n → NoneIsLonger sgr_shapes ts n
   every under fore back line = (
     λ s. some,
     none-append (map (λ k. number_part k ∷ []) lone_numbers) (underline_shapes ++ (colour_shapes 38 ++ (colour_shapes 48 ++ colour_shapes 58))) ts n (ones lone_numbers ts n some)
@@ -182,9 +182,9 @@ module _ (z : ℤ) (ts : List CsiParam) (v : Sgr) (n : ℕ) where
 some_taken : (ts : List CsiParam) (v : Sgr) (n : ℕ) → sgr_shape ts ≡ Some (v, n) → 1 ≤ n
 some_taken ts v n e = let Q : Option (Sgr × ℕ) → Type 0 = λ found. Takes (length ts) found in (subst Q e (sgr_shape_takes ts)).0
 
-pub longest_shape_decides-lem : LongestShapeDecides
+pub none_longer : (ts : List CsiParam) (v : Sgr) (n : ℕ) → sgr_shape ts ≡ Some (v, n) → NoneIsLonger sgr_shapes ts n
 unfolding sgr_shape
-longest_shape_decides-lem [] v n e = cc
-longest_shape_decides-lem (P b ∷ ts) v n e =
+none_longer [] v n e = cc
+none_longer (P b ∷ ts) v n e =
     every (P b ∷ ts) n (some_taken (P b ∷ ts) v n e) (byte_line (0 ∷ 1 ∷ 2 ∷ 3 ∷ 4 ∷ 5 ∷ []) b ts n) (byte_colour 38 colour_forms b ts n) (byte_colour 48 colour_forms b ts n) (byte_colour 58 colour_forms b ts n)
-longest_shape_decides-lem (Integer z ∷ ts) v n e = number_longest z ts v n (some_taken (Integer z ∷ ts) v n e) e
+none_longer (Integer z ∷ ts) v n e = number_longest z ts v n (some_taken (Integer z ∷ ts) v n e) e

@@ -22,75 +22,11 @@ use Rattle.csi_codec.specs.Writable.{IsWritablePrivateMode, IsWritableStandardMo
 
 dec_named : (known : DecPrivateModeCode) → dec_mode_of (dec_private_mode_number known) ≡ private.Code known
 dec_named dec.ApplicationCursorKeys = refl
-dec_named dec.DecAnsiMode = refl
-dec_named dec.Select132Columns = refl
-dec_named dec.SmoothScroll = refl
-dec_named dec.ReverseVideo = refl
-dec_named dec.OriginMode = refl
-dec_named dec.AutoWrap = refl
-dec_named dec.AutoRepeat = refl
-dec_named dec.StartBlinkingCursor = refl
-dec_named dec.ShowCursor = refl
-dec_named dec.ReverseWraparound = refl
-dec_named dec.EnableAlternateScreen = refl
-dec_named dec.LeftRightMarginMode = refl
-dec_named dec.SixelDisplayMode = refl
-dec_named dec.MouseTracking = refl
-dec_named dec.HighlightMouseTracking = refl
-dec_named dec.ButtonEventMouse = refl
-dec_named dec.AnyEventMouse = refl
-dec_named dec.FocusTracking = refl
-dec_named dec.Utf8Mouse = refl
-dec_named dec.SGRMouse = refl
-dec_named dec.SGRPixelsMouse = refl
-dec_named dec.XTermMetaSendsEscape = refl
-dec_named dec.XTermAltSendsEscape = refl
-dec_named dec.OptEnableAlternateScreen = refl
-dec_named dec.SaveCursor = refl
-dec_named dec.ClearAndEnableAlternateScreen = refl
-dec_named dec.UsePrivateColorRegistersForEachGraphic = refl
-dec_named dec.BracketedPaste = refl
-dec_named dec.SynchronizedOutput = refl
-dec_named dec.GraphemeClustering = refl
-dec_named dec.MinTTYApplicationEscapeKeyMode = refl
-dec_named dec.SixelScrollsRight = refl
-dec_named dec.Win32InputMode = refl
+dec_named _ = refl
 
 dec_small : (known : DecPrivateModeCode) → leb (dec_private_mode_number known) 65535 ≡ true
 dec_small dec.ApplicationCursorKeys = refl
-dec_small dec.DecAnsiMode = refl
-dec_small dec.Select132Columns = refl
-dec_small dec.SmoothScroll = refl
-dec_small dec.ReverseVideo = refl
-dec_small dec.OriginMode = refl
-dec_small dec.AutoWrap = refl
-dec_small dec.AutoRepeat = refl
-dec_small dec.StartBlinkingCursor = refl
-dec_small dec.ShowCursor = refl
-dec_small dec.ReverseWraparound = refl
-dec_small dec.EnableAlternateScreen = refl
-dec_small dec.LeftRightMarginMode = refl
-dec_small dec.SixelDisplayMode = refl
-dec_small dec.MouseTracking = refl
-dec_small dec.HighlightMouseTracking = refl
-dec_small dec.ButtonEventMouse = refl
-dec_small dec.AnyEventMouse = refl
-dec_small dec.FocusTracking = refl
-dec_small dec.Utf8Mouse = refl
-dec_small dec.SGRMouse = refl
-dec_small dec.SGRPixelsMouse = refl
-dec_small dec.XTermMetaSendsEscape = refl
-dec_small dec.XTermAltSendsEscape = refl
-dec_small dec.OptEnableAlternateScreen = refl
-dec_small dec.SaveCursor = refl
-dec_small dec.ClearAndEnableAlternateScreen = refl
-dec_small dec.UsePrivateColorRegistersForEachGraphic = refl
-dec_small dec.BracketedPaste = refl
-dec_small dec.SynchronizedOutput = refl
-dec_small dec.GraphemeClustering = refl
-dec_small dec.MinTTYApplicationEscapeKeyMode = refl
-dec_small dec.SixelScrollsRight = refl
-dec_small dec.Win32InputMode = refl
+dec_small _ = refl
 
 private_named : (m : DecPrivateMode) → IsWritablePrivateMode m → dec_mode_of (dec_mode_code m) ≡ m
 private_named (private.Code known) h = dec_named known
@@ -102,19 +38,11 @@ private_within (private.Unspecified n) h = le-leb n 65535 h.0
 
 ansi_named : (known : TerminalModeCode) → ansi_mode_of (terminal_mode_number known) ≡ standard.Code known
 ansi_named ansi.KeyboardAction = refl
-ansi_named ansi.Insert = refl
-ansi_named ansi.BiDirectionalSupportMode = refl
-ansi_named ansi.SendReceive = refl
-ansi_named ansi.AutomaticNewline = refl
-ansi_named ansi.ShowCursor = refl
+ansi_named _ = refl
 
 ansi_small : (known : TerminalModeCode) → leb (terminal_mode_number known) 65535 ≡ true
 ansi_small ansi.KeyboardAction = refl
-ansi_small ansi.Insert = refl
-ansi_small ansi.BiDirectionalSupportMode = refl
-ansi_small ansi.SendReceive = refl
-ansi_small ansi.AutomaticNewline = refl
-ansi_small ansi.ShowCursor = refl
+ansi_small _ = refl
 
 standard_named : (m : TerminalMode) → IsWritableStandardMode m → ansi_mode_of (ansi_mode_code m) ≡ m
 standard_named (standard.Code known) h = ansi_named known

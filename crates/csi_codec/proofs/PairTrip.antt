@@ -5,7 +5,7 @@ use Rattle.std.proofs.lemmas.Str.{encode_ascii}
 use Rattle.csi_codec.specs.declared.escapes.EscCode.{EscCode}
 use Rattle.csi_codec.specs.declared.escapes.EscCode.TheVariants as code
 use Rattle.csi_codec.specs.declared.escapes.Esc.TheVariants as pair
-use Rattle.csi_codec.specs.Escapes.{lone_code, pair_code, code_or_bytes, esc_reading, esc_code_intermediate, esc_code_control, esc_bytes}
+use Rattle.csi_codec.specs.Escapes.{known_code, code_or_bytes, esc_reading, esc_code_bytes, esc_bytes}
 use Rattle.csi_codec.specs.Writable.{IsOpener, ArePairBytes, IsWritableEsc, pair_bytes, PairsReadBack}
 
 pair_text : (intermediate : Option ℕ) (final : ℕ) → ArePairBytes intermediate final → esc_bytes intermediate final ≡ pair_bytes intermediate final
@@ -36,7 +36,7 @@ not_opener b h o = elim o [
   ]
 ]
 
-code_bytes : (known : EscCode) → IsWritableEsc (pair.Code known) → ArePairBytes (esc_code_intermediate known) (esc_code_control known)
+code_bytes : (known : EscCode) → IsWritableEsc (pair.Code known) → ArePairBytes (esc_code_bytes known).0 (esc_code_bytes known).1
 code_bytes code.FullReset h = (omega arith, omega arith, not_opener 99 refl)
 code_bytes code.Index h = (omega arith, omega arith, not_opener 68 refl)
 code_bytes code.NextLine h = (omega arith, omega arith, not_opener 69 refl)
@@ -59,55 +59,16 @@ code_bytes code.DecRestoreCursorPosition h = (omega arith, omega arith, not_open
 code_bytes code.DecApplicationKeyPad h = (omega arith, omega arith, not_opener 61 refl)
 code_bytes code.DecNormalKeyPad h = (omega arith, omega arith, not_opener 62 refl)
 code_bytes code.DecLineDrawingG0 h = (omega arith, omega arith, omega arith, omega arith)
-code_bytes code.UkCharacterSetG0 h = (omega arith, omega arith, omega arith, omega arith)
-code_bytes code.AsciiCharacterSetG0 h = (omega arith, omega arith, omega arith, omega arith)
-code_bytes code.DecLineDrawingG1 h = (omega arith, omega arith, omega arith, omega arith)
-code_bytes code.UkCharacterSetG1 h = (omega arith, omega arith, omega arith, omega arith)
-code_bytes code.AsciiCharacterSetG1 h = (omega arith, omega arith, omega arith, omega arith)
-code_bytes code.DecScreenAlignmentDisplay h = (omega arith, omega arith, omega arith, omega arith)
-code_bytes code.DecDoubleHeightTopHalfLine h = (omega arith, omega arith, omega arith, omega arith)
-code_bytes code.DecDoubleHeightBottomHalfLine h = (omega arith, omega arith, omega arith, omega arith)
-code_bytes code.DecSingleWidthLine h = (omega arith, omega arith, omega arith, omega arith)
-code_bytes code.DecDoubleWidthLine h = (omega arith, omega arith, omega arith, omega arith)
+code_bytes _ h = (omega arith, omega arith, omega arith, omega arith)
 
-code_reading : (known : EscCode) → esc_reading (esc_code_intermediate known) (esc_code_control known) ≡ pair.Code known
-unfolding lone_code pair_code
+code_reading : (known : EscCode) → esc_reading (esc_code_bytes known).0 (esc_code_bytes known).1 ≡ pair.Code known
+unfolding known_code
 code_reading code.FullReset = refl
-code_reading code.Index = refl
-code_reading code.NextLine = refl
-code_reading code.CursorPositionLowerLeft = refl
-code_reading code.HorizontalTabSet = refl
-code_reading code.ReverseIndex = refl
-code_reading code.SingleShiftG2 = refl
-code_reading code.SingleShiftG3 = refl
-code_reading code.StartOfGuardedArea = refl
-code_reading code.EndOfGuardedArea = refl
-code_reading code.StartOfString = refl
-code_reading code.ReturnTerminalId = refl
-code_reading code.StringTerminator = refl
-code_reading code.PrivacyMessage = refl
-code_reading code.ApplicationProgramCommand = refl
-code_reading code.TmuxTitle = refl
-code_reading code.DecBackIndex = refl
-code_reading code.DecSaveCursorPosition = refl
-code_reading code.DecRestoreCursorPosition = refl
-code_reading code.DecApplicationKeyPad = refl
-code_reading code.DecNormalKeyPad = refl
-code_reading code.DecLineDrawingG0 = refl
-code_reading code.UkCharacterSetG0 = refl
-code_reading code.AsciiCharacterSetG0 = refl
-code_reading code.DecLineDrawingG1 = refl
-code_reading code.UkCharacterSetG1 = refl
-code_reading code.AsciiCharacterSetG1 = refl
-code_reading code.DecScreenAlignmentDisplay = refl
-code_reading code.DecDoubleHeightTopHalfLine = refl
-code_reading code.DecDoubleHeightBottomHalfLine = refl
-code_reading code.DecSingleWidthLine = refl
-code_reading code.DecDoubleWidthLine = refl
+code_reading _ = refl
 
 pub pairs_read_back-lem : PairsReadBack
 pairs_read_back-lem (pair.Code known) h =
-    let are : ArePairBytes (esc_code_intermediate known) (esc_code_control known) = code_bytes known h in
-    record { text = pair_text (esc_code_intermediate known) (esc_code_control known) are; bytes = are; reading = code_reading known }
+    let are : ArePairBytes (esc_code_bytes known).0 (esc_code_bytes known).1 = code_bytes known h in
+    record { text = pair_text (esc_code_bytes known).0 (esc_code_bytes known).1 are; bytes = are; reading = code_reading known }
 pairs_read_back-lem (pair.Unspecified intermediate final) h =
     record { text = pair_text intermediate final h.0; bytes = h.0; reading = ap (λ known. code_or_bytes known intermediate final) h.1 }

@@ -15,16 +15,17 @@ use Rattle.csi_codec.specs.declared.modes.Mode.{Mode}
 use Rattle.csi_codec.specs.declared.modes.Mode.TheVariants as does
 use Rattle.csi_codec.specs.declared.rendition.Sgr.{Sgr}
 use Rattle.csi_codec.specs.Parameters.{is_number, word_max, number_within, count, place_pair, one_slot, slot_and_space, slot_number}
+use Rattle.csi_codec.specs.Slots.{IsPlace}
 use Rattle.csi_codec.specs.Cursors.{cursor_style_named, tabulation_clear_named, tabulation_control_named, cursor_lines, cursor_reading, save_or_margins, restore, position_request}
 use Rattle.csi_codec.specs.Edits.{erase_in_line_named, erase_in_display_named, edit_lines, edit_reading}
 use Rattle.csi_codec.specs.Modes.{dec_private_mode_named, dec_mode_by, dec_mode_of, terminal_mode_named, ansi_mode_by, ansi_mode_of, private_step, standard_step, private_mode_reading, mode_reading}
 use Rattle.csi_codec.specs.Rendition.{byte_of, byte_at, palette_at, opaque_at, colour_at, colour, colour_forms, listed_or, single_codes, ranged_code, single_code, is_between, sgr_shape}
-use Rattle.csi_codec.specs.Writable.{IsPlace, IsWritableCursor, IsWritableEdit, IsWritablePrivateMode, IsWritableStandardMode, IsWritableMode, IsColour, IsWritableSgr}
+use Rattle.csi_codec.specs.Writable.{IsWritableCursor, IsWritableEdit, IsWritablePrivateMode, IsWritableStandardMode, IsWritableMode, IsColour, IsWritableSgr}
 use Rattle.csi_codec.proofs.BackLemmas.{EachLine, read_by-each, made, count_valid, pair_valid}
 use Rattle.csi_codec.proofs.ShapeLemmas.{EachForm, EachShape, sgr_shape-each}
 use Rattle.csi_codec.specs.declared.sgr_reading.Target.{Target}
 use Rattle.csi_codec.specs.declared.sgr_reading.Target.TheVariants as target
-use Rattle.csi_codec.specs.ColourCases.{set_to}
+use Rattle.csi_codec.specs.Targets.{set_to}
 
 same_value : {A : Type 0} (Q : A → Type 0) (x y : A) → Some x ≡ Some y → Q x → Q y
 same_value Q x y e h = let q : x ≡ y = cc in subst Q q h

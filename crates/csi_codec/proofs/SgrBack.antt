@@ -166,11 +166,7 @@ module _ (truncated : Bool) where
   underline-back : (line : Underline) → SgrBack (value.Underline line)
   unfolding csi_reading pieces sgr_piece sgr_shape numbered_shape colour_form single_code sgr_spelling
   underline-back underline.None = refl
-  underline-back underline.Single = refl
-  underline-back underline.Double = refl
-  underline-back underline.Curly = refl
-  underline-back underline.Dotted = refl
-  underline-back underline.Dashed = refl
+  underline-back _ = refl
 
   font-back : (k : ℕ) → 1 ≤ k → k ≤ 9 → SgrBack (value.Font (font.Alternate k))
   unfolding csi_reading pieces sgr_piece sgr_shape numbered_shape colour_form single_code sgr_spelling

@@ -12,7 +12,7 @@ use Rattle.csi_codec.specs.declared.sgr_reading.Target.{Target}
 use Rattle.csi_codec.specs.declared.sgr_reading.Target.TheVariants as target
 use Rattle.csi_codec.specs.Parameters.{is_number}
 use Rattle.csi_codec.specs.Rendition.{stands, taking, Form, first_form, colour_forms, colour_form, colour_shape, plain_code, single_code, underline_numbered, underline_or_single, underline_shape, numbered_shape, sgr_shape}
-use Rattle.csi_codec.specs.ColourCases.{set_to}
+use Rattle.csi_codec.specs.Targets.{set_to}
 
 pub number_is : (k : ℕ) (z : ℤ) → is_number k z ≡ true → z ≡ pos k
 number_is k (negsuc m) h = cc

@@ -1,5 +1,5 @@
 -- How many bytes the text of a value that can be written has at most.
-use Rattle.std.proofs.Common.{◌≡◌, ℕ, suc, ◌+◌, ◌<◌, ◌≤◌, ◌^◌, pos, negsuc, eqb, ltb, true, false, cond, List, [], ◌∷◌, ◌++◌, length, length-append, Option, Some, None, arith, ap, subst, sym}
+use Rattle.std.proofs.Common.{◌≡◌, ℕ, suc, ◌+◌, ◌<◌, ◌≤◌, ◌^◌, pos, eqb, ltb, true, false, cond, List, [], ◌∷◌, length, length-append, Option, Some, None, arith, ap, subst, sym, refl}
 use Rattle.std.specs.Prelude.{flat_map, encode_utf8}
 use Rattle.std.specs.Fmt.{decimal}
 use Rattle.std.proofs.lemmas.Fmt.{length-decimal-le}
@@ -15,18 +15,6 @@ use Rattle.cell_base.specs.declared.attributes.Blink.TheVariants as blink
 use Rattle.cell_base.specs.declared.attributes.VerticalAlign.TheVariants as align
 use Rattle.csi_codec.specs.declared.parameters.CsiParam.{CsiParam}
 use Rattle.csi_codec.specs.declared.parameters.CsiParam.TheVariants.{Integer, P}
-use Rattle.csi_codec.specs.declared.cursors.CursorStyle.{CursorStyle}
-use Rattle.csi_codec.specs.declared.cursors.CursorStyle.TheVariants as style
-use Rattle.csi_codec.specs.declared.cursors.TabulationClear.{TabulationClear}
-use Rattle.csi_codec.specs.declared.cursors.TabulationClear.TheVariants as clear
-use Rattle.csi_codec.specs.declared.cursors.CursorTabulationControl.{CursorTabulationControl}
-use Rattle.csi_codec.specs.declared.cursors.CursorTabulationControl.TheVariants as control
-use Rattle.csi_codec.specs.declared.cursors.Cursor.TheVariants as variant
-use Rattle.csi_codec.specs.declared.edits.EraseInLine.{EraseInLine}
-use Rattle.csi_codec.specs.declared.edits.EraseInLine.TheVariants as line
-use Rattle.csi_codec.specs.declared.edits.EraseInDisplay.{EraseInDisplay}
-use Rattle.csi_codec.specs.declared.edits.EraseInDisplay.TheVariants as display
-use Rattle.csi_codec.specs.declared.edits.Edit.TheVariants as change
 use Rattle.csi_codec.specs.declared.devices.Device.TheVariants.{SoftReset, RequestPrimaryDeviceAttributes, StatusReport}
 use Rattle.csi_codec.specs.declared.modes.DecPrivateMode.{DecPrivateMode}
 use Rattle.csi_codec.specs.declared.modes.TerminalMode.{TerminalMode}
@@ -34,65 +22,66 @@ use Rattle.csi_codec.specs.declared.modes.Mode.TheVariants as does
 use Rattle.csi_codec.specs.declared.rendition.Sgr.TheVariants as value
 use Rattle.csi_codec.specs.declared.rendition.Font.TheVariants as font
 use Rattle.csi_codec.specs.Parameters.{token_text, number_tokens, count_tokens, pair_tokens, extent_tokens, private_tokens}
-use Rattle.csi_codec.specs.Cursors.{cursor_spelling, cursor_style_number, tabulation_clear_number, tabulation_control_number}
-use Rattle.csi_codec.specs.Edits.{edit_spelling, erase_in_display_number, erase_in_line_number}
+use Rattle.csi_codec.specs.declared.edits.Edit.{Edit}
+use Rattle.csi_codec.specs.declared.edits.Edit.TheVariants as change
+use Rattle.csi_codec.specs.Slots.{Slots, nothing, counted, placed, paired, named, extent, spaced, slots_tokens, IsPlace, ArePlaces}
+use Rattle.csi_codec.specs.Cursors.{cursor_slots, cursor_spelling}
+use Rattle.csi_codec.specs.Edits.{edit_slots, edit_spelling}
 use Rattle.csi_codec.specs.Devices.{device_spelling}
 use Rattle.csi_codec.specs.Modes.{mode_spelling, dec_mode_code, ansi_mode_code}
 use Rattle.csi_codec.specs.Rendition.{palette_tokens, opaque_tokens, alpha_tokens, colour_tokens, short_colour_tokens, underline_colour_tokens, underline_tokens, sgr_spelling}
 use Rattle.csi_codec.specs.Actions.{Action, sgr, cursor, edit, mode, device, unspecified, spelling_of}
 use Rattle.csi_codec.specs.Sequences.{csi_text}
-use Rattle.csi_codec.specs.Writable.{IsPlace, IsWritablePrivateMode, IsWritableStandardMode, IsColour, pair_bytes, esc_intermediate, esc_final}
+use Rattle.csi_codec.specs.Escapes.{bytes_of_pair}
+use Rattle.csi_codec.specs.Writable.{IsWritablePrivateMode, IsWritableStandardMode, IsColour, pair_bytes}
 use Rattle.csi_codec.specs.Sizes.{SgrsAreShort, CursorsAreShort, EditsAreShort, ModesAreShort, DevicesAreShort, ActionsAreShort, PairsAreShort}
+use Rattle.csi_codec.proofs.SlotLemmas.{AreDigits, cursor_digits, edit_digits, cursor_final, edit_final}
 use Rattle.csi_codec.proofs.ModeBack.{private_within, standard_within}
 use Rattle.csi_codec.proofs.PairTrip.{pairs_read_back-lem}
 
 -- ---- Tokens
 
-abbrev total : List ℕ → ℕ
-total [] = 0
-total (k ∷ ks) = k + total ks
-
--- each token's text has at most so many bytes
-abbrev Within : List ℕ → List CsiParam → Type 0
-Within [] [] = Unit {0}
-Within (k ∷ ks) (P b ∷ ts) = (b < 128) × (1 ≤ k) × Within ks ts
-Within (k ∷ ks) (Integer (pos n) ∷ ts) = (0 < k) × (n < 10 ^ k) × (n < 2 ^ 64) × Within ks ts
-Within _ _ = ⊥
-
-both_within : (k : ℕ) (first : List ℕ) (ks : List ℕ) (ts : List CsiParam) → length first ≤ k → length (flat_map token_text ts) ≤ total ks
-    → length (first ++ flat_map token_text ts) ≤ k + total ks
-both_within k first ks ts h l = omega (arith, length-append first (flat_map token_text ts))
-
-tokens_within : (ks : List ℕ) (ts : List CsiParam) → Within ks ts → length (flat_map token_text ts) ≤ total ks
-tokens_within [] [] h = omega arith
-tokens_within [] (t ∷ ts) h = absurd h
-tokens_within (k ∷ ks) [] h = absurd h
-tokens_within (k ∷ ks) (Integer (negsuc n) ∷ ts) h = absurd h
-tokens_within (k ∷ ks) (P b ∷ ts) h =
-    let one : length (encode_utf8 b) ≡ 1 = ap length (encode_ascii b h.0) in
-    both_within k (encode_utf8 b) ks ts (omega (arith, h.1)) (tokens_within ks ts h.2)
-tokens_within (k ∷ ks) (Integer (pos n) ∷ ts) h =
-    both_within k (decimal n) ks ts (length-decimal-le k n h.0 h.1 h.2) (tokens_within ks ts h.3)
-
--- all of them have
+-- their text has at most so many bytes
 abbrev Short : ℕ → List CsiParam → Type 0
 Short k ts = length (flat_map token_text ts) ≤ k
 
-short_by : (k : ℕ) (ks : List ℕ) (ts : List CsiParam) → Within ks ts → total ks ≤ k → Short k ts
-short_by k ks ts h l = omega (arith, tokens_within ks ts h)
+weaker : (j k : ℕ) (ts : List CsiParam) → Short j ts → j ≤ k → Short k ts
+weaker j k ts h l = omega arith
+
+sign_first : (k b : ℕ) (ts : List CsiParam) → b < 128 → Short k ts → Short (k + 1) (P b ∷ ts)
+sign_first k b ts h l =
+    let one : length (encode_utf8 b) ≡ 1 = ap length (encode_ascii b h) in
+    omega (arith, length-append (encode_utf8 b) (flat_map token_text ts))
+
+number_first : (k j n : ℕ) (ts : List CsiParam) → 0 < j → n < 10 ^ j → n < 2 ^ 64 → Short k ts → Short (k + j) (Integer (pos n) ∷ ts)
+number_first k j n ts s h w l = omega (arith, length-decimal-le j n s h w, length-append (decimal n) (flat_map token_text ts))
 
 number_short : (k n : ℕ) → 0 < k → n < 10 ^ k → n < 2 ^ 64 → Short k (number_tokens n)
-number_short k n s h w = short_by k (k ∷ []) (number_tokens n) (s, h, w, tt) (omega arith)
+number_short k n s h w = weaker (0 + k) k (number_tokens n) (number_first 0 k n [] s h w (omega arith)) (omega arith)
+
+-- a `:` and a number of one byte
+abbrev channel : ℕ → List CsiParam → List CsiParam
+channel n ts = P 58 ∷ Integer (pos n) ∷ ts
+
+channel_first : (k n : ℕ) (ts : List CsiParam) → n ≤ 255 → Short k ts → Short (k + 4) (channel n ts)
+channel_first k n ts h l =
+    weaker (k + 3 + 1) (k + 4) (channel n ts)
+    (sign_first (k + 3) 58 (Integer (pos n) ∷ ts) (omega arith) (number_first k 3 n ts (omega arith) (omega arith) (omega arith) l)) (omega arith)
+
+-- what a colour is for, a `:` and its kind
+kind_first : (k target kind : ℕ) (ts : List CsiParam) → target < 100 → kind < 10 → Short k ts → Short (k + 4) (Integer (pos target) ∷ P 58 ∷ Integer (pos kind) ∷ ts)
+kind_first k target kind ts h d l =
+    weaker (k + 1 + 1 + 2) (k + 4) (Integer (pos target) ∷ P 58 ∷ Integer (pos kind) ∷ ts)
+    (number_first (k + 1 + 1) 2 target (P 58 ∷ Integer (pos kind) ∷ ts) (omega arith) (omega arith) (omega arith)
+    (sign_first (k + 1) 58 (Integer (pos kind) ∷ ts) (omega arith) (number_first k 1 kind ts (omega arith) (omega arith) (omega arith) l))) (omega arith)
 
 count_short : (n : ℕ) → IsPlace n → Short 10 (count_tokens n)
 count_short n h = cond_both (eqb n 1) [] (number_tokens n) (Short 10) (λ e. omega arith) (λ e. number_short 10 n (omega arith) (omega (arith, h.1)) (omega (arith, h.1)))
 
 pair_short : (a b : ℕ) → IsPlace a → IsPlace b → Short 21 (pair_tokens a b)
-pair_short a b h l = short_by 21 (10 ∷ 1 ∷ 10 ∷ []) (pair_tokens a b)
-    (omega arith, omega (arith, h.1), omega (arith, h.1), (omega arith, omega arith, (omega arith, omega (arith, l.1), omega (arith, l.1), tt))) (omega arith)
-
-weaker : (j k : ℕ) (ts : List CsiParam) → Short j ts → j ≤ k → Short k ts
-weaker j k ts h l = omega arith
+pair_short a b h l =
+    number_first 11 10 a (P 59 ∷ Integer (pos b) ∷ []) (omega arith) (omega (arith, h.1)) (omega (arith, h.1))
+    (sign_first 10 59 (Integer (pos b) ∷ []) (omega arith) (number_short 10 b (omega arith) (omega (arith, l.1)) (omega (arith, l.1))))
 
 -- ---- Texts
 
@@ -101,115 +90,65 @@ text_short k a h c =
     let one : length (encode_utf8 (spelling_of a).control) ≡ 1 = ap length (encode_ascii (spelling_of a).control c) in
     omega (arith, length-append (flat_map token_text (spelling_of a).params) (encode_utf8 (spelling_of a).control))
 
-clear_small : (known : TabulationClear) → tabulation_clear_number known < 10
-clear_small clear.ClearCharacterTabStopAtActivePosition = omega arith
-clear_small clear.ClearLineTabStopAtActiveLine = omega arith
-clear_small clear.ClearCharacterTabStopsAtActiveLine = omega arith
-clear_small clear.ClearAllCharacterTabStops = omega arith
-clear_small clear.ClearAllLineTabStops = omega arith
-clear_small clear.ClearAllTabStops = omega arith
-
-control_small : (known : CursorTabulationControl) → tabulation_control_number known < 10
-control_small control.SetCharacterTabStopAtActivePosition = omega arith
-control_small control.SetLineTabStopAtActiveLine = omega arith
-control_small control.ClearCharacterTabStopAtActivePosition = omega arith
-control_small control.ClearLineTabstopAtActiveLine = omega arith
-control_small control.ClearAllCharacterTabStopsAtActiveLine = omega arith
-control_small control.ClearAllCharacterTabStops = omega arith
-control_small control.ClearAllLineTabStops = omega arith
-
-style_small : (known : CursorStyle) → cursor_style_number known < 10
-style_small style.Default = omega arith
-style_small style.BlinkingBlock = omega arith
-style_small style.SteadyBlock = omega arith
-style_small style.BlinkingUnderline = omega arith
-style_small style.SteadyUnderline = omega arith
-style_small style.BlinkingBar = omega arith
-style_small style.SteadyBar = omega arith
-
-line_small : (known : EraseInLine) → erase_in_line_number known < 10
-line_small line.EraseToEndOfLine = omega arith
-line_small line.EraseToStartOfLine = omega arith
-line_small line.EraseLine = omega arith
-
-display_small : (known : EraseInDisplay) → erase_in_display_number known < 10
-display_small display.EraseToEndOfDisplay = omega arith
-display_small display.EraseToStartOfDisplay = omega arith
-display_small display.EraseDisplay = omega arith
-display_small display.EraseScrollback = omega arith
-
 digit_short : (n : ℕ) → n < 10 → Short 1 (number_tokens n)
 digit_short n h = number_short 1 n (omega arith) (omega arith) (omega arith)
 
 digit_and_space : (n : ℕ) → n < 10 → Short 2 (Integer (pos n) ∷ P 32 ∷ [])
-digit_and_space n h = short_by 2 (1 ∷ 1 ∷ []) (Integer (pos n) ∷ P 32 ∷ []) (omega arith, omega arith, omega arith, (omega arith, omega arith, tt)) (omega arith)
-
-count_wide : (n : ℕ) → IsPlace n → Short 21 (count_tokens n)
-count_wide n h = weaker 10 21 (count_tokens n) (count_short n h) (omega arith)
-
-place_wide : (n : ℕ) → IsPlace n → Short 21 (number_tokens n)
-place_wide n h = weaker 10 21 (number_tokens n) (number_short 10 n (omega arith) (omega (arith, h.1)) (omega (arith, h.1))) (omega arith)
-
-digit_wide : (n : ℕ) → n < 10 → Short 21 (number_tokens n)
-digit_wide n h = weaker 1 21 (number_tokens n) (digit_short n h) (omega arith)
-
-pub cursors_are_short : CursorsAreShort
-unfolding cursor_spelling
-cursors_are_short (variant.Up n) h = text_short 21 (cursor (variant.Up n)) (count_wide n h) (omega arith)
-cursors_are_short (variant.Down n) h = text_short 21 (cursor (variant.Down n)) (count_wide n h) (omega arith)
-cursors_are_short (variant.Right n) h = text_short 21 (cursor (variant.Right n)) (count_wide n h) (omega arith)
-cursors_are_short (variant.Left n) h = text_short 21 (cursor (variant.Left n)) (count_wide n h) (omega arith)
-cursors_are_short (variant.NextLine n) h = text_short 21 (cursor (variant.NextLine n)) (count_wide n h) (omega arith)
-cursors_are_short (variant.PrecedingLine n) h = text_short 21 (cursor (variant.PrecedingLine n)) (count_wide n h) (omega arith)
-cursors_are_short (variant.CharacterPositionForward n) h = text_short 21 (cursor (variant.CharacterPositionForward n)) (count_wide n h) (omega arith)
-cursors_are_short (variant.CharacterPositionBackward n) h = text_short 21 (cursor (variant.CharacterPositionBackward n)) (count_wide n h) (omega arith)
-cursors_are_short (variant.LinePositionForward n) h = text_short 21 (cursor (variant.LinePositionForward n)) (count_wide n h) (omega arith)
-cursors_are_short (variant.LinePositionBackward n) h = text_short 21 (cursor (variant.LinePositionBackward n)) (count_wide n h) (omega arith)
-cursors_are_short (variant.ForwardTabulation n) h = text_short 21 (cursor (variant.ForwardTabulation n)) (count_wide n h) (omega arith)
-cursors_are_short (variant.BackwardTabulation n) h = text_short 21 (cursor (variant.BackwardTabulation n)) (count_wide n h) (omega arith)
-cursors_are_short (variant.LineTabulation n) h = text_short 21 (cursor (variant.LineTabulation n)) (count_wide n h) (omega arith)
-cursors_are_short (variant.CharacterAbsolute n) h = text_short 21 (cursor (variant.CharacterAbsolute n)) (place_wide n h) (omega arith)
-cursors_are_short (variant.CharacterPositionAbsolute n) h = text_short 21 (cursor (variant.CharacterPositionAbsolute n)) (place_wide n h) (omega arith)
-cursors_are_short (variant.LinePositionAbsolute n) h = text_short 21 (cursor (variant.LinePositionAbsolute n)) (place_wide n h) (omega arith)
-cursors_are_short (variant.Position a b) h = text_short 21 (cursor (variant.Position a b)) (pair_short a b h.0 h.1) (omega arith)
-cursors_are_short (variant.CharacterAndLinePosition a b) h = text_short 21 (cursor (variant.CharacterAndLinePosition a b)) (pair_short a b h.0 h.1) (omega arith)
-cursors_are_short (variant.ActivePositionReport a b) h = text_short 21 (cursor (variant.ActivePositionReport a b)) (pair_short a b h.0 h.1) (omega arith)
-cursors_are_short (variant.SetTopAndBottomMargins a b) h = text_short 21 (cursor (variant.SetTopAndBottomMargins a b)) (pair_short a b h.0 h.1) (omega arith)
-cursors_are_short (variant.SetLeftAndRightMargins a b) h = text_short 21 (cursor (variant.SetLeftAndRightMargins a b)) (pair_short a b h.0 h.1) (omega arith)
-cursors_are_short (variant.TabulationClear known) h = text_short 21 (cursor (variant.TabulationClear known)) (digit_wide (tabulation_clear_number known) (clear_small known)) (omega arith)
-cursors_are_short (variant.TabulationControl known) h = text_short 21 (cursor (variant.TabulationControl known)) (digit_wide (tabulation_control_number known) (control_small known)) (omega arith)
-cursors_are_short (variant.CursorStyle known) h =
-    text_short 21 (cursor (variant.CursorStyle known)) (weaker 2 21 (Integer (pos (cursor_style_number known)) ∷ P 32 ∷ []) (digit_and_space (cursor_style_number known) (style_small known)) (omega arith)) (omega arith)
-cursors_are_short variant.SaveCursor h = text_short 21 (cursor variant.SaveCursor) (omega arith) (omega arith)
-cursors_are_short variant.RestoreCursor h = text_short 21 (cursor variant.RestoreCursor) (omega arith) (omega arith)
-cursors_are_short variant.RequestActivePositionReport h = text_short 21 (cursor variant.RequestActivePositionReport) (digit_wide 6 (omega arith)) (omega arith)
+digit_and_space n h = number_first 1 1 n (P 32 ∷ []) (omega arith) (omega arith) (omega arith) (sign_first 0 32 [] (omega arith) (omega arith))
 
 extent_short : (n : ℕ) → n < 10 → Short 10 (extent_tokens n)
 extent_short n h = cond_both (eqb n 0) [] (number_tokens n) (Short 10) (λ e. omega arith) (λ e. weaker 1 10 (number_tokens n) (digit_short n h) (omega arith))
 
+-- one number takes ten bytes at most, and two with a `;` 21
+abbrev width : Slots → ℕ
+width (paired a b) = 21
+width nothing = 10
+width (counted n) = 10
+width (placed n) = 10
+width (named n) = 10
+width (extent n) = 10
+width (spaced n) = 10
+
+slots_short : (s : Slots) → ArePlaces s → AreDigits s → Short (width s) (slots_tokens s)
+slots_short nothing h d = omega arith
+slots_short (counted n) h d = count_short n h
+slots_short (placed n) h d = number_short 10 n (omega arith) (omega (arith, h.1)) (omega (arith, h.1))
+slots_short (paired a b) h d = pair_short a b h.0 h.1
+slots_short (named n) h d = weaker 1 10 (number_tokens n) (digit_short n d) (omega arith)
+slots_short (extent n) h d = extent_short n d
+slots_short (spaced n) h d = weaker 2 10 (Integer (pos n) ∷ P 32 ∷ []) (digit_and_space n d) (omega arith)
+
+width_within : (s : Slots) → width s ≤ 21
+width_within (paired a b) = omega arith
+width_within _ = omega arith
+
+pub cursors_are_short : CursorsAreShort
+unfolding cursor_spelling
+cursors_are_short c h =
+    text_short 21 (cursor c) (weaker (width (cursor_slots c).0) 21 (slots_tokens (cursor_slots c).0) (slots_short (cursor_slots c).0 h (cursor_digits c)) (width_within (cursor_slots c).0))
+    (omega (arith, (cursor_final c).high))
+
+-- an edit has one number at most
+one_number : (e : Edit) → width (edit_slots e).0 ≡ 10
+one_number (change.Repeat n) = refl
+one_number _ = refl
+
 pub edits_are_short : EditsAreShort
 unfolding edit_spelling
-edits_are_short (change.InsertCharacter n) h = text_short 10 (edit (change.InsertCharacter n)) (count_short n h) (omega arith)
-edits_are_short (change.DeleteCharacter n) h = text_short 10 (edit (change.DeleteCharacter n)) (count_short n h) (omega arith)
-edits_are_short (change.InsertLine n) h = text_short 10 (edit (change.InsertLine n)) (count_short n h) (omega arith)
-edits_are_short (change.DeleteLine n) h = text_short 10 (edit (change.DeleteLine n)) (count_short n h) (omega arith)
-edits_are_short (change.EraseCharacter n) h = text_short 10 (edit (change.EraseCharacter n)) (count_short n h) (omega arith)
-edits_are_short (change.ScrollUp n) h = text_short 10 (edit (change.ScrollUp n)) (count_short n h) (omega arith)
-edits_are_short (change.ScrollDown n) h = text_short 10 (edit (change.ScrollDown n)) (count_short n h) (omega arith)
-edits_are_short (change.Repeat n) h = text_short 10 (edit (change.Repeat n)) (count_short n h) (omega arith)
-edits_are_short (change.EraseInDisplay known) h = text_short 10 (edit (change.EraseInDisplay known)) (extent_short (erase_in_display_number known) (display_small known)) (omega arith)
-edits_are_short (change.EraseInLine known) h = text_short 10 (edit (change.EraseInLine known)) (extent_short (erase_in_line_number known) (line_small known)) (omega arith)
+edits_are_short e h =
+    text_short 10 (edit e) (weaker (width (edit_slots e).0) 10 (slots_tokens (edit_slots e).0) (slots_short (edit_slots e).0 h (edit_digits e)) (omega (arith, one_number e)))
+    (omega (arith, (edit_final e).high))
 
 pub devices_are_short : DevicesAreShort
 unfolding device_spelling
-devices_are_short SoftReset = text_short 1 (device SoftReset) (short_by 1 (1 ∷ []) (P 33 ∷ []) (omega arith, omega arith, tt) (omega arith)) (omega arith)
+devices_are_short SoftReset = text_short 1 (device SoftReset) (sign_first 0 33 [] (omega arith) (omega arith)) (omega arith)
 devices_are_short RequestPrimaryDeviceAttributes = text_short 1 (device RequestPrimaryDeviceAttributes) (omega arith) (omega arith)
 devices_are_short StatusReport = text_short 1 (device StatusReport) (digit_short 5 (omega arith)) (omega arith)
 
 private_short : (m : DecPrivateMode) → IsWritablePrivateMode m → Short 6 (private_tokens (dec_mode_code m))
 private_short m h =
     let small : dec_mode_code m ≤ 65535 = leb-true (dec_mode_code m) 65535 (private_within m h) in
-    short_by 6 (1 ∷ 5 ∷ []) (private_tokens (dec_mode_code m)) (omega arith, omega arith, (omega arith, omega arith, omega arith, tt)) (omega arith)
+    sign_first 5 63 (number_tokens (dec_mode_code m)) (omega arith) (number_short 5 (dec_mode_code m) (omega arith) (omega arith) (omega arith))
 
 standard_short : (m : TerminalMode) → IsWritableStandardMode m → Short 6 (number_tokens (ansi_mode_code m))
 standard_short m h =
@@ -231,81 +170,22 @@ byte_short : (n : ℕ) → n ≤ 255 → Short 21 (number_tokens n)
 byte_short n h = weaker 3 21 (number_tokens n) (number_short 3 n (omega arith) (omega arith) (omega arith)) (omega arith)
 
 palette_short : (target n : ℕ) → target < 100 → n ≤ 255 → Short 21 (palette_tokens target n)
-palette_short target n t h = short_by 21 (2 ∷ 1 ∷ 1 ∷ 1 ∷ 3 ∷ []) (palette_tokens target n)
-    (omega arith, omega arith, omega arith, (omega arith, omega arith, (omega arith, omega arith, omega arith, (omega arith, omega arith, (omega arith, omega arith, omega arith, tt))))) (omega arith)
+palette_short target n t h =
+    weaker 8 21 (palette_tokens target n) (kind_first 4 target 5 (channel n []) t (omega arith) (channel_first 0 n [] h (omega arith))) (omega arith)
 
 opaque_short : (target r g b : ℕ) → target < 100 → r ≤ 255 → g ≤ 255 → b ≤ 255 → Short 21 (opaque_tokens target r g b)
-opaque_short target r g b t h l m = short_by 21 (2 ∷ 1 ∷ 1 ∷ 1 ∷ 1 ∷ 3 ∷ 1 ∷ 3 ∷ 1 ∷ 3 ∷ []) (opaque_tokens target r g b) (
-  omega arith,
-  omega arith,
-  omega arith,
-  (
-    omega arith,
-    omega arith,
-    (
-      omega arith,
-      omega arith,
-      omega arith,
-      (
-        omega arith,
-        omega arith,
-        (
-          omega arith,
-          omega arith,
-          (omega arith, omega arith, omega arith, (omega arith, omega arith, (omega arith, omega arith, omega arith, (omega arith, omega arith, (omega arith, omega arith, omega arith, tt))))),
-        ),
-      ),
-    ),
-  ),
-) (omega arith)
+opaque_short target r g b t h l m =
+    weaker 17 21 (opaque_tokens target r g b)
+    (kind_first 13 target 2 (P 58 ∷ channel r (channel g (channel b []))) t (omega arith)
+    (sign_first 12 58 (channel r (channel g (channel b []))) (omega arith)
+    (channel_first 8 r (channel g (channel b [])) h (channel_first 4 g (channel b []) l (channel_first 0 b [] m (omega arith)))))) (omega arith)
 
 alpha_short : (target r g b a : ℕ) → target < 100 → r ≤ 255 → g ≤ 255 → b ≤ 255 → a ≤ 255 → Short 21 (alpha_tokens target r g b a)
-alpha_short target r g b a t h l m o = short_by 21 (2 ∷ 1 ∷ 1 ∷ 1 ∷ 1 ∷ 3 ∷ 1 ∷ 3 ∷ 1 ∷ 3 ∷ 1 ∷ 3 ∷ []) (alpha_tokens target r g b a) (
-  omega arith,
-  omega arith,
-  omega arith,
-  (
-    omega arith,
-    omega arith,
-    (
-      omega arith,
-      omega arith,
-      omega arith,
-      (
-        omega arith,
-        omega arith,
-        (
-          omega arith,
-          omega arith,
-          (
-            omega arith,
-            omega arith,
-            omega arith,
-            (
-              omega arith,
-              omega arith,
-              (
-                omega arith,
-                omega arith,
-                omega arith,
-                (
-                  omega arith,
-                  omega arith,
-                  (
-                    omega arith,
-                    omega arith,
-                    omega arith,
-                    (omega arith, omega arith, (omega arith, omega arith, omega arith, tt)),
-                  ),
-                ),
-              ),
-            ),
-          ),
-        ),
-      ),
-    ),
-  ),
-) (omega arith)
+alpha_short target r g b a t h l m o =
+    kind_first 17 target 6 (P 58 ∷ channel r (channel g (channel b (channel a [])))) t (omega arith)
+    (sign_first 16 58 (channel r (channel g (channel b (channel a [])))) (omega arith)
+    (channel_first 12 r (channel g (channel b (channel a []))) h
+    (channel_first 8 g (channel b (channel a [])) l (channel_first 4 b (channel a []) m (channel_first 0 a [] o (omega arith))))))
 
 colour_short : (target : ℕ) (c : SrgbaTuple) → target < 100 → IsColour (color.TrueColor c) → Short 21 (colour_tokens target c)
 colour_short target c t h = cond_both (eqb c.3 255) (opaque_tokens target c.0 c.1 c.2) (alpha_tokens target c.0 c.1 c.2 c.3) (Short 21) (λ e. opaque_short target c.0 c.1 c.2 t h.0 h.1 h.2) (λ e. alpha_short target c.0 c.1 c.2 c.3 t h.0 h.1 h.2 h.3)
@@ -327,8 +207,9 @@ line_colour_short (color.PaletteIndex n) h = palette_short 58 n (omega arith) h
 line_colour_short (color.TrueColor c) h = colour_short 58 c (omega arith) h
 
 wavy_short : (k : ℕ) → k < 10 → Short 21 (Integer (pos 4) ∷ P 58 ∷ Integer (pos k) ∷ [])
-wavy_short k h = short_by 21 (1 ∷ 1 ∷ 1 ∷ []) (Integer (pos 4) ∷ P 58 ∷ Integer (pos k) ∷ [])
-    (omega arith, omega arith, omega arith, (omega arith, omega arith, (omega arith, omega arith, omega arith, tt))) (omega arith)
+wavy_short k h =
+    weaker 3 21 (Integer (pos 4) ∷ P 58 ∷ Integer (pos k) ∷ [])
+    (number_first 2 1 4 (P 58 ∷ Integer (pos k) ∷ []) (omega arith) (omega arith) (omega arith) (sign_first 1 58 (Integer (pos k) ∷ []) (omega arith) (digit_short k h))) (omega arith)
 
 underline_short : (known : Underline) → Short 21 (underline_tokens known)
 underline_short underline.None = byte_short 24 (omega arith)
@@ -382,4 +263,4 @@ pair_short_by None final = omega arith
 pair_short_by (Some between) final = omega arith
 
 pub pairs_are_short : PairsAreShort
-pairs_are_short e h = subst (λ (text : List ℕ). length text ≤ 3) (sym (pairs_read_back-lem e h).text) (pair_short_by (esc_intermediate e) (esc_final e))
+pairs_are_short e h = subst (λ (text : List ℕ). length text ≤ 3) (sym (pairs_read_back-lem e h).text) (pair_short_by (bytes_of_pair e).0 (bytes_of_pair e).1)

@@ -1,5 +1,5 @@
 -- Each value of the tables of whole lists reads back from what is written for it.
-use Rattle.std.proofs.Common.{Bool, refl}
+use Rattle.std.proofs.Common.{◌≡◌, Bool, List, Some, None, option_map, refl, ap}
 use Rattle.csi_codec.specs.declared.cursors.CursorStyle.{CursorStyle}
 use Rattle.csi_codec.specs.declared.cursors.CursorStyle.TheVariants as style
 use Rattle.csi_codec.specs.declared.cursors.TabulationClear.{TabulationClear}
@@ -16,123 +16,119 @@ use Rattle.csi_codec.specs.declared.edits.Edit.{Edit}
 use Rattle.csi_codec.specs.declared.edits.Edit.TheVariants as change
 use Rattle.csi_codec.specs.declared.devices.Device.{Device}
 use Rattle.csi_codec.specs.declared.devices.Device.TheVariants.{SoftReset, RequestPrimaryDeviceAttributes, StatusReport}
+use Rattle.csi_codec.specs.declared.parameters.CsiParam.{CsiParam}
 use Rattle.csi_codec.specs.Parameters.{word_max}
-use Rattle.csi_codec.specs.Cursors.{cursor_reading, cursor_spelling}
-use Rattle.csi_codec.specs.Edits.{edit_reading, edit_spelling}
+use Rattle.csi_codec.specs.Slots.{slots_tokens}
+use Rattle.csi_codec.specs.Cursors.{cursor_slots, cursor_reading, cursor_spelling}
+use Rattle.csi_codec.specs.Edits.{edit_slots, edit_reading, edit_spelling}
 use Rattle.csi_codec.specs.Devices.{device_reading, device_spelling}
 use Rattle.csi_codec.specs.Actions.{cursor, edit, device, csi_reading}
 use Rattle.csi_codec.specs.Laws.{ReadsBack}
 use Rattle.csi_codec.specs.Writable.{IsWritableCursor, IsWritableEdit}
-use Rattle.csi_codec.proofs.BackLemmas.{cursor_count_back, cursor_number_back, cursor_pair_back, edit_count_back}
+use Rattle.csi_codec.proofs.BackLemmas.{IsLone, lone_back, cursor_found, edit_found, count_back, count_tokens_back, pair_back, slots_plain}
+
+-- ---- What is written for it is read as it
+
+clear_read : (known : TabulationClear) → cursor_reading (cursor_slots (variant.TabulationClear known)).1 (slots_tokens (cursor_slots (variant.TabulationClear known)).0) ≡ Some (variant.TabulationClear known)
+unfolding cursor_reading
+clear_read clear.ClearCharacterTabStopAtActivePosition = refl
+clear_read _ = refl
+
+control_read : (known : CursorTabulationControl) → cursor_reading (cursor_slots (variant.TabulationControl known)).1 (slots_tokens (cursor_slots (variant.TabulationControl known)).0) ≡ Some (variant.TabulationControl known)
+unfolding cursor_reading
+control_read control.SetCharacterTabStopAtActivePosition = refl
+control_read _ = refl
+
+style_read : (known : CursorStyle) → cursor_reading (cursor_slots (variant.CursorStyle known)).1 (slots_tokens (cursor_slots (variant.CursorStyle known)).0) ≡ Some (variant.CursorStyle known)
+unfolding cursor_reading
+style_read style.Default = refl
+style_read _ = refl
+
+line_read : (known : EraseInLine) → edit_reading (edit_slots (change.EraseInLine known)).1 (slots_tokens (edit_slots (change.EraseInLine known)).0) ≡ Some (change.EraseInLine known)
+unfolding edit_reading
+line_read line.EraseToEndOfLine = refl
+line_read line.EraseToStartOfLine = refl
+line_read line.EraseLine = refl
+
+display_read : (known : EraseInDisplay) → edit_reading (edit_slots (change.EraseInDisplay known)).1 (slots_tokens (edit_slots (change.EraseInDisplay known)).0) ≡ Some (change.EraseInDisplay known)
+unfolding edit_reading
+display_read display.EraseToEndOfDisplay = refl
+display_read display.EraseToStartOfDisplay = refl
+display_read display.EraseDisplay = refl
+display_read display.EraseScrollback = refl
+
+cursor_read : (c : Cursor) → IsWritableCursor c → cursor_reading (cursor_slots c).1 (slots_tokens (cursor_slots c).0) ≡ Some c
+unfolding cursor_reading
+cursor_read (variant.Up n) h = ap (option_map variant.Up) (count_tokens_back n h)
+cursor_read (variant.Down n) h = ap (option_map variant.Down) (count_tokens_back n h)
+cursor_read (variant.Right n) h = ap (option_map variant.Right) (count_tokens_back n h)
+cursor_read (variant.Left n) h = ap (option_map variant.Left) (count_tokens_back n h)
+cursor_read (variant.NextLine n) h = ap (option_map variant.NextLine) (count_tokens_back n h)
+cursor_read (variant.PrecedingLine n) h = ap (option_map variant.PrecedingLine) (count_tokens_back n h)
+cursor_read (variant.CharacterPositionForward n) h = ap (option_map variant.CharacterPositionForward) (count_tokens_back n h)
+cursor_read (variant.CharacterPositionBackward n) h = ap (option_map variant.CharacterPositionBackward) (count_tokens_back n h)
+cursor_read (variant.LinePositionForward n) h = ap (option_map variant.LinePositionForward) (count_tokens_back n h)
+cursor_read (variant.LinePositionBackward n) h = ap (option_map variant.LinePositionBackward) (count_tokens_back n h)
+cursor_read (variant.ForwardTabulation n) h = ap (option_map variant.ForwardTabulation) (count_tokens_back n h)
+cursor_read (variant.BackwardTabulation n) h = ap (option_map variant.BackwardTabulation) (count_tokens_back n h)
+cursor_read (variant.LineTabulation n) h = ap (option_map variant.LineTabulation) (count_tokens_back n h)
+cursor_read (variant.CharacterAbsolute n) h = ap (option_map variant.CharacterAbsolute) (count_back n h)
+cursor_read (variant.CharacterPositionAbsolute n) h = ap (option_map variant.CharacterPositionAbsolute) (count_back n h)
+cursor_read (variant.LinePositionAbsolute n) h = ap (option_map variant.LinePositionAbsolute) (count_back n h)
+cursor_read (variant.Position a b) h = ap (option_map (λ m. variant.Position m.0 m.1)) (pair_back 1 a b h.0 h.1)
+cursor_read (variant.CharacterAndLinePosition a b) h = ap (option_map (λ m. variant.CharacterAndLinePosition m.0 m.1)) (pair_back 1 a b h.0 h.1)
+cursor_read (variant.ActivePositionReport a b) h = ap (option_map (λ m. variant.ActivePositionReport m.0 m.1)) (pair_back 1 a b h.0 h.1)
+cursor_read (variant.SetTopAndBottomMargins a b) h = ap (option_map (λ m. variant.SetTopAndBottomMargins m.0 m.1)) (pair_back word_max a b h.0 h.1)
+cursor_read (variant.SetLeftAndRightMargins a b) h = ap (option_map (λ m. variant.SetLeftAndRightMargins m.0 m.1)) (pair_back word_max a b h.0 h.1)
+cursor_read (variant.TabulationClear known) h = clear_read known
+cursor_read (variant.TabulationControl known) h = control_read known
+cursor_read (variant.CursorStyle known) h = style_read known
+cursor_read variant.SaveCursor h = refl
+cursor_read variant.RestoreCursor h = refl
+cursor_read variant.RequestActivePositionReport h = refl
+
+edit_read : (e : Edit) → IsWritableEdit e → edit_reading (edit_slots e).1 (slots_tokens (edit_slots e).0) ≡ Some e
+unfolding edit_reading
+edit_read (change.InsertCharacter n) h = ap (option_map change.InsertCharacter) (count_tokens_back n h)
+edit_read (change.DeleteCharacter n) h = ap (option_map change.DeleteCharacter) (count_tokens_back n h)
+edit_read (change.InsertLine n) h = ap (option_map change.InsertLine) (count_tokens_back n h)
+edit_read (change.DeleteLine n) h = ap (option_map change.DeleteLine) (count_tokens_back n h)
+edit_read (change.EraseCharacter n) h = ap (option_map change.EraseCharacter) (count_tokens_back n h)
+edit_read (change.ScrollUp n) h = ap (option_map change.ScrollUp) (count_tokens_back n h)
+edit_read (change.ScrollDown n) h = ap (option_map change.ScrollDown) (count_tokens_back n h)
+edit_read (change.Repeat n) h = ap (option_map change.Repeat) (count_tokens_back n h)
+edit_read (change.EraseInDisplay known) h = display_read known
+edit_read (change.EraseInLine known) h = line_read known
+
+-- ---- And as no other
+
+cursor_lone : (c : Cursor) → IsLone (cursor_slots c).1
+cursor_lone variant.SaveCursor = record { other = refl; no_modes = refl }
+cursor_lone _ = record { other = refl; no_modes = refl }
+
+edit_lone : (e : Edit) → IsLone (edit_slots e).1
+edit_lone (change.Repeat n) = record { other = refl; no_modes = refl }
+edit_lone _ = record { other = refl; no_modes = refl }
+
+no_cursor : (e : Edit) (ts : List CsiParam) → cursor_reading (edit_slots e).1 ts ≡ None
+unfolding cursor_reading
+no_cursor (change.Repeat n) ts = refl
+no_cursor _ ts = refl
 
 module _ (truncated : Bool) where
-  abbrev CursorBack : Cursor → Type 0
-  CursorBack c = ReadsBack truncated (cursor c)
+  pub cursor_back : (c : Cursor) → IsWritableCursor c → ReadsBack truncated (cursor c)
+  unfolding cursor_spelling
+  cursor_back c h =
+      lone_back truncated (cursor_slots c).1 (slots_tokens (cursor_slots c).0) (cursor c) (cursor_lone c) (slots_plain (cursor_slots c).0)
+      (cursor_found (cursor_slots c).1 (slots_tokens (cursor_slots c).0) c (cursor_read c h))
 
-  abbrev EditBack : Edit → Type 0
-  EditBack e = ReadsBack truncated (edit e)
+  pub edit_back : (e : Edit) → IsWritableEdit e → ReadsBack truncated (edit e)
+  unfolding edit_spelling
+  edit_back e h =
+      lone_back truncated (edit_slots e).1 (slots_tokens (edit_slots e).0) (edit e) (edit_lone e) (slots_plain (edit_slots e).0)
+      (edit_found (edit_slots e).1 (slots_tokens (edit_slots e).0) e (no_cursor e (slots_tokens (edit_slots e).0)) (edit_read e h))
 
-  abbrev DeviceBack : Device → Type 0
-  DeviceBack d = ReadsBack truncated (device d)
-
-  clear_back : (known : TabulationClear) → CursorBack (variant.TabulationClear known)
-  unfolding csi_reading cursor_reading cursor_spelling
-  clear_back clear.ClearCharacterTabStopAtActivePosition = refl
-  clear_back clear.ClearLineTabStopAtActiveLine = refl
-  clear_back clear.ClearCharacterTabStopsAtActiveLine = refl
-  clear_back clear.ClearAllCharacterTabStops = refl
-  clear_back clear.ClearAllLineTabStops = refl
-  clear_back clear.ClearAllTabStops = refl
-
-  control_back : (known : CursorTabulationControl) → CursorBack (variant.TabulationControl known)
-  unfolding csi_reading cursor_reading cursor_spelling
-  control_back control.SetCharacterTabStopAtActivePosition = refl
-  control_back control.SetLineTabStopAtActiveLine = refl
-  control_back control.ClearCharacterTabStopAtActivePosition = refl
-  control_back control.ClearLineTabstopAtActiveLine = refl
-  control_back control.ClearAllCharacterTabStopsAtActiveLine = refl
-  control_back control.ClearAllCharacterTabStops = refl
-  control_back control.ClearAllLineTabStops = refl
-
-  style_back : (known : CursorStyle) → CursorBack (variant.CursorStyle known)
-  unfolding csi_reading cursor_reading cursor_spelling
-  style_back style.Default = refl
-  style_back style.BlinkingBlock = refl
-  style_back style.SteadyBlock = refl
-  style_back style.BlinkingUnderline = refl
-  style_back style.SteadyUnderline = refl
-  style_back style.BlinkingBar = refl
-  style_back style.SteadyBar = refl
-
-  line_back : (known : EraseInLine) → EditBack (change.EraseInLine known)
-  unfolding csi_reading cursor_reading edit_reading edit_spelling
-  line_back line.EraseToEndOfLine = refl
-  line_back line.EraseToStartOfLine = refl
-  line_back line.EraseLine = refl
-
-  display_back : (known : EraseInDisplay) → EditBack (change.EraseInDisplay known)
-  unfolding csi_reading cursor_reading edit_reading edit_spelling
-  display_back display.EraseToEndOfDisplay = refl
-  display_back display.EraseToStartOfDisplay = refl
-  display_back display.EraseDisplay = refl
-  display_back display.EraseScrollback = refl
-
-  saves : CursorBack variant.SaveCursor
-  unfolding csi_reading cursor_reading cursor_spelling
-  saves = refl
-
-  restores : CursorBack variant.RestoreCursor
-  unfolding csi_reading cursor_reading cursor_spelling
-  restores = refl
-
-  requests : CursorBack variant.RequestActivePositionReport
-  unfolding csi_reading cursor_reading cursor_spelling
-  requests = refl
-
-  pub cursor_back : (c : Cursor) → IsWritableCursor c → CursorBack c
-  unfolding cursor_reading cursor_spelling
-  cursor_back (variant.Up n) h = cursor_count_back truncated 65 (record { other = refl; no_modes = refl }) variant.Up (λ us. refl) n h
-  cursor_back (variant.Down n) h = cursor_count_back truncated 66 (record { other = refl; no_modes = refl }) variant.Down (λ us. refl) n h
-  cursor_back (variant.Right n) h = cursor_count_back truncated 67 (record { other = refl; no_modes = refl }) variant.Right (λ us. refl) n h
-  cursor_back (variant.Left n) h = cursor_count_back truncated 68 (record { other = refl; no_modes = refl }) variant.Left (λ us. refl) n h
-  cursor_back (variant.NextLine n) h = cursor_count_back truncated 69 (record { other = refl; no_modes = refl }) variant.NextLine (λ us. refl) n h
-  cursor_back (variant.PrecedingLine n) h = cursor_count_back truncated 70 (record { other = refl; no_modes = refl }) variant.PrecedingLine (λ us. refl) n h
-  cursor_back (variant.CharacterPositionForward n) h = cursor_count_back truncated 97 (record { other = refl; no_modes = refl }) variant.CharacterPositionForward (λ us. refl) n h
-  cursor_back (variant.CharacterPositionBackward n) h = cursor_count_back truncated 106 (record { other = refl; no_modes = refl }) variant.CharacterPositionBackward (λ us. refl) n h
-  cursor_back (variant.LinePositionForward n) h = cursor_count_back truncated 101 (record { other = refl; no_modes = refl }) variant.LinePositionForward (λ us. refl) n h
-  cursor_back (variant.LinePositionBackward n) h = cursor_count_back truncated 107 (record { other = refl; no_modes = refl }) variant.LinePositionBackward (λ us. refl) n h
-  cursor_back (variant.ForwardTabulation n) h = cursor_count_back truncated 73 (record { other = refl; no_modes = refl }) variant.ForwardTabulation (λ us. refl) n h
-  cursor_back (variant.BackwardTabulation n) h = cursor_count_back truncated 90 (record { other = refl; no_modes = refl }) variant.BackwardTabulation (λ us. refl) n h
-  cursor_back (variant.LineTabulation n) h = cursor_count_back truncated 89 (record { other = refl; no_modes = refl }) variant.LineTabulation (λ us. refl) n h
-  cursor_back (variant.CharacterAbsolute n) h = cursor_number_back truncated 71 (record { other = refl; no_modes = refl }) variant.CharacterAbsolute (λ us. refl) n h
-  cursor_back (variant.CharacterPositionAbsolute n) h = cursor_number_back truncated 96 (record { other = refl; no_modes = refl }) variant.CharacterPositionAbsolute (λ us. refl) n h
-  cursor_back (variant.LinePositionAbsolute n) h = cursor_number_back truncated 100 (record { other = refl; no_modes = refl }) variant.LinePositionAbsolute (λ us. refl) n h
-  cursor_back (variant.Position a b) h = cursor_pair_back truncated 72 (record { other = refl; no_modes = refl }) 1 variant.Position (λ x y. refl) a b h.0 h.1
-  cursor_back (variant.CharacterAndLinePosition a b) h = cursor_pair_back truncated 102 (record { other = refl; no_modes = refl }) 1 variant.CharacterAndLinePosition (λ x y. refl) a b h.0 h.1
-  cursor_back (variant.ActivePositionReport a b) h = cursor_pair_back truncated 82 (record { other = refl; no_modes = refl }) 1 variant.ActivePositionReport (λ x y. refl) a b h.0 h.1
-  cursor_back (variant.SetTopAndBottomMargins a b) h = cursor_pair_back truncated 114 (record { other = refl; no_modes = refl }) word_max variant.SetTopAndBottomMargins (λ x y. refl) a b h.0 h.1
-  cursor_back (variant.SetLeftAndRightMargins a b) h = cursor_pair_back truncated 115 (record { other = refl; no_modes = refl }) word_max variant.SetLeftAndRightMargins (λ x y. refl) a b h.0 h.1
-  cursor_back (variant.TabulationClear known) h = clear_back known
-  cursor_back (variant.TabulationControl known) h = control_back known
-  cursor_back (variant.CursorStyle known) h = style_back known
-  cursor_back variant.SaveCursor h = saves
-  cursor_back variant.RestoreCursor h = restores
-  cursor_back variant.RequestActivePositionReport h = requests
-
-  pub edit_back : (e : Edit) → IsWritableEdit e → EditBack e
-  unfolding cursor_reading edit_reading edit_spelling
-  edit_back (change.InsertCharacter n) h = edit_count_back truncated 64 (record { other = refl; no_modes = refl }) change.InsertCharacter (λ us. refl) (λ us. refl) n h
-  edit_back (change.DeleteCharacter n) h = edit_count_back truncated 80 (record { other = refl; no_modes = refl }) change.DeleteCharacter (λ us. refl) (λ us. refl) n h
-  edit_back (change.InsertLine n) h = edit_count_back truncated 76 (record { other = refl; no_modes = refl }) change.InsertLine (λ us. refl) (λ us. refl) n h
-  edit_back (change.DeleteLine n) h = edit_count_back truncated 77 (record { other = refl; no_modes = refl }) change.DeleteLine (λ us. refl) (λ us. refl) n h
-  edit_back (change.EraseCharacter n) h = edit_count_back truncated 88 (record { other = refl; no_modes = refl }) change.EraseCharacter (λ us. refl) (λ us. refl) n h
-  edit_back (change.ScrollUp n) h = edit_count_back truncated 83 (record { other = refl; no_modes = refl }) change.ScrollUp (λ us. refl) (λ us. refl) n h
-  edit_back (change.ScrollDown n) h = edit_count_back truncated 84 (record { other = refl; no_modes = refl }) change.ScrollDown (λ us. refl) (λ us. refl) n h
-  edit_back (change.Repeat n) h = edit_count_back truncated 98 (record { other = refl; no_modes = refl }) change.Repeat (λ us. refl) (λ us. refl) n h
-  edit_back (change.EraseInDisplay known) h = display_back known
-  edit_back (change.EraseInLine known) h = line_back known
-
-  pub device_back : (d : Device) → DeviceBack d
+  pub device_back : (d : Device) → ReadsBack truncated (device d)
   unfolding csi_reading cursor_reading edit_reading device_reading device_spelling
   device_back SoftReset = refl
   device_back RequestPrimaryDeviceAttributes = refl

@@ -1,5 +1,5 @@
--- The text of each action of a spellable list reads back.
-use Rattle.std.proofs.Common.{◌≡◌, ℕ, zero, suc, ◌-◌, ◌<◌, ◌≤◌, ℤ, pos, negsuc, eqb, Bool, true, not, ◌&&◌, ◌||◌, List, [], ◌∷◌, ◌++◌, Option, Some, None, option_map, arith, refl, ap, ◌∙◌, subst}
+-- Each action of a spellable list is written by parameter bytes.
+use Rattle.std.proofs.Common.{◌≡◌, ℕ, zero, suc, ◌-◌, ◌≤◌, ℤ, pos, negsuc, eqb, Bool, true, not, ◌&&◌, ◌||◌, List, [], ◌∷◌, ◌++◌, Option, Some, None, option_map, arith, refl, ap, ◌∙◌, subst}
 use Rattle.std.specs.Prelude.{is_some, flat_map, encode_utf8}
 use Rattle.std.specs.Option.{option_map_or, option_or}
 use Rattle.std.specs.Char.{is_ascii_digit}
@@ -7,7 +7,6 @@ use Rattle.std.specs.Str.{all_ascii_digits}
 use Rattle.std.specs.Fmt.{decimal}
 use Rattle.std.proofs.lemmas.Bool.{leb-true, and_from, and_parts, cond_both}
 use Rattle.std.proofs.lemmas.Bool.Decides.{nat_tests}
-use Rattle.std.proofs.lemmas.Str.{encode_ascii}
 use Rattle.csi_codec.specs.declared.parameters.CsiParam.{CsiParam}
 use Rattle.csi_codec.specs.declared.parameters.CsiParam.TheVariants.{Integer, P}
 use Rattle.csi_codec.specs.declared.rendition.Sgr.{Sgr}
@@ -22,13 +21,12 @@ use Rattle.csi_codec.specs.Edits.{edit_reading}
 use Rattle.csi_codec.specs.Devices.{device_reading}
 use Rattle.csi_codec.specs.Modes.{private_mode_reading, mode_reading}
 use Rattle.csi_codec.specs.Rendition.{taking, is_between, sgr_shape, sgr_piece}
-use Rattle.csi_codec.specs.Actions.{Kind, sgr_pieces, private_mode_pieces, standard_mode_pieces, Action, sgr, cursor, edit, mode, device, unspecified, mode_piece, piece_of, pieces_from, pieces, all_sgr_tokens, sgr_reading, modes_or, standard_reading, other_reading, csi_reading, spelling_of}
-use Rattle.csi_codec.specs.Laws.{ReadsBack, EachReadsBack}
-use Rattle.csi_codec.specs.Texts.{largest_number, is_sign, is_written_number, is_spellable, all_parameter_bytes, TextReadsBack, EachTextReadsBack, TextsReadBack}
-use Rattle.csi_codec.proofs.TextLemmas.{list_back, decimal_digits, sign_text}
+use Rattle.csi_codec.specs.Actions.{Kind, sgr_pieces, private_mode_pieces, standard_mode_pieces, Action, sgr, cursor, edit, mode, device, unspecified, mode_piece, piece_of, pieces_from, pieces, all_sgr_tokens, sgr_reading, modes_or, standard_reading, other_reading, csi_reading}
+use Rattle.csi_codec.specs.Texts.{largest_number, is_sign, is_written_number, is_spellable, all_parameter_bytes}
+use Rattle.csi_codec.proofs.TextLemmas.{decimal_digits, sign_text}
 use Rattle.csi_codec.proofs.ReadWritable.{cursor_reading-writable, edit_reading-writable, private_mode-writable, standard_mode-writable, sgr_shape-writable}
 use Rattle.csi_codec.proofs.Written.{IsWritten, action_written}
-use Rattle.csi_codec.proofs.RoundTrip.{as_actions, first_of, actions_read_back-lem}
+use Rattle.csi_codec.proofs.RoundTrip.{as_actions, first_of}
 
 -- ---- Bytes
 
@@ -141,26 +139,3 @@ module _ (truncated : Bool) (final : ℕ) (low : 64 ≤ final) (high : final ≤
   pub reading-written : (ts : List CsiParam) → is_spellable ts ≡ true → EachIsWritten (csi_reading ts truncated final)
   unfolding csi_reading
   reading-written ts h = cond_both (eqb final 109) _ _ EachIsWritten (λ e. sgr-written ts h) (λ e. other-written ts h)
-
--- ---- The text of one action, and of each
-
-text_back : (truncated : Bool) (a : Action) → ReadsBack truncated a → IsWritten a → TextReadsBack truncated a
-text_back truncated a back written =
-    let small : (spelling_of a).control < 128 = omega (arith, written.high) in
-    record {
-      body = flat_map token_text (spelling_of a).params;
-      final = (spelling_of a).control;
-      text = ap (λ bytes. 27 ∷ 91 ∷ (flat_map token_text (spelling_of a).params ++ bytes)) (encode_ascii (spelling_of a).control small);
-      bytes = list_bytes (spelling_of a).params written.params;
-      low = written.low;
-      high = written.high;
-      action = ap (λ ts. csi_reading ts truncated (spelling_of a).control) (list_back (spelling_of a).params written.params) ∙ back;
-    }
-
-each_text : (ts : List CsiParam) (truncated : Bool) (final : ℕ) (actions : List Action) → EachReadsBack ts truncated final actions → EachIsWritten actions → EachTextReadsBack ts truncated final actions
-each_text ts truncated final [] b w = tt
-each_text ts truncated final (a ∷ others) b w = (λ x. text_back truncated a (b.0 x) w.0, each_text ts truncated final others b.1 w.1)
-
-pub texts_read_back-lem : TextsReadBack
-texts_read_back-lem ts truncated final h low high =
-    each_text ts truncated final (csi_reading ts truncated final) (actions_read_back-lem ts truncated final) (reading-written truncated final low high ts h)

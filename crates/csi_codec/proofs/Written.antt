@@ -1,5 +1,5 @@
 -- What is written for a value that can be written are spellable parameters and a final byte.
-use Rattle.std.proofs.Common.{◌≡◌, ℕ, ◌+◌, ◌≤◌, eqb, leb, ltb, Bool, true, false, cond, [], arith, refl}
+use Rattle.std.proofs.Common.{◌≡◌, ℕ, ◌+◌, ◌≤◌, eqb, leb, ltb, Bool, true, false, cond, arith, refl}
 use Rattle.std.proofs.lemmas.Bool.{leb-true, le-leb}
 use Rattle.cell_base.specs.declared.color.ColorSpec.{ColorSpec}
 use Rattle.cell_base.specs.declared.color.ColorSpec.TheVariants as color
@@ -9,20 +9,8 @@ use Rattle.cell_base.specs.declared.attributes.Underline.{Underline}
 use Rattle.cell_base.specs.declared.attributes.Underline.TheVariants as underline
 use Rattle.cell_base.specs.declared.attributes.Blink.TheVariants as blink
 use Rattle.cell_base.specs.declared.attributes.VerticalAlign.TheVariants as align
-use Rattle.csi_codec.specs.declared.cursors.CursorStyle.{CursorStyle}
-use Rattle.csi_codec.specs.declared.cursors.CursorStyle.TheVariants as style
-use Rattle.csi_codec.specs.declared.cursors.TabulationClear.{TabulationClear}
-use Rattle.csi_codec.specs.declared.cursors.TabulationClear.TheVariants as clear
-use Rattle.csi_codec.specs.declared.cursors.CursorTabulationControl.{CursorTabulationControl}
-use Rattle.csi_codec.specs.declared.cursors.CursorTabulationControl.TheVariants as control
 use Rattle.csi_codec.specs.declared.cursors.Cursor.{Cursor}
-use Rattle.csi_codec.specs.declared.cursors.Cursor.TheVariants as variant
-use Rattle.csi_codec.specs.declared.edits.EraseInLine.{EraseInLine}
-use Rattle.csi_codec.specs.declared.edits.EraseInLine.TheVariants as line
-use Rattle.csi_codec.specs.declared.edits.EraseInDisplay.{EraseInDisplay}
-use Rattle.csi_codec.specs.declared.edits.EraseInDisplay.TheVariants as display
 use Rattle.csi_codec.specs.declared.edits.Edit.{Edit}
-use Rattle.csi_codec.specs.declared.edits.Edit.TheVariants as change
 use Rattle.csi_codec.specs.declared.devices.Device.{Device}
 use Rattle.csi_codec.specs.declared.devices.Device.TheVariants.{SoftReset, RequestPrimaryDeviceAttributes, StatusReport}
 use Rattle.csi_codec.specs.declared.modes.DecPrivateMode.{DecPrivateMode}
@@ -32,15 +20,16 @@ use Rattle.csi_codec.specs.declared.modes.Mode.TheVariants as does
 use Rattle.csi_codec.specs.declared.rendition.Sgr.{Sgr}
 use Rattle.csi_codec.specs.declared.rendition.Sgr.TheVariants as value
 use Rattle.csi_codec.specs.declared.rendition.Font.TheVariants as font
-use Rattle.csi_codec.specs.Parameters.{word_max, number_tokens, count_tokens, pair_tokens, private_tokens}
-use Rattle.csi_codec.specs.Cursors.{cursor_spelling}
-use Rattle.csi_codec.specs.Edits.{edit_spelling}
+use Rattle.csi_codec.specs.Parameters.{number_tokens, private_tokens}
+use Rattle.csi_codec.specs.Cursors.{cursor_slots, cursor_spelling}
+use Rattle.csi_codec.specs.Edits.{edit_slots, edit_spelling}
 use Rattle.csi_codec.specs.Devices.{device_spelling}
 use Rattle.csi_codec.specs.Modes.{dec_mode_code, ansi_mode_code, mode_spelling}
 use Rattle.csi_codec.specs.Rendition.{palette_tokens, opaque_tokens, alpha_tokens, sgr_spelling}
 use Rattle.csi_codec.specs.Actions.{Action, sgr, cursor, edit, mode, device, unspecified, spelling_of}
 use Rattle.csi_codec.specs.Texts.{largest_number, is_spellable}
-use Rattle.csi_codec.specs.Writable.{IsPlace, IsWritableCursor, IsWritableEdit, IsWritablePrivateMode, IsWritableStandardMode, IsWritableMode, IsColour, IsWritableSgr, IsWritable}
+use Rattle.csi_codec.specs.Writable.{IsWritableCursor, IsWritableEdit, IsWritablePrivateMode, IsWritableStandardMode, IsWritableMode, IsColour, IsWritableSgr, IsWritable}
+use Rattle.csi_codec.proofs.SlotLemmas.{cursor_digits, edit_digits, cursor_final, edit_final, number_written, slots_written}
 use Rattle.csi_codec.proofs.ModeBack.{private_within, standard_within}
 
 -- an action's parameters can be spelled by bytes, and its final byte is one
@@ -48,12 +37,6 @@ pub record IsWritten (a : Action) : Type 0 where
   pub params : is_spellable (spelling_of a).params ≡ true
   pub low : 64 ≤ (spelling_of a).control
   pub high : (spelling_of a).control ≤ 126
-
-abbrev CursorWritten : Cursor → Type 0
-CursorWritten c = IsWritten (cursor c)
-
-abbrev EditWritten : Edit → Type 0
-EditWritten e = IsWritten (edit e)
 
 abbrev DeviceWritten : Device → Type 0
 DeviceWritten d = IsWritten (device d)
@@ -64,102 +47,15 @@ ModeWritten m = IsWritten (mode m)
 abbrev SgrWritten : Sgr → Type 0
 SgrWritten v = IsWritten (sgr v)
 
-number_written : (n : ℕ) → n ≤ word_max → is_spellable (number_tokens n) ≡ true
-number_written n h = rw (le-leb n largest_number (omega arith)) refl
-
-count_written : (n : ℕ) → IsPlace n → is_spellable (count_tokens n) ≡ true
-count_written n h = elim (eqb n 1) as (λ b. is_spellable (cond b [] (number_tokens n)) ≡ true) [ true ↦ refl | false ↦ number_written n h.1 ]
-
-pair_written : (a b : ℕ) → IsPlace a → IsPlace b → is_spellable (pair_tokens a b) ≡ true
-pair_written a b h k =
-    let x : a ≤ largest_number = omega (arith, h.1) in
-    let y : b ≤ largest_number = omega (arith, k.1) in
-    rw (le-leb a largest_number x, le-leb b largest_number y) refl
-
-clear_written : (known : TabulationClear) → CursorWritten (variant.TabulationClear known)
+cursor_written : (c : Cursor) → IsWritableCursor c → IsWritten (cursor c)
 unfolding cursor_spelling
-clear_written clear.ClearCharacterTabStopAtActivePosition = record { params = refl; low = omega arith; high = omega arith }
-clear_written clear.ClearLineTabStopAtActiveLine = record { params = refl; low = omega arith; high = omega arith }
-clear_written clear.ClearCharacterTabStopsAtActiveLine = record { params = refl; low = omega arith; high = omega arith }
-clear_written clear.ClearAllCharacterTabStops = record { params = refl; low = omega arith; high = omega arith }
-clear_written clear.ClearAllLineTabStops = record { params = refl; low = omega arith; high = omega arith }
-clear_written clear.ClearAllTabStops = record { params = refl; low = omega arith; high = omega arith }
+cursor_written c h =
+    record { params = slots_written (cursor_slots c).0 h (cursor_digits c); low = (cursor_final c).low; high = (cursor_final c).high }
 
-control_written : (known : CursorTabulationControl) → CursorWritten (variant.TabulationControl known)
-unfolding cursor_spelling
-control_written control.SetCharacterTabStopAtActivePosition = record { params = refl; low = omega arith; high = omega arith }
-control_written control.SetLineTabStopAtActiveLine = record { params = refl; low = omega arith; high = omega arith }
-control_written control.ClearCharacterTabStopAtActivePosition = record { params = refl; low = omega arith; high = omega arith }
-control_written control.ClearLineTabstopAtActiveLine = record { params = refl; low = omega arith; high = omega arith }
-control_written control.ClearAllCharacterTabStopsAtActiveLine = record { params = refl; low = omega arith; high = omega arith }
-control_written control.ClearAllCharacterTabStops = record { params = refl; low = omega arith; high = omega arith }
-control_written control.ClearAllLineTabStops = record { params = refl; low = omega arith; high = omega arith }
-
-style_written : (known : CursorStyle) → CursorWritten (variant.CursorStyle known)
-unfolding cursor_spelling
-style_written style.Default = record { params = refl; low = omega arith; high = omega arith }
-style_written style.BlinkingBlock = record { params = refl; low = omega arith; high = omega arith }
-style_written style.SteadyBlock = record { params = refl; low = omega arith; high = omega arith }
-style_written style.BlinkingUnderline = record { params = refl; low = omega arith; high = omega arith }
-style_written style.SteadyUnderline = record { params = refl; low = omega arith; high = omega arith }
-style_written style.BlinkingBar = record { params = refl; low = omega arith; high = omega arith }
-style_written style.SteadyBar = record { params = refl; low = omega arith; high = omega arith }
-
-line_written : (known : EraseInLine) → EditWritten (change.EraseInLine known)
+edit_written : (e : Edit) → IsWritableEdit e → IsWritten (edit e)
 unfolding edit_spelling
-line_written line.EraseToEndOfLine = record { params = refl; low = omega arith; high = omega arith }
-line_written line.EraseToStartOfLine = record { params = refl; low = omega arith; high = omega arith }
-line_written line.EraseLine = record { params = refl; low = omega arith; high = omega arith }
-
-display_written : (known : EraseInDisplay) → EditWritten (change.EraseInDisplay known)
-unfolding edit_spelling
-display_written display.EraseToEndOfDisplay = record { params = refl; low = omega arith; high = omega arith }
-display_written display.EraseToStartOfDisplay = record { params = refl; low = omega arith; high = omega arith }
-display_written display.EraseDisplay = record { params = refl; low = omega arith; high = omega arith }
-display_written display.EraseScrollback = record { params = refl; low = omega arith; high = omega arith }
-
-cursor_written : (c : Cursor) → IsWritableCursor c → CursorWritten c
-unfolding cursor_spelling
-cursor_written (variant.Up n) h = record { params = count_written n h; low = omega arith; high = omega arith }
-cursor_written (variant.Down n) h = record { params = count_written n h; low = omega arith; high = omega arith }
-cursor_written (variant.Right n) h = record { params = count_written n h; low = omega arith; high = omega arith }
-cursor_written (variant.Left n) h = record { params = count_written n h; low = omega arith; high = omega arith }
-cursor_written (variant.NextLine n) h = record { params = count_written n h; low = omega arith; high = omega arith }
-cursor_written (variant.PrecedingLine n) h = record { params = count_written n h; low = omega arith; high = omega arith }
-cursor_written (variant.CharacterPositionForward n) h = record { params = count_written n h; low = omega arith; high = omega arith }
-cursor_written (variant.CharacterPositionBackward n) h = record { params = count_written n h; low = omega arith; high = omega arith }
-cursor_written (variant.LinePositionForward n) h = record { params = count_written n h; low = omega arith; high = omega arith }
-cursor_written (variant.LinePositionBackward n) h = record { params = count_written n h; low = omega arith; high = omega arith }
-cursor_written (variant.ForwardTabulation n) h = record { params = count_written n h; low = omega arith; high = omega arith }
-cursor_written (variant.BackwardTabulation n) h = record { params = count_written n h; low = omega arith; high = omega arith }
-cursor_written (variant.LineTabulation n) h = record { params = count_written n h; low = omega arith; high = omega arith }
-cursor_written (variant.CharacterAbsolute n) h = record { params = number_written n h.1; low = omega arith; high = omega arith }
-cursor_written (variant.CharacterPositionAbsolute n) h = record { params = number_written n h.1; low = omega arith; high = omega arith }
-cursor_written (variant.LinePositionAbsolute n) h = record { params = number_written n h.1; low = omega arith; high = omega arith }
-cursor_written (variant.Position a b) h = record { params = pair_written a b h.0 h.1; low = omega arith; high = omega arith }
-cursor_written (variant.CharacterAndLinePosition a b) h = record { params = pair_written a b h.0 h.1; low = omega arith; high = omega arith }
-cursor_written (variant.ActivePositionReport a b) h = record { params = pair_written a b h.0 h.1; low = omega arith; high = omega arith }
-cursor_written (variant.SetTopAndBottomMargins a b) h = record { params = pair_written a b h.0 h.1; low = omega arith; high = omega arith }
-cursor_written (variant.SetLeftAndRightMargins a b) h = record { params = pair_written a b h.0 h.1; low = omega arith; high = omega arith }
-cursor_written (variant.TabulationClear known) h = clear_written known
-cursor_written (variant.TabulationControl known) h = control_written known
-cursor_written (variant.CursorStyle known) h = style_written known
-cursor_written variant.SaveCursor h = record { params = refl; low = omega arith; high = omega arith }
-cursor_written variant.RestoreCursor h = record { params = refl; low = omega arith; high = omega arith }
-cursor_written variant.RequestActivePositionReport h = record { params = refl; low = omega arith; high = omega arith }
-
-edit_written : (e : Edit) → IsWritableEdit e → EditWritten e
-unfolding edit_spelling
-edit_written (change.InsertCharacter n) h = record { params = count_written n h; low = omega arith; high = omega arith }
-edit_written (change.DeleteCharacter n) h = record { params = count_written n h; low = omega arith; high = omega arith }
-edit_written (change.InsertLine n) h = record { params = count_written n h; low = omega arith; high = omega arith }
-edit_written (change.DeleteLine n) h = record { params = count_written n h; low = omega arith; high = omega arith }
-edit_written (change.EraseCharacter n) h = record { params = count_written n h; low = omega arith; high = omega arith }
-edit_written (change.ScrollUp n) h = record { params = count_written n h; low = omega arith; high = omega arith }
-edit_written (change.ScrollDown n) h = record { params = count_written n h; low = omega arith; high = omega arith }
-edit_written (change.Repeat n) h = record { params = count_written n h; low = omega arith; high = omega arith }
-edit_written (change.EraseInDisplay known) h = display_written known
-edit_written (change.EraseInLine known) h = line_written known
+edit_written e h =
+    record { params = slots_written (edit_slots e).0 h (edit_digits e); low = (edit_final e).low; high = (edit_final e).high }
 
 device_written : (d : Device) → DeviceWritten d
 unfolding device_spelling
@@ -235,11 +131,7 @@ underlinecolor-written (color.TrueColor c) h = record { params = true_written 58
 underline-written : (line : Underline) → SgrWritten (value.Underline line)
 unfolding sgr_spelling
 underline-written underline.None = record { params = refl; low = omega arith; high = omega arith }
-underline-written underline.Single = record { params = refl; low = omega arith; high = omega arith }
-underline-written underline.Double = record { params = refl; low = omega arith; high = omega arith }
-underline-written underline.Curly = record { params = refl; low = omega arith; high = omega arith }
-underline-written underline.Dotted = record { params = refl; low = omega arith; high = omega arith }
-underline-written underline.Dashed = record { params = refl; low = omega arith; high = omega arith }
+underline-written _ = record { params = refl; low = omega arith; high = omega arith }
 
 font-written : (k : ℕ) → k ≤ 9 → SgrWritten (value.Font (font.Alternate k))
 unfolding sgr_spelling

@@ -1,8 +1,9 @@
 -- Cursor sequences: the spellings by final byte, and what is written.
-use Rattle.std.specs.Prelude.{ℕ, ℤ, pos, List, [], ◌∷◌, Option, Some, None, find, if◌then◌else◌, option_map, option_and_then}
-use Rattle.csi_codec.specs.Parameters.{is_number, count, place_pair, one_slot, slot_and_space, slot_number, word_max, Lines, read_by, Spelled, spelled, number_tokens, count_tokens, pair_tokens}
+use Rattle.std.specs.Prelude.{ℕ, ℤ, List, [], ◌∷◌, Option, Some, None, find, if◌then◌else◌, option_map, option_and_then}
+use Rattle.csi_codec.specs.Parameters.{is_number, count, place_pair, one_slot, slot_and_space, slot_number, word_max, Lines, read_by, Spelled}
+use Rattle.csi_codec.specs.Slots.{Slots, nothing, counted, placed, paired, named, spaced, slots_spelling}
 use Rattle.csi_codec.specs.declared.parameters.CsiParam.{CsiParam}
-use Rattle.csi_codec.specs.declared.parameters.CsiParam.TheVariants.{Integer, P}
+use Rattle.csi_codec.specs.declared.parameters.CsiParam.TheVariants.{Integer}
 use Rattle.csi_codec.specs.declared.cursors.CursorStyle.{CursorStyle}
 use Rattle.csi_codec.specs.declared.cursors.CursorStyle.TheVariants as style
 use Rattle.csi_codec.specs.declared.cursors.TabulationClear.{TabulationClear}
@@ -119,31 +120,35 @@ cursor_reading final ts = read_by cursor_lines final ts
 
 -- ---- Writing
 
+-- the parameters of each, and its final byte
+abbrev pub cursor_slots : Cursor → Slots × ℕ
+cursor_slots (cursor.Up n) = (counted n, 65)  -- A
+cursor_slots (cursor.Down n) = (counted n, 66)  -- B
+cursor_slots (cursor.Right n) = (counted n, 67)  -- C
+cursor_slots (cursor.Left n) = (counted n, 68)  -- D
+cursor_slots (cursor.NextLine n) = (counted n, 69)  -- E
+cursor_slots (cursor.PrecedingLine n) = (counted n, 70)  -- F
+cursor_slots (cursor.CharacterAbsolute n) = (placed n, 71)  -- G
+cursor_slots (cursor.CharacterPositionAbsolute n) = (placed n, 96)  -- `
+cursor_slots (cursor.LinePositionAbsolute n) = (placed n, 100)  -- d
+cursor_slots (cursor.CharacterPositionForward n) = (counted n, 97)  -- a
+cursor_slots (cursor.CharacterPositionBackward n) = (counted n, 106)  -- j
+cursor_slots (cursor.LinePositionForward n) = (counted n, 101)  -- e
+cursor_slots (cursor.LinePositionBackward n) = (counted n, 107)  -- k
+cursor_slots (cursor.Position line col) = (paired line col, 72)  -- H
+cursor_slots (cursor.CharacterAndLinePosition line col) = (paired line col, 102)  -- f
+cursor_slots (cursor.ActivePositionReport line col) = (paired line col, 82)  -- R
+cursor_slots (cursor.ForwardTabulation n) = (counted n, 73)  -- I
+cursor_slots (cursor.BackwardTabulation n) = (counted n, 90)  -- Z
+cursor_slots (cursor.LineTabulation n) = (counted n, 89)  -- Y
+cursor_slots (cursor.TabulationClear known) = (named (tabulation_clear_number known), 103)  -- g
+cursor_slots (cursor.TabulationControl known) = (named (tabulation_control_number known), 87)  -- W
+cursor_slots (cursor.SetTopAndBottomMargins top bottom) = (paired top bottom, 114)  -- r
+cursor_slots (cursor.SetLeftAndRightMargins left right) = (paired left right, 115)  -- s
+cursor_slots cursor.SaveCursor = (nothing, 115)  -- s
+cursor_slots cursor.RestoreCursor = (nothing, 117)  -- u
+cursor_slots cursor.RequestActivePositionReport = (named 6, 110)  -- n
+cursor_slots (cursor.CursorStyle style) = (spaced (cursor_style_number style), 113)  -- q
+
 unfoldable pub cursor_spelling : Cursor → Spelled
-cursor_spelling (cursor.Up n) = spelled (count_tokens n) 65  -- A
-cursor_spelling (cursor.Down n) = spelled (count_tokens n) 66  -- B
-cursor_spelling (cursor.Right n) = spelled (count_tokens n) 67  -- C
-cursor_spelling (cursor.Left n) = spelled (count_tokens n) 68  -- D
-cursor_spelling (cursor.NextLine n) = spelled (count_tokens n) 69  -- E
-cursor_spelling (cursor.PrecedingLine n) = spelled (count_tokens n) 70  -- F
-cursor_spelling (cursor.CharacterAbsolute n) = spelled (number_tokens n) 71  -- G
-cursor_spelling (cursor.CharacterPositionAbsolute n) = spelled (number_tokens n) 96  -- `
-cursor_spelling (cursor.LinePositionAbsolute n) = spelled (number_tokens n) 100  -- d
-cursor_spelling (cursor.CharacterPositionForward n) = spelled (count_tokens n) 97  -- a
-cursor_spelling (cursor.CharacterPositionBackward n) = spelled (count_tokens n) 106  -- j
-cursor_spelling (cursor.LinePositionForward n) = spelled (count_tokens n) 101  -- e
-cursor_spelling (cursor.LinePositionBackward n) = spelled (count_tokens n) 107  -- k
-cursor_spelling (cursor.Position line col) = spelled (pair_tokens line col) 72  -- H
-cursor_spelling (cursor.CharacterAndLinePosition line col) = spelled (pair_tokens line col) 102  -- f
-cursor_spelling (cursor.ActivePositionReport line col) = spelled (pair_tokens line col) 82  -- R
-cursor_spelling (cursor.ForwardTabulation n) = spelled (count_tokens n) 73  -- I
-cursor_spelling (cursor.BackwardTabulation n) = spelled (count_tokens n) 90  -- Z
-cursor_spelling (cursor.LineTabulation n) = spelled (count_tokens n) 89  -- Y
-cursor_spelling (cursor.TabulationClear known) = spelled (number_tokens (tabulation_clear_number known)) 103  -- g
-cursor_spelling (cursor.TabulationControl known) = spelled (number_tokens (tabulation_control_number known)) 87  -- W
-cursor_spelling (cursor.SetTopAndBottomMargins top bottom) = spelled (pair_tokens top bottom) 114  -- r
-cursor_spelling (cursor.SetLeftAndRightMargins left right) = spelled (pair_tokens left right) 115  -- s
-cursor_spelling cursor.SaveCursor = spelled [] 115  -- s
-cursor_spelling cursor.RestoreCursor = spelled [] 117  -- u
-cursor_spelling cursor.RequestActivePositionReport = spelled (number_tokens 6) 110  -- n
-cursor_spelling (cursor.CursorStyle style) = spelled (Integer (pos (cursor_style_number style)) ∷ P 32 ∷ []) 113  -- q
+cursor_spelling c = slots_spelling (cursor_slots c)

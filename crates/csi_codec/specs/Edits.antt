@@ -1,6 +1,7 @@
 -- Edits: the spellings by final byte, and what is written.
 use Rattle.std.specs.Prelude.{ℕ, ℤ, List, [], ◌∷◌, Option, find, option_map, option_and_then}
-use Rattle.csi_codec.specs.Parameters.{is_number, count, one_slot, slot_number, Lines, read_by, Spelled, spelled, count_tokens, extent_tokens}
+use Rattle.csi_codec.specs.Parameters.{is_number, count, one_slot, slot_number, Lines, read_by, Spelled}
+use Rattle.csi_codec.specs.Slots.{Slots, counted, extent, slots_spelling}
 use Rattle.csi_codec.specs.declared.parameters.CsiParam.{CsiParam}
 use Rattle.csi_codec.specs.declared.edits.EraseInLine.{EraseInLine}
 use Rattle.csi_codec.specs.declared.edits.EraseInLine.TheVariants as line
@@ -63,14 +64,18 @@ edit_reading final ts = read_by edit_lines final ts
 
 -- ---- Writing
 
+-- the parameters of each, and its final byte
+abbrev pub edit_slots : Edit → Slots × ℕ
+edit_slots (edit.InsertCharacter n) = (counted n, 64)  -- @
+edit_slots (edit.DeleteCharacter n) = (counted n, 80)  -- P
+edit_slots (edit.InsertLine n) = (counted n, 76)  -- L
+edit_slots (edit.DeleteLine n) = (counted n, 77)  -- M
+edit_slots (edit.EraseCharacter n) = (counted n, 88)  -- X
+edit_slots (edit.ScrollUp n) = (counted n, 83)  -- S
+edit_slots (edit.ScrollDown n) = (counted n, 84)  -- T
+edit_slots (edit.Repeat n) = (counted n, 98)  -- b
+edit_slots (edit.EraseInDisplay known) = (extent (erase_in_display_number known), 74)  -- J
+edit_slots (edit.EraseInLine known) = (extent (erase_in_line_number known), 75)  -- K
+
 unfoldable pub edit_spelling : Edit → Spelled
-edit_spelling (edit.InsertCharacter n) = spelled (count_tokens n) 64  -- @
-edit_spelling (edit.DeleteCharacter n) = spelled (count_tokens n) 80  -- P
-edit_spelling (edit.InsertLine n) = spelled (count_tokens n) 76  -- L
-edit_spelling (edit.DeleteLine n) = spelled (count_tokens n) 77  -- M
-edit_spelling (edit.EraseCharacter n) = spelled (count_tokens n) 88  -- X
-edit_spelling (edit.ScrollUp n) = spelled (count_tokens n) 83  -- S
-edit_spelling (edit.ScrollDown n) = spelled (count_tokens n) 84  -- T
-edit_spelling (edit.Repeat n) = spelled (count_tokens n) 98  -- b
-edit_spelling (edit.EraseInDisplay extent) = spelled (extent_tokens (erase_in_display_number extent)) 74  -- J
-edit_spelling (edit.EraseInLine extent) = spelled (extent_tokens (erase_in_line_number extent)) 75  -- K
+edit_spelling e = slots_spelling (edit_slots e)

@@ -1,4 +1,5 @@
 pub mod Parameters
+pub mod Slots
 pub mod Cursors
 pub mod Edits
 pub mod Devices
@@ -11,7 +12,6 @@ pub mod Rests
 pub mod Actions
 pub mod Known
 pub mod Sequences
-pub mod Short
 pub mod Parsing
 pub mod Laws
 pub mod Texts
@@ -22,5 +22,5 @@ pub mod FrontView
 pub mod Writable
 pub mod Sizes
 pub mod Longest
-pub mod ColourCases
+pub mod Targets
 pub mod Writing

@@ -1,8 +1,8 @@
--- The longest shape decides: the shapes of SGR, listed, and that none longer than the chosen one stands.
-use Rattle.std.specs.Prelude.{◌≡◌, ℕ, zero, suc, ◌+◌, ◌≤◌, true, List, [], ◌∷◌, ◌++◌, map, length, Some}
+-- The longest shape decides: the shapes of SGR, listed, and that the longest one that stands is chosen.
+use Rattle.std.specs.Prelude.{◌≡◌, ◌⊎◌, ℕ, zero, suc, ◌+◌, ◌≤◌, true, false, List, [], ◌∷◌, ◌++◌, map, length, drop, Some, None}
 use Rattle.csi_codec.specs.declared.parameters.CsiParam.{CsiParam}
 use Rattle.csi_codec.specs.declared.rendition.Sgr.{Sgr}
-use Rattle.csi_codec.specs.Rendition.{Part, byte_part, number_part, stands, colon, colour_forms, single_codes, sgr_shape}
+use Rattle.csi_codec.specs.Rendition.{Part, byte_part, number_part, stands, colon, Form, colour_forms, single_codes, sgr_shape}
 
 -- the numbers from the first on, so many
 abbrev pub counted : ℕ → ℕ → List ℕ
@@ -31,6 +31,34 @@ abbrev pub NoneIsLonger : List (List Part) → List CsiParam → ℕ → Type 0
 NoneIsLonger [] ts n = Unit {0}
 NoneIsLonger (shape ∷ shapes) ts n = (stands shape ts ≡ true → length shape ≤ n) × NoneIsLonger shapes ts n
 
--- the shape that is chosen takes n tokens, and no listed shape that stands there is longer
-abbrev pub LongestShapeDecides : Type 0
-LongestShapeDecides = (ts : List CsiParam) (value : Sgr) (n : ℕ) → sgr_shape ts ≡ Some (value, n) → NoneIsLonger sgr_shapes ts n
+-- some shape of the list stands there, of n tokens
+abbrev pub OneStands : List (List Part) → List CsiParam → ℕ → Type 0
+OneStands [] ts n = ⊥
+OneStands (shape ∷ shapes) ts n = ((stands shape ts ≡ true) × (length shape ≡ n)) ⊎ OneStands shapes ts n
+
+-- none of the list stands there
+abbrev pub NoneStands : List (List Part) → List CsiParam → Type 0
+NoneStands [] ts = Unit {0}
+NoneStands (shape ∷ shapes) ts = (stands shape ts ≡ false) × NoneStands shapes ts
+
+-- the longest of all shapes that stand there has n tokens
+pub record IsLongest (ts : List CsiParam) (n : ℕ) : Type 0 where
+  pub one : OneStands sgr_shapes ts n
+  pub none_longer : NoneIsLonger sgr_shapes ts n
+
+-- some form of a colour stands there, of n tokens, whose numbers name no colour: one of them is past 255
+abbrev pub OneNamesNone : List Form → List CsiParam → ℕ → Type 0
+OneNamesNone [] ts n = ⊥
+OneNamesNone (form ∷ forms) ts n = ((stands form.0 ts ≡ true) × (form.1 ts ≡ None) × (length form.0 ≡ n)) ⊎ OneNamesNone forms ts n
+
+-- the longest shape that stands is that of a colour behind its number, and names none
+pub record IsNoColour (ts : List CsiParam) : Type 0 where
+  pub behind : ℕ
+  pub longest : IsLongest ts (behind + 1)
+  pub names_none : OneNamesNone colour_forms (drop 1 ts) behind
+
+-- A shape is chosen exactly where one that is listed stands, and it is the longest of these: where there is a value the
+-- longest that stands takes its tokens; where there is none no listed shape stands, or the longest names no colour.
+pub record LongestShapeDecides : Type 0 where
+  pub chosen : (ts : List CsiParam) (value : Sgr) (n : ℕ) → sgr_shape ts ≡ Some (value, n) → IsLongest ts n
+  pub none : (ts : List CsiParam) → sgr_shape ts ≡ None → NoneStands sgr_shapes ts ⊎ IsNoColour ts

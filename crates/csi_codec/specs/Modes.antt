@@ -1,8 +1,6 @@
 -- Modes by number, what a number spells, and what is written.
 use Rattle.std.specs.Prelude.{ℕ, ℤ, pos, List, [], ◌∷◌, Option, Some, None, find, ◌==◌, if◌then◌else◌, option_and_then}
 use Rattle.csi_codec.specs.Parameters.{is_number, number_within, Spelled, spelled, number_tokens, private_tokens}
-use Rattle.csi_codec.specs.declared.parameters.CsiParam.{CsiParam}
-use Rattle.csi_codec.specs.declared.parameters.CsiParam.TheVariants.{Integer, P}
 use Rattle.csi_codec.specs.declared.modes.DecPrivateModeCode.{DecPrivateModeCode}
 use Rattle.csi_codec.specs.declared.modes.DecPrivateModeCode.TheVariants as dec
 use Rattle.csi_codec.specs.declared.modes.TerminalModeCode.{TerminalModeCode}

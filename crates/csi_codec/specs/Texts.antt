@@ -1,13 +1,10 @@
 -- Parameter bytes and the tokens that they spell.
-use Rattle.std.specs.Prelude.{◌≡◌, ◌≤◌, ℕ, ℤ, pos, negsuc, ◌+◌, ◌-◌, ◌*◌, min, Bool, true, false, not, ◌&&◌, ◌||◌, List, [], ◌∷◌, ◌++◌, Option, Some, None, unwrap_or, nat_le, if◌then◌else◌, flat_map}
+use Rattle.std.specs.Prelude.{◌≡◌, ℕ, ℤ, pos, negsuc, ◌+◌, ◌-◌, ◌*◌, min, Bool, true, false, not, ◌&&◌, ◌||◌, List, [], ◌∷◌, ◌++◌, Option, Some, None, unwrap_or, nat_le, if◌then◌else◌, flat_map}
 use Rattle.std.specs.Char.{is_ascii_digit}
 use Rattle.csi_codec.specs.declared.parameters.CsiParam.{CsiParam}
 use Rattle.csi_codec.specs.declared.parameters.CsiParam.TheVariants.{Integer, P}
 use Rattle.csi_codec.specs.Parameters.{begins_with_number, token_text}
 use Rattle.csi_codec.specs.Rendition.{is_between}
-use Rattle.csi_codec.specs.Actions.{Action, csi_reading}
-use Rattle.csi_codec.specs.Laws.{is_exempt}
-use Rattle.csi_codec.specs.Sequences.{csi_text}
 
 -- the largest number of a token, the largest i64
 abbrev pub largest_number : ℕ
@@ -53,22 +50,3 @@ ParametersReadBack = (ts : List CsiParam) → is_spellable ts ≡ true → token
 abbrev pub all_parameter_bytes : List ℕ → Bool
 all_parameter_bytes [] = true
 all_parameter_bytes (b ∷ bs) = is_between 32 63 b && all_parameter_bytes bs
-
--- the text of an action is one sequence, whose tokens mean that action under the same flag
-pub record TextReadsBack (truncated : Bool) (a : Action) : Type 0 where
-  pub body : List ℕ
-  pub final : ℕ
-  pub text : csi_text a ≡ 27 ∷ 91 ∷ (body ++ final ∷ [])
-  pub bytes : all_parameter_bytes body ≡ true
-  pub low : 64 ≤ final
-  pub high : final ≤ 126
-  pub action : csi_reading (tokens_of body) truncated final ≡ a ∷ []
-
-abbrev pub EachTextReadsBack : List CsiParam → Bool → ℕ → List Action → Type 0
-EachTextReadsBack ts truncated final [] = Unit {0}
-EachTextReadsBack ts truncated final (a ∷ others) = (is_exempt ts final a ≡ false → TextReadsBack truncated a) × EachTextReadsBack ts truncated final others
-
--- the printed actions of a spellable list with a final byte from @ to ~ read back under the same flag, but for the exception
-abbrev pub TextsReadBack : Type 0
-TextsReadBack = (ts : List CsiParam) (truncated : Bool) (final : ℕ) → is_spellable ts ≡ true → 64 ≤ final → final ≤ 126
-    → EachTextReadsBack ts truncated final (csi_reading ts truncated final)

@@ -4,9 +4,7 @@ use Rattle.std.specs.Prelude.{◌≡◌, ℕ, ◌≤◌, ◌⊎◌, pos, Bool, L
 use Rattle.cell_base.specs.declared.color.ColorSpec.{ColorSpec}
 use Rattle.cell_base.specs.declared.color.ColorSpec.TheVariants as color
 use Rattle.csi_codec.specs.declared.cursors.Cursor.{Cursor}
-use Rattle.csi_codec.specs.declared.cursors.Cursor.TheVariants as place
 use Rattle.csi_codec.specs.declared.edits.Edit.{Edit}
-use Rattle.csi_codec.specs.declared.edits.Edit.TheVariants as change
 use Rattle.csi_codec.specs.declared.devices.Device.{Device}
 use Rattle.csi_codec.specs.declared.modes.DecPrivateMode.{DecPrivateMode}
 use Rattle.csi_codec.specs.declared.modes.DecPrivateMode.TheVariants as private
@@ -21,9 +19,11 @@ use Rattle.csi_codec.specs.declared.rendition.Sgr.TheVariants as value
 use Rattle.csi_codec.specs.declared.escapes.Esc.{Esc}
 use Rattle.csi_codec.specs.declared.escapes.Esc.TheVariants as pair
 use Rattle.csi_codec.specs.declared.escapes.EscCode.TheVariants as code
-use Rattle.csi_codec.specs.Parameters.{word_max}
+use Rattle.csi_codec.specs.Slots.{ArePlaces}
+use Rattle.csi_codec.specs.Cursors.{cursor_slots}
+use Rattle.csi_codec.specs.Edits.{edit_slots}
 use Rattle.csi_codec.specs.Modes.{dec_private_mode_named, terminal_mode_named}
-use Rattle.csi_codec.specs.Escapes.{known_code, esc_reading, esc_text, esc_code_intermediate, esc_code_control}
+use Rattle.csi_codec.specs.Escapes.{known_code, esc_reading, esc_text, bytes_of_pair}
 use Rattle.csi_codec.specs.Actions.{Action, sgr, cursor, edit, mode, device, unspecified, spelling_of}
 use Rattle.csi_codec.specs.Laws.{ReadsBack}
 use Rattle.csi_codec.specs.Sequences.{csi_text}
@@ -31,50 +31,12 @@ use Rattle.csi_codec.specs.Fronts.{HasFront, whole_front}
 
 -- ---- Control sequences
 
--- a count or a place: 1 to the largest value of a parameter
-abbrev pub IsPlace : ℕ → Type 0
-IsPlace n = (1 ≤ n) × (n ≤ word_max)
-
+-- a cursor sequence or an edit with counts and places from 1 to the largest value of a parameter
 abbrev pub IsWritableCursor : Cursor → Type 0
-IsWritableCursor (place.Up n) = IsPlace n
-IsWritableCursor (place.Down n) = IsPlace n
-IsWritableCursor (place.Right n) = IsPlace n
-IsWritableCursor (place.Left n) = IsPlace n
-IsWritableCursor (place.NextLine n) = IsPlace n
-IsWritableCursor (place.PrecedingLine n) = IsPlace n
-IsWritableCursor (place.CharacterAbsolute n) = IsPlace n
-IsWritableCursor (place.CharacterPositionAbsolute n) = IsPlace n
-IsWritableCursor (place.LinePositionAbsolute n) = IsPlace n
-IsWritableCursor (place.CharacterPositionForward n) = IsPlace n
-IsWritableCursor (place.CharacterPositionBackward n) = IsPlace n
-IsWritableCursor (place.LinePositionForward n) = IsPlace n
-IsWritableCursor (place.LinePositionBackward n) = IsPlace n
-IsWritableCursor (place.Position line col) = IsPlace line × IsPlace col
-IsWritableCursor (place.CharacterAndLinePosition line col) = IsPlace line × IsPlace col
-IsWritableCursor (place.ActivePositionReport line col) = IsPlace line × IsPlace col
-IsWritableCursor (place.ForwardTabulation n) = IsPlace n
-IsWritableCursor (place.BackwardTabulation n) = IsPlace n
-IsWritableCursor (place.LineTabulation n) = IsPlace n
-IsWritableCursor (place.SetTopAndBottomMargins top bottom) = IsPlace top × IsPlace bottom
-IsWritableCursor (place.SetLeftAndRightMargins left right) = IsPlace left × IsPlace right
-IsWritableCursor (place.TabulationClear known) = Unit {0}
-IsWritableCursor (place.TabulationControl known) = Unit {0}
-IsWritableCursor (place.CursorStyle style) = Unit {0}
-IsWritableCursor place.SaveCursor = Unit {0}
-IsWritableCursor place.RestoreCursor = Unit {0}
-IsWritableCursor place.RequestActivePositionReport = Unit {0}
+IsWritableCursor c = ArePlaces (cursor_slots c).0
 
 abbrev pub IsWritableEdit : Edit → Type 0
-IsWritableEdit (change.InsertCharacter n) = IsPlace n
-IsWritableEdit (change.DeleteCharacter n) = IsPlace n
-IsWritableEdit (change.InsertLine n) = IsPlace n
-IsWritableEdit (change.DeleteLine n) = IsPlace n
-IsWritableEdit (change.EraseCharacter n) = IsPlace n
-IsWritableEdit (change.ScrollUp n) = IsPlace n
-IsWritableEdit (change.ScrollDown n) = IsPlace n
-IsWritableEdit (change.Repeat n) = IsPlace n
-IsWritableEdit (change.EraseInDisplay extent) = Unit {0}
-IsWritableEdit (change.EraseInLine extent) = Unit {0}
+IsWritableEdit e = ArePlaces (edit_slots e).0
 
 -- a mode by its name, or by a number that has none
 abbrev pub IsWritablePrivateMode : DecPrivateMode → Type 0
@@ -148,15 +110,7 @@ IsWritableEsc (pair.Code code.ApplicationProgramCommand) = ⊥
 IsWritableEsc (pair.Code known) = Unit {0}
 IsWritableEsc (pair.Unspecified intermediate final) = ArePairBytes intermediate final × (known_code intermediate final ≡ None)
 
--- the bytes of a pair behind its ESC
-abbrev pub esc_intermediate : Esc → Option ℕ
-esc_intermediate (pair.Code known) = esc_code_intermediate known
-esc_intermediate (pair.Unspecified intermediate final) = intermediate
-
-abbrev pub esc_final : Esc → ℕ
-esc_final (pair.Code known) = esc_code_control known
-esc_final (pair.Unspecified intermediate final) = final
-
+-- ESC, the intermediate byte, if there is one, and the final byte
 abbrev pub pair_bytes : Option ℕ → ℕ → List ℕ
 pair_bytes None final = 27 ∷ final ∷ []
 pair_bytes (Some between) final = 27 ∷ between ∷ final ∷ []
@@ -189,9 +143,9 @@ WritableTextsAreFronts = (a : Action) → IsWritable a → HasFront (csi_text a)
 
 -- the text of a pair that can be written is ESC and its bytes, which mean that pair
 pub record IsPairText (e : Esc) : Type 0 where
-  pub text : esc_text e ≡ pair_bytes (esc_intermediate e) (esc_final e)
-  pub bytes : ArePairBytes (esc_intermediate e) (esc_final e)
-  pub reading : esc_reading (esc_intermediate e) (esc_final e) ≡ e
+  pub text : esc_text e ≡ pair_bytes (bytes_of_pair e).0 (bytes_of_pair e).1
+  pub bytes : ArePairBytes (bytes_of_pair e).0 (bytes_of_pair e).1
+  pub reading : esc_reading (bytes_of_pair e).0 (bytes_of_pair e).1 ≡ e
 
 abbrev pub PairsReadBack : Type 0
 PairsReadBack = (e : Esc) → IsWritableEsc e → IsPairText e

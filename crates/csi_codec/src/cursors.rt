@@ -1,5 +1,5 @@
 //! Sequences that move the cursor, set tab stops and margins, and report or save a place.
-ghost use Rattle.std.specs.Prelude.{◌≡◌, Some};
+ghost use Rattle.std.specs.Prelude.{◌≡◌, Some, option_and_then};
 ghost use Rattle.csi_codec.specs.Cursors.{
   cursor_style_named,
   cursor_style_number,
@@ -12,7 +12,7 @@ ghost use Rattle.csi_codec.specs.Cursors.{
   position_request,
   save_or_margins,
 };
-ghost use Rattle.csi_codec.specs.Parameters.{sequence_text, spelled_text};
+ghost use Rattle.csi_codec.specs.Parameters.{one_slot, sequence_text, slot_number, spelled_text};
 
 use crate::one_based::OneBased;
 use crate::parameters::{CsiParam, count, number_and_space, one_number, one_place, place_pair};
@@ -243,35 +243,33 @@ pub(crate) fn cursor_reading(params: &[CsiParam], control: char) -> Option<Curso
         'j' => Some(Cursor::CharacterPositionBackward(count(params)?)),
         'e' => Some(Cursor::LinePositionForward(count(params)?)),
         'k' => Some(Cursor::LinePositionBackward(count(params)?)),
-        'H' => {
-            let (line, col) = place_pair(1, params)?;
-            Some(Cursor::Position { line, col })
-        }
-        'f' => {
-            let (line, col) = place_pair(1, params)?;
-            Some(Cursor::CharacterAndLinePosition { line, col })
-        }
-        'R' => {
-            let (line, col) = place_pair(1, params)?;
-            Some(Cursor::ActivePositionReport { line, col })
-        }
+        'H' => place_pair(1, params).map(|(line, col)| Cursor::Position { line, col }),
+        'f' => place_pair(1, params).map(|(line, col)| Cursor::CharacterAndLinePosition {
+            line,
+            col,
+        }),
+        'R' => place_pair(1, params).map(|(line, col)| Cursor::ActivePositionReport { line, col }),
         'I' => Some(Cursor::ForwardTabulation(count(params)?)),
         'Z' => Some(Cursor::BackwardTabulation(count(params)?)),
         'Y' => Some(Cursor::LineTabulation(count(params)?)),
         'g' => Some(Cursor::TabulationClear(TabulationClear::from_i64(one_number(params)?)?)),
-        'W' => Some(Cursor::TabulationControl(CursorTabulationControl::from_i64(one_number(
-            params,
-        )?)?)),
-        'r' => {
-            let (top, bottom) = place_pair(u32::MAX, params)?;
-            Some(Cursor::SetTopAndBottomMargins { top, bottom })
-        }
+        'W' => Some(Cursor::TabulationControl(tabulation_control(params)?)),
+        'r' => place_pair(u32::MAX, params).map(|(top, bottom)| Cursor::SetTopAndBottomMargins {
+            top,
+            bottom,
+        }),
         's' => save_or_margins(params),
         'u' if params.is_empty() => Some(Cursor::RestoreCursor),
         'n' => position_request(params),
         'q' => Some(Cursor::CursorStyle(CursorStyle::from_i64(number_and_space(params)?)?)),
         _ => None,
     }
+}
+
+fn tabulation_control(params: &[CsiParam]) -> Option<CursorTabulationControl>
+    ensures { result ≡ option_and_then (λ slot. tabulation_control_named (slot_number slot)) (one_slot params.now) }
+{
+    CursorTabulationControl::from_i64(one_number(params)?)
 }
 
 fn save_or_margins(params: &[CsiParam]) -> Option<Cursor>

@@ -8,7 +8,7 @@ ghost use Rattle.csi_codec.specs.Edits.{
   edit_reading,
   edit_spelling,
 };
-ghost use Rattle.csi_codec.specs.Parameters.{sequence_text, spelled_text};
+ghost use Rattle.csi_codec.specs.Parameters.{spelled_text};
 
 use crate::parameters::{CsiParam, count, one_number};
 use crate::spelling::{ControlSequence, put_count, put_extent, write_parameters};

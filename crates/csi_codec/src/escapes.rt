@@ -1,6 +1,6 @@
 //! ESC pairs: an ESC, at most one intermediate byte, and a final byte.
 ghost use Rattle.std.specs.Prelude.{◌≡◌, ◌++◌, OnErr, OnOk, Some};
-ghost use Rattle.csi_codec.specs.Escapes.{lone_code, pair_code, esc_bytes, esc_reading, esc_text, esc_code_intermediate, esc_code_control};
+ghost use Rattle.csi_codec.specs.Escapes.{bytes_of_pair, esc_bytes, esc_code_bytes, esc_reading, esc_text, known_code};
 
 use crate::text::SequenceText;
 use std::alloc::AllocError;
@@ -54,61 +54,85 @@ pub enum Esc {
 }
 
 impl EscCode {
-    /// The byte between ESC and the final byte, if there is one.
-    fn intermediate(self) -> Option<u8>
-        ensures { result ≡ esc_code_intermediate self }
+    /// The byte between ESC and the final byte, if there is one, and the final byte.
+    fn bytes(self) -> (Option<u8>, u8)
+        ensures { result ≡ esc_code_bytes self }
     {
         match self {
-            EscCode::DecLineDrawingG0 | EscCode::UkCharacterSetG0 | EscCode::AsciiCharacterSetG0 =>
-                Some(b'('),
-            EscCode::DecLineDrawingG1 | EscCode::UkCharacterSetG1 | EscCode::AsciiCharacterSetG1 =>
-                Some(b')'),
-            EscCode::DecScreenAlignmentDisplay
-            | EscCode::DecDoubleHeightTopHalfLine
-            | EscCode::DecDoubleHeightBottomHalfLine
-            | EscCode::DecSingleWidthLine
-            | EscCode::DecDoubleWidthLine => Some(b'#'),
-            _ => None,
+            EscCode::FullReset => (None, b'c'),
+            EscCode::Index => (None, b'D'),
+            EscCode::NextLine => (None, b'E'),
+            EscCode::CursorPositionLowerLeft => (None, b'F'),
+            EscCode::HorizontalTabSet => (None, b'H'),
+            EscCode::ReverseIndex => (None, b'M'),
+            EscCode::SingleShiftG2 => (None, b'N'),
+            EscCode::SingleShiftG3 => (None, b'O'),
+            EscCode::StartOfGuardedArea => (None, b'V'),
+            EscCode::EndOfGuardedArea => (None, b'W'),
+            EscCode::StartOfString => (None, b'X'),
+            EscCode::ReturnTerminalId => (None, b'Z'),
+            EscCode::StringTerminator => (None, b'\\'),
+            EscCode::PrivacyMessage => (None, b'^'),
+            EscCode::ApplicationProgramCommand => (None, b'_'),
+            EscCode::TmuxTitle => (None, b'k'),
+            EscCode::DecBackIndex => (None, b'6'),
+            EscCode::DecSaveCursorPosition => (None, b'7'),
+            EscCode::DecRestoreCursorPosition => (None, b'8'),
+            EscCode::DecApplicationKeyPad => (None, b'='),
+            EscCode::DecNormalKeyPad => (None, b'>'),
+            EscCode::DecLineDrawingG0 => (Some(b'('), b'0'),
+            EscCode::UkCharacterSetG0 => (Some(b'('), b'A'),
+            EscCode::AsciiCharacterSetG0 => (Some(b'('), b'B'),
+            EscCode::DecLineDrawingG1 => (Some(b')'), b'0'),
+            EscCode::UkCharacterSetG1 => (Some(b')'), b'A'),
+            EscCode::AsciiCharacterSetG1 => (Some(b')'), b'B'),
+            EscCode::DecScreenAlignmentDisplay => (Some(b'#'), b'8'),
+            EscCode::DecDoubleHeightTopHalfLine => (Some(b'#'), b'3'),
+            EscCode::DecDoubleHeightBottomHalfLine => (Some(b'#'), b'4'),
+            EscCode::DecSingleWidthLine => (Some(b'#'), b'5'),
+            EscCode::DecDoubleWidthLine => (Some(b'#'), b'6'),
         }
     }
 
-    /// The final byte.
-    fn control(self) -> u8
-        ensures { result ≡ esc_code_control self }
+    /// The code that has these bytes, where an intermediate byte of 0 is none.
+    #[tactic(auto, unfolding(crate::specs::Escapes::known_code))]
+    fn of_bytes(intermediate: Option<u8>, control: u8) -> Option<Self>
+        ensures { result ≡ known_code intermediate control }
     {
-        match self {
-            EscCode::FullReset => b'c',
-            EscCode::Index => b'D',
-            EscCode::NextLine => b'E',
-            EscCode::CursorPositionLowerLeft => b'F',
-            EscCode::HorizontalTabSet => b'H',
-            EscCode::ReverseIndex => b'M',
-            EscCode::SingleShiftG2 => b'N',
-            EscCode::SingleShiftG3 => b'O',
-            EscCode::StartOfGuardedArea => b'V',
-            EscCode::EndOfGuardedArea => b'W',
-            EscCode::StartOfString => b'X',
-            EscCode::ReturnTerminalId => b'Z',
-            EscCode::StringTerminator => b'\\',
-            EscCode::PrivacyMessage => b'^',
-            EscCode::ApplicationProgramCommand => b'_',
-            EscCode::TmuxTitle => b'k',
-            EscCode::DecBackIndex => b'6',
-            EscCode::DecSaveCursorPosition => b'7',
-            EscCode::DecRestoreCursorPosition => b'8',
-            EscCode::DecApplicationKeyPad => b'=',
-            EscCode::DecNormalKeyPad => b'>',
-            EscCode::DecLineDrawingG0 => b'0',
-            EscCode::UkCharacterSetG0 => b'A',
-            EscCode::AsciiCharacterSetG0 => b'B',
-            EscCode::DecLineDrawingG1 => b'0',
-            EscCode::UkCharacterSetG1 => b'A',
-            EscCode::AsciiCharacterSetG1 => b'B',
-            EscCode::DecScreenAlignmentDisplay => b'8',
-            EscCode::DecDoubleHeightTopHalfLine => b'3',
-            EscCode::DecDoubleHeightBottomHalfLine => b'4',
-            EscCode::DecSingleWidthLine => b'5',
-            EscCode::DecDoubleWidthLine => b'6',
+        match (intermediate.unwrap_or(0), control) {
+            (0, b'c') => Some(EscCode::FullReset),
+            (0, b'D') => Some(EscCode::Index),
+            (0, b'E') => Some(EscCode::NextLine),
+            (0, b'F') => Some(EscCode::CursorPositionLowerLeft),
+            (0, b'H') => Some(EscCode::HorizontalTabSet),
+            (0, b'M') => Some(EscCode::ReverseIndex),
+            (0, b'N') => Some(EscCode::SingleShiftG2),
+            (0, b'O') => Some(EscCode::SingleShiftG3),
+            (0, b'V') => Some(EscCode::StartOfGuardedArea),
+            (0, b'W') => Some(EscCode::EndOfGuardedArea),
+            (0, b'X') => Some(EscCode::StartOfString),
+            (0, b'Z') => Some(EscCode::ReturnTerminalId),
+            (0, b'\\') => Some(EscCode::StringTerminator),
+            (0, b'^') => Some(EscCode::PrivacyMessage),
+            (0, b'_') => Some(EscCode::ApplicationProgramCommand),
+            (0, b'k') => Some(EscCode::TmuxTitle),
+            (0, b'6') => Some(EscCode::DecBackIndex),
+            (0, b'7') => Some(EscCode::DecSaveCursorPosition),
+            (0, b'8') => Some(EscCode::DecRestoreCursorPosition),
+            (0, b'=') => Some(EscCode::DecApplicationKeyPad),
+            (0, b'>') => Some(EscCode::DecNormalKeyPad),
+            (b'(', b'0') => Some(EscCode::DecLineDrawingG0),
+            (b'(', b'A') => Some(EscCode::UkCharacterSetG0),
+            (b'(', b'B') => Some(EscCode::AsciiCharacterSetG0),
+            (b')', b'0') => Some(EscCode::DecLineDrawingG1),
+            (b')', b'A') => Some(EscCode::UkCharacterSetG1),
+            (b')', b'B') => Some(EscCode::AsciiCharacterSetG1),
+            (b'#', b'8') => Some(EscCode::DecScreenAlignmentDisplay),
+            (b'#', b'3') => Some(EscCode::DecDoubleHeightTopHalfLine),
+            (b'#', b'4') => Some(EscCode::DecDoubleHeightBottomHalfLine),
+            (b'#', b'5') => Some(EscCode::DecSingleWidthLine),
+            (b'#', b'6') => Some(EscCode::DecDoubleWidthLine),
+            _ => None,
         }
     }
 }
@@ -138,12 +162,20 @@ impl Esc {
     fn put_text(&self, text: &mut SequenceText)
         ensures { text.new ≡ esc_text self.now }
     {
-        match *self {
-            Esc::Code(code) => put_pair(code.intermediate(), code.control(), text),
+        let (intermediate, control) = self.bytes();
+        put_pair(intermediate, control, text);
+    }
+
+    /// The byte between ESC and the final byte, if there is one, and the final byte.
+    fn bytes(self) -> (Option<u8>, u8)
+        ensures { result ≡ bytes_of_pair self }
+    {
+        match self {
+            Esc::Code(code) => code.bytes(),
             Esc::Unspecified {
                 intermediate,
                 control,
-            } => put_pair(intermediate, control, text),
+            } => (intermediate, control),
         }
     }
 
@@ -152,11 +184,7 @@ impl Esc {
     pub fn parse(intermediate: Option<u8>, control: u8) -> Self
         ensures { result ≡ esc_reading intermediate control }
     {
-        let known = match intermediate {
-            None | Some(0) => lone_code(control),
-            Some(byte) => pair_code(byte, control),
-        };
-        match known {
+        match EscCode::of_bytes(intermediate, control) {
             Some(code) => Esc::Code(code),
             None => Esc::Unspecified {
                 intermediate,
@@ -180,54 +208,4 @@ fn put_pair(intermediate: Option<u8>, control: u8, text: &mut SequenceText)
         None => built.push_character(control),
     }
     *text = built;
-}
-
-#[tactic(auto, unfolding(crate::specs::Escapes::lone_code))]
-fn lone_code(control: u8) -> Option<EscCode>
-    ensures { result ≡ lone_code control }
-{
-    match control {
-        b'c' => Some(EscCode::FullReset),
-        b'D' => Some(EscCode::Index),
-        b'E' => Some(EscCode::NextLine),
-        b'F' => Some(EscCode::CursorPositionLowerLeft),
-        b'H' => Some(EscCode::HorizontalTabSet),
-        b'M' => Some(EscCode::ReverseIndex),
-        b'N' => Some(EscCode::SingleShiftG2),
-        b'O' => Some(EscCode::SingleShiftG3),
-        b'V' => Some(EscCode::StartOfGuardedArea),
-        b'W' => Some(EscCode::EndOfGuardedArea),
-        b'X' => Some(EscCode::StartOfString),
-        b'Z' => Some(EscCode::ReturnTerminalId),
-        b'\\' => Some(EscCode::StringTerminator),
-        b'^' => Some(EscCode::PrivacyMessage),
-        b'_' => Some(EscCode::ApplicationProgramCommand),
-        b'k' => Some(EscCode::TmuxTitle),
-        b'6' => Some(EscCode::DecBackIndex),
-        b'7' => Some(EscCode::DecSaveCursorPosition),
-        b'8' => Some(EscCode::DecRestoreCursorPosition),
-        b'=' => Some(EscCode::DecApplicationKeyPad),
-        b'>' => Some(EscCode::DecNormalKeyPad),
-        _ => None,
-    }
-}
-
-#[tactic(auto, unfolding(crate::specs::Escapes::pair_code))]
-fn pair_code(intermediate: u8, control: u8) -> Option<EscCode>
-    ensures { result ≡ pair_code intermediate control }
-{
-    match (intermediate, control) {
-        (b'(', b'0') => Some(EscCode::DecLineDrawingG0),
-        (b'(', b'A') => Some(EscCode::UkCharacterSetG0),
-        (b'(', b'B') => Some(EscCode::AsciiCharacterSetG0),
-        (b')', b'0') => Some(EscCode::DecLineDrawingG1),
-        (b')', b'A') => Some(EscCode::UkCharacterSetG1),
-        (b')', b'B') => Some(EscCode::AsciiCharacterSetG1),
-        (b'#', b'8') => Some(EscCode::DecScreenAlignmentDisplay),
-        (b'#', b'3') => Some(EscCode::DecDoubleHeightTopHalfLine),
-        (b'#', b'4') => Some(EscCode::DecDoubleHeightBottomHalfLine),
-        (b'#', b'5') => Some(EscCode::DecSingleWidthLine),
-        (b'#', b'6') => Some(EscCode::DecDoubleWidthLine),
-        _ => None,
-    }
 }

@@ -1,11 +1,7 @@
-//! Laws of the readings, as functions that ensure them: most do nothing, those on equality compare.
-ghost use Rattle.std.specs.Prelude.{◌≡◌, ◌↔◌, IsTrue};
-ghost use Rattle.csi_codec.specs.CrackedView.{entries_of};
-ghost use Rattle.csi_codec.specs.FrontView.{front_of};
+//! Laws of the readings, as functions that do nothing and ensure them.
 ghost use Rattle.csi_codec.specs.Fronts.{OneFront, TextsAreFronts};
 ghost use Rattle.csi_codec.specs.Laws.{ActionsReadBack, SgrListsJoin};
 ghost use Rattle.csi_codec.specs.Longest.{LongestShapeDecides};
-ghost use Rattle.csi_codec.specs.Sequences.{action_of, rest_of};
 ghost use Rattle.csi_codec.specs.Sizes.{
   SgrsAreShort,
   CursorsAreShort,
@@ -15,7 +11,7 @@ ghost use Rattle.csi_codec.specs.Sizes.{
   ActionsAreShort,
   PairsAreShort,
 };
-ghost use Rattle.csi_codec.specs.Texts.{ParametersReadBack, TextsReadBack};
+ghost use Rattle.csi_codec.specs.Texts.{ParametersReadBack};
 ghost use Rattle.csi_codec.specs.Writable.{
   CursorsReadBack,
   EditsReadBack,
@@ -26,11 +22,6 @@ ghost use Rattle.csi_codec.specs.Writable.{
   WritableTextsAreFronts,
   PairsReadBack,
 };
-
-use crate::cracking::Cracked;
-use crate::fronts::CsiFront;
-use crate::parameters::Unspecified;
-use crate::sequences::CSI;
 
 /// The actions of an SGR list, a `;` and another list are those of the one and then those of the other, where the
 /// first is wholly known and does not end in `;`.
@@ -47,12 +38,6 @@ pub fn actions_read_back()
 /// The text of a spellable list of parameters gives the list back.
 pub fn parameters_read_back()
     ensures { ParametersReadBack }
-{}
-
-/// The printed actions of a spellable list with a final byte from `@` to `~` read back under the same flag; but for
-/// a rest of modes behind some that stand, where it begins with `?` or stands under `s` or `r`.
-pub fn texts_read_back()
-    ensures { TextsReadBack }
 {}
 
 /// At most one sequence stands at the front of some bytes.
@@ -103,34 +88,6 @@ pub fn writable_texts_are_short()
     ensures action { ActionsAreShort }
     ensures pair { PairsAreShort }
 {}
-
-/// Two values of `CSI` are equal where their actions are, wherever these lie in memory.
-pub fn equality_of_sequences_is_by_value(a: &CSI, b: &CSI) -> bool
-    ensures { IsTrue result ↔ (action_of a.now ≡ action_of b.now) }
-{
-    *a == *b
-}
-
-/// Two rests are equal where their parameters, flags and final bytes are.
-pub fn equality_of_rests_is_by_value(a: &Unspecified, b: &Unspecified) -> bool
-    ensures { IsTrue result ↔ (rest_of a.now ≡ rest_of b.now) }
-{
-    *a == *b
-}
-
-/// Two cracked lists are equal where their entries are.
-pub fn equality_of_cracked_lists_is_by_value(a: &Cracked, b: &Cracked) -> bool
-    ensures { IsTrue result ↔ (entries_of a.now ≡ entries_of b.now) }
-{
-    *a == *b
-}
-
-/// Two sequences at the front of some bytes are equal where their parameters, flags, final bytes and rests are.
-pub fn equality_of_fronts_is_by_value(a: &CsiFront, b: &CsiFront) -> bool
-    ensures { IsTrue result ↔ (front_of a.now ≡ front_of b.now) }
-{
-    *a == *b
-}
 
 /// The longest shape decides: no listed shape of SGR that stands at the front of a list is longer than the one that is
 /// chosen there.

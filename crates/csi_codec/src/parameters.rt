@@ -89,7 +89,7 @@ impl Unspecified {
         result
     }
 
-    /// The same, where what was appended before a refusal stays.
+    /// Appends these bytes one after another; what was appended before a refusal stays.
     fn append_parts_to(&self, bytes: &mut Vec<u8>) -> Result<(), AllocError>
         ensures ok { OnOk result (bytes.new.items ≡ bytes.old.items ++ sequence_text (spelled self.now.params.items self.now.control)) }
         ensures err { take (length bytes.old.items) bytes.new.items ≡ bytes.old.items }

@@ -1,24 +1,14 @@
 //! SGR: reading a piece, by the number that it begins with.
-ghost use Rattle.std.specs.Prelude.{◌≡◌, ◌≤◌, IfSome, option_map};
+ghost use Rattle.std.specs.Prelude.{◌≡◌, ◌≤◌, IfSome, pos, ◌∷◌, []};
 ghost use Rattle.csi_codec.specs.Parameters.{number_within};
-ghost use Rattle.csi_codec.specs.ColourCases.{
-  number_behind,
-  three_behind,
-  opaque_of,
-  alpha_of,
-  palette_case,
-  opaque_case,
-  bare_case,
-  colon_case,
-  alpha_case,
-  colon_form,
-  semicolon_form,
-  form_case,
-  target_numbered,
-  set_to,
-};
+ghost use Rattle.csi_codec.specs.declared.parameters.CsiParam.TheVariants.{Integer, P};
+ghost use Rattle.csi_codec.specs.Targets.{target_numbered, set_to};
 ghost use Rattle.csi_codec.specs.Rendition.{
   colour_form,
+  palette_at,
+  opaque_at,
+  colour_at,
+  taking,
   colour_shape,
   single_code,
   ranged_code,
@@ -30,52 +20,10 @@ ghost use Rattle.csi_codec.specs.Rendition.{
   sgr_piece,
 };
 
-use crate::parameters::{CsiParam, number_within, semicolon_at};
+use crate::parameters::CsiParam::{self, Integer, P};
+use crate::parameters::{number_within, semicolon_at};
 use crate::rendition::{Font, Sgr};
 use cell_base::{Blink, ColorSpec, Intensity, SrgbaTuple, Underline, VerticalAlign};
-
-/// The number behind a sign at the front of a list, and what follows it.
-fn number_behind(sign: u8, params: &[CsiParam]) -> Option<(i64, &[CsiParam])>
-    ensures { option_map (λ found. (found.0, found.1.now)) result ≡ number_behind sign params.now }
-{
-    match params {
-        [CsiParam::P(byte), CsiParam::Integer(value), rest @ ..] if *byte == sign => Some((
-            *value, rest,
-        )),
-        _ => None,
-    }
-}
-
-/// Three numbers, each behind the sign, and what follows them.
-fn three_behind(sign: u8, params: &[CsiParam]) -> Option<(i64, i64, i64, &[CsiParam])>
-    ensures { option_map (λ found. (found.0, found.1, found.2, found.3.now)) result ≡ three_behind sign params.now }
-{
-    let (red, rest) = number_behind(sign, params)?;
-    let (green, rest) = number_behind(sign, rest)?;
-    let (blue, rest) = number_behind(sign, rest)?;
-    Some((red, green, blue, rest))
-}
-
-/// The opaque colour of three numbers, if they are bytes.
-fn opaque_of(red: i64, green: i64, blue: i64) -> Option<ColorSpec>
-    ensures { result ≡ opaque_of red green blue }
-{
-    let color = SrgbaTuple(channel(red)?, channel(green)?, channel(blue)?, 255);
-    Some(ColorSpec::TrueColor(color))
-}
-
-/// The colour of four numbers, if they are bytes.
-fn alpha_of(red: i64, green: i64, blue: i64, alpha: i64) -> Option<ColorSpec>
-    ensures { result ≡ alpha_of red green blue alpha }
-{
-    let color = SrgbaTuple(
-        channel(red)?,
-        channel(green)?,
-        channel(blue)?,
-        channel(alpha)?,
-    );
-    Some(ColorSpec::TrueColor(color))
-}
 
 /// The number as a byte.
 fn channel(value: i64) -> Option<u8>
@@ -84,107 +32,142 @@ fn channel(value: i64) -> Option<u8>
     Some(number_within(255, value)? as u8)
 }
 
-/// The colour of the palette whose number stands behind its kind.
-#[tactic(auto, unfolding(crate::specs::ColourCases::palette_case))]
-fn palette_case(sign: u8, params: &[CsiParam]) -> Option<(ColorSpec, usize)>
-    ensures { result ≡ palette_case sign params.now }
+/// The colour of the palette with this index, if it is a byte, told by so many tokens.
+fn palette(len: usize, index: i64) -> Option<(ColorSpec, usize)>
+    ensures { result ≡ taking len (palette_at 0 (Integer index ∷ [])) }
 {
-    let (index, _) = number_behind(sign, params)?;
-    Some((ColorSpec::PaletteIndex(channel(index)?), 4))
+    Some((ColorSpec::PaletteIndex(channel(index)?), len))
 }
 
-/// The opaque colour whose three numbers stand behind its kind, which takes so many tokens in all.
-#[tactic(auto, unfolding(crate::specs::ColourCases::opaque_case))]
-fn opaque_case(sign: u8, len: usize, params: &[CsiParam]) -> Option<(ColorSpec, usize)>
-    ensures { result ≡ opaque_case sign len params.now }
+/// The opaque colour of three numbers, if they are bytes, told by so many tokens.
+fn opaque(len: usize, red: i64, green: i64, blue: i64) -> Option<(ColorSpec, usize)>
+    ensures { result ≡ taking len (opaque_at 0 1 2 (Integer red ∷ Integer green ∷ Integer blue ∷ [])) }
 {
-    let (red, green, blue, _) = three_behind(sign, params)?;
-    Some((opaque_of(red, green, blue)?, len))
+    let color = SrgbaTuple(channel(red)?, channel(green)?, channel(blue)?, 255);
+    Some((ColorSpec::TrueColor(color), len))
 }
 
-/// The opaque colour of three numbers, or of the last three of four.
-#[tactic(auto, unfolding(crate::specs::ColourCases::bare_case))]
-fn bare_case(params: &[CsiParam]) -> Option<(ColorSpec, usize)>
-    ensures { result ≡ bare_case params.now }
+/// The colour of four numbers, if they are bytes, told by so many tokens.
+fn with_alpha(len: usize, red: i64, green: i64, blue: i64, alpha: i64) -> Option<(ColorSpec, usize)>
+    ensures { result ≡ taking len (colour_at 0 1 2 3 (Integer red ∷ Integer green ∷ Integer blue ∷ Integer alpha ∷ [])) }
 {
-    let (first, second, third, rest) = three_behind(b':', params)?;
-    match number_behind(b':', rest) {
-        None => Some((opaque_of(first, second, third)?, 8)),
-        Some((fourth, _)) => Some((opaque_of(second, third, fourth)?, 10)),
-    }
+    let color = SrgbaTuple(
+        channel(red)?,
+        channel(green)?,
+        channel(blue)?,
+        channel(alpha)?,
+    );
+    Some((ColorSpec::TrueColor(color), len))
 }
 
-/// The opaque colour of what stands behind its kind.
-#[tactic(auto, unfolding(crate::specs::ColourCases::colon_case))]
-fn colon_case(params: &[CsiParam]) -> Option<(ColorSpec, usize)>
-    ensures { result ≡ colon_case params.now }
-{
-    match params {
-        [CsiParam::P(b':'), CsiParam::P(_), ..] => opaque_case(b':', 9, &params[1..]),
-        [CsiParam::P(_), CsiParam::P(_), ..] => None,
-        _ => bare_case(params),
-    }
-}
-
-/// The colour with an alpha of what stands behind its kind.
-#[tactic(auto, unfolding(crate::specs::ColourCases::alpha_case))]
-fn alpha_case(params: &[CsiParam]) -> Option<(ColorSpec, usize)>
-    ensures { result ≡ alpha_case params.now }
-{
-    match params {
-        [CsiParam::P(b':'), rest @ ..] => {
-            let (red, green, blue, rest) = three_behind(b':', rest)?;
-            let (alpha, _) = number_behind(b':', rest)?;
-            Some((alpha_of(red, green, blue, alpha)?, 11))
-        }
-        _ => None,
-    }
-}
-
-/// The colour of this kind told with `:`, and how many tokens it takes with the sign and the kind.
-#[tactic(auto, unfolding(crate::specs::ColourCases::colon_form))]
-fn colon_form(kind: i64, params: &[CsiParam]) -> Option<(ColorSpec, usize)>
-    ensures { result ≡ colon_form kind params.now }
-{
-    match kind {
-        5 => palette_case(b':', params),
-        2 => colon_case(params),
-        6 => alpha_case(params),
-        _ => None,
-    }
-}
-
-/// The colour of this kind told with `;`, and how many tokens it takes with the sign and the kind.
-#[tactic(auto, unfolding(crate::specs::ColourCases::semicolon_form))]
+/// The colour told with `;` by its kind and what stands behind that, and how many tokens it takes with the sign and the kind.
+#[tactic(auto, unfolding(crate::specs::Rendition::colour_form))]
 fn semicolon_form(kind: i64, params: &[CsiParam]) -> Option<(ColorSpec, usize)>
-    ensures { result ≡ semicolon_form kind params.now }
+    ensures { result ≡ colour_form (P 59 ∷ Integer kind ∷ params.now) }
 {
-    match kind {
-        5 => palette_case(b';', params),
-        2 => opaque_case(b';', 8, params),
+    match (kind, params) {
+        (5, [P(b';'), Integer(n), ..]) => palette(4, *n),
+        (
+            2,
+            [
+                P(b';'),
+                Integer(r),
+                P(b';'),
+                Integer(g),
+                P(b';'),
+                Integer(b),
+                ..
+            ],
+        ) => opaque(8, *r, *g, *b),
         _ => None,
     }
 }
 
-/// The colour at the front of a list by its sign, and how many tokens it takes.
-#[tactic(auto, unfolding(crate::specs::ColourCases::form_case))]
-fn form_case(params: &[CsiParam]) -> Option<(ColorSpec, usize)>
-    ensures { result ≡ form_case params.now }
+/// The colour told with `:` by its kind and what stands behind that, and how many tokens it takes with the sign and the kind.
+#[tactic(auto, unfolding(crate::specs::Rendition::colour_form))]
+fn colon_form(kind: i64, params: &[CsiParam]) -> Option<(ColorSpec, usize)>
+    ensures { result ≡ colour_form (P 58 ∷ Integer kind ∷ params.now) }
+{
+    match (kind, params) {
+        (5, [P(b':'), Integer(n), ..]) => palette(4, *n),
+        (2, _) => colon_opaque(params),
+        (6, [P(b':'), rest @ ..]) => colon_alpha(rest),
+        _ => None,
+    }
+}
+
+/// The opaque colour told with `:` by what stands behind its kind.
+#[tactic(auto, unfolding(crate::specs::Rendition::colour_form))]
+fn colon_opaque(params: &[CsiParam]) -> Option<(ColorSpec, usize)>
+    ensures { result ≡ colour_form (P 58 ∷ Integer (pos 2) ∷ params.now) }
 {
     match params {
-        [CsiParam::P(b':'), CsiParam::Integer(kind), rest @ ..] => colon_form(*kind, rest),
-        [CsiParam::P(b';'), CsiParam::Integer(kind), rest @ ..] => semicolon_form(*kind, rest),
+        [
+            P(b':'),
+            Integer(_),
+            P(b':'),
+            Integer(r),
+            P(b':'),
+            Integer(g),
+            P(b':'),
+            Integer(b),
+            ..
+        ] => opaque(10, *r, *g, *b),
+        [
+            P(b':'),
+            P(b':'),
+            Integer(r),
+            P(b':'),
+            Integer(g),
+            P(b':'),
+            Integer(b),
+            ..
+        ] => opaque(9, *r, *g, *b),
+        [
+            P(b':'),
+            Integer(r),
+            P(b':'),
+            Integer(g),
+            P(b':'),
+            Integer(b),
+            ..
+        ] => opaque(8, *r, *g, *b),
+        _ => None,
+    }
+}
+
+/// The colour with an alpha told with `:` by what stands behind its kind and a `:`.
+#[tactic(auto, unfolding(crate::specs::Rendition::colour_form))]
+fn colon_alpha(params: &[CsiParam]) -> Option<(ColorSpec, usize)>
+    ensures { result ≡ colour_form (P 58 ∷ Integer (pos 6) ∷ P 58 ∷ params.now) }
+{
+    match params {
+        [
+            P(b':'),
+            Integer(r),
+            P(b':'),
+            Integer(g),
+            P(b':'),
+            Integer(b),
+            P(b':'),
+            Integer(a),
+            ..
+        ] => with_alpha(11, *r, *g, *b, *a),
         _ => None,
     }
 }
 
 /// The colour that the longest form at the front of a list names, and how many tokens the form takes.
-#[tactic(auto, using(crate::proofs::ColourLemmas::colour_form_is_case))]
+#[tactic(auto, unfolding(crate::specs::Rendition::colour_form))]
 fn color_form(params: &[CsiParam]) -> Option<(ColorSpec, usize)>
     ensures form { result ≡ colour_form params.now }
     ensures short { IfSome result (λ found. found.1 ≤ 11) }
 {
-    form_case(params)
+    match params {
+        [P(b':'), Integer(kind), rest @ ..] => colon_form(*kind, rest),
+        [P(b';'), Integer(kind), rest @ ..] => semicolon_form(*kind, rest),
+        _ => None,
+    }
 }
 
 /// The underline of this kind.
@@ -207,7 +190,7 @@ fn underline_shape(params: &[CsiParam]) -> Option<(Sgr, usize)>
     ensures shape { result ≡ underline_shape params.now }
     ensures short { IfSome result (λ found. found.1 ≤ 3) }
 {
-    if let [CsiParam::P(b':'), CsiParam::Integer(kind), ..] = params
+    if let [P(b':'), Integer(kind), ..] = params
         && let Some(line) = underline_numbered(*kind)
     {
         return Some((Sgr::Underline(line), 3));
@@ -291,7 +274,8 @@ fn numbered_shape(value: i64, params: &[CsiParam]) -> Option<(Sgr, usize)>
     }
 }
 
-/// The same of a colour for this target.
+/// What a colour for this target stands for, where its form is at the front of a list, and how many tokens it takes with the
+/// number of the target.
 fn colored_shape(target: Target, params: &[CsiParam]) -> Option<(Sgr, usize)>
     ensures shape { result ≡ colour_shape (set_to target) params.now }
     ensures short { IfSome result (λ found. found.1 ≤ 12) }
@@ -308,9 +292,9 @@ fn sgr_shape(params: &[CsiParam]) -> Option<(Sgr, usize)>
 {
     let (first, rest) = params.split_first()?;
     match *first {
-        CsiParam::P(b';') => Some((Sgr::Reset, 1)),
-        CsiParam::P(_) => None,
-        CsiParam::Integer(value) => numbered_shape(value, rest),
+        P(b';') => Some((Sgr::Reset, 1)),
+        P(_) => None,
+        Integer(value) => numbered_shape(value, rest),
     }
 }
 

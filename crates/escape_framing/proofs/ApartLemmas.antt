@@ -18,7 +18,7 @@ use Rattle.escape_framing.specs.PlacedSegments.{placed_segments, LiesBetween}
 use Rattle.escape_framing.specs.Held.{Held, held_step, nothing_held, hand_out, held_of}
 use Rattle.escape_framing.specs.Framed.{Framed, Text, Lone, is_lent, put_text, framed, at_place, placed_behind, begun_bytes, IsLendable}
 use Rattle.escape_framing.proofs.Begun.{is_body}
-use Rattle.escape_framing.specs.Existence.Utf8Lemmas.{Spelled, in_one, in_two, in_three, in_four, spelled}
+use Rattle.escape_framing.proofs.Existence.Utf8Lemmas.{Spelled, in_one, in_two, in_three, in_four, spelled}
 use Rattle.escape_framing.proofs.HeldLemmas.{decided, newly_handed, held_append, step_decides}
 use Rattle.escape_framing.proofs.PlacedLemmas.{newly_join}
 use Rattle.escape_framing.proofs.IdleLemmas.{idle_is_whole}

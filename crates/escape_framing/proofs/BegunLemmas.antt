@@ -5,8 +5,8 @@ use Rattle.std.proofs.lemmas.List.{take-append-le, take-append-drop}
 use Rattle.std.proofs.lemmas.Str.{length-encode, len_utf8_bounds}
 use lib.Utf8.{encode}
 use Rattle.escape_framing.specs.Segment.{Begun, IsUnfinished}
-use Rattle.escape_framing.specs.Existence.Utf8Lemmas.{not_shorter}
-use Rattle.escape_framing.specs.Existence.OutcomeLemmas.{first_of_text, some_bytes}
+use Rattle.escape_framing.proofs.Existence.Utf8Lemmas.{not_shorter}
+use Rattle.escape_framing.proofs.Existence.OutcomeLemmas.{first_of_text, some_bytes}
 
 pub length-tail : (t : List ℕ) → IsUnfinished (Begun t) → length t ≤ 3
 length-tail t (inl e) = omega (arith, ap length e)

@@ -16,7 +16,7 @@ use Rattle.escape_framing.specs.Dispatch.{Dispatch, Print, Escape, ControlSequen
 use Rattle.escape_framing.specs.Dispatch as dispatch
 use Rattle.escape_framing.specs.Held.{Kept, InCharacter, InEscape, InControlSequence, InCommand, InHeader, InDevice, InString, kept_of, Step, steps, character_step, opened, final_step, escape_step, control_sequence_step, command_step, header_step, device_step, string_step, kept_step, Held, Handed, interrupted, fresh_step, waiting_step, held_step}
 use Rattle.escape_framing.proofs.Begun.{begun_in, begun}
-use Rattle.escape_framing.specs.Existence.OutcomeLemmas.{first_of_text}
+use Rattle.escape_framing.proofs.Existence.OutcomeLemmas.{first_of_text}
 
 -- each printed character but U+FFFD has at most so many bytes
 abbrev pub AreWithin : ℕ → List Dispatch → Type 0

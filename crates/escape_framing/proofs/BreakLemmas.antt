@@ -11,8 +11,8 @@ use Rattle.escape_framing.specs.Held.{Kept, InCharacter, InEscape, InControlSequ
 use Rattle.escape_framing.specs.Framed.{Framed, Lone, framed, at_place, placed_behind, framed_behind, begun_bytes, bytes_begun, IsLendable}
 use Rattle.escape_framing.proofs.Begun.{is_body}
 use Rattle.escape_framing.specs.Segment.{IsPrintable}
-use Rattle.escape_framing.specs.Existence.Utf8Lemmas.{Spelled, in_one, in_two, in_three, in_four, spelled}
-use Rattle.escape_framing.specs.Existence.OutcomeLemmas.{some_bytes}
+use Rattle.escape_framing.proofs.Existence.Utf8Lemmas.{Spelled, in_one, in_two, in_three, in_four, spelled}
+use Rattle.escape_framing.proofs.Existence.OutcomeLemmas.{some_bytes}
 use Rattle.escape_framing.proofs.WaitingLemmas.{escape_cut, control_sequence_cut}
 use Rattle.escape_framing.proofs.HeldLemmas.{Inner, interrupted_character, c2_begins}
 use Rattle.escape_framing.proofs.FramedLemmas.{never_lent}
@@ -127,14 +127,17 @@ broken_goes h b rest e = record {
 }
 
 -- a text breaks a character that has begun
+pub text_breaks_at : (stream : List ℕ) (b : ℕ) (rest : List ℕ) (c : ℕ) (more : List ℕ) → is_body (held_of stream).kept ≡ false → begun_bytes (held_of stream) ≢ [] → IsLendable c → b ∷ rest ≡ encode c ++ more
+    → held_step (held_of stream) b ≡ broken_step (held_step nothing_held b)
+text_breaks_at stream b rest c more h z l e = kept_breaks (held_of stream).kept (held_of stream).waiting b (stream_sound stream) h z (lead_of c b rest more l e).outer
+
 pub text_breaks : (stream bytes : List ℕ) (c : ℕ) (more : List ℕ) → is_body (held_of stream).kept ≡ false → begun_bytes (held_of stream) ≢ [] → IsLendable c → bytes ≡ encode c ++ more
     → GoesOn (held_of stream) bytes (Lone (Print 0xFFFD) ∷ []) nothing_held
 text_breaks stream [] c more h z l e = absurd (none c more e)
   where
     none : (c : ℕ) (more : List ℕ) → [] ≡ encode c ++ more → ⊥
     none c more e = some_bytes c more (sym e)
-text_breaks stream (b ∷ rest) c more h z l e =
-    broken_goes (held_of stream) b rest (kept_breaks (held_of stream).kept (held_of stream).waiting b (stream_sound stream) h z (lead_of c b rest more l e).outer)
+text_breaks stream (b ∷ rest) c more h z l e = broken_goes (held_of stream) b rest (text_breaks_at stream b rest c more h z l e)
 
 -- ---- what is open before its final byte is cut off
 

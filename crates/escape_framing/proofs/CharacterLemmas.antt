@@ -1,5 +1,5 @@
 -- What the characters keep and hand out, over plain lists.
-use Rattle.std.proofs.Common.{◌≡◌, ◌≢◌, ℕ, zero, suc, ◌+◌, ◌<◌, ◌≤◌, inl, inr, true, false, List, [], ◌∷◌, ◌++◌, length, take, set, refl, sym, ap, subst, ◌∙◌, arith}
+use Rattle.std.proofs.Common.{◌≡◌, ◌≢◌, ℕ, zero, suc, ◌+◌, ◌<◌, ◌≤◌, inl, inr, true, List, [], ◌∷◌, ◌++◌, length, take, set, refl, sym, ap, subst, ◌∙◌, arith}
 use Rattle.std.specs.Prelude.{is_none, slice_index}
 use Rattle.std.specs.Str.{is_utf8, chars}
 use Rattle.std.specs.Str.Lossy.{utf8_error_len}
@@ -7,15 +7,14 @@ use Rattle.std.proofs.lemmas.Grind.{common_steps}
 use Rattle.std.proofs.lemmas.List.{append-nil}
 use Rattle.escape_framing.specs.Segment.{Tail, Begun, OpenEscape, OpenControlSequence, OpenCommand, OpenHeader, OpenDevice, OpenString, IsBegun, IsUnfinished}
 use Rattle.escape_framing.specs.Decode.{in_character}
-use Rattle.escape_framing.specs.Dispatch.{dispatches_of}
 use Rattle.escape_framing.specs.Dispatch as dispatch
 use Rattle.escape_framing.specs.Held.{InCharacter, kept_of, Step, steps, before, character_step}
 use Rattle.escape_framing.specs.Characters.{IsKind, own_step, segment_step, step_of}
 use Rattle.escape_framing.specs.declared.characters.Kind.TheVariants as kind
 use Rattle.escape_framing.specs.declared.characters.Own.{Own}
 use Rattle.escape_framing.specs.declared.characters.Own.TheVariants as own
-use Rattle.escape_framing.specs.Existence.OutcomeLemmas.{Outcome, whole, begun, broken, outcome}
-use Rattle.escape_framing.specs.Existence.StepLemmas.{adds_in_character}
+use Rattle.escape_framing.proofs.Existence.OutcomeLemmas.{Outcome, whole, begun, broken, outcome}
+use Rattle.escape_framing.proofs.Existence.StepLemmas.{adds_in_character}
 use Rattle.escape_framing.proofs.BegunLemmas.{length-tail}
 
 -- ---- places in the four bytes
@@ -58,9 +57,9 @@ begun_more l bytes b g e k = let h = subst (λ m. IsUnfinished (Begun m)) (sym e
 
 -- ---- what is handed out
 
-pub waits_goes : (o : Own) (l v : List ℕ) (b : ℕ) → o ≡ own.Waits → l ≡ b ∷ [] → v ≡ [] → steps [] (InCharacter (b ∷ [])) ≡ character_step [] b → step_of (record { broken = false; own = o }) l ≡ character_step v b
+pub waits_goes : (o : Own) (l v : List ℕ) (b : ℕ) → o ≡ own.Waits → l ≡ b ∷ [] → v ≡ [] → steps [] (InCharacter (b ∷ [])) ≡ character_step [] b → step_of o l ≡ character_step v b
 waits_goes o l v b is front none e =
-    ap (λ (x : Own). step_of (record { broken = false; own = x }) l) is ∙ ap (λ (m : List ℕ). steps [] (InCharacter m)) front ∙ e ∙ ap (λ m. character_step m b) (sym none)
+    ap (λ (x : Own). step_of x l) is ∙ ap (λ (m : List ℕ). steps [] (InCharacter m)) front ∙ e ∙ ap (λ m. character_step m b) (sym none)
 
 whole_step : (x : ℕ) (t : List ℕ) (b c : ℕ) → is_utf8 (x ∷ t ++ b ∷ []) ≡ true → slice_index (chars (x ∷ t ++ b ∷ [])) 0 ≡ c → segment_step (x ∷ t ++ b ∷ []) c ≡ character_step (x ∷ t) b
 unfolding character_step in_character
@@ -70,44 +69,23 @@ begun_step : (x : ℕ) (t : List ℕ) (b : ℕ) → IsKind (x ∷ t ++ b ∷ [])
 unfolding character_step in_character
 begun_step x t b k = rw (k.0, k.1) refl
 
-broken_step : (x : ℕ) (t : List ℕ) (b : ℕ) → IsKind (x ∷ t ++ b ∷ []) kind.Broken → before (dispatch.Print 0xFFFD ∷ []) (character_step [] b) ≡ character_step (x ∷ t) b
+pub broken_step : (x : ℕ) (t : List ℕ) (b : ℕ) → IsKind (x ∷ t ++ b ∷ []) kind.Broken → before (dispatch.Print 0xFFFD ∷ []) (character_step [] b) ≡ character_step (x ∷ t) b
 unfolding character_step in_character
 broken_step x t b k = rw (k.0, k.1) refl
 
-plain : (o : Own) → step_of (record { broken = false; own = o }) [] ≡ own_step o []
+plain : (o : Own) → step_of o [] ≡ own_step o []
 plain own.Waits = refl
 plain own.Escape = refl
 plain (own.Print c) = refl
 plain (own.Control b) = refl
 plain own.Stray = refl
 
-pub whole_goes : (l bytes : List ℕ) (b c : ℕ) (o : Own) → l ≢ [] → bytes ≡ l ++ b ∷ [] → IsKind bytes (kind.Whole c) → ((x : List ℕ) → own_step o [] ≡ segment_step x c) → step_of (record { broken = false; own = o }) [] ≡ character_step l b
+pub whole_goes : (l bytes : List ℕ) (b c : ℕ) (o : Own) → l ≢ [] → bytes ≡ l ++ b ∷ [] → IsKind bytes (kind.Whole c) → ((x : List ℕ) → own_step o [] ≡ segment_step x c) → step_of o [] ≡ character_step l b
 whole_goes [] bytes b c o n e k h = absurd (n refl)
 whole_goes (x ∷ t) bytes b c o n e k h =
     let u = subst (λ m. IsKind m (kind.Whole c)) e k in
     plain o ∙ h (x ∷ t ++ b ∷ []) ∙ whole_step x t b c u.0 u.1
 
-pub begun_goes : (l bytes : List ℕ) (b : ℕ) → l ≢ [] → bytes ≡ l ++ b ∷ [] → IsKind bytes kind.Begun → step_of (record { broken = false; own = own.Waits }) bytes ≡ character_step l b
+pub begun_goes : (l bytes : List ℕ) (b : ℕ) → l ≢ [] → bytes ≡ l ++ b ∷ [] → IsKind bytes kind.Begun → step_of own.Waits bytes ≡ character_step l b
 begun_goes [] bytes b n e k = absurd (n refl)
 begun_goes (x ∷ t) bytes b n e k = ap (λ m. steps [] (InCharacter m)) e ∙ begun_step x t b (subst (λ m. IsKind m kind.Begun) e k)
-
-pub broken_waits : (o : Own) (l bytes front : List ℕ) (b : ℕ) → l ≢ [] → bytes ≡ l ++ b ∷ [] → IsKind bytes kind.Broken → o ≡ own.Waits → front ≡ b ∷ [] → steps [] (InCharacter (b ∷ [])) ≡ character_step [] b
-    → step_of (record { broken = true; own = o }) front ≡ character_step l b
-broken_waits o [] bytes front b n e k is f h = absurd (n refl)
-broken_waits o (x ∷ t) bytes front b n e k is f h =
-    ap (λ (y : Own). step_of (record { broken = true; own = y }) front) is
-    ∙ ap (λ m. steps (dispatch.Print 0xFFFD ∷ []) (InCharacter m)) f
-    ∙ ap (before (dispatch.Print 0xFFFD ∷ [])) h
-    ∙ broken_step x t b (subst (λ m. IsKind m kind.Broken) e k)
-
-others : (o : Own) (bytes : List ℕ) → (o ≡ own.Waits → ⊥) → step_of (record { broken = true; own = o }) [] ≡ before (dispatch.Print 0xFFFD ∷ []) (own_step o bytes)
-others own.Waits bytes n = absurd (n refl)
-others own.Escape bytes n = refl
-others (own.Print c) bytes n = refl
-others (own.Control b) bytes n = refl
-others own.Stray bytes n = refl
-
-pub broken_goes : (o : Own) (l bytes : List ℕ) (b : ℕ) → l ≢ [] → bytes ≡ l ++ b ∷ [] → IsKind bytes kind.Broken → (o ≡ own.Waits → ⊥) → own_step o (b ∷ []) ≡ character_step [] b
-    → step_of (record { broken = true; own = o }) [] ≡ character_step l b
-broken_goes o [] bytes b n e k nw h = absurd (n refl)
-broken_goes o (x ∷ t) bytes b n e k nw h = others o (b ∷ []) nw ∙ ap (before (dispatch.Print 0xFFFD ∷ [])) h ∙ broken_step x t b (subst (λ m. IsKind m kind.Broken) e k)

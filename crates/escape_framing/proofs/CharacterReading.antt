@@ -10,9 +10,9 @@ use Rattle.text_clusters.specs.Controls.{in_c1}
 use lib.Utf8.{encode, low_scalar}
 use Rattle.escape_framing.specs.Segment.{Begun, Segment, Character, IllFormed, Control, IsPrintable, IsControl, BeginsCharacter, IsBegun, IsUnfinished, IsSegment}
 use Rattle.escape_framing.specs.Decode.{waits, ends, ends_before, segment_of, first_byte, in_character, next_byte, read_on}
-use Rattle.escape_framing.specs.Existence.Utf8Lemmas.{Spelled, in_one, in_two, in_three, in_four, spelled, append_nil, not_shorter}
-use Rattle.escape_framing.specs.Existence.OutcomeLemmas.{Outcome, whole, begun, broken, outcome, some_bytes}
-use Rattle.escape_framing.specs.Existence.StepLemmas.{ascii_bytes, char_of}
+use Rattle.escape_framing.proofs.Existence.Utf8Lemmas.{Spelled, in_one, in_two, in_three, in_four, spelled, append_nil, not_shorter}
+use Rattle.escape_framing.proofs.Existence.OutcomeLemmas.{Outcome, whole, begun, broken, outcome, some_bytes}
+use Rattle.escape_framing.proofs.Existence.StepLemmas.{ascii_bytes, char_of}
 use Rattle.escape_framing.proofs.ReadLemmas.{after, step_waits, step_ends, step_ends_before}
 
 same_char : (c d : ℕ) → encode c ≡ encode d → c ≡ d

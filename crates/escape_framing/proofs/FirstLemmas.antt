@@ -9,7 +9,7 @@ use Rattle.escape_framing.specs.Decode.{Reading, waits, ends, segment_of, first_
 use Rattle.escape_framing.specs.Dispatch.{dispatches_of}
 use Rattle.escape_framing.specs.Dispatch as dispatch
 use Rattle.escape_framing.specs.Held.{InCharacter, InEscape, kept_of, steps, character_step}
-use Rattle.escape_framing.specs.Existence.Utf8Lemmas.{Spelled, in_one, in_two, in_three, in_four, spelled, lead_wants, begins_one, is_text}
+use Rattle.escape_framing.proofs.Existence.Utf8Lemmas.{Spelled, in_one, in_two, in_three, in_four, spelled, lead_wants, begins_one, is_text}
 use Rattle.escape_framing.proofs.CharacterReading.{ends_first, plain_segment, control_segment, waits_begun, breaks_first}
 
 -- what a reading of one byte hands out

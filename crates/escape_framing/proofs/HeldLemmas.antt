@@ -15,9 +15,9 @@ use Rattle.escape_framing.specs.Dispatch.{Dispatch, Data, Enter, controls_in, se
 use Rattle.escape_framing.specs.Bytes.{is_stop, is_cut, ends_command, taken}
 use Rattle.escape_framing.specs.Cut.{the_cut, dispatches, newly_decided}
 use Rattle.escape_framing.specs.Held.{Kept, InCharacter, kept_of, Step, steps, before, character_step, kept_step, Held, Handed, handed, handed_behind, interrupted, fresh_step, waiting_step, held_step, nothing_held, hand_out, held_of}
-use Rattle.escape_framing.specs.Existence.Utf8Lemmas.{Spelled, in_one, in_two, in_three, in_four, spelled, lead_wants, begins_one}
-use Rattle.escape_framing.specs.Existence.SevenBitLemmas.{opens, pairs, seven_bit_plain, seven_bit_pair, opens_more}
-use Rattle.escape_framing.specs.Existence.CutLemmas.{cuts_on}
+use Rattle.escape_framing.proofs.Existence.Utf8Lemmas.{Spelled, in_one, in_two, in_three, in_four, spelled, lead_wants, begins_one}
+use Rattle.escape_framing.proofs.Existence.SevenBitLemmas.{opens, pairs, seven_bit_plain, seven_bit_pair, opens_more}
+use Rattle.escape_framing.proofs.Existence.CutLemmas.{cuts_on}
 use Rattle.escape_framing.proofs.ReadLemmas.{read_nil, read_step, read_append}
 use Rattle.escape_framing.proofs.CharacterReading.{breaks, waits_begun}
 use Rattle.escape_framing.proofs.SequenceReading.{cut_off, stays_command, stays_device, stays_string}

@@ -14,7 +14,7 @@ use Rattle.escape_framing.specs.Bytes.{is_stop, is_embedded, is_intermediate, is
 use Rattle.csi_codec.specs.Tokens.{is_parameter}
 use Rattle.escape_framing.specs.Segment.{Tail, Begun, OpenEscape, OpenControlSequence, OpenCommand, OpenHeader, OpenDevice, OpenString, Segment, Escape, ControlSequence, OperatingSystemCommand, DeviceControl, String, CutOff, IsUnfinished}
 use Rattle.escape_framing.specs.Decode.{Reading, waits, ends, ends_before, first_byte, in_character, opened_by, behind_escape, next_byte}
-use Rattle.escape_framing.specs.Dispatch.{Dispatch, Data, Enter, Exit, controls_in, escape_dispatch, control_sequence_dispatch, command_dispatch, decided_of, dispatches_of}
+use Rattle.escape_framing.specs.Dispatch.{Dispatch, Data, Enter, Exit, controls_in, escape_dispatch, control_sequence_dispatch, command_dispatch, dispatches_of}
 use Rattle.escape_framing.specs.Dispatch as dispatch
 use Rattle.csi_codec.specs.Tokens.{with_byte, parameters_of}
 use Rattle.escape_framing.specs.Held.{Kept, InCharacter, InEscape, InControlSequence, InCommand, InHeader, kept_of, Step, steps, before, character_step, opened, final_step, escape_step, control_sequence_step, command_step, header_step, device_step, string_step, kept_step}

@@ -5,12 +5,8 @@ use Rattle.std.proofs.lemmas.List.{take_at, drop-drop}
 use Rattle.std.proofs.lemmas.Str.{IsUtf8-encode, IsUtf8-append, IsUtf8-nil}
 use Rattle.std.proofs.Math.Seq.{take-add}
 use lib.Utf8.{encode}
-use Rattle.escape_framing.specs.Framed.{IsLendable, IsText, no_text, text_of, BeginsNoText, IsCharacterLen}
+use Rattle.escape_framing.specs.Framed.{IsLendable, IsText, no_text, text_of, IsCharacterLen}
 use Rattle.escape_framing.specs.Wide.{IsRunLen}
-use Rattle.escape_framing.specs.Existence.OutcomeLemmas.{some_bytes}
-
-pub none_in_nothing : BeginsNoText []
-none_in_nothing = record { none = λ c more l e. some_bytes c more (sym e) }
 
 -- ---- characters, one after the other
 

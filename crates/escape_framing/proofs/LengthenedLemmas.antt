@@ -8,9 +8,9 @@ use Rattle.escape_framing.specs.Bytes.{is_stop, is_intermediate, is_final, is_es
 use Rattle.escape_framing.specs.Segment.{Tail, Begun, OpenEscape, OpenControlSequence, OpenCommand, OpenHeader, OpenDevice, OpenString, bytes_of_tail, Segment, Character, Escape, ControlSequence, OperatingSystemCommand, DeviceControl, String, bytes_of, IsBegun, IsUnfinished}
 use Rattle.escape_framing.specs.Decode.{Reading, read_on}
 use Rattle.escape_framing.specs.Lengthened.{IsOpen, IsLengthened}
-use Rattle.escape_framing.specs.Existence.Utf8Lemmas.{order, Spelled, in_one, in_two, in_three, in_four, spelled, front_of_one, front_of_two, two}
-use Rattle.escape_framing.specs.Existence.SequenceLemmas.{all_push}
-use Rattle.escape_framing.specs.Existence.CutLemmas.{cuts_on}
+use Rattle.escape_framing.proofs.Existence.Utf8Lemmas.{order, Spelled, in_one, in_two, in_three, in_four, spelled, front_of_one, front_of_two, two}
+use Rattle.escape_framing.proofs.Existence.SequenceLemmas.{all_push}
+use Rattle.escape_framing.proofs.Existence.CutLemmas.{cuts_on}
 use Rattle.escape_framing.proofs.ReadLemmas.{after, behind, read_append}
 use Rattle.escape_framing.proofs.UniqueLemmas.{reads_segment}
 

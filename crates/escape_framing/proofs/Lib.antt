@@ -1,3 +1,4 @@
+pub mod Existence
 pub mod ReadLemmas
 pub mod SequenceReading
 pub mod CharacterReading
@@ -11,7 +12,6 @@ pub mod BegunLemmas
 pub mod KindLemmas
 pub mod CharacterLemmas
 pub mod WaitingLemmas
-pub mod FeedLemmas
 pub mod LengthenedLemmas
 pub mod UndecidedLemmas
 pub mod IdleLemmas
@@ -28,8 +28,11 @@ pub mod SpellLemmas
 pub mod SegmentPlaces
 pub mod ApartLemmas
 mod WideLemmas
-mod QuickLemmas
-mod NumberLemmas
-mod SkipLemmas
-mod ShortLemmas
-mod AloneLemmas
+pub mod BreaksLemmas
+pub mod StateLemmas
+pub mod EventLemmas
+pub mod BodyLemmas
+pub mod ReadEventLemmas
+pub mod RunLemmas
+pub mod FrontLemmas
+mod CommandLemmas

@@ -3,7 +3,6 @@ use Rattle.std.proofs.Common.{◌≡◌, ◌≢◌, ℕ, ◌+◌, ◌<◌, ◌�
 use Rattle.std.specs.Prelude.{◌==◌, nat_le, encode_utf8}
 use Rattle.std.specs.Char.{IsScalar}
 use Rattle.std.proofs.lemmas.Bool.Decides.{nat_tests}
-use lib.Utf8.{encode}
 use Rattle.escape_framing.specs.Segment.{IsPrintable}
 use Rattle.escape_framing.specs.Dispatch.{Dispatch, Print, Escape, ControlSequence, OperatingSystemCommand, Enter, Data, Exit}
 use Rattle.escape_framing.specs.Dispatch as dispatch

@@ -16,9 +16,9 @@ use Rattle.escape_framing.specs.Dispatch as dispatch
 use Rattle.escape_framing.specs.Held.{Kept, InCharacter, InEscape, InControlSequence, InCommand, InHeader, InDevice, InString, kept_of, Step, steps, character_step, opened, final_step, escape_step, control_sequence_step, command_step, header_step, device_step, string_step, kept_step}
 use Rattle.escape_framing.specs.Framed.{bytes_begun}
 use Rattle.escape_framing.proofs.Begun.{begun_in, is_body}
-use Rattle.escape_framing.specs.Existence.Utf8Lemmas.{order}
-use Rattle.escape_framing.specs.Existence.OutcomeLemmas.{Outcome, whole, begun as begun_on, broken, outcome}
-use Rattle.escape_framing.specs.Existence.StepLemmas.{char_of}
+use Rattle.escape_framing.proofs.Existence.Utf8Lemmas.{order}
+use Rattle.escape_framing.proofs.Existence.OutcomeLemmas.{Outcome, whole, begun as begun_on, broken, outcome}
+use Rattle.escape_framing.proofs.Existence.StepLemmas.{char_of}
 use Rattle.escape_framing.proofs.FirstLemmas.{first_escape, first_control}
 
 -- no character is printed
@@ -51,7 +51,7 @@ pub data Ending (p : List ℕ) (b : ℕ) (ds : List Dispatch) (kept : Kept) (wai
   quiet : PrintNone ds → begun_in kept ≡ 0 → waiting ≡ false → Ending p b ds kept waiting
   replaces : ds ≡ Print 0xFFFD ∷ [] → begun_in kept ≡ 0 → waiting ≡ false → Ending p b ds kept waiting
 
--- The same, or it breaks them first.
+-- A byte does so, or it breaks them first.
 pub data Printing (p : List ℕ) (b : ℕ) (ds : List Dispatch) (kept : Kept) (waiting : Bool) : Type 0 where
   whole_one : Ending p b ds kept waiting → Printing p b ds kept waiting
   breaks_one : (others : List Dispatch) → ds ≡ Print 0xFFFD ∷ others → Ending [] b others kept waiting → Printing p b ds kept waiting

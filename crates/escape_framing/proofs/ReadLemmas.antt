@@ -4,7 +4,7 @@ use Rattle.std.specs.List.{list_all}
 use Rattle.std.proofs.lemmas.Bool.{and_parts}
 use Rattle.escape_framing.specs.Segment.{Tail, Begun, Segment}
 use Rattle.escape_framing.specs.Decode.{Reading, waits, ends, ends_before, first_byte, in_character, next_byte, read_on}
-use Rattle.escape_framing.specs.Existence.Utf8Lemmas.{append_nil}
+use Rattle.escape_framing.proofs.Existence.Utf8Lemmas.{append_nil}
 
 -- what is read behind a reading
 abbrev pub behind : Reading → List ℕ → Reading

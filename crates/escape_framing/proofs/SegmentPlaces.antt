@@ -10,7 +10,8 @@ use Rattle.escape_framing.specs.Decode.{Reading, read_on}
 use Rattle.escape_framing.specs.Cut.{the_cut, tail_of}
 use Rattle.escape_framing.specs.Held.{Held, Handed, nothing_held, hand_out, held_of}
 use Rattle.escape_framing.specs.PlacedSegments.{segments_from, placed_segments}
-use Rattle.escape_framing.specs.Existence.SevenBitLemmas.{opens}
+use Rattle.escape_framing.proofs.Existence.SevenBitLemmas.{opens}
+use Rattle.escape_framing.proofs.Existence.CutLemmas.{is_the_cut}
 use Rattle.escape_framing.proofs.ReadLemmas.{read_append}
 use Rattle.escape_framing.proofs.HeldLemmas.{At, at_rest, at_c2, at_all}
 use Rattle.escape_framing.proofs.IdleLemmas.{tail_is, idle_is_whole}
@@ -64,7 +65,7 @@ segments_join s x h =
 -- its segments are all of its seven-bit form
 pub whole_form : (s : List ℕ) → held_of s ≡ nothing_held → flat_map bytes_of (the_cut s).segments ≡ seven_bit s
 whole_form s h =
-    let c = (the_cut s).is_cut in
+    let c = is_the_cut s in
     sym (append-nil (flat_map bytes_of (the_cut s).segments))
     ∙ ap (λ (t : Tail). flat_map bytes_of (the_cut s).segments ++ bytes_of_tail t) (sym (idle_is_whole s h))
     ∙ sym c.joined
@@ -123,7 +124,7 @@ placed_in n (x ∷ xs) tail (suc index) place segment h =
 
 pub each_segment : (stream : List ℕ) (index place : ℕ) (segment : Segment) → slice_get (placed_segments stream) index ≡ Some (place, segment) → take (length (bytes_of segment)) (drop place (seven_bit stream)) ≡ bytes_of segment
 each_segment stream index place segment h =
-    let c = (the_cut stream).is_cut in
+    let c = is_the_cut stream in
     let r = placed_in 0 (the_cut stream).segments (bytes_of_tail (tail_of stream)) index place segment h in
     let whole : seven_bit stream ≡ r.0 ++ (bytes_of segment ++ r.1) = c.joined ∙ r.2 in
     ap (λ l. take (length (bytes_of segment)) (drop place l)) whole

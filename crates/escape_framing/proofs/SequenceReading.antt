@@ -8,7 +8,7 @@ use Rattle.escape_framing.specs.Bytes.{is_stop, is_embedded, is_intermediate, is
 use Rattle.csi_codec.specs.Tokens.{is_parameter}
 use Rattle.escape_framing.specs.Segment.{Tail, Begun, OpenEscape, OpenControlSequence, OpenCommand, OpenHeader, OpenDevice, OpenString, bytes_of_tail, Escape, ControlSequence, OperatingSystemCommand, DeviceControl, String, CutOff, bytes_of, IsUnfinished, is_before_final, IsSegment, follows}
 use Rattle.escape_framing.specs.Decode.{waits, ends, ends_before, first_byte, in_character, opened_by, behind_escape, next_byte, read_on}
-use Rattle.escape_framing.specs.Existence.Utf8Lemmas.{append_nil}
+use Rattle.escape_framing.proofs.Existence.Utf8Lemmas.{append_nil}
 use Rattle.escape_framing.proofs.ReadLemmas.{after, step_waits, step_ends, step_ends_before, spans}
 
 -- ---- classes of bytes

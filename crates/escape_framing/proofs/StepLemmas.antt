@@ -1,25 +1,21 @@
 -- What a framer does at once, over plain variables.
-use Rattle.std.proofs.Common.{◌≡◌, ◌≢◌, ℕ, zero, suc, ◌+◌, ◌<◌, ◌≤◌, Bool, true, false, List, [], ◌∷◌, ◌++◌, length, map, take, drop, refl, sym, ap, subst, ◌∙◌, arith, append_assoc}
-use Rattle.std.specs.Prelude.{◌==◌, ◌||◌, ◌↔◌, IsTrue, nat_le}
+use Rattle.std.proofs.Common.{◌≡◌, ◌≢◌, ℕ, zero, suc, ◌+◌, ◌<◌, ◌≤◌, Bool, true, false, List, [], ◌∷◌, ◌++◌, length, map, take, drop, refl, sym, ap, subst, ◌∙◌, arith, append_assoc, append-nil}
+use Rattle.std.specs.Prelude.{◌==◌, ◌||◌, nat_le}
 use Rattle.std.proofs.lemmas.Bool.Decides.{nat_tests}
 use Rattle.std.proofs.lemmas.List.{take-append-drop, length-take-le}
 use lib.Utf8.{encode}
 use Rattle.escape_framing.specs.Bytes.{is_stop, is_cut}
 use Rattle.escape_framing.specs.Dispatch.{Print}
-use Rattle.escape_framing.specs.Held.{Kept, InCharacter, InEscape, InControlSequence, InCommand, InHeader, InDevice, InString, Step, kept_step, Held, fresh_step, held_step, nothing_held, hand_out, held_of}
-use Rattle.escape_framing.specs.Framed.{Framed, Text, Lone, placed_behind, framed_behind, begun_bytes, bytes_begun, kept_takes, takes_text, IsLendable, IsText, no_text, text_of, BeginsNoText, IsCarried, IsReached, Frames, IsTextLen}
+use Rattle.escape_framing.specs.Held.{Kept, InCharacter, InEscape, InControlSequence, InCommand, InHeader, InDevice, InString, Step, kept_step, Held, Handed, fresh_step, held_step, nothing_held, hand_out, held_of}
+use Rattle.escape_framing.specs.Framed.{Text, Lone, placed_behind, framed_behind, begun_bytes, bytes_begun, kept_takes, takes_text, IsLendable, IsText, no_text, text_of, BeginsNoText, IsCarried, IsReached, Frames, IsTextLen}
 use Rattle.escape_framing.proofs.Begun.{is_body}
-use Rattle.csi_codec.specs.Tokens.{Parameters}
-use Rattle.escape_framing.specs.Dispatched.{dispatches_in}
-use Rattle.escape_framing.specs.declared.step.Step as stepped
-use Rattle.escape_framing.specs.Stepped.{items_in, Reads}
 use Rattle.escape_framing.proofs.HeldLemmas.{step_decides}
 use Rattle.escape_framing.proofs.FramedLemmas.{BeginsFrom}
 use Rattle.escape_framing.proofs.TextLemmas.{reads_text, text_kept}
 use Rattle.escape_framing.proofs.PrintLemmas.{PrintNone, IsQuiet, Before, is_quiet, cuts, escape_before, control_sequence_before, header_before, stop_quiet}
 use Rattle.escape_framing.proofs.SoundLemmas.{begun_none}
 use Rattle.escape_framing.proofs.LoneLemmas.{StandAlone, carried_none, byte_alone, body_alone, quiet_alone, begun_apart}
-use Rattle.escape_framing.proofs.BreakLemmas.{GoesOn, text_breaks, text_cuts, is_character}
+use Rattle.escape_framing.proofs.BreakLemmas.{GoesOn, text_breaks_at, text_breaks, text_cuts, is_character}
 
 start_held : held_of [] ≡ nothing_held
 unfolding hand_out
@@ -76,6 +72,15 @@ frames_broken count n h b rest (stream, e) t z k p =
       carried = carried_none 0 (count + 0) nothing_held (b ∷ rest) refl;
     }
 
+-- whatever stands behind its first byte
+pub broken_same : (n : ℕ) (h : Held) (b : ℕ) (rest : List ℕ) → IsReached h → takes_text h b ≡ true → begun_bytes h ≢ [] → IsTextLen (b ∷ rest) n → 0 < n → (xs : List ℕ) → (hand_out h (b ∷ xs)).held ≡ (hand_out nothing_held (b ∷ xs)).held
+unfolding hand_out
+broken_same n h b rest (stream, e) t z k p xs =
+    let f = first_in (b ∷ rest) n k p in
+    let out : is_body (held_of stream).kept ≡ false = subst (λ (x : Held). is_body x.kept ≡ false) e (takes_outside h.kept h.waiting b t) in
+    let g = text_breaks_at stream b rest f.c f.more out (λ y. z (ap begun_bytes e ∙ y)) f.lendable f.is in
+    ap (λ (x : Held). (hand_out (held_step x b).held xs).held) e ∙ ap (λ (x : Handed). (hand_out x.held xs).held) g
+
 -- ---- a text
 
 above : (b : ℕ) → nat_le 0x80 b ≡ true → 128 ≤ b
@@ -123,6 +128,17 @@ frames_text count n h b rest (stream, e) t z k p =
     let up : is_character (held_of stream).kept ≡ false → 128 ≤ b = subst (λ (x : Held). is_character x.kept ≡ false → 128 ≤ b) e (high h.kept h.waiting b t z) in
     let g = text_cuts stream b rest f.c f.more out (ap begun_bytes (sym e) ∙ z) up f.lendable f.is in
     text_behind count n h (b ∷ rest) k p (subst (λ (x : Held). GoesOn x (b ∷ rest) [] nothing_held) (sym e) g)
+
+-- nothing is held behind it
+pub text_ends : (n : ℕ) (h : Held) (b : ℕ) (rest : List ℕ) → IsReached h → takes_text h b ≡ true → begun_bytes h ≡ [] → IsTextLen (b ∷ rest) n → 0 < n → (hand_out h (take n (b ∷ rest))).held ≡ nothing_held
+text_ends zero h b rest r t z k p = absurd (omega arith)
+text_ends (suc n) h b rest (stream, e) t z k p =
+    let text = b ∷ take n rest in
+    let f : First text = subst First (append-nil text) (first_of text [] k.text (λ y. cc)) in
+    let out : is_body (held_of stream).kept ≡ false = subst (λ (x : Held). is_body x.kept ≡ false) e (takes_outside h.kept h.waiting b t) in
+    let up : is_character (held_of stream).kept ≡ false → 128 ≤ b = subst (λ (x : Held). is_character x.kept ≡ false → 128 ≤ b) e (high h.kept h.waiting b t z) in
+    let g = text_cuts stream b (take n rest) f.c f.more out (ap begun_bytes (sym e) ∙ z) up f.lendable f.is in
+    ap (λ (x : Held). (hand_out x text).held) e ∙ g.keeps ∙ ap (λ (l : List ℕ). (hand_out nothing_held l).held) (sym (append-nil text)) ∙ text_kept text [] k.text ∙ start_held
 
 -- ---- one byte
 
@@ -194,79 +210,3 @@ pub frames_alone : (count : ℕ) (h : Held) (b : ℕ) (rest : List ℕ) → IsRe
     → Frames count h (b ∷ rest) (λ from. map Lone (held_step h b).dispatches) 1 (held_step h b).held
 frames_alone count h b rest r n c = stands count h b rest r (λ start.
     alone_at h.kept h.waiting b rest r.0 start (start + count) r.1 n (subst (λ (x : Held). IsCarried start (start + count) x (b ∷ rest)) r.1 (in_call start count h (b ∷ rest) c)))
-
--- ---- what a step reads
-
-other_items : (count n : ℕ) (h after : Held) (bytes : List ℕ) (items items' : ℕ → List Framed) → ((from : ℕ) → items from ≡ items' from) → Frames count h bytes items n after → Frames count h bytes items' n after
-other_items count n h after bytes items items' e f = record {
-  within = f.within;
-  lends = λ start. f.lends start ∙ ap (λ (l : List Framed). l ++ framed_behind start (start + count + n) after (drop n bytes)) (e (start + count));
-  keeps = f.keeps;
-  reached = f.reached;
-  carried = f.carried;
-}
-
-frames_nothing : (count : ℕ) (h : Held) → IsReached h → IsCarried 0 count h [] → Frames count h [] (λ from. []) 0 h
-unfolding placed_behind hand_out
-frames_nothing count h r c = record { within = omega arith; lends = λ start. refl; keeps = refl; reached = r; carried = subst (λ (m : ℕ). IsCarried 0 m h []) (let k : count ≡ count + 0 = omega arith in k) c }
-
-some_byte : (b : ℕ) (rest : List ℕ) → 1 ≤ length (b ∷ rest)
-some_byte b rest = omega arith
-
-pub reads_nothing : (p : Parameters) (h : Held) (bytes : List ℕ) (s : stepped.Step) → length bytes ≡ 0 → s.text ≡ 0 → s.count ≡ 0 → dispatches_in p s.dispatches ≡ [] → Reads p h bytes s h
-reads_nothing p h [] s e t n d = record {
-  frames = λ count r c. subst (λ (m : ℕ). Frames count h [] (items_in p s []) m h) (sym n) (other_items count 0 h h [] (λ from. []) (items_in p s []) (λ from. rw t (rw d refl)) (frames_nothing count h r c));
-  within = omega (arith, n);
-  fits = omega arith;
-  text = rw t no_text;
-  moves = λ a b l. absurd (omega arith);
-}
-reads_nothing p h (x ∷ bytes) s e t n d = absurd (omega arith)
-
-pub reads_alone : (p : Parameters) (h : Held) (b : ℕ) (rest bytes : List ℕ) (s : stepped.Step) (after : Held) → bytes ≡ b ∷ rest → s.text ≡ 0 → s.count ≡ 1 → dispatches_in p s.dispatches ≡ (held_step h b).dispatches → after ≡ (held_step h b).held
-    → (takes_text h b ≡ true → BeginsNoText bytes) → Reads p h bytes s after
-reads_alone p h b rest bytes s after e t n d a none = subst (λ (l : List ℕ). Reads p h l s after) (sym e) (record {
-  frames = λ count r c. subst (λ (m : ℕ). Frames count h (b ∷ rest) (items_in p s (b ∷ rest)) m after) (sym n)
-      (subst (λ (x : Held). Frames count h (b ∷ rest) (items_in p s (b ∷ rest)) 1 x) (sym a)
-      (other_items count 1 h (held_step h b).held (b ∷ rest) (λ from. map Lone (held_step h b).dispatches) (items_in p s (b ∷ rest)) (λ from. rw t (ap (map Lone) (sym d)))
-      (frames_alone count h b rest r (λ y. subst BeginsNoText e (none y)) c)));
-  within = omega (arith, n, some_byte b rest);
-  fits = omega (arith, t);
-  text = rw t no_text;
-  moves = λ x y l. absurd (omega arith);
-})
-
-pub reads_broken : (p : Parameters) (h : Held) (b n : ℕ) (rest bytes : List ℕ) (s : stepped.Step) (after : Held) → bytes ≡ b ∷ rest → s.text ≡ 0 → s.count ≡ 0 → dispatches_in p s.dispatches ≡ Print 0xFFFD ∷ [] → after ≡ nothing_held
-    → takes_text h b ≡ true → begun_bytes h ≢ [] → IsTextLen bytes n → 0 < n → Reads p h bytes s after
-reads_broken p h b n rest bytes s after e t z d a takes begun k l = subst (λ (m : List ℕ). Reads p h m s after) (sym e) (record {
-  frames = λ count r c. subst (λ (m : ℕ). Frames count h (b ∷ rest) (items_in p s (b ∷ rest)) m after) (sym z)
-      (subst (λ (x : Held). Frames count h (b ∷ rest) (items_in p s (b ∷ rest)) 0 x) (sym a)
-      (other_items count 0 h nothing_held (b ∷ rest) (λ from. Lone (Print 0xFFFD) ∷ []) (items_in p s (b ∷ rest)) (λ from. rw t (ap (map Lone) (sym d)))
-      (frames_broken count n h b rest r takes begun (subst (λ (m : List ℕ). IsTextLen m n) e k) l)));
-  within = omega (arith, z);
-  fits = omega (arith, t);
-  text = rw t no_text;
-  moves = λ x y m. d;
-})
-
-pub reads_a_text : (p : Parameters) (h : Held) (b n : ℕ) (rest bytes : List ℕ) (s : stepped.Step) (after : Held) → bytes ≡ b ∷ rest → s.text ≡ n → s.count ≡ n → after ≡ nothing_held
-    → takes_text h b ≡ true → begun_bytes h ≡ [] → IsTextLen bytes n → 0 < n → Reads p h bytes s after
-reads_a_text p h b n rest bytes s after e t z a takes begun k l = record {
-  frames = λ count r c. subst (λ (m : ℕ). Frames count h bytes (items_in p s bytes) m after) (sym z)
-      (subst (λ (x : Held). Frames count h bytes (items_in p s bytes) n x) (sym a)
-      (other_items count n h nothing_held bytes (λ from. Text from (take n bytes) ∷ []) (items_in p s bytes) (λ from. rw (t, some n l) refl)
-      (subst (λ (m : List ℕ). Frames count h m (λ from. Text from (take n m) ∷ []) n nothing_held) (sym e) (frames_text count n h b rest r takes begun (subst (λ (m : List ℕ). IsTextLen m n) e k) l))));
-  within = subst (λ (m : ℕ). m ≤ length bytes) (sym z) k.within;
-  fits = subst (λ (m : ℕ). m ≤ length bytes) (sym t) k.within;
-  text = subst (λ (m : ℕ). IsText (take m bytes)) (sym t) k.text;
-  moves = λ x y m. absurd (omega arith);
-}
-  where
-    some : (n : ℕ) → 0 < n → (n == 0) ≡ false
-    some n l = grind (arith, nat_tests)
-
--- what isn't some is none
-pub no_some : (xs : List ℕ) (b : Bool) → (IsTrue b ↔ (xs ≢ [])) → b ≡ false → xs ≡ []
-no_some [] b h e = refl
-no_some (x ∷ xs) true h e = cc
-no_some (x ∷ xs) false h e = absurd (let k : false ≡ true = h.1 (λ z. cc) in let m : ⊥ = cc in m)

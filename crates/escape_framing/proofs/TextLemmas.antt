@@ -11,7 +11,7 @@ use Rattle.escape_framing.specs.Decode.{Reading, ends, in_character, next_byte}
 use Rattle.escape_framing.specs.Dispatch.{Dispatch, Print, dispatches_of}
 use Rattle.escape_framing.specs.Held.{InCharacter, Step, steps, kept_of, character_step, Held, Handed, handed, fresh_step, waiting_step, held_step, nothing_held, hand_out}
 use Rattle.escape_framing.specs.Framed.{Text, is_lent, put_text, framed, at_place, placed_behind, framed_behind, IsLendable, IsText, no_text, text_of}
-use Rattle.escape_framing.specs.Existence.Utf8Lemmas.{Spelled, in_one, in_two, in_three, in_four, spelled}
+use Rattle.escape_framing.proofs.Existence.Utf8Lemmas.{Spelled, in_one, in_two, in_three, in_four, spelled}
 use Rattle.escape_framing.proofs.CharacterReading.{waits_begun, ends_character, plain_segment}
 use Rattle.escape_framing.proofs.FramedLemmas.{BeginsFrom, lends, put_apart, put_joined}
 use Rattle.escape_framing.proofs.HeldLemmas.{Inner, inner, no_c2, first_c2}

@@ -15,7 +15,7 @@ use Rattle.escape_framing.specs.Decode.{Reading, next_byte, ends, read_on}
 use Rattle.escape_framing.specs.Dispatch.{Dispatch, Print, Control, Data, Exit, dispatches_of}
 use Rattle.escape_framing.specs.Held.{Kept, InCharacter, InCommand, InDevice, InString, kept_of, Step, steps, before, character_step, command_step, header_step, device_step, string_step, kept_step, Held, Handed, interrupted, fresh_step, waiting_step, held_step, nothing_held, hand_out, held_of}
 use Rattle.escape_framing.specs.Undecided.{IsUndecided}
-use Rattle.escape_framing.specs.Existence.Utf8Lemmas.{order, Spelled, in_one, in_two, in_three, in_four, spelled, front_of_one, front_of_two, front_of_three, two, three, scalar_high}
+use Rattle.escape_framing.proofs.Existence.Utf8Lemmas.{order, Spelled, in_one, in_two, in_three, in_four, spelled, front_of_one, front_of_two, front_of_three, two, three, scalar_high}
 use Rattle.escape_framing.proofs.CharacterReading.{plain_segment, waits_begun, ends_character}
 use Rattle.escape_framing.proofs.FirstLemmas.{first_control, first_waits}
 use Rattle.escape_framing.proofs.HeldLemmas.{Inner, inner, interrupted_character, c2_begins, At, at_rest, at_c2, unfinished, at_all, newly_handed}

@@ -4,7 +4,7 @@ use Rattle.std.specs.List.{flat_map}
 use Rattle.escape_framing.specs.Segment.{Tail, Begun, OpenEscape, OpenControlSequence, OpenCommand, OpenHeader, OpenDevice, OpenString, bytes_of_tail, Segment, Character, IllFormed, Control, Escape, ControlSequence, OperatingSystemCommand, DeviceControl, String, CutOff, bytes_of, IsUnfinished, IsSegment, StandInRow, IsCut}
 use Rattle.escape_framing.specs.Decode.{Reading, read_on}
 use Rattle.escape_framing.specs.Cut.{the_cut, tail_of}
-use Rattle.escape_framing.specs.Existence.Utf8Lemmas.{append_nil}
+use Rattle.escape_framing.proofs.Existence.Utf8Lemmas.{append_nil}
 use Rattle.escape_framing.proofs.ReadLemmas.{after, read_nil}
 use Rattle.escape_framing.proofs.CharacterReading.{reads_begun, reads_character, reads_control, reads_ill_formed}
 use Rattle.escape_framing.proofs.SequenceReading.{reads_sequence, reads_whole_escape, reads_whole_control_sequence, reads_whole_command, reads_whole_device, reads_whole_string, reads_cut_off}

@@ -1,18 +1,14 @@
--- A byte behind a C2: what two steps hand out, and when they take memory.
-use Rattle.std.proofs.Common.{◌≡◌, ℕ, ◌-◌, Bool, true, false, List, [], ◌∷◌, ◌++◌, refl, sym, ap, subst, ◌∙◌, append_assoc}
+-- A byte that cuts off: what it does, and when it takes memory.
+use Rattle.std.proofs.Common.{◌≡◌, ℕ, Bool, true, false, List, [], ◌∷◌, ◌++◌, refl, subst}
 use Rattle.std.specs.Prelude.{◌==◌, is_none}
 use Rattle.std.specs.Str.{is_utf8}
 use Rattle.std.specs.Str.Lossy.{utf8_error_len}
 use Rattle.std.proofs.lemmas.Bool.{or_parts}
-use Rattle.std.proofs.lemmas.List.{append-nil}
-use Rattle.text_clusters.specs.Controls.{is_c1}
 use Rattle.escape_framing.specs.Bytes.{is_stop, is_embedded, is_intermediate, is_cut}
 use Rattle.csi_codec.specs.Tokens.{is_parameter}
 use Rattle.escape_framing.specs.Decode.{first_byte, in_character}
 use Rattle.csi_codec.specs.Tokens.{Parameters}
-use Rattle.escape_framing.specs.Held.{Kept, InCharacter, InEscape, InControlSequence, InCommand, InHeader, InDevice, InString, kept_of, Step, character_step, escape_step, control_sequence_step, device_step, string_step, kept_step, fresh_step, waiting_step}
-use Rattle.escape_framing.specs.Dispatched.{optional, dispatches_in, handed_in, TakesMemory}
-use Rattle.escape_framing.specs.declared.framer.Handed.{Handed}
+use Rattle.escape_framing.specs.Held.{Kept, InCharacter, InEscape, InControlSequence, InCommand, InHeader, InDevice, InString, kept_of, Step, character_step, escape_step, control_sequence_step, device_step, string_step, kept_step, TakesMemory}
 use Rattle.escape_framing.proofs.SequenceReading.{cut_is_outside, cut_is_no_parameter}
 
 -- ---- memory
@@ -81,22 +77,3 @@ lead_cuts = refl
 
 pub never : (b : ℕ) {A : Type 0} → is_cut b ≡ true → is_cut b ≡ false → A
 never b h k = cc
-
--- ---- what is handed out
-
-four : {X : Type 0} (a b c d : List X) → a ++ (b ++ (c ++ (d ++ []))) ≡ (a ++ b) ++ (c ++ d)
-four a b c d = ap (λ l. a ++ (b ++ (c ++ l))) (append-nil d) ∙ sym (append_assoc a b (c ++ d))
-
-pub shows_pair : (p : Parameters) (first second : Handed) (kept : Kept) (b : ℕ) → is_c1 0xC2 b ≡ true → handed_in p first ≡ (kept_step kept 0x1B).dispatches
-    → handed_in p second ≡ (kept_step (kept_step kept 0x1B).kept (b - 0x40)).dispatches
-    → dispatches_in p (first.ended ∷ first.own ∷ second.ended ∷ second.own ∷ []) ≡ (waiting_step kept b).dispatches
-unfolding waiting_step
-shows_pair p first second kept b h e f =
-    four (optional p first.ended) (optional p first.own) (optional p second.ended) (optional p second.own) ∙ (λ i. e i ++ f i) ∙ rw h refl
-
-pub shows_other : (p : Parameters) (first second : Handed) (kept : Kept) (b : ℕ) → is_c1 0xC2 b ≡ false → handed_in p first ≡ (kept_step kept 0xC2).dispatches
-    → handed_in p second ≡ (fresh_step (kept_step kept 0xC2).kept b).dispatches
-    → dispatches_in p (first.ended ∷ first.own ∷ second.ended ∷ second.own ∷ []) ≡ (waiting_step kept b).dispatches
-unfolding waiting_step
-shows_other p first second kept b h e f =
-    four (optional p first.ended) (optional p first.own) (optional p second.ended) (optional p second.own) ∙ (λ i. e i ++ f i) ∙ rw h refl

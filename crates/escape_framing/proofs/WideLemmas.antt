@@ -9,7 +9,7 @@ use Rattle.std.specs.Prelude.{IsTrue}
 use Rattle.escape_framing.specs.Framed.{IsLendable, IsText, no_text, text_of, IsCharacterLen, IsTextLen}
 use Rattle.text_clusters.specs.Plain.{is_printable}
 use Rattle.escape_framing.specs.Wide.{is_second, is_behind, IsRunLen}
-use Rattle.escape_framing.specs.Existence.Utf8Lemmas.{Spelled, in_one, in_two, in_three, in_four, spelled, scalar_low, two_bytes, three_bytes, four_bytes}
+use Rattle.escape_framing.proofs.Existence.Utf8Lemmas.{Spelled, in_one, in_two, in_three, in_four, spelled, scalar_low, two_bytes, three_bytes, four_bytes}
 
 -- ---- what the tests say
 

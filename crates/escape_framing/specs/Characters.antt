@@ -1,17 +1,16 @@
 -- What the characters' private steps show.
-use Rattle.std.specs.Prelude.{◌≡◌, ℕ, true, false, List, [], ◌∷◌, ◌++◌, slice_index, is_none, if◌then◌else◌}
+use Rattle.std.specs.Prelude.{◌≡◌, ◌≢◌, ℕ, true, false, List, [], ◌∷◌, ◌++◌, slice_index, is_none}
 use Rattle.std.specs.Str.{is_utf8, chars}
 use Rattle.std.specs.Str.Lossy.{utf8_error_len}
 use Rattle.escape_framing.specs.Segment.{Begun, IsUnfinished}
 use Rattle.escape_framing.specs.Decode.{segment_of}
 use Rattle.escape_framing.specs.Dispatch as dispatch
 use Rattle.escape_framing.specs.Dispatch.{Dispatch, dispatches_of}
-use Rattle.escape_framing.specs.Held.{Kept, InCharacter, InEscape, Step, steps}
+use Rattle.escape_framing.specs.Held.{Kept, InCharacter, InEscape, Step, steps, before, character_step}
 use Rattle.escape_framing.specs.declared.characters.Kind.{Kind}
 use Rattle.escape_framing.specs.declared.characters.Kind.TheVariants as kind
 use Rattle.escape_framing.specs.declared.characters.Own.{Own}
 use Rattle.escape_framing.specs.declared.characters.Own.TheVariants as own
-use Rattle.escape_framing.specs.declared.characters.CharacterStep.{CharacterStep}
 
 -- the bytes are the first ones of a character, and one byte more
 abbrev pub IsBehindBegun : List ℕ → Type 0
@@ -42,6 +41,11 @@ own_kept _ bytes = InCharacter bytes
 abbrev pub own_dispatches : Own → List Dispatch
 own_dispatches o = (own_step o []).dispatches
 
--- what a byte hands out behind what it breaks, where these bytes are kept
-abbrev pub step_of : CharacterStep → List ℕ → Step
-step_of s bytes = steps ((if s.broken then dispatch.Print 0xFFFD ∷ [] else []) ++ own_dispatches s.own) (own_kept s.own bytes)
+-- what a byte hands out, where these bytes are kept then
+abbrev pub step_of : Own → List ℕ → Step
+step_of o bytes = steps (own_dispatches o) (own_kept o bytes)
+
+-- A byte breaks the character of these first bytes: it does what it does by itself, behind U+FFFD.
+pub record Breaks (bytes : List ℕ) (b : ℕ) : Type 0 where
+  pub breaks : character_step bytes b ≡ before (dispatch.Print 0xFFFD ∷ []) (character_step [] b)
+  pub some : bytes ≢ []

@@ -2,20 +2,14 @@
 use Rattle.std.specs.Prelude.{ℕ, List, [], length, drop, ◌++◌}
 use Rattle.std.specs.List.{flat_map}
 use Rattle.escape_framing.specs.SevenBit.{seven_bit}
-use Rattle.escape_framing.specs.Segment.{Segment, Tail, Begun, IsCut}
+use Rattle.escape_framing.specs.Segment.{Tail, Begun}
 use Rattle.escape_framing.specs.Dispatch.{Dispatch, dispatches_of, decided_of}
-use Rattle.escape_framing.specs.Decode.{read_on}
-use Rattle.escape_framing.specs.Existence.CutLemmas.{cuts_all}
+use Rattle.escape_framing.specs.Decode.{Reading, read_on}
 
--- segments and a tail that are a cut of the stream
-pub record Cut (stream : List ℕ) : Type 0 where
-  pub segments : List Segment
-  pub tail : Tail
-  pub is_cut : IsCut stream segments tail
-
--- the cut of the stream: each has one, and no other
-unfoldable pub the_cut : (stream : List ℕ) → Cut stream
-the_cut stream = record { segments = (read_on (Begun []) (seven_bit stream)).segments; tail = (read_on (Begun []) (seven_bit stream)).tail; is_cut = cuts_all stream }
+-- The cut of the stream, as the plain reading of its seven-bit form gives it. The law `one_cut` says that it is a cut,
+-- and that the stream has no other.
+unfoldable pub the_cut : List ℕ → Reading
+the_cut stream = read_on (Begun []) (seven_bit stream)
 
 -- what others may still make a segment of
 abbrev pub tail_of : List ℕ → Tail

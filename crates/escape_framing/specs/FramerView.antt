@@ -1,11 +1,12 @@
 -- How the fields of a framer are read.
 use Rattle.std.specs.Prelude.{ℕ, List, [], ◌∷◌}
+use Rattle.csi_codec.specs.Tokens.{Parameters}
 use Rattle.escape_framing.specs.Held.{Kept, InCharacter, InEscape, InControlSequence, InCommand, InHeader, InDevice, InString}
-use Rattle.escape_framing.specs.Framing.{Framing}
-use Rattle.escape_framing.specs.declared.framer.Intermediates.{Intermediates}
-use Rattle.escape_framing.specs.declared.framer.Intermediates.TheVariants.{Zero, One, More}
-use Rattle.escape_framing.specs.declared.framer.State.{State}
-use Rattle.escape_framing.specs.declared.framer.State.TheVariants as state
+use Rattle.escape_framing.specs.Lending.{Lending}
+use Rattle.escape_framing.specs.declared.states.Intermediates.{Intermediates}
+use Rattle.escape_framing.specs.declared.states.Intermediates.TheVariants.{Zero, One, More}
+use Rattle.escape_framing.specs.declared.states.State.{State}
+use Rattle.escape_framing.specs.declared.states.State.TheVariants as state
 use Rattle.escape_framing.specs.declared.framer.Framer.TheInside.{Inside}
 
 -- the intermediate bytes, two at most
@@ -14,14 +15,19 @@ bytes_in Zero = []
 bytes_in (One first) = first ∷ []
 bytes_in (More first second) = first ∷ second ∷ []
 
-abbrev pub kept_in : State → Inside → Kept
-kept_in state.Characters f = InCharacter f.characters
-kept_in (state.Escape intermediates) f = InEscape (bytes_in intermediates)
-kept_in state.ControlSequence f = InControlSequence f.parameters
-kept_in state.Command f = InCommand f.text.items
-kept_in state.Header f = InHeader f.text.items
-kept_in state.Device f = InDevice
-kept_in state.String f = InString
+-- what is open, with the first bytes of a character, the parameters and the body that are kept
+abbrev pub kept_as : State → List ℕ → Parameters → List ℕ → Kept
+kept_as state.Characters characters p body = InCharacter characters
+kept_as (state.Escape intermediates) characters p body = InEscape (bytes_in intermediates)
+kept_as state.ControlSequence characters p body = InControlSequence p
+kept_as state.Command characters p body = InCommand body
+kept_as state.Header characters p body = InHeader body
+kept_as state.Device characters p body = InDevice
+kept_as state.String characters p body = InString
 
-abbrev pub framing_of : Inside → Framing
-framing_of f = record { held = record { kept = kept_in f.state f; waiting = f.waiting }; parameters = f.parameters; failed = f.failed }
+abbrev pub lending_of : Inside → Lending
+lending_of r = record {
+  held = record { kept = kept_as r.state r.characters r.parameters r.body.items; waiting = r.waiting };
+  parameters = r.parameters;
+  body = r.body.items;
+}

@@ -30,6 +30,16 @@ kept_of (OpenHeader opening header) = InHeader (taken header)
 kept_of (OpenDevice opening header final body) = InDevice
 kept_of (OpenString opening opener body) = InString
 
+-- the body of a command and a header take memory
+abbrev pub TakesMemory : Kept → Type 0
+TakesMemory (InCharacter bytes) = ⊥
+TakesMemory (InEscape xs) = ⊥
+TakesMemory (InControlSequence p) = ⊥
+TakesMemory (InCommand body) = Unit {0}
+TakesMemory (InHeader header) = Unit {0}
+TakesMemory InDevice = ⊥
+TakesMemory InString = ⊥
+
 -- what a byte hands out, and what is kept behind it
 pub record Step : Type 0 where
   pub dispatches : List Dispatch

@@ -1,8 +1,9 @@
 //! The characters of a stream, byte by byte.
-ghost use Rattle.std.specs.Prelude.{◌≡◌, ◌↔◌, IsTrue, ℕ, ◌+◌, ◌≤◌, List, [], ◌∷◌, take};
+ghost use Rattle.std.specs.Prelude.{◌≡◌, ◌↔◌, IsTrue, IfSome, ℕ, ◌+◌, ◌≤◌, List, [], ◌∷◌, None, take};
 ghost use Rattle.escape_framing.specs.Segment.{IsUnfinished, Begun};
-ghost use Rattle.escape_framing.specs.Held.{character_step};
-ghost use Rattle.escape_framing.specs.Characters.{IsBehindBegun, IsKind, own_step, segment_step, step_of};
+ghost use Rattle.escape_framing.specs.Held.{InCharacter, character_step};
+ghost use Rattle.escape_framing.specs.Event.{GoesOn};
+ghost use Rattle.escape_framing.specs.Characters.{IsBehindBegun, IsKind, own_step, segment_step, step_of, Breaks};
 
 use std::marker::Model;
 use std::str;
@@ -15,7 +16,7 @@ enum Kind {
     Broken,
 }
 
-/// What a byte is behind what it may have broken.
+/// What a byte is behind the first bytes of a character, or behind none.
 #[derive(Clone, Copy)]
 pub(crate) enum Own {
     /// More bytes of its character are to come.
@@ -26,13 +27,6 @@ pub(crate) enum Own {
     Control(u8),
     /// Part of no character.
     Stray,
-}
-
-/// What a byte does to the characters: whether it breaks one that has begun, and what it is itself.
-#[derive(Clone, Copy)]
-pub(crate) struct CharacterStep {
-    pub broken: bool,
-    pub own: Own,
 }
 
 fn kind_of(bytes: &[u8]) -> Kind
@@ -109,9 +103,12 @@ impl Characters {
         self.count == 0
     }
 
-    /// Reads one byte more.
-    pub fn next(&mut self, byte: u8) -> CharacterStep
-        ensures { step_of result self.new ≡ character_step self.old byte }
+    /// Reads one byte more: what it is. `None`: it breaks the character that has begun, and isn't read.
+    pub fn next(&mut self, byte: u8) -> Option<Own>
+        ensures steps { IfSome result (λ own. step_of own self.new ≡ character_step self.old byte) }
+        ensures goes { IfSome result (λ _. GoesOn (InCharacter self.old) byte) }
+        ensures breaks { result ≡ None → Breaks self.old byte }
+        ensures empty { result ≡ None → self.new ≡ [] }
     {
         let count = self.count;
         if count == 0 {
@@ -120,32 +117,21 @@ impl Characters {
                 self.bytes[0] = byte;
                 self.count = 1;
             }
-            return CharacterStep { broken: false, own };
+            return Some(own);
         }
         self.bytes[count] = byte;
         match kind_of(&self.bytes[..count + 1]) {
             Kind::Whole(c) => {
                 self.count = 0;
-                CharacterStep {
-                    broken: false,
-                    own: whole(c),
-                }
+                Some(whole(c))
             }
             Kind::Begun => {
                 self.count = count + 1;
-                CharacterStep {
-                    broken: false,
-                    own: Own::Waits,
-                }
+                Some(Own::Waits)
             }
             Kind::Broken => {
-                let own = first(byte);
                 self.count = 0;
-                if let Own::Waits = own {
-                    self.bytes[0] = byte;
-                    self.count = 1;
-                }
-                CharacterStep { broken: true, own }
+                None
             }
         }
     }

@@ -74,7 +74,7 @@ fn two_len(lead: u8, others: &[u8]) -> usize
     if is_second(lead, *second) { 2 } else { 0 }
 }
 
-// The same of three bytes.
+// How many it has, of three bytes.
 #[inline(always)]
 fn three_len(lead: u8, others: &[u8]) -> usize
     requires least { 0xE0 ≤ lead }
@@ -100,7 +100,7 @@ fn three_len(lead: u8, others: &[u8]) -> usize
     }
 }
 
-// The same of four bytes.
+// How many it has, of four bytes.
 fn four_len(lead: u8, others: &[u8]) -> usize
     requires { 0xF0 ≤ lead }
     ensures { IsCharacterLen (lead ∷ others.now) result }
@@ -196,7 +196,7 @@ pub(crate) fn text_len(bytes: &[u8]) -> usize
     runs_len(bytes)
 }
 
-// The same, run by run.
+// How many bytes the text has, run by run.
 fn runs_len(bytes: &[u8]) -> usize
     ensures { IsTextLen bytes.now result }
 {

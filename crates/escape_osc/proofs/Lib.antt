@@ -4,7 +4,6 @@ pub mod ByteLemmas
 pub mod C1Lemmas
 pub mod Cases
 pub mod CopyLemmas
-pub mod EqualCommands
 pub mod PartsLemmas
 pub mod ReadBack
 pub mod ReadWritable

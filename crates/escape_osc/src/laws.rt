@@ -1,15 +1,12 @@
 //! Laws of the definitions, as functions that do nothing.
 
-ghost use Rattle.std.specs.Prelude.{◌≡◌, ◌↔◌, IsTrue, false, None, Option, Some, ℕ, List};
+ghost use Rattle.std.specs.Prelude.{◌≡◌, false, None, Some, ℕ, List};
 ghost use Rattle.text_clusters.specs.Controls.{holds_c1};
 ghost use Rattle.cell_base.specs.Link.{Link};
-ghost use Rattle.cell_base.specs.LinkText.{text_of_link};
-ghost use Rattle.escape_osc.specs.CommandView.{command_of};
-ghost use Rattle.escape_osc.specs.Command.{Command, set_icon_name_and_window_title, set_icon_name, set_window_title, current_working_directory, set_hyperlink};
+ghost use Rattle.escape_osc.specs.Command.{Command, set_icon_name_and_window_title, set_icon_name, set_window_title, current_working_directory};
 ghost use Rattle.escape_osc.specs.Parts.{parts_of};
 ghost use Rattle.escape_osc.specs.Reading.{osc_reading};
 ghost use Rattle.escape_osc.specs.Sizes.{AllSelectionsTakeMost, EndOfLinkTakesSeven, LinksTakeSeven, SelectionsAreShort, TextsTakeSix};
-ghost use Rattle.escape_osc.specs.Text.{body_of};
 ghost use Rattle.escape_osc.specs.Writable.{IsLink, IsReadableLink, IsWritable, LacksControls, ReadsBack};
 
 use crate::command::OperatingSystemCommand;
@@ -26,21 +23,6 @@ pub fn writable_command_reads_back()
     ensures { (command : Command) → IsWritable command → ReadsBack command }
 {}
 
-/// A command that reads back, and whose body holds no control, is one that a byte stream can carry: these are
-/// all that read back from bytes which a stream leaves alone.
-pub fn command_that_reads_back_is_writable()
-    ensures { (command : Command) → ReadsBack command → LacksControls (body_of command) → IsWritable command }
-{}
-
-/// A command that was read from a body without controls of any kind can be written: as the bodies of a byte stream are,
-/// where no skipped byte stood inside a C1 control.
-pub fn read_command_is_writable(body: &[u8])
-    requires { LacksControls body.now }
-    ensures { IsWritable (osc_reading (parts_of body.now)) }
-{
-    let _ = body;
-}
-
 /// A title, the name of an icon or a directory whose text holds no control of any kind can be written.
 pub fn text_is_writable(text: &str)
     requires { LacksControls text.now }
@@ -56,11 +38,6 @@ pub fn text_is_writable(text: &str)
 pub fn links_read_back()
     ensures link { (link : Link) → IsLink link → IsReadableLink (Some link) }
     ensures end_of_link { IsReadableLink None }
-{}
-
-/// A link, or the end of one, that its own text gives can be written where that text holds no control of any kind.
-pub fn link_is_writable()
-    ensures { (link : Option Link) → IsReadableLink link → LacksControls (text_of_link link) → IsWritable (set_hyperlink link) }
 {}
 
 /// A text without U+0080 to U+009F reads back from the body of each command that carries it.
@@ -84,10 +61,3 @@ pub fn text_lengths()
     ensures selections { (bits : ℕ) → (text : List ℕ) → SelectionsAreShort bits text }
     ensures all_selections { (text : List ℕ) → AllSelectionsTakeMost text }
 {}
-
-/// Two commands are equal where their values are, whatever pointers and capacities they have.
-pub fn equality_is_by_value(a: &OperatingSystemCommand, b: &OperatingSystemCommand) -> bool
-    ensures { IsTrue result ↔ (command_of a.now ≡ command_of b.now) }
-{
-    *a == *b
-}

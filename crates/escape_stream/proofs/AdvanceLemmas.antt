@@ -1,47 +1,53 @@
 -- How an iterator of pieces goes on.
-use Rattle.std.proofs.Common.{◌≡◌, ◌≢◌, ◌<◌, ◌≤◌, ℕ, ◌+◌, ◌-◌, ◌*◌, Bool, true, List, [], ◌∷◌, ◌++◌, length, map, take, drop, Option, Some, None, refl, ap, subst, sym, ◌∙◌, arith, length-drop, Bor}
+use Rattle.std.proofs.Common.{◌≡◌, ◌≢◌, ◌<◌, ◌≤◌, inl, inr, ℕ, ◌+◌, ◌-◌, true, Bool, List, [], ◌∷◌, ◌++◌, length, map, take, drop, Option, Some, None, refl, ap, subst, sym, ◌∙◌, arith, Bor}
+use Rattle.std.specs.Prelude.{Result, Ok, Err, IfOk, OnErr, is_some}
+use Rattle.std.specs.declared.alloc.AllocError.{AllocError}
+use Rattle.std.specs.Iterator.{MakesProgress, at_most}
 use Rattle.std.proofs.Math.ListN.{drop_of_length-le}
-use Rattle.escape_framing.specs.Held.{Held, hand_out, held_of}
-use Rattle.csi_codec.specs.Tokens.{Parameters}
-use Rattle.escape_framing.specs.Framing.{Framing}
-use Rattle.escape_framing.specs.Stepped.{Reads}
-use Rattle.escape_framing.specs.Quick.{text_step, lone_step, short_parameters}
-use Rattle.escape_framing.specs.Dispatched.{dispatches_in}
-use Rattle.escape_framing.specs.declared.dispatch.Dispatch.{Dispatch}
-use Rattle.escape_framing.specs.declared.short.ShortSequence.{ShortSequence}
-use Rattle.escape_stream.proofs.LoneReading.{lone_read, queue_of, queued, sequence_queued}
-use Rattle.escape_framing.specs.Framed.{framed, framed_behind, placed_behind, begun_bytes, IsText}
+use Rattle.std.proofs.lemmas.List.{drop-drop}
+use Rattle.escape_framing.specs.Held.{Held, TakesMemory, hand_out, held_of}
+use Rattle.escape_framing.specs.Framed.{framed, framed_behind, placed_behind, begun_bytes}
+use Rattle.escape_framing.specs.Lending.{Lending}
+use Rattle.escape_framing.specs.Read.{ReadsEvent, TakesMemoryAt, count_of, whole_command}
+use Rattle.escape_framing.specs.declared.error.ParseError.{ParseError}
+use Rattle.escape_framing.specs.declared.error.ParseError.TheVariants as refusal
+use Rattle.escape_framing.specs.declared.event.Event.{Event}
+use Rattle.escape_framing.specs.declared.event.Event.TheVariants as event
+use Rattle.escape_osc.specs.Parts.{parts_of}
+use Rattle.escape_osc.specs.Reading.{osc_reading}
+use Rattle.escape_framing.specs.declared.event.Read.{Read}
+use Rattle.escape_framing.specs.declared.event.Read.TheVariants as read
 use Rattle.escape_framing.proofs.HeldLemmas.{held_append}
 use Rattle.escape_framing.proofs.SpellLemmas.{placed_same}
+use Rattle.escape_stream.specs.Pieces.{Piece, Text, Lone, pieces_of, pieces}
+use Rattle.escape_stream.specs.PiecesView.{parser_of, open_pieces, held_at_end, items_at, items_left, ready_at, AsksMemory, AsksMemoryLater, BytesTakeMemory, SomeTakesMemory, FirstTakesMemory, ReadsBody, IsReady, PiecesGo, IsOpen, IsOver, IsUnderWay, GivesPiece, HasGiven, GoesOn, SameBut, FindsHere, HandsOutOf, IsGoing, Begins as BeginsEvent}
+use Rattle.escape_stream.specs.Walking.{FindsWhole}
+use Rattle.escape_stream.specs.ParserShown.{Parsing, lending_in}
+use Rattle.escape_stream.specs.Sequences.{FirstTakes, Gives, actions_left, event_actions}
+use Rattle.escape_stream.specs.StreamAction.{StreamAction, command}
+use Rattle.escape_stream.specs.StreamActionView.{value_of}
 use Rattle.escape_stream.specs.declared.action.Action.{Action}
 use Rattle.escape_stream.specs.declared.pieces.Piece.{Piece as PieceCode}
 use Rattle.escape_stream.specs.declared.pieces.Piece.TheVariants as code
 use Rattle.escape_stream.specs.declared.pieces.Reading.{Reading as Pieces}
 use Rattle.escape_stream.specs.declared.pieces.Stage.{Stage}
+use Rattle.escape_stream.specs.declared.sequence.Sequence.{Sequence}
 use Rattle.escape_stream.specs.declared.pieces.Stage.TheVariants as stage
-use Rattle.escape_framing.specs.declared.error.ParseError.{ParseError}
-use Rattle.escape_framing.specs.declared.error.ParseError.TheVariants as refusal
-use Rattle.std.specs.Prelude.{Result, Ok, Err}
-use Rattle.std.specs.Iterator.{MakesProgress, at_most}
-use Rattle.escape_osc.specs.Parts.{parts_of}
-use Rattle.escape_osc.specs.Reading.{osc_reading}
-use Rattle.escape_stream.specs.StreamAction.{StreamAction, command}
-use Rattle.escape_stream.specs.StreamActions.{actions_of}
-use Rattle.escape_stream.specs.StreamActionView.{value_of}
-use Rattle.escape_stream.specs.Pending.{Gives}
-use Rattle.escape_stream.specs.Queue.{queue_actions, sequence_values}
-use Rattle.escape_stream.specs.declared.queue.Queue.{Queue}
-use Rattle.escape_framing.specs.declared.lone.Lone.{Lone as Read}
-use Rattle.escape_framing.specs.declared.lone.Lone.TheVariants as lone
-use Rattle.escape_stream.specs.Pieces.{Piece, Text, Lone, pieces_of, pieces}
-use Rattle.escape_stream.specs.PiecesView.{parser_of, open_pieces, held_at_end, items_at, items_left, ready_at, IsReady, PiecesGo, IsOpen, IsOver, IsUnderWay, HasRead, HasReadLone, HasReadSequence, IsPairAt, IsShortAt, IsCommandAt, lone_values, GivesPiece, HasGiven, GoesOn}
-use Rattle.escape_stream.proofs.PieceLemmas.{read_none, read_text, read_command, read_behind, command_behind, if_none, comes_closer}
+use Rattle.escape_stream.proofs.PieceLemmas.{read_pieces, read_behind, event_pieces, comes_closer}
 
--- only what waits has changed
-pub record SameBut (old new : Pieces) : Type 0 where
-  pub parser : new.parser.now ≡ old.parser.now
-  pub bytes : new.bytes ≡ old.bytes
-  pub count : new.count ≡ old.count
+-- ---- where a body is read
+
+bodies_at : (old new : Pieces) → new.parser.now.held ≡ old.parser.now.held → new.bytes ≡ old.bytes → new.count ≡ old.count → (place : ℕ) → ReadsBody new place → ReadsBody old place
+bodies_at old new h b n place r = record {
+  behind = subst (λ (k : ℕ). k ≤ place) n r.behind;
+  within = rw (sym b) r.within;
+  takes = rw (sym h, sym n, sym b) r.takes;
+}
+
+-- ---- what is left of a control sequence
+
+bodies_too : (old new : Pieces) → SameBut old new → (place : ℕ) → ReadsBody new place → ReadsBody old place
+bodies_too old new s = bodies_at old new (ap (λ (p : Parsing). p.held) s.parser) s.bytes s.count
 
 ready_too : (old new : Pieces) → SameBut old new → IsUnderWay old → IsUnderWay new
 ready_too old new s u = record {
@@ -53,12 +59,10 @@ ready_too old new s u = record {
 ends_too : (old new : Pieces) → SameBut old new → held_at_end new ≡ held_at_end old
 ends_too old new s = rw (s.parser, s.count, s.bytes) refl
 
-pub same_then : (a b c : Pieces) → SameBut a b → SameBut b c → SameBut a c
-same_then a b c s t = record { parser = t.parser ∙ s.parser; bytes = t.bytes ∙ s.bytes; count = t.count ∙ s.count }
+pub stays : (it : Pieces) → IsUnderWay it → GoesOn it it
+stays it u = record { same = λ start. refl; ready = u; ends = refl; bodies = λ place b. b }
 
--- ---- an action
-
-pub gives_action : (first old new : Pieces) (a : Action) → GoesOn first old → SameBut old new → Gives (queue_actions old.parser.now.parameters old.queue) (Some a) (queue_actions old.parser.now.parameters new.queue) → HasGiven first (Some (code.Action a)) new
+pub gives_action : (first old new : Pieces) (a : Action) → GoesOn first old → SameBut old new → Gives (actions_left old.parser.now.parameters old.sequence) (Some a) (actions_left old.parser.now.parameters new.sequence) → HasGiven first (Some (code.Action a)) new
 gives_action first old new a g s e = record {
   gives = λ start. (
     Lone (value_of a),
@@ -70,12 +74,21 @@ gives_action first old new a g s e = record {
   ready = ready_too old new s g.ready;
   ends = ends_too old new s ∙ g.ends;
   done = λ z. cc;
+  bodies = λ place b. g.bodies place (bodies_too old new s place b);
+}
+
+-- nothing is left of it
+pub sequence_over : (first old new : Pieces) → GoesOn first old → SameBut old new → actions_left old.parser.now.parameters old.sequence ≡ [] → new.sequence ≡ None → GoesOn first new
+sequence_over first old new g s e n = record {
+  same = λ start.
+      rw (n, s.parser, s.count, s.bytes) (sym (ap (λ (q : List StreamAction). map Lone q ++ pieces_of (framed_behind start (start + old.count) old.parser.now.held (drop old.count old.bytes.now))) e))
+      ∙ g.same start;
+  ready = ready_too old new s g.ready;
+  ends = ends_too old new s ∙ g.ends;
+  bodies = λ place b. g.bodies place (bodies_too old new s place b);
 }
 
 -- ---- the end
-
-nothing_behind : (bytes : List ℕ) (k : ℕ) → k ≡ length bytes → drop k bytes ≡ []
-nothing_behind bytes k e = drop_of_length-le bytes (omega arith)
 
 none_framed : (start count : ℕ) (held : Held) → framed_behind start count held [] ≡ []
 unfolding placed_behind
@@ -85,133 +98,233 @@ none_handed : (held : Held) → (hand_out held []).held ≡ held
 unfolding hand_out
 none_handed held = refl
 
-pub gives_none : (first old new : Pieces) (after : List StreamAction) → GoesOn first old → SameBut old new → Gives (queue_actions old.parser.now.parameters old.queue) None after → new.count ≡ length new.bytes.now → HasGiven first None new
-gives_none first old new after g s e n =
-    let m : old.count ≡ length old.bytes.now = sym s.count ∙ n ∙ ap (λ (b : Bor (List ℕ)). length b.now) s.bytes in
-    let d : drop old.count old.bytes.now ≡ [] = nothing_behind old.bytes.now old.count m in
+pub gives_none : (first it : Pieces) → GoesOn first it → it.sequence ≡ None → it.count ≡ length it.bytes.now → HasGiven first None it
+gives_none first it g q n =
+    let d : drop it.count it.bytes.now ≡ [] = drop_of_length-le it.bytes.now (omega arith) in
     record {
       gives = λ start.
           sym (g.same start)
-          ∙ ap (λ (q : List StreamAction). map Lone q ++ pieces_of (framed_behind start (start + old.count) old.parser.now.held (drop old.count old.bytes.now))) e
-          ∙ ap (λ (b : List ℕ). pieces_of (framed_behind start (start + old.count) old.parser.now.held b)) d
-          ∙ ap pieces_of (none_framed start (start + old.count) old.parser.now.held);
-      ready = ready_too old new s g.ready;
-      ends = ends_too old new s ∙ g.ends;
-      done = λ z. ap (λ (f : Framing). f.held) s.parser ∙ sym (none_handed old.parser.now.held) ∙ ap (λ (b : List ℕ). (hand_out old.parser.now.held b).held) (sym d) ∙ g.ends;
+          ∙ rw q (ap (λ (b : List ℕ). pieces_of (framed_behind start (start + it.count) it.parser.now.held b)) d ∙ ap pieces_of (none_framed start (start + it.count) it.parser.now.held));
+      ready = g.ready;
+      ends = g.ends;
+      done = λ z. sym (none_handed it.parser.now.held) ∙ ap (λ (b : List ℕ). (hand_out it.parser.now.held b).held) (sym d) ∙ g.ends;
+      bodies = g.bodies;
     }
 
--- ---- a step
+-- ---- what is read
 
--- what waits is all handed out
-exhausted : (first old new : Pieces) (after : List StreamAction) → GoesOn first old → SameBut old new → Gives (queue_actions old.parser.now.parameters old.queue) None after
-    → (start : ℕ) → pieces_of (framed_behind start (start + new.count) new.parser.now.held (drop new.count new.bytes.now)) ≡ open_pieces start first
-exhausted first old new after g s e start =
-    rw (s.parser, s.count, s.bytes) (sym (ap (λ (q : List StreamAction). map Lone q ++ pieces_of (framed_behind start (start + old.count) old.parser.now.held (drop old.count old.bytes.now))) e)) ∙ g.same start
+-- what was read of the bytes that were left, where nothing was left of a control sequence
+pub record HasRead (old : Pieces) (r : Read) (l : Lending) (new : Pieces) : Type 0 where
+  pub under : IsUnderWay old
+  pub over : old.sequence ≡ None
+  pub reads : ReadsEvent old.parser.now.held (drop old.count old.bytes.now) r l
+  pub held : new.parser.now.held ≡ l.held
+  pub parameters : new.parser.now.parameters ≡ l.parameters
+  pub bytes : new.bytes ≡ old.bytes
+  pub count : new.count ≡ old.count + count_of r
 
-read_ready : (old new : Pieces) (text : ℕ) → IsUnderWay old → HasRead old text new → new.bytes ≡ old.bytes → IsUnderWay new × (held_at_end new ≡ held_at_end old)
-read_ready old new text u r e =
-    let b = read_behind old.count new.parser.now.parameters old.parser.now.held new.parser.now.held old.bytes.now r.step u.within r.reads u.reached u.carried in (
+pub has_read : (old new : Pieces) (bytes : List ℕ) (found r : Read) (l : Lending) → IsUnderWay old → old.sequence ≡ None → bytes ≡ drop old.count old.bytes.now → found ≡ r → ReadsEvent old.parser.now.held bytes found l
+    → new.parser.now.held ≡ l.held → new.parser.now.parameters ≡ l.parameters → new.bytes ≡ old.bytes → new.count ≡ old.count + count_of r → HasRead old r l new
+has_read old new bytes found r l u q e f reads h p b n = record {
+  under = u;
+  over = q;
+  reads = subst (λ (x : Read). ReadsEvent old.parser.now.held (drop old.count old.bytes.now) x l) f (subst (λ (x : List ℕ). ReadsEvent old.parser.now.held x found l) e reads);
+  held = h;
+  parameters = p;
+  bytes = b;
+  count = n;
+}
+
+read_ready : (old new : Pieces) (r : Read) (l : Lending) → HasRead old r l new → IsUnderWay new × (held_at_end new ≡ held_at_end old)
+read_ready old new r l h =
+    let b = read_behind old.count old.parser.now.held old.bytes.now r l h.reads h.under.within h.under.reached h.under.carried in (
       record {
-        within = rw (r.count, e) b.within;
-        reached = b.reached;
-        carried = rw (r.count, e) b.carried;
+        within = rw (h.count, h.bytes) b.within;
+        reached = rw h.held b.reached;
+        carried = rw (h.held, h.count, h.bytes) b.carried;
       },
-      rw (r.count, e) b.ends,
+      rw (h.held, h.count, h.bytes) b.ends,
     )
 
-pub gives_text : (first old mid new : Pieces) (after : List StreamAction) (text : ℕ) (t : Bor (List ℕ)) → GoesOn first old → SameBut old mid → Gives (queue_actions old.parser.now.parameters old.queue) None after → HasRead mid text new → new.bytes ≡ mid.bytes → text ≢ 0
-    → t.now ≡ take text (drop mid.count mid.bytes.now) → HasGiven first (Some (code.Text t)) new
-gives_text first old mid new after text t g s e r b n k =
-    let u = ready_too old mid s g.ready in
-    let w = read_ready mid new text u r b in
-    let some : r.step.text ≢ 0 = λ z. n (sym r.is_text ∙ z) in
+bodies_read : (old new : Pieces) (r : Read) (l : Lending) → HasRead old r l new → (place : ℕ) → ReadsBody new place → ReadsBody old place
+bodies_read old new r l h place b =
+    let left : drop new.count new.bytes.now ≡ drop (count_of r) (drop old.count old.bytes.now) = (λ i. drop (h.count i) (h.bytes i).now) ∙ sym (drop-drop (count_of r) old.count old.bytes.now) in
+    let more : count_of r + (place - new.count) ≡ place - old.count = omega (arith, h.count, b.behind) in
+    record {
+      behind = omega (arith, h.count, b.behind);
+      within = rw (sym h.bytes) b.within;
+      takes = subst (TakesMemoryAt old.parser.now.held (drop old.count old.bytes.now)) more
+          (h.reads.opens h.under.reached (place - new.count)
+          (subst (λ (x : List ℕ). TakesMemoryAt l.held x (place - new.count)) left (subst (λ (x : Held). TakesMemoryAt x (drop new.count new.bytes.now) (place - new.count)) h.held b.takes)));
+    }
+
+read_whole : (old new : Pieces) (r : Read) (l : Lending) (h : HasRead old r l new) (start : ℕ) → pieces_of (framed_behind start (start + old.count) old.parser.now.held (drop old.count old.bytes.now)) ≡ open_pieces start old
+read_whole old new r l h start = rw h.over refl
+
+pub gives_text : (old new : Pieces) (n : ℕ) (l : Lending) (t : Bor (List ℕ)) → HasRead old (read.Text n) l new → new.sequence ≡ None → t.now ≡ take n (drop old.count old.bytes.now) → HasGiven old (Some (code.Text t)) new
+gives_text old new n l t h q k =
+    let w = read_ready old new (read.Text n) l h in
     record {
       gives = λ start. (
-        Text (start + mid.count) (take text (drop mid.count mid.bytes.now)),
+        Text (start + old.count) (take n (drop old.count old.bytes.now)),
         k,
-        sym (exhausted first old mid after g s e start)
-            ∙ read_text start mid.count new.parser.now.parameters mid.parser.now.held new.parser.now.held mid.bytes.now r.step r.reads u.reached u.carried some
-            ∙ ap (λ (m : ℕ). Text (start + mid.count) (take m (drop mid.count mid.bytes.now)) ∷ pieces_of (framed_behind start (start + (mid.count + r.step.count)) new.parser.now.held (drop (mid.count + r.step.count) mid.bytes.now))) r.is_text
-            ∙ rw (r.emptied n, r.count, b) refl,
+        sym (read_whole old new (read.Text n) l h start)
+            ∙ read_pieces old.count old.parser.now.held old.bytes.now (read.Text n) l h.reads start h.under.reached h.under.carried
+            ∙ rw (q, h.held, h.count, h.bytes) refl,
       );
       ready = w.0;
-      ends = w.1 ∙ ends_too old mid s ∙ g.ends;
+      ends = w.1;
       done = λ z. cc;
+      bodies = bodies_read old new (read.Text n) l h;
     }
 
-pub goes_on : (first old mid new : Pieces) (after : List StreamAction) (text : ℕ) → GoesOn first old → SameBut old mid → Gives (queue_actions old.parser.now.parameters old.queue) None after → HasRead mid text new → new.bytes ≡ mid.bytes → text ≡ 0 → GoesOn first new
-goes_on first old mid new after text g s e r b n =
-    let u = ready_too old mid s g.ready in
-    let w = read_ready mid new text u r b in
+pub goes_past : (old new : Pieces) (n : ℕ) (l : Lending) → HasRead old (read.Bytes None n) l new → new.sequence ≡ None → GoesOn old new
+goes_past old new n l h q =
+    let w = read_ready old new (read.Bytes None n) l h in
     record {
       same = λ start.
-          rw (r.queued n, r.count, b) (sym (read_none start mid.count new.parser.now.parameters mid.parser.now.held new.parser.now.held mid.bytes.now r.step r.reads u.reached u.carried (r.is_text ∙ n)))
-          ∙ exhausted first old mid after g s e start;
+          rw (q, h.held, h.count, h.bytes) (sym (read_pieces old.count old.parser.now.held old.bytes.now (read.Bytes None n) l h.reads start h.under.reached h.under.carried))
+          ∙ read_whole old new (read.Bytes None n) l h start;
       ready = w.0;
-      ends = w.1 ∙ ends_too old mid s ∙ g.ends;
+      ends = w.1;
+      bodies = bodies_read old new (read.Bytes None n) l h;
     }
 
-pub closer : (first old mid new : Pieces) (after : List StreamAction) (text : ℕ) → old.count ≤ length old.bytes.now → SameBut old mid → Gives (queue_actions old.parser.now.parameters old.queue) None after → HasRead mid text new → new.bytes ≡ mid.bytes → text ≡ 0 → mid.count ≢ length mid.bytes.now
-    → 2 * (length new.bytes.now - new.count) + if_none (queue_actions new.parser.now.parameters new.queue) < 2 * (length old.bytes.now - old.count) + if_none (queue_actions old.parser.now.parameters old.queue)
-closer first old mid new after text w s e r b n m =
-    let u : mid.count ≤ length mid.bytes.now = rw (s.count, s.bytes) w in
-    rw (r.count, b, ← s.count, ← s.bytes)
-    (comes_closer mid.count new.parser.now.parameters mid.parser.now.held new.parser.now.held mid.bytes.now r.step (queue_actions old.parser.now.parameters old.queue) (queue_actions new.parser.now.parameters new.queue) u m r.reads (r.is_text ∙ n) e (r.queued n))
+-- an event, whose first action is handed out, if there is one
+module _ (old new : Pieces) (n : ℕ) (l : Lending) (e : Event) (h : HasRead old (read.Bytes (Some e) n) l new) where
+  event_whole : (start : ℕ) (left : List StreamAction) → event_actions l e ≡ left → open_pieces start old ≡ map Lone left ++ pieces_of (framed_behind start (start + new.count) new.parser.now.held (drop new.count new.bytes.now))
+  event_whole start left g =
+      sym (read_whole old new (read.Bytes (Some e) n) l h start)
+      ∙ read_pieces old.count old.parser.now.held old.bytes.now (read.Bytes (Some e) n) l h.reads start h.under.reached h.under.carried
+      ∙ event_pieces l e (pieces_of (framed_behind start (start + (old.count + n)) l.held (drop (old.count + n) old.bytes.now)))
+      ∙ ap (λ (xs : List StreamAction). map Lone xs ++ pieces_of (framed_behind start (start + (old.count + n)) l.held (drop (old.count + n) old.bytes.now))) g
+      ∙ rw (h.held, h.count, h.bytes) refl
 
--- the text is one of the bytes
-pub text_fits : (old : Pieces) (text : ℕ) (new : Pieces) → old.count ≤ length old.bytes.now → HasRead old text new → (old.count + text ≤ length old.bytes.now) × IsText (take text (drop old.count old.bytes.now))
-text_fits old text new l r = (
-  omega (arith, r.reads.fits, r.is_text, length-drop old.count old.bytes.now),
-  subst (λ (m : ℕ). IsText (take m (drop old.count old.bytes.now))) r.is_text r.reads.text,
-)
+  pub gives_event : (a : Action) → Gives (event_actions l e) (Some a) (actions_left new.parser.now.parameters new.sequence) → HasGiven old (Some (code.Action a)) new
+  gives_event a g =
+      let w = read_ready old new (read.Bytes (Some e) n) l h in
+      record {
+        gives = λ start. (Lone (value_of a), refl, event_whole start (value_of a ∷ actions_left new.parser.now.parameters new.sequence) g);
+        ready = w.0;
+        ends = w.1;
+        done = λ z. cc;
+        bodies = bodies_read old new (read.Bytes (Some e) n) l h;
+      }
+
+  pub goes_event : event_actions l e ≡ [] → new.sequence ≡ None → GoesOn old new
+  goes_event g q =
+      let w = read_ready old new (read.Bytes (Some e) n) l h in
+      record {
+        same = λ start. sym (event_whole start [] g ∙ rw q refl);
+        ready = w.0;
+        ends = w.1;
+        bodies = bodies_read old new (read.Bytes (Some e) n) l h;
+      }
+
+-- the first action of a control sequence
+pub begins_sequence : (old new : Pieces) (e : Event) (s : Sequence) (answer : Result (Option Action) AllocError) → HandsOutOf old (Some s) answer new → actions_left old.parser.now.parameters (Some s) ≡ event_actions (lending_in old.parser.now) e → BeginsEvent old e answer new
+begins_sequence old new e s answer h is = record {
+  same = h.others.same;
+  parser = h.others.parser ∙ ap (λ (b : List ℕ). record old.parser.now { body = b }) (sym (ap (λ (p : Parsing). p.body) h.others.parser));
+  bytes = h.others.bytes;
+  count = h.others.count;
+  stage = h.others.stage;
+  gives = subst (λ (xs : List StreamAction). IfOk answer (λ next. Gives xs next (actions_left old.parser.now.parameters new.sequence))) is h.gives;
+  over = h.over;
+  memory = subst (λ (xs : List StreamAction). OnErr answer (FirstTakes xs)) is h.memory;
+}
+
+-- ---- what is handed out behind the same
+
+pub given_behind : (old mid new : Pieces) (piece : Option PieceCode) → GoesOn old mid → HasGiven mid piece new → HasGiven old piece new
+given_behind old mid new piece g h = record {
+  gives = λ start. subst (λ (x : List Piece). GivesPiece x piece (open_pieces start new)) (g.same start) (h.gives start);
+  ready = h.ready;
+  ends = h.ends ∙ g.ends;
+  done = λ z. h.done z ∙ g.ends;
+  bodies = λ place b. g.bodies place (h.bodies place b);
+}
+
+pub found_behind : (old mid new : Pieces) (piece : Option PieceCode) → GoesOn old mid → FindsHere mid piece new → is_some piece ≡ true → HasGiven old piece new
+found_behind old mid new None g h e = cc
+found_behind old mid new (Some piece) g h e = given_behind old mid new (Some piece) g h
+
+pub goes_behind : (old mid new : Pieces) → GoesOn old mid → GoesOn mid new → GoesOn old new
+goes_behind old mid new g h = record { same = λ start. h.same start ∙ g.same start; ready = h.ready; ends = h.ends ∙ g.ends; bodies = λ place b. g.bodies place (h.bodies place b) }
+
+-- ---- where memory is taken
+
+pub asks_behind : (old mid : Pieces) → GoesOn old mid → AsksMemory mid → AsksMemory old
+asks_behind old mid g (inl (place, b)) = inl (place, g.bodies place b)
+asks_behind old mid g (inr f) = inr (λ start. subst FirstTakesMemory (g.same start) (f start))
+
+first_takes : (xs : List StreamAction) (ps : List Piece) → FirstTakes xs → FirstTakesMemory (map Lone xs ++ ps)
+first_takes [] ps t = absurd t
+first_takes (x ∷ xs) ps t = t
+
+-- for the next action of a control sequence
+pub asks_next : (it : Pieces) → FirstTakes (actions_left it.parser.now.parameters it.sequence) → AsksMemory it
+asks_next it t = inr (λ start. first_takes (actions_left it.parser.now.parameters it.sequence) _ t)
+
+pub on_refusal : {A : Type 0} (answer : Result A AllocError) (it : Pieces) → AsksMemory it → OnErr answer (AsksMemory it)
+on_refusal (Ok value) it asks = tt
+on_refusal (Err error) it asks = asks
+
+-- for a body that is read on
+at_front : (held : Held) (bytes : List ℕ) → TakesMemory held.kept → TakesMemoryAt held bytes 0
+unfolding hand_out
+at_front held bytes t = t
+
+pub asks_body : (it : Pieces) → IsUnderWay it → TakesMemory it.parser.now.held.kept → AsksMemory it
+asks_body it u t =
+    let z : 0 ≡ it.count - it.count = omega arith in
+    let bytes = drop it.count it.bytes.now in
+    inl (it.count, record { behind = omega arith; within = u.within; takes = subst (TakesMemoryAt it.parser.now.held bytes) z (at_front it.parser.now.held bytes t) })
+
+-- for the action of an event
+pub asks_event : (old new : Pieces) (n : ℕ) (l : Lending) (e : Event) → HasRead old (read.Bytes (Some e) n) l new → FirstTakes (event_actions l e) → AsksMemory old
+asks_event old new n l e h t = inr (λ start. subst FirstTakesMemory (sym (event_whole old new n l e h start (event_actions l e) refl)) (first_takes (event_actions l e) _ t))
+
+-- ---- a command that stands whole
+
+pub finds_command : (old : Pieces) (n : ℕ) (body : List ℕ) (answer : Result Action AllocError) → IsGoing old → old.sequence ≡ None → old.count ≢ length old.bytes.now
+    → ReadsEvent old.parser.now.held (drop old.count old.bytes.now) (whole_command n) (record (lending_in old.parser.now) { body = body }) → IfOk answer (λ action. value_of action ≡ command (osc_reading (parts_of body)))
+    → FindsWhole old (Some answer) (record old { count = old.count + n })
+finds_command old n body answer going over some reads is = record {
+  same = refl;
+  stage = refl;
+  failed = going.failed;
+  finds = found answer is;
+  closer = comes_closer old.count old.parser.now.held old.bytes.now (whole_command n) l reads going.ready.within some;
+  none = λ z. cc;
+  memory = on_refusal answer old (asks_event old new n l event.OperatingSystemCommand h tt);
+}
+  where
+    l : Lending
+    l = record (lending_in old.parser.now) { body = body }
+
+    new : Pieces
+    new = record old { count = old.count + n }
+
+    h : HasRead old (whole_command n) l new
+    h = record { under = going.ready; over = over; reads = reads; held = refl; parameters = refl; bytes = refl; count = refl }
+
+    found : (answer : Result Action AllocError) → IfOk answer (λ action. value_of action ≡ command (osc_reading (parts_of body))) → IfOk answer (λ action. HasGiven old (Some (code.Action action)) new)
+    found (Ok action) is = gives_event old new n l event.OperatingSystemCommand h action (λ i. sym is i ∷ actions_left old.parser.now.parameters (sym over i))
+    found (Err error) is = tt
 
 -- ---- what the parser says of itself
 
-pub given_too : (old mid new : Pieces) (piece : Option PieceCode) (failed : Bool) → HasGiven old piece mid → new.parser.now ≡ record mid.parser.now { failed = failed } → new.bytes ≡ mid.bytes → new.count ≡ mid.count → new.queue ≡ mid.queue → HasGiven old piece new
+pub given_too : (old mid new : Pieces) (piece : Option PieceCode) (failed : Bool) → HasGiven old piece mid → new.parser.now ≡ record mid.parser.now { failed = failed } → new.bytes ≡ mid.bytes → new.count ≡ mid.count → new.sequence ≡ mid.sequence → HasGiven old piece new
 given_too old mid new piece failed g e b n q = record {
   gives = λ start. rw (e, b, n, q) (g.gives start);
   ready = record { within = rw (n, b) g.ready.within; reached = rw e g.ready.reached; carried = rw (e, n, b) g.ready.carried };
   ends = rw (e, n, b) g.ends;
   done = λ z. rw e (g.done z);
+  bodies = λ place r. g.bodies place (bodies_at mid new (ap (λ (p : Parsing). p.held) e) b n place r);
 }
 
--- ---- what is read at once
-
--- with what a queue would hold
-abbrev loaded : (new : Pieces) → Queue → Pieces
-loaded new q = record new { queue = q }
-
-pub lone_gives : (first old mid new : Pieces) (after : List StreamAction) (l : Read) (a : Action) → GoesOn first old → SameBut old mid → Gives (queue_actions old.parser.now.parameters old.queue) None after → HasReadLone mid l new → new.bytes ≡ mid.bytes → value_of a ∷ [] ≡ lone_values l
-    → HasGiven first (Some (code.Action a)) new
-lone_gives first old mid new after l a g s e h b v =
-    gives_action first (loaded new h.queue) new a (goes_on first old mid (loaded new h.queue) after 0 g s e h.read b refl) (record { parser = refl; bytes = refl; count = refl })
-    (h.actions new.parser.now.parameters ∙ ap (λ (x : List StreamAction). x ++ queue_actions new.parser.now.parameters new.queue) (sym v))
-
-none_queued : (mid new : Pieces) (l : Read) (h : HasReadLone mid l new) → [] ≡ lone_values l → (p : Parameters) → queue_actions p h.queue ≡ queue_actions p new.queue
-none_queued mid new l h v p = h.actions p ∙ ap (λ (x : List StreamAction). x ++ queue_actions p new.queue) (sym v)
-
-pub lone_goes : (first old mid new : Pieces) (after : List StreamAction) (l : Read) → GoesOn first old → SameBut old mid → Gives (queue_actions old.parser.now.parameters old.queue) None after → HasReadLone mid l new → new.bytes ≡ mid.bytes → [] ≡ lone_values l → GoesOn first new
-lone_goes first old mid new after l g s e h b v =
-    let k = goes_on first old mid (loaded new h.queue) after 0 g s e h.read b refl in
-    record {
-      same = λ start. ap (λ (q : List StreamAction). map Lone q ++ pieces_of (framed_behind start (start + new.count) new.parser.now.held (drop new.count new.bytes.now))) (sym (none_queued mid new l h v new.parser.now.parameters)) ∙ k.same start;
-      ready = record { within = k.ready.within; reached = k.ready.reached; carried = k.ready.carried };
-      ends = k.ends;
-    }
-
-pub lone_closer : (first old mid new : Pieces) (after : List StreamAction) (l : Read) → old.count ≤ length old.bytes.now → SameBut old mid → Gives (queue_actions old.parser.now.parameters old.queue) None after → HasReadLone mid l new → new.bytes ≡ mid.bytes → [] ≡ lone_values l → mid.count ≢ length mid.bytes.now
-    → 2 * (length new.bytes.now - new.count) + if_none (queue_actions new.parser.now.parameters new.queue) < 2 * (length old.bytes.now - old.count) + if_none (queue_actions old.parser.now.parameters old.queue)
-lone_closer first old mid new after l w s e h b v m =
-    rw (← none_queued mid new l h v new.parser.now.parameters) (closer first old mid (loaded new h.queue) after 0 w s e h.read b refl m)
-
-pub some_lone : (l : Read) (a : Action) → value_of a ∷ [] ≡ lone_values l → l ≢ lone.Nothing
-some_lone l a v n = let k : value_of a ∷ [] ≡ [] = v ∙ ap lone_values n in cc
-
--- ---- the beginning
-
-some_bytes : (xs : List ℕ) → xs ≢ [] → 0 < 0 + length xs
-some_bytes [] n = absurd (n refl)
-some_bytes (x ∷ xs) n = omega arith
+-- ---- where pieces begin
 
 -- what is to come of bytes behind a stream
 pub record Begins (it : Pieces) (stream bytes : List ℕ) : Type 0 where
@@ -219,7 +332,11 @@ pub record Begins (it : Pieces) (stream bytes : List ℕ) : Type 0 where
   pub pieces : open_pieces (length stream) it ≡ pieces stream bytes
   pub ends : held_at_end it ≡ held_of (stream ++ bytes)
 
-pub begins : (it : Pieces) (stream bytes : List ℕ) → it.parser.now.held ≡ held_of stream → it.count ≡ 0 → it.bytes.now ≡ bytes → queue_actions it.parser.now.parameters it.queue ≡ [] → Begins it stream bytes
+some_bytes : (xs : List ℕ) → xs ≢ [] → 0 < 0 + length xs
+some_bytes [] n = absurd (n refl)
+some_bytes (x ∷ xs) n = omega arith
+
+pub begins : (it : Pieces) (stream bytes : List ℕ) → it.parser.now.held ≡ held_of stream → it.count ≡ 0 → it.bytes.now ≡ bytes → it.sequence ≡ None → Begins it stream bytes
 begins it stream bytes h n b q = record {
   ready = record {
     within = rw n (omega arith);
@@ -229,6 +346,17 @@ begins it stream bytes h n b q = record {
   pieces = rw (q, n, b, h) (let k : length stream + 0 ≡ length stream = omega arith in ap (λ (m : ℕ). pieces_of (framed_behind (length stream) m (held_of stream) bytes)) k ∙ ap (λ l. pieces_of (framed (length stream) l)) (placed_same bytes stream));
   ends = rw (n, b, h) (sym (held_append stream bytes));
 }
+
+pub bytes_ask : (it : Pieces) (stream bytes : List ℕ) → it.parser.now.held ≡ held_of stream → it.count ≡ 0 → it.bytes.now ≡ bytes → it.sequence ≡ None → AsksMemoryLater it → BytesTakeMemory stream bytes
+bytes_ask it stream bytes h n b q (inl (place, r)) =
+    let z : place - it.count ≡ place = omega (arith, n) in
+    inl (
+      place,
+      subst (λ (x : List ℕ). place ≤ length x) b r.within,
+      subst (λ (x : Held). TakesMemory x.kept)
+          ((λ i. (hand_out (h i) (take (z i) (drop (n i) (b i)))).held) ∙ sym (held_append stream (take place bytes))) r.takes,
+    )
+bytes_ask it stream bytes h n b q (inr f) = inr (subst SomeTakesMemory (begins it stream bytes h n b q).pieces (f (length stream)))
 
 -- ---- how far it is to the end
 
@@ -255,175 +383,3 @@ progress old new (Some (Ok piece)) o g = let k = goes_nearer old new piece o g.i
 progress old new (Some (Err refusal.Memory)) o g = let k = goes_over old new o g.items.1 in record { on = λ _. (k.0, tt, k.1); keeps = k.0; rests = λ _. tt }
 progress old new (Some (Err refusal.Failed)) o g = let e : stage.Open ≡ stage.Failed = sym o ∙ g.items.0 in cc
 progress old new None o g = record { on = λ _. tt; keeps = tt; rests = λ _. tt }
-
--- ---- a text at once
-
-pub gives_at_once : (old new : Pieces) (len : ℕ) (t : Bor (List ℕ)) → IsUnderWay old → ((p : Parameters) → queue_actions p old.queue ≡ []) → 0 < len → Reads old.parser.now.parameters old.parser.now.held (drop old.count old.bytes.now) (text_step len) old.parser.now.held
-    → new.parser.now ≡ old.parser.now → new.bytes ≡ old.bytes → new.count ≡ old.count + len → new.queue ≡ old.queue → t.now ≡ take len (drop old.count old.bytes.now) → HasGiven old (Some (code.Text t)) new
-gives_at_once old new len t u q l r p b n w e =
-    gives_text old old old new [] len t
-    (record { same = λ start. refl; ready = u; ends = refl })
-    (record { parser = refl; bytes = refl; count = refl })
-    (q old.parser.now.parameters)
-    (record {
-      step = text_step len;
-      reads = rw p r;
-      is_text = refl;
-      count = n;
-      queued = λ z. absurd (omega arith);
-      emptied = λ z. rw w (q new.parser.now.parameters);
-    })
-    b (λ z. omega arith) e
-
--- ---- a control at once
-
-pub stays : (it : Pieces) → IsUnderWay it → GoesOn it it
-stays it u = record { same = λ start. refl; ready = u; ends = refl }
-
-nothing_changes : (it : Pieces) → SameBut it it
-nothing_changes it = record { parser = refl; bytes = refl; count = refl }
-
-pub gives_control : (old new : Pieces) (a : Action) (byte : ℕ) → IsUnderWay old → ((p : Parameters) → queue_actions p old.queue ≡ []) → Reads old.parser.now.parameters old.parser.now.held (drop old.count old.bytes.now) (lone_step (lone.Control byte)) old.parser.now.held
-    → value_of a ∷ [] ≡ lone_values (lone.Control byte) → new.parser.now ≡ old.parser.now → new.bytes ≡ old.bytes → new.count ≡ old.count + 1 → new.queue ≡ old.queue → HasGiven old (Some (code.Action a)) new
-gives_control old new a byte u q r v p b n w =
-    lone_gives old old old new [] (lone.Control byte) a (stays old u) (nothing_changes old) (q old.parser.now.parameters)
-    (lone_read old new (drop old.count old.bytes.now) (lone.Control byte) refl (rw p r) n (λ x. rw w (q x)))
-    b v
-
--- ---- an escape sequence of two bytes at once
-
-pub gives_pair : (old new : Pieces) (a : Action) (control : ℕ) → IsUnderWay old → ((p : Parameters) → queue_actions p old.queue ≡ []) → IsPairAt old control → value_of a ∷ [] ≡ lone_values (lone.Escape control)
-    → new.parser.now ≡ old.parser.now → new.bytes ≡ old.bytes → new.count ≡ old.count + 2 → new.queue ≡ old.queue → HasGiven old (Some (code.Action a)) new
-gives_pair old new a control u q r v p b n w =
-    lone_gives old old old new [] (lone.Escape control) a (stays old u) (nothing_changes old) (q old.parser.now.parameters)
-    (lone_read old new (drop old.count old.bytes.now) (lone.Escape control) refl (rw p r) n (λ x. rw w (q x)))
-    b v
-
--- ---- a byte at once
-
--- a queue that holds its dispatch
-byte_queue : Dispatch → Queue
-byte_queue d = record { sequence = None; waiting = Some (record { first = Some d; second = None; third = None; fourth = None }) }
-
-byte_queued : (p : Parameters) (d : Dispatch) → queue_actions p (byte_queue d) ≡ actions_of (dispatches_in p (Some d ∷ []))
-unfolding byte_queue
-byte_queued p d = refl
-
-pub gives_byte : (old new : Pieces) (bytes : List ℕ) (a : Action) (d : Dispatch) → IsUnderWay old → ((p : Parameters) → queue_actions p old.queue ≡ []) → bytes ≡ drop old.count old.bytes.now → Reads old.parser.now.parameters old.parser.now.held bytes (record { text = 0; dispatches = Some d ∷ []; count = 1 }) old.parser.now.held
-    → ((p : Parameters) → actions_of (dispatches_in p (Some d ∷ [])) ≡ value_of a ∷ []) → new.parser.now ≡ old.parser.now → new.bytes ≡ old.bytes → new.count ≡ old.count + 1 → new.queue ≡ old.queue → HasGiven old (Some (code.Action a)) new
-gives_byte old new bytes a d u q e r v p b n w =
-    let x = new.parser.now.parameters in
-    let h : HasRead old 0 (loaded new (byte_queue d)) = record {
-      step = record { text = 0; dispatches = Some d ∷ []; count = 1 };
-      reads = rw p (subst (λ (l : List ℕ). Reads old.parser.now.parameters old.parser.now.held l (record { text = 0; dispatches = Some d ∷ []; count = 1 }) old.parser.now.held) e r);
-      is_text = refl;
-      count = n;
-      queued = λ z. byte_queued x d;
-      emptied = λ z. absurd (z refl);
-    } in
-    gives_action old (loaded new (byte_queue d)) new a (goes_on old old old (loaded new (byte_queue d)) [] 0 (stays old u) (nothing_changes old) (q old.parser.now.parameters) h b refl)
-    (record { parser = refl; bytes = refl; count = refl })
-    (byte_queued x d ∙ v x ∙ ap (λ (l : List StreamAction). value_of a ∷ l) (sym (rw w (q x))))
-
--- ---- a command at once
-
-pub gives_command : (old new : Pieces) (a : Action) (body : List ℕ) (n : ℕ) → IsUnderWay old → ((p : Parameters) → queue_actions p old.queue ≡ []) → IsCommandAt old body n → value_of a ≡ command (osc_reading (parts_of body))
-    → new.parser.now ≡ old.parser.now → new.bytes ≡ old.bytes → new.count ≡ old.count + n → new.queue ≡ old.queue → HasGiven old (Some (code.Action a)) new
-gives_command old new a body n u q r v p b k w =
-    let h = old.parser.now.held in
-    let c = command_behind old.count n h old.bytes.now body u.within r u.reached u.carried in
-    record {
-      gives = λ start. (
-        Lone (value_of a),
-        refl,
-        ap (λ (l : List StreamAction). map Lone l ++ pieces_of (framed_behind start (start + old.count) h (drop old.count old.bytes.now))) (q old.parser.now.parameters)
-            ∙ read_command start old.count n h old.bytes.now body r u.reached u.carried
-            ∙ ap (λ (x : StreamAction). Lone x ∷ pieces_of (framed_behind start (start + (old.count + n)) h (drop (old.count + n) old.bytes.now))) (sym v)
-            ∙ rw (w, q new.parser.now.parameters, p, b, k) refl,
-      );
-      ready = record { within = rw (k, b) c.within; reached = rw p c.reached; carried = rw (p, k, b) c.carried };
-      ends = rw (p, k, b) c.ends;
-      done = λ z. cc;
-    }
-
--- ---- a control sequence at once
-
--- with its dispatch waiting
-waiting_sequence : (old mid : Pieces) (control : ℕ) (h : HasReadSequence old control mid) → HasRead old 0 (loaded mid (queue_of (lone.ControlSequence control h.len)))
-waiting_sequence old mid control h = record {
-  step = lone_step (lone.ControlSequence control h.len);
-  reads = h.reads;
-  is_text = refl;
-  count = h.count;
-  queued = λ z. queued mid.parser.now.parameters (lone.ControlSequence control h.len);
-  emptied = λ z. absurd (z refl);
-}
-
-sequence_waits : (old mid : Pieces) (control : ℕ) (h : HasReadSequence old control mid) → IsUnderWay old → ((p : Parameters) → queue_actions p old.queue ≡ []) → mid.bytes ≡ old.bytes → GoesOn old (loaded mid (queue_of (lone.ControlSequence control h.len)))
-sequence_waits old mid control h u q b =
-    goes_on old old old (loaded mid (queue_of (lone.ControlSequence control h.len))) [] 0 (stays old u) (nothing_changes old) (q old.parser.now.parameters) (waiting_sequence old mid control h) b refl
-
-pub sequence_gives : (old mid new : Pieces) (control : ℕ) (next : Option Action) → IsUnderWay old → ((p : Parameters) → queue_actions p old.queue ≡ []) → HasReadSequence old control mid → mid.bytes ≡ old.bytes → SameBut mid new
-    → Gives (sequence_values mid.parser.now.parameters control) next (queue_actions mid.parser.now.parameters new.queue) → (a : Action) → next ≡ Some a → HasGiven old (Some (code.Action a)) new
-sequence_gives old mid new control next u q h b s g a e =
-    let p = mid.parser.now.parameters in
-    let l = lone.ControlSequence control h.len in
-    let k : Gives (sequence_values p control) (Some a) (queue_actions p new.queue) = subst (λ (x : Option Action). Gives (sequence_values p control) x (queue_actions p new.queue)) e g in
-    gives_action old (loaded mid (queue_of l)) new a (sequence_waits old mid control h u q b) (record { parser = s.parser; bytes = s.bytes; count = s.count }) (sequence_queued p control h.len ∙ k)
-
-pub sequence_goes : (old mid new : Pieces) (control : ℕ) (next : Option Action) → IsUnderWay old → ((p : Parameters) → queue_actions p old.queue ≡ []) → HasReadSequence old control mid → mid.bytes ≡ old.bytes → SameBut mid new
-    → Gives (sequence_values mid.parser.now.parameters control) next (queue_actions mid.parser.now.parameters new.queue) → next ≡ None → queue_actions mid.parser.now.parameters new.queue ≡ [] → GoesOn old new
-sequence_goes old mid new control next u q h b s g e z =
-    let p = mid.parser.now.parameters in
-    let l = lone.ControlSequence control h.len in
-    let k : sequence_values p control ≡ [] = subst (λ (x : Option Action). Gives (sequence_values p control) x (queue_actions p new.queue)) e g in
-    let w = sequence_waits old mid control h u q b in
-    let r : queue_actions p (queue_of l) ≡ queue_actions p new.queue = sequence_queued p control h.len ∙ k ∙ sym z in
-    record {
-      same = λ start. rw (s.parser, s.bytes, s.count, ← r) (w.same start);
-      ready = ready_too mid new s (record { within = w.ready.within; reached = w.ready.reached; carried = w.ready.carried });
-      ends = ends_too mid new s ∙ w.ends;
-    }
-
--- only the parameters that are lent have changed
-pub forgets : (old new : Pieces) → IsUnderWay old → ((p : Parameters) → queue_actions p old.queue ≡ []) → new.parser.now.held ≡ old.parser.now.held → new.bytes ≡ old.bytes → new.count ≡ old.count → new.queue ≡ old.queue → GoesOn old new
-forgets old new u q h b n w = record {
-  same = λ start. rw (h, b, n, w, q new.parser.now.parameters, q old.parser.now.parameters) refl;
-  ready = record { within = rw (n, b) u.within; reached = rw h u.reached; carried = rw (h, n, b) u.carried };
-  ends = rw (h, b, n) refl;
-}
-
--- ---- what is handed out behind the same
-
-pub given_behind : (old mid new : Pieces) (piece : Option PieceCode) → GoesOn old mid → HasGiven mid piece new → HasGiven old piece new
-given_behind old mid new piece g h = record {
-  gives = λ start. subst (λ (x : List Piece). GivesPiece x piece (open_pieces start new)) (g.same start) (h.gives start);
-  ready = h.ready;
-  ends = h.ends ∙ g.ends;
-  done = λ z. h.done z ∙ g.ends;
-}
-
--- ---- a short control sequence
-
-given_before : (old mid new : Pieces) (piece : PieceCode) → HasGiven old (Some piece) mid → GoesOn mid new → HasGiven old (Some piece) new
-given_before old mid new piece h g = record {
-  gives = λ start. ((h.gives start).0, (h.gives start).1, (h.gives start).2 ∙ ap (λ (l : List Piece). (h.gives start).0 ∷ l) (sym (g.same start)));
-  ready = g.ready;
-  ends = g.ends ∙ h.ends;
-  done = λ z. cc;
-}
-
--- as if its parameters were lent
-with_parameters : Pieces → Parameters → Pieces
-with_parameters it p = record it { parser = record it.parser { now = record it.parser.now { parameters = p } } }
-
-pub gives_short : (old new : Pieces) (a : Action) (s : ShortSequence) → IsUnderWay old → ((p : Parameters) → queue_actions p old.queue ≡ []) → IsShortAt old s → sequence_values (short_parameters s.numbers) s.control ≡ value_of a ∷ []
-    → new.parser.now ≡ old.parser.now → new.bytes ≡ old.bytes → new.count ≡ old.count + s.count → new.queue ≡ old.queue → HasGiven old (Some (code.Action a)) new
-unfolding with_parameters
-gives_short old new a s u q r v p b n w =
-    let mid = with_parameters new (short_parameters s.numbers) in
-    let e : (x : Parameters) → queue_actions x new.queue ≡ [] = λ x. rw w (q x) in
-    let h : HasReadSequence old s.control mid = record { len = s.count; reads = rw p r; count = n } in
-    let k : value_of a ∷ queue_actions (short_parameters s.numbers) new.queue ≡ value_of a ∷ [] = ap (λ (l : List StreamAction). value_of a ∷ l) (e (short_parameters s.numbers)) in
-    let g = sequence_gives old mid mid s.control (Some a) u q h b (record { parser = refl; bytes = refl; count = refl }) (v ∙ sym k) a refl in
-    given_before old mid new (code.Action a) g (forgets mid new g.ready e refl refl refl refl)

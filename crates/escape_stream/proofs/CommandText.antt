@@ -18,7 +18,7 @@ use Rattle.escape_osc.proofs.WritableBack.{writable_back}
 use Rattle.escape_framing.specs.Bytes.{is_stop, is_final, taken}
 use Rattle.escape_framing.specs.Segment.{ControlSequence, OperatingSystemCommand}
 use Rattle.escape_framing.specs.Dispatch.{control_sequence_dispatch, command_dispatch, dispatches_of}
-use Rattle.escape_framing.specs.Existence.SevenBitLemmas.{no_pair, no_pair_behind}
+use Rattle.escape_framing.proofs.Existence.SevenBitLemmas.{no_pair, no_pair_behind}
 use Rattle.escape_stream.specs.StreamAction.{StreamAction, command, csi}
 use Rattle.escape_stream.specs.StreamActions.{actions_of}
 use Rattle.escape_stream.specs.StreamWritable.{IsReadBack}

@@ -9,7 +9,6 @@ mod PairText
 mod PrintedText
 mod CommandText
 mod WritableLemmas
-pub mod QueueLemmas
 pub mod PieceLemmas
 pub mod AdvanceLemmas
 pub mod SpellLemmas
@@ -18,6 +17,4 @@ pub mod SpokenLemmas
 pub mod JoinLemmas
 pub mod HandLemmas
 pub mod StepLemmas
-pub mod LoneReading
-mod EqualActions
 mod PartLemmas

@@ -1,11 +1,11 @@
 -- The text of an ESC pair is one escape sequence.
-use Rattle.std.proofs.Common.{◌≡◌, ℕ, ◌≤◌, inl, inr, Bool, true, false, List, [], ◌∷◌, ◌++◌, refl, sym, ap, ◌∙◌, arith, Option, Some, None}
-use Rattle.std.specs.Prelude.{◌==◌, ◌&&◌, ◌||◌, not, encode_utf8, ◌≢◌}
+use Rattle.std.proofs.Common.{◌≡◌, ℕ, ◌≤◌, inl, inr, Bool, true, false, List, [], ◌∷◌, ◌++◌, refl, sym, ap, ◌∙◌, arith, Option, Some, None, subst}
+use Rattle.std.specs.Prelude.{◌==◌, ◌||◌, not, encode_utf8, ◌≢◌, find, unwrap_or}
 use Rattle.std.specs.List.{list_all, list_any}
-use Rattle.std.proofs.lemmas.Bool.{and_parts, or_right}
+use Rattle.std.proofs.lemmas.Bool.{and_parts, or_right, false≢true}
 use Rattle.std.proofs.lemmas.Bool.Decides.{nat_tests}
 use Rattle.std.proofs.lemmas.Str.{encode_ascii}
-use Rattle.csi_codec.specs.Escapes.{lone_codes, pair_codes, find_lone, find_pair, lone_code, pair_code, code_or_bytes, known_code, esc_reading, esc_code_intermediate, esc_code_control, esc_bytes, esc_text}
+use Rattle.csi_codec.specs.Escapes.{esc_code_bytes, esc_codes, has_bytes, code_or_bytes, known_code, esc_reading, esc_bytes, esc_text}
 use Rattle.csi_codec.specs.declared.escapes.EscCode.{EscCode}
 use Rattle.csi_codec.specs.declared.escapes.Esc.{Esc}
 use Rattle.escape_framing.specs.Bytes.{is_embedded, taken, is_intermediate, is_escape_final, is_string_opener, is_opener, in_escape}
@@ -20,88 +20,56 @@ use Rattle.escape_stream.proofs.TextSegments.{Says, says_same, says_segment, low
 
 -- ---- A code is written as it is read
 
-abbrev is_none_of : Option ℕ → Bool
-is_none_of None = true
-is_none_of (Some n) = false
-
-abbrev is_some_of : ℕ → Option ℕ → Bool
-is_some_of n None = false
-is_some_of n (Some m) = m == n
-
-none_of : (o : Option ℕ) → is_none_of o ≡ true → o ≡ None
-none_of None h = refl
-none_of (Some n) h = cc
-
-some_of : (n : ℕ) (o : Option ℕ) → is_some_of n o ≡ true → o ≡ Some n
-some_of n None h = cc
-some_of n (Some m) h = ap Some (same_number m n h)
-
--- the code of a line is written with the bytes of the line
-abbrev lone_line : ℕ × EscCode → Bool
-lone_line line = is_none_of (esc_code_intermediate line.1) && (esc_code_control line.1 == line.0)
-
-abbrev pair_line : ℕ × ℕ × EscCode → Bool
-pair_line line = is_some_of line.0 (esc_code_intermediate line.2) && (esc_code_control line.2 == line.1)
-
 record IsWrittenAs (intermediate : Option ℕ) (final : ℕ) (known : EscCode) : Type 0 where
-  between : esc_code_intermediate known ≡ intermediate
-  control : esc_code_control known ≡ final
+  between : (esc_code_bytes known).0 ≡ intermediate
+  control : (esc_code_bytes known).1 ≡ final
 
-lone_step : (line : ℕ × EscCode) (lines : List (ℕ × EscCode)) (final : ℕ) (known : EscCode) (u : Bool) → lone_line line ≡ true
-    → (find_lone lines final ≡ Some known → IsWrittenAs None final known) → (final == line.0) ≡ u → find_lone (line ∷ lines) final ≡ Some known → IsWrittenAs None final known
-lone_step line lines final known true h others e f =
-    let p = and_parts (is_none_of (esc_code_intermediate line.1)) (esc_code_control line.1 == line.0) h in
-    let g : Some line.1 ≡ Some known = rw e at f in
-    let k : known ≡ line.1 = cc in
-    record { between = ap esc_code_intermediate k ∙ none_of (esc_code_intermediate line.1) p.0; control = ap esc_code_control k ∙ same_number (esc_code_control line.1) line.0 p.1 ∙ sym (same_number final line.0 e) }
-lone_step line lines final known false h others e f = others (rw e at f)
+-- no intermediate byte is 0
+abbrev is_no_zero : Option ℕ → Bool
+is_no_zero None = true
+is_no_zero (Some n) = not (n == 0)
 
-lone_found : (lines : List (ℕ × EscCode)) (final : ℕ) (known : EscCode) → list_all lone_line lines ≡ true → find_lone lines final ≡ Some known → IsWrittenAs None final known
-lone_found [] final known h f = cc
-lone_found (line ∷ lines) final known h f =
-    let p = and_parts (lone_line line) (list_all lone_line lines) h in
-    lone_step line lines final known (final == line.0) p.0 (lone_found lines final known p.1) refl f
+same_intermediate : (o i : Option ℕ) → is_no_zero o ≡ true → is_no_zero i ≡ true → (unwrap_or o 0 == unwrap_or i 0) ≡ true → o ≡ i
+same_intermediate None None p q h = refl
+same_intermediate None (Some n) p q h = absurd (false≢true (rw (sym (same_number 0 n h)) at q))
+same_intermediate (Some m) None p q h = absurd (false≢true (rw h at p))
+same_intermediate (Some m) (Some n) p q h = ap Some (same_number m n h)
 
-pair_step : (line : ℕ × ℕ × EscCode) (lines : List (ℕ × ℕ × EscCode)) (between final : ℕ) (known : EscCode) (u : Bool) → pair_line line ≡ true
-    → (find_pair lines between final ≡ Some known → IsWrittenAs (Some between) final known) → (between == line.0 && final == line.1) ≡ u
-    → find_pair (line ∷ lines) between final ≡ Some known → IsWrittenAs (Some between) final known
-pair_step line lines between final known true h others e f =
-    let p = and_parts (is_some_of line.0 (esc_code_intermediate line.2)) (esc_code_control line.2 == line.1) h in
-    let q = and_parts (between == line.0) (final == line.1) e in
-    let g : Some line.2 ≡ Some known = rw e at f in
-    let k : known ≡ line.2 = cc in
-    record {
-      between = ap esc_code_intermediate k ∙ some_of line.0 (esc_code_intermediate line.2) p.0 ∙ ap Some (sym (same_number between line.0 q.0));
-      control = ap esc_code_control k ∙ same_number (esc_code_control line.2) line.1 p.1 ∙ sym (same_number final line.1 q.1);
-    }
-pair_step line lines between final known false h others e f = others (rw e at f)
+-- what is found in a list passes the test, and whatever each element passes
+found_by : {A : Type 0} (test kept : A → Bool) (first : A) (others : List A) (x : A) (u : Bool) → test first ≡ u → kept first ≡ true
+    → (find test others ≡ Some x → (test x ≡ true) × (kept x ≡ true)) → find test (first ∷ others) ≡ Some x → (test x ≡ true) × (kept x ≡ true)
+found_by test kept first others x true e k behind f =
+    let g : Some first ≡ Some x = rw e at f in
+    let same : first ≡ x = cc in
+    (subst (λ y. test y ≡ true) same e, subst (λ y. kept y ≡ true) same k)
+found_by test kept first others x false e k behind f = behind (rw e at f)
 
-pair_found : (lines : List (ℕ × ℕ × EscCode)) (between final : ℕ) (known : EscCode) → list_all pair_line lines ≡ true → find_pair lines between final ≡ Some known → IsWrittenAs (Some between) final known
-pair_found [] between final known h f = cc
-pair_found (line ∷ lines) between final known h f =
-    let p = and_parts (pair_line line) (list_all pair_line lines) h in
-    pair_step line lines between final known (between == line.0 && final == line.1) p.0 (pair_found lines between final known p.1) refl f
+found : {A : Type 0} (test kept : A → Bool) (list : List A) (x : A) → list_all kept list ≡ true → find test list ≡ Some x → (test x ≡ true) × (kept x ≡ true)
+found test kept [] x h f = cc
+found test kept (first ∷ others) x h f =
+    let p = and_parts (kept first) (list_all kept others) h in
+    found_by test kept first others x (test first) refl p.0 (found test kept others x p.1) f
 
-lone_table : list_all lone_line lone_codes ≡ true
-lone_table = refl
-
-pair_table : list_all pair_line pair_codes ≡ true
-pair_table = refl
-
-no_zero : (between : ℕ) → 32 ≤ between → (between == 0) ≡ false
-no_zero between h = grind (arith, nat_tests)
+no_zero : (intermediate : Option ℕ) (final : ℕ) → ArePairBytes intermediate final → is_no_zero intermediate ≡ true
+no_zero None final b = refl
+no_zero (Some between) final b = let low : 32 ≤ between = b.0 in grind (arith, nat_tests)
 
 written : (intermediate : Option ℕ) (final : ℕ) (known : EscCode) → ArePairBytes intermediate final → known_code intermediate final ≡ Some known → IsWrittenAs intermediate final known
-unfolding lone_code pair_code
-written None final known b e = lone_found lone_codes final known lone_table e
-written (Some between) final known b e = pair_found pair_codes between final known pair_table (rw (no_zero between b.0) at e)
+unfolding known_code
+written intermediate final known b e =
+    let f = found (has_bytes intermediate final) (λ code. is_no_zero (esc_code_bytes code).0) esc_codes known refl e in
+    let p = and_parts (unwrap_or (esc_code_bytes known).0 0 == unwrap_or intermediate 0) ((esc_code_bytes known).1 == final) f.0 in
+    record {
+      between = same_intermediate (esc_code_bytes known).0 intermediate f.1 (no_zero intermediate final b) p.0;
+      control = same_number (esc_code_bytes known).1 final p.1;
+    }
 
 text_read : (intermediate : Option ℕ) (final : ℕ) (found : Option EscCode) → ArePairBytes intermediate final → known_code intermediate final ≡ found
     → esc_text (code_or_bytes found intermediate final) ≡ esc_bytes intermediate final
 text_read intermediate final None b e = refl
 text_read intermediate final (Some known) b e =
     let w = written intermediate final known b e in
-    ap (λ i. esc_bytes i (esc_code_control known)) w.between ∙ ap (esc_bytes intermediate) w.control
+    ap (λ i. esc_bytes i (esc_code_bytes known).1) w.between ∙ ap (esc_bytes intermediate) w.control
 
 -- ---- Its bytes are a segment
 
@@ -173,5 +141,5 @@ backslash_opens_none (inr (inr (inr (inr (inr e))))) = omega arith
 
 -- ESC \ is the string terminator
 pub says_terminator : (bytes : List ℕ) (actions : List StreamAction) → Says bytes actions → Says (27 ∷ 92 ∷ bytes) (string_terminator ∷ actions)
-unfolding lone_code
+unfolding known_code
 says_terminator bytes actions h = says_lone 92 bytes actions (omega arith, omega arith, backslash_opens_none) h

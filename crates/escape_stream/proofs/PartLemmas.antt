@@ -3,7 +3,7 @@ use Rattle.std.proofs.Common.{◌≡◌, ℕ, suc, ◌+◌, Bool, true, false, L
 use Rattle.std.specs.Prelude.{◌==◌}
 use Rattle.std.specs.List.{prefix_len, onto_first}
 use Rattle.escape_osc.specs.Parts.{semicolon, parts_of}
-use Rattle.escape_stream.specs.Pending.{is_in_part}
+use Rattle.escape_stream.specs.Sequences.{is_in_part}
 
 is_cut : (body rest : List ℕ) (b : ℕ) → drop (prefix_len is_in_part body) body ≡ b ∷ rest → parts_of body ≡ take (prefix_len is_in_part body) body ∷ parts_of rest
 is_cut [] rest b e = cc

@@ -1,5 +1,5 @@
--- Steps of the walks over pending actions.
-use Rattle.std.proofs.Common.{◌≡◌, List, [], ◌∷◌, ◌++◌, length, get_or, refl}
+-- Calls of a callback, one after another.
+use Rattle.std.proofs.Common.{◌≡◌, List, [], ◌∷◌, ◌++◌, refl}
 use Rattle.std.specs.List.{FoldsTo}
 use Rattle.escape_framing.specs.Held.{Held, hand_out}
 use Rattle.escape_stream.specs.declared.action.Action.{Action}
@@ -30,13 +30,3 @@ held_end h = refl
 pub handed_end : (h : Held) → (hand_out h []).dispatches ≡ []
 unfolding hand_out
 handed_end h = refl
-
--- ---- Four dispatches in an array
-
-pub four_items : {A : Type 0} (xs : List A) (a b c d : A) → length xs ≡ 4 → a ≡ get_or xs 0 a → b ≡ get_or xs 1 b → c ≡ get_or xs 2 c → d ≡ get_or xs 3 d → a ∷ b ∷ c ∷ d ∷ [] ≡ xs
-four_items [] a b c d n at_a at_b at_c at_d = cc
-four_items (w ∷ []) a b c d n at_a at_b at_c at_d = cc
-four_items (w ∷ x ∷ []) a b c d n at_a at_b at_c at_d = cc
-four_items (w ∷ x ∷ y ∷ []) a b c d n at_a at_b at_c at_d = cc
-four_items (w ∷ x ∷ y ∷ z ∷ []) a b c d n at_a at_b at_c at_d = cc
-four_items (w ∷ x ∷ y ∷ z ∷ z' ∷ zs) a b c d n at_a at_b at_c at_d = cc

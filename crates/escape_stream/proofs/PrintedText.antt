@@ -11,8 +11,8 @@ use Rattle.std.proofs.lemmas.Str.{encodes-chars, scalars-chars}
 use Rattle.text_clusters.specs.Controls.{is_c1}
 use lib.Utf8.{scalar, scalars}
 use Rattle.escape_framing.specs.Segment.{Character, Control, IsPrintable, IsControl}
-use Rattle.escape_framing.specs.Existence.Utf8Lemmas.{Spelled, in_one, in_two, in_three, in_four, spelled, order}
-use Rattle.escape_framing.specs.Existence.SevenBitLemmas.{no_pair, no_pair_behind}
+use Rattle.escape_framing.proofs.Existence.Utf8Lemmas.{Spelled, in_one, in_two, in_three, in_four, spelled, order}
+use Rattle.escape_framing.proofs.Existence.SevenBitLemmas.{no_pair, no_pair_behind}
 use Rattle.escape_stream.specs.declared.control.ControlCode.{ControlCode}
 use Rattle.escape_stream.specs.Controls.{control_number, control_codes}
 use Rattle.escape_stream.specs.StreamAction.{StreamAction, print, control}

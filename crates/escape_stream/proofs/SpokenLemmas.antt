@@ -7,11 +7,12 @@ use Rattle.std.specs.Str.{IsUtf8, chars}
 use Rattle.std.proofs.lemmas.Grind.{flat_map-append}
 use Rattle.std.proofs.lemmas.List.{map-append}
 use Rattle.std.proofs.lemmas.Str.{IsUtf8-encode, chars-append, chars_past_char, chars-nil}
-use Rattle.escape_framing.specs.Segment.{Segment, Character, IllFormed, CutOff, Tail, Begun, OpenEscape, OpenControlSequence, OpenCommand, OpenHeader, OpenDevice, OpenString, IsSegment, StandInRow, bytes_of_tail}
+use Rattle.escape_framing.specs.Segment.{Segment, Character, IllFormed, CutOff, Tail, Begun, OpenEscape, OpenControlSequence, OpenCommand, OpenHeader, OpenDevice, OpenString, IsSegment, StandInRow}
 use Rattle.escape_framing.specs.Segment as segment
 use Rattle.escape_framing.specs.Bytes.{taken}
 use Rattle.escape_framing.specs.Dispatch.{Dispatch, Print, Control, Escape, ControlSequence, OperatingSystemCommand, Enter, Data, Exit, controls_in, escape_dispatch, control_sequence_dispatch, command_dispatch, settled, decided_of, dispatches_of}
 use Rattle.escape_framing.specs.Cut.{the_cut, tail_of, dispatches, newly_decided}
+use Rattle.escape_framing.proofs.Existence.CutLemmas.{is_the_cut}
 use Rattle.escape_framing.specs.Placed.{placed_from}
 use Rattle.escape_framing.specs.Framed as framing
 use Rattle.escape_framing.specs.Framed.{Framed, framed, is_lent, put_text, put_character}
@@ -100,7 +101,7 @@ row_print (s ∷ segments) tail h = both_print (dispatches_of s) (flat_map dispa
 newly_print : (stream more : List ℕ) → AllPrint (newly_decided stream more)
 newly_print stream more =
     let all = stream ++ more in
-    drop_print _ (dispatches all) (both_print (flat_map dispatches_of (the_cut all).segments) (decided_of (tail_of all)) (row_print (the_cut all).segments _ (the_cut all).is_cut.each) (tail_print (tail_of all)))
+    drop_print _ (dispatches all) (both_print (flat_map dispatches_of (the_cut all).segments) (decided_of (tail_of all)) (row_print (the_cut all).segments _ (is_the_cut all).each) (tail_print (tail_of all)))
 
 -- ---- pieces by their actions
 

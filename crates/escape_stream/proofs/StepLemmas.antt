@@ -1,46 +1,19 @@
 -- Steps of a walk over the bytes of a call.
-use Rattle.std.proofs.Common.{◌≡◌, ℕ, List, [], ◌∷◌, ◌++◌, map, Option, Some, refl, ap, subst, sym, ◌∙◌, append_assoc, append-nil}
-use Rattle.std.specs.Prelude.{Result, Ok, Err}
+use Rattle.std.proofs.Common.{◌≡◌, inl, inr, ℕ, List, [], ◌∷◌, ◌++◌, map, Some, refl, ap, subst, sym, ◌∙◌, append_assoc, append-nil}
+use Rattle.std.specs.Prelude.{Err, IsErrOf}
 use Rattle.std.specs.List.{FoldsTo}
-use Rattle.std.specs.declared.alloc.AllocError.{AllocError}
 use Rattle.std.proofs.lemmas.Fn.{FoldsTo-push}
 use Rattle.std.proofs.lemmas.List.{map-append}
-use Rattle.escape_framing.specs.Framing.{Framing}
-use Rattle.escape_stream.specs.declared.action.Action.{Action}
 use Rattle.escape_stream.specs.declared.perform.Halted.{Halted}
 use Rattle.escape_stream.specs.declared.perform.Halted.TheVariants as halted
 use Rattle.escape_stream.specs.declared.pieces.Piece.{Piece as PieceCode}
 use Rattle.escape_stream.specs.declared.pieces.Reading.{Reading}
-use Rattle.escape_stream.specs.Queue.{queue_actions, IsEmpty}
 use Rattle.escape_stream.specs.Pieces.{Piece}
 use Rattle.escape_stream.specs.Items.{Item, item_of, items_of}
 use Rattle.escape_stream.specs.Performing.{PerformsSome, HaltsAt}
-use Rattle.escape_stream.specs.PiecesView.{lender_of, open_pieces, item_handed, IsPiece, IsUnderWay, IsGoing, HasGiven, HandsOutAtOnce, HandsOutWaiting, GoesOn}
-use Rattle.escape_stream.specs.Walking.{Finds, Performs, ArePieces, HandsOver, Reaches, WalksAll, WalksTo}
-use Rattle.escape_stream.proofs.AdvanceLemmas.{SameBut, given_behind}
+use Rattle.escape_stream.specs.PiecesView.{open_pieces, AsksMemory, AsksMemoryLater, item_handed, IsPiece, IsUnderWay, HasGiven}
+use Rattle.escape_stream.specs.Walking.{Performs, ArePieces, HandsOver, Reaches, WalksAll, WalksSome, WalksTo}
 use Rattle.escape_stream.proofs.HandLemmas.{same_item}
-
--- ---- what was found
-
-pub finds_at_once : (old new : Reading) (x : PieceCode) → IsGoing old → HandsOutAtOnce old (Ok x) new → Finds old (Ok (Some x)) new
-finds_at_once old new x g h = record { same = h.same; stage = h.stage; failed = ap (λ (f : Framing). f.failed) h.parser ∙ g.failed; gives = h.gives g.ready }
-
--- behind the same
-pub finds_behind : (old mid new : Reading) (answer : Result (Option PieceCode) AllocError) → GoesOn old mid → lender_of mid ≡ lender_of old → mid.stage ≡ old.stage → Finds mid answer new → Finds old answer new
-finds_behind old mid new (Ok piece) g l s h = record { same = h.same ∙ l; stage = h.stage ∙ s; failed = h.failed; gives = given_behind old mid new piece g h.gives }
-finds_behind old mid new (Err e) g l s h = record { same = h.same ∙ l; stage = h.stage ∙ s; failed = h.failed; gives = tt }
-
--- ---- what waits
-
-pub same_waiting : (old new : Reading) (answer : Result (Option Action) AllocError) → HandsOutWaiting old answer new → SameBut old new
-same_waiting old new answer h = record { parser = h.parser; bytes = h.bytes; count = h.count }
-
-pub waiting_over : (old new : Reading) → IsUnderWay old → SameBut old new → queue_actions old.parser.now.parameters old.queue ≡ [] → IsEmpty new.queue → GoesOn old new
-waiting_over old new u s e q = record {
-  same = λ start. rw (s.parser, s.bytes, s.count, q old.parser.now.parameters, e) refl;
-  ready = record { within = rw (s.count, s.bytes) u.within; reached = rw s.parser u.reached; carried = rw (s.parser, s.count, s.bytes) u.carried };
-  ends = rw (s.parser, s.bytes, s.count) refl;
-}
 
 -- ---- how far a walk has come
 
@@ -64,7 +37,7 @@ module _ {P : Type 0} (does : P → Item → P → Type 0) where
   by_code before x after = does before (item_handed x) after
 
   pub reaches_here : (it : Reading) (p : P) → IsUnderWay it → Reaches does it p it p
-  reaches_here it p u = record { done = []; performed = refl; handed = λ start. record { pieces = []; are = tt; whole = refl }; ready = u; ends = refl }
+  reaches_here it p u = record { done = []; performed = refl; handed = λ start. record { pieces = []; are = tt; whole = refl }; ready = u; ends = refl; bodies = λ place b. b }
 
   pub reaches_given : (old mid new : Reading) (p q last : P) (x : PieceCode) → Reaches does old p mid q → HasGiven mid (Some x) new → does q (item_handed x) last → Reaches does old p new last
   reaches_given old mid new p q last x r g d = record {
@@ -80,6 +53,7 @@ module _ {P : Type 0} (does : P → Item → P → Type 0) where
         };
     ready = g.ready;
     ends = g.ends ∙ r.ends;
+    bodies = λ place b. r.bodies place (g.bodies place b);
   }
 
   folds_items : (p q : P) (xs : List PieceCode) → FoldsTo by_code p xs q → FoldsTo does p (map item_handed xs) q
@@ -118,6 +92,21 @@ module _ {P : Type 0} (does : P → Item → P → Type 0) where
         performed = s.performed;
         refused = w.refused.performed;
       }
+
+-- ---- where memory is taken
+
+pub asks_later : {P : Type 0} (does : P → Item → P → Type 0) (old : Reading) (first last : P) → WalksSome does old first last → AsksMemoryLater old
+asks_later does old first last w = by_case w.memory
+  where
+    by_case : AsksMemory w.it → AsksMemoryLater old
+    by_case (inl (place, b)) = inl (place, w.reached.bodies place b)
+    by_case (inr f) = inr (λ start. let h = w.reached.handed start in record { done = h.pieces; left = open_pieces start w.it; whole = h.whole; takes = f start })
+
+pub refusal_asks : {P E : Type 0} (does : P → Item → P → Type 0) (refuses : P → Item → E → P → Type 0) (old new : Reading) (first last : P) (h : Halted E) → WalksTo does refuses old first (Err h) new last
+    → IsErrOf {T = Unit {0}} (Err h) halted.Memory → AsksMemoryLater old
+refusal_asks does refuses old new first last h w e =
+    let k : h ≡ halted.Memory = cc in
+    asks_later does old first last (subst (λ x. WalksTo does refuses old first (Err x) new last) k w)
 
 -- ---- a refusal
 

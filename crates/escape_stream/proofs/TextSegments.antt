@@ -12,7 +12,7 @@ use Rattle.escape_framing.specs.Segment.{Tail, Begun, Segment, bytes_of, IsSegme
 use Rattle.escape_framing.specs.Dispatch.{Dispatch, dispatches_of, decided_of}
 use Rattle.escape_framing.specs.Decode.{Reading, read_on}
 use Rattle.escape_framing.specs.Cut.{the_cut, tail_of, dispatches, newly_decided}
-use Rattle.escape_framing.specs.Existence.SevenBitLemmas.{no_pair, no_pair_behind}
+use Rattle.escape_framing.proofs.Existence.SevenBitLemmas.{no_pair, no_pair_behind}
 use Rattle.escape_framing.proofs.ReadLemmas.{behind, read_append}
 use Rattle.escape_framing.proofs.UniqueLemmas.{reads_segment}
 use Rattle.escape_stream.specs.StreamAction.{StreamAction}

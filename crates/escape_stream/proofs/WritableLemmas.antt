@@ -14,7 +14,7 @@ use Rattle.escape_framing.specs.Segment.{Begun, OpenDevice, DeviceControl}
 use Rattle.escape_framing.specs.Dispatch.{Data, Exit, dispatches_of}
 use Rattle.escape_framing.specs.Decode.{Reading, ends_before, first_byte, next_byte, read_on}
 use Rattle.escape_framing.specs.Cut.{tail_of}
-use Rattle.escape_framing.specs.Existence.SevenBitLemmas.{no_pair, no_pair_behind}
+use Rattle.escape_framing.proofs.Existence.SevenBitLemmas.{no_pair, no_pair_behind}
 use Rattle.escape_framing.proofs.ReadLemmas.{after, step_waits, step_ends_before}
 use Rattle.escape_framing.proofs.SequenceReading.{stays_device}
 use Rattle.escape_framing.proofs.UniqueLemmas.{reads_tail}

@@ -6,11 +6,11 @@ pub mod StreamText
 pub mod StreamWritable
 pub mod StreamActions
 pub mod Parsing
-pub mod Pending
 pub mod Pieces
 pub mod Items
 pub mod Performing
-pub mod Queue
+pub mod Sequences
 pub mod PiecesView
 pub mod Walking
+pub mod ParserShown
 pub mod ParserView

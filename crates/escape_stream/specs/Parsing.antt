@@ -18,6 +18,12 @@ pub record IsCalledAt {F : Type 0} (step : F → Action → F → Type 0) (callb
 
 -- ---- The first actions
 
+-- the first of some actions, unless there is one before them
+abbrev pub first_of : Option StreamAction → List StreamAction → Option StreamAction
+first_of None [] = None
+first_of None (a ∷ actions) = Some a
+first_of (Some a) actions = Some a
+
 -- behind the stream, the bytes decide an action
 abbrev pub DecidesAction : List ℕ → List ℕ → Type 0
 DecidesAction stream bytes = newly_decided_actions stream bytes ≢ []

@@ -1,51 +1,41 @@
 -- What an iterator of pieces has yet to hand out, and of the parser that it borrows.
-use Rattle.std.specs.Prelude.{◌≡◌, ◌≢◌, ◌≤◌, ℕ, ◌+◌, true, false, List, [], ◌∷◌, ◌++◌, length, drop, map, Option, Some, None, Result, Ok, Err, IfOk}
+use Rattle.std.specs.Prelude.{◌≡◌, ◌≤◌, ◌⊎◌, ℕ, ◌+◌, ◌-◌, ◌*◌, true, false, List, [], ◌∷◌, ◌++◌, length, take, drop, map, Option, Some, None, Result, Ok, Err, IfOk, OnErr}
 use base.Fml.{GName}
 use Rattle.std.specs.declared.alloc.AllocError.{AllocError}
-use Rattle.escape_stream.specs.StreamAction.{StreamAction, esc}
-use Rattle.escape_framing.specs.Held.{Held, hand_out}
-use Rattle.escape_framing.specs.Framing.{Framing}
-use Rattle.escape_framing.specs.Framed.{framed_behind, IsReached, IsCarried}
-use Rattle.escape_framing.specs.Dispatched.{dispatches_in}
-use Rattle.escape_framing.specs.Stepped.{Reads}
-use Rattle.escape_framing.specs.Quick.{lone_step, short_parameters, ReadsCommand}
-use Rattle.escape_framing.specs.declared.short.ShortSequence.{ShortSequence}
-use Rattle.escape_stream.specs.declared.control.ControlCode.{ControlCode}
-use Rattle.escape_framing.specs.declared.step.Step.{Step}
-use Rattle.escape_stream.specs.StreamActions.{actions_of, named_control}
-use Rattle.escape_stream.specs.Pieces.{Piece, Text, Lone, pieces_of}
-use Rattle.escape_stream.specs.Items as item
-use Rattle.escape_stream.specs.Items.{Item, items_of}
-use Rattle.escape_stream.specs.Queue.{queue_actions, IsEmpty}
-use Rattle.escape_stream.specs.Pending.{Gives}
-use Rattle.escape_stream.specs.declared.action.Action.{Action}
-use Rattle.escape_stream.specs.declared.queue.Queue.{Queue}
 use Rattle.csi_codec.specs.Tokens.{Parameters}
-use Rattle.escape_framing.specs.declared.lone.Lone.{Lone as Read}
-use Rattle.escape_framing.specs.declared.lone.Lone.TheVariants as lone
-use Rattle.csi_codec.specs.Escapes.{esc_reading}
-use Rattle.escape_stream.specs.Controls.{control_named}
-use Rattle.escape_stream.specs.StreamActionView.{value_of}
+use Rattle.escape_framing.specs.Event.{rank}
+use Rattle.escape_framing.specs.Read.{TakesMemoryAt}
+use Rattle.escape_framing.specs.Framed.{framed_behind, IsReached, IsCarried}
+use Rattle.escape_framing.specs.Held.{Held, TakesMemory, hand_out, held_of}
 use Rattle.escape_framing.specs.declared.error.ParseError.{ParseError}
 use Rattle.escape_framing.specs.declared.error.ParseError.TheVariants as refusal
+use Rattle.escape_framing.specs.declared.event.Event.{Event}
+use Rattle.escape_stream.specs.Items as item
+use Rattle.escape_stream.specs.Items.{Item, items_of}
+use Rattle.escape_stream.specs.ParserShown.{Parsing, lending_in}
+use Rattle.escape_stream.specs.Pieces.{Piece, Text, Lone, pieces, pieces_of}
+use Rattle.escape_stream.specs.Sequences.{Gives, actions_left, event_actions, ActionTakesMemory, FirstTakes}
+use Rattle.escape_stream.specs.StreamActionView.{value_of}
+use Rattle.escape_stream.specs.declared.action.Action.{Action}
 use Rattle.escape_stream.specs.declared.pieces.Piece.{Piece as PieceCode}
 use Rattle.escape_stream.specs.declared.pieces.Piece.TheVariants as code
 use Rattle.escape_stream.specs.declared.pieces.Stage.{Stage}
 use Rattle.escape_stream.specs.declared.pieces.Stage.TheVariants as stage
 use Rattle.escape_stream.specs.declared.pieces.Reading.{Reading as Pieces}
+use Rattle.escape_stream.specs.declared.sequence.Sequence.{Sequence}
 
 -- the reference to the parser, by its name
 abbrev pub lender_of : Pieces → GName
 lender_of it = it.parser.ghost_name
 
 -- what the parser shows
-abbrev pub parser_of : Pieces → Framing
+abbrev pub parser_of : Pieces → Parsing
 parser_of it = it.parser.now
 
--- the pieces of the bytes that weren't read yet, and before them those that wait, in a call behind `start` bytes
+-- the pieces of the bytes that weren't read yet, and before them what is left of a control sequence, in a call behind `start` bytes
 abbrev pub open_pieces : ℕ → Pieces → List Piece
 open_pieces start it =
-    map Lone (queue_actions it.parser.now.parameters it.queue) ++ pieces_of (framed_behind start (start + it.count) it.parser.now.held (drop it.count it.bytes.now))
+    map Lone (actions_left it.parser.now.parameters it.sequence) ++ pieces_of (framed_behind start (start + it.count) it.parser.now.held (drop it.count it.bytes.now))
 
 -- what is held of the stream once all is read
 abbrev pub held_at_end : Pieces → Held
@@ -56,6 +46,24 @@ pub record IsUnderWay (it : Pieces) : Type 0 where
   pub within : it.count ≤ length it.bytes.now
   pub reached : IsReached it.parser.now.held
   pub carried : IsCarried 0 it.count it.parser.now.held (drop it.count it.bytes.now)
+
+-- the next piece is an action that takes memory
+abbrev pub FirstTakesMemory : List Piece → Type 0
+FirstTakesMemory [] = ⊥
+FirstTakesMemory (Text from text ∷ pieces) = ⊥
+FirstTakesMemory (Lone action ∷ pieces) = ActionTakesMemory action
+
+-- so is one of them
+pub record SomeTakesMemory (pieces : List Piece) : Type 0 where
+  pub done : List Piece
+  pub left : List Piece
+  pub whole : pieces ≡ done ++ left
+  pub takes : FirstTakesMemory left
+
+-- Bytes behind a stream take memory: behind some of them the body of a command or a header is read, or they hand out an
+-- action that takes memory.
+abbrev pub BytesTakeMemory : List ℕ → List ℕ → Type 0
+BytesTakeMemory stream bytes = ((n : ℕ) × (n ≤ length bytes) × TakesMemory (held_of (stream ++ take n bytes)).kept) ⊎ SomeTakesMemory (pieces stream bytes)
 
 -- a piece as a value
 abbrev pub IsPiece : Piece → PieceCode → Type 0
@@ -74,58 +82,19 @@ abbrev pub GivesPiece : List Piece → Option PieceCode → List Piece → Type 
 GivesPiece before None after = before ≡ []
 GivesPiece before (Some p) after = (piece : Piece) × IsPiece piece p × (before ≡ piece ∷ after)
 
--- What was read at once of the bytes that were left, where nothing waited: a text, or dispatches that wait now.
-pub record HasRead (old : Pieces) (text : ℕ) (new : Pieces) : Type 0 where
-  pub step : Step
-  pub reads : Reads new.parser.now.parameters old.parser.now.held (drop old.count old.bytes.now) step new.parser.now.held
-  pub is_text : step.text ≡ text
-  pub count : new.count ≡ old.count + step.count
-  pub queued : text ≡ 0 → queue_actions new.parser.now.parameters new.queue ≡ actions_of (dispatches_in new.parser.now.parameters step.dispatches)
-  pub emptied : text ≢ 0 → queue_actions new.parser.now.parameters new.queue ≡ []
+-- behind so many of the bytes of its call, those that were read among them, the body of a command or a header is read
+pub record ReadsBody (it : Pieces) (place : ℕ) : Type 0 where
+  pub behind : it.count ≤ place
+  pub within : place ≤ length it.bytes.now
+  pub takes : TakesMemoryAt it.parser.now.held (drop it.count it.bytes.now) (place - it.count)
 
--- nothing has changed
-pub record IsUnread (old new : Pieces) : Type 0 where
-  pub parser : new.parser.now ≡ old.parser.now
-  pub count : new.count ≡ old.count
-  pub queue : new.queue ≡ old.queue
+-- memory is taken for a body or a header that is read, or for the next action
+abbrev pub AsksMemory : Pieces → Type 0
+AsksMemory it = ((place : ℕ) × ReadsBody it place) ⊎ ((start : ℕ) → FirstTakesMemory (open_pieces start it))
 
--- the action of what was read at once, unless it is a control sequence
-abbrev pub lone_values : Read → List StreamAction
-lone_values lone.Nothing = []
-lone_values (lone.Part n) = []
-lone_values (lone.Control b) = named_control (control_named b)
-lone_values (lone.Escape final) = esc (esc_reading None final) ∷ []
-lone_values (lone.ControlSequence final n) = []
-
--- A control or a sequence was read at once, where nothing waited: its action is the first of those that a queue would hold.
-pub record HasReadLone (old : Pieces) (l : Read) (new : Pieces) : Type 0 where
-  pub queue : Queue
-  pub read : HasRead old 0 (record new { queue = queue })
-  pub actions : (p : Parameters) → queue_actions p queue ≡ lone_values l ++ queue_actions p new.queue
-
--- A control sequence with this final byte was read at once; its actions don't wait yet.
-pub record HasReadSequence (old : Pieces) (control : ℕ) (new : Pieces) : Type 0 where
-  pub len : ℕ
-  pub reads : Reads new.parser.now.parameters old.parser.now.held (drop old.count old.bytes.now) (lone_step (lone.ControlSequence control len)) new.parser.now.held
-  pub count : new.count ≡ old.count + len
-
--- a control stands at the front of the bytes that are left
-pub record IsControlAt (it : Pieces) (control : ControlCode) : Type 0 where
-  pub byte : ℕ
-  pub named : control_named byte ≡ Some control
-  pub reads : Reads it.parser.now.parameters it.parser.now.held (drop it.count it.bytes.now) (lone_step (lone.Control byte)) it.parser.now.held
-
--- an escape sequence of two bytes with this final byte stands there
-abbrev pub IsPairAt : Pieces → ℕ → Type 0
-IsPairAt it control = Reads it.parser.now.parameters it.parser.now.held (drop it.count it.bytes.now) (lone_step (lone.Escape control)) it.parser.now.held
-
--- a control sequence of short numbers stands there
-abbrev pub IsShortAt : Pieces → ShortSequence → Type 0
-IsShortAt it s = Reads (short_parameters s.numbers) it.parser.now.held (drop it.count it.bytes.now) (lone_step (lone.ControlSequence s.control s.count)) it.parser.now.held
-
--- the command of this body stands at the front of the bytes that are left, and so many of them are read with it
-abbrev pub IsCommandAt : Pieces → List ℕ → ℕ → Type 0
-IsCommandAt it body n = ReadsCommand it.parser.now.held (drop it.count it.bytes.now) body n
+-- memory is taken for a body or a header that is read, or for any action that is to come
+abbrev pub AsksMemoryLater : Pieces → Type 0
+AsksMemoryLater it = ((place : ℕ) × ReadsBody it place) ⊎ ((start : ℕ) → SomeTakesMemory (open_pieces start it))
 
 -- what one call has handed out, and how it goes on
 pub record HasGiven (old : Pieces) (piece : Option PieceCode) (new : Pieces) : Type 0 where
@@ -133,31 +102,49 @@ pub record HasGiven (old : Pieces) (piece : Option PieceCode) (new : Pieces) : T
   pub ready : IsUnderWay new
   pub ends : held_at_end new ≡ held_at_end old
   pub done : piece ≡ None → new.parser.now.held ≡ held_at_end old
-
--- The next piece is handed out at once, unless memory is refused; the parser stays as it was.
-pub record HandsOutAtOnce (old : Pieces) (answer : Result PieceCode AllocError) (new : Pieces) : Type 0 where
-  pub same : lender_of new ≡ lender_of old
-  pub stage : new.stage ≡ old.stage
-  pub parser : new.parser.now ≡ old.parser.now
-  pub bytes : new.bytes ≡ old.bytes
-  pub count : old.count ≤ new.count
-  pub gives : IfOk answer (λ piece. IsUnderWay old → HasGiven old (Some piece) new)
-
--- The next of the actions that wait is handed out, unless memory is refused; nothing but these has changed.
-pub record HandsOutWaiting (old : Pieces) (answer : Result (Option Action) AllocError) (new : Pieces) : Type 0 where
-  pub same : lender_of new ≡ lender_of old
-  pub parser : new.parser.now ≡ old.parser.now
-  pub bytes : new.bytes ≡ old.bytes
-  pub count : new.count ≡ old.count
-  pub stage : new.stage ≡ old.stage
-  pub gives : IfOk answer (λ next. Gives (queue_actions old.parser.now.parameters old.queue) next (queue_actions old.parser.now.parameters new.queue))
-  pub empty : IfOk answer (λ next. next ≡ None → IsEmpty new.queue)
+  pub bodies : (place : ℕ) → ReadsBody new place → ReadsBody old place
 
 -- the same is left to hand out
 pub record GoesOn (old new : Pieces) : Type 0 where
   pub same : (start : ℕ) → open_pieces start new ≡ open_pieces start old
   pub ready : IsUnderWay new
   pub ends : held_at_end new ≡ held_at_end old
+  pub bodies : (place : ℕ) → ReadsBody new place → ReadsBody old place
+
+-- what stands at the front was found: the next piece, or nothing yet, and then the same is left to hand out
+abbrev pub FindsHere : Pieces → Option PieceCode → Pieces → Type 0
+FindsHere old None new = GoesOn old new
+FindsHere old (Some piece) new = HasGiven old (Some piece) new
+
+-- nothing has changed but what is left of a control sequence
+pub record SameBut (old new : Pieces) : Type 0 where
+  pub same : lender_of new ≡ lender_of old
+  pub parser : new.parser.now ≡ old.parser.now
+  pub bytes : new.bytes ≡ old.bytes
+  pub count : new.count ≡ old.count
+  pub stage : new.stage ≡ old.stage
+
+-- The next action of a control sequence is handed out, unless memory is refused.
+pub record HandsOutOf (old : Pieces) (sequence : Option Sequence) (answer : Result (Option Action) AllocError) (new : Pieces) : Type 0 where
+  pub others : SameBut old new
+  pub gives : IfOk answer (λ next. Gives (actions_left old.parser.now.parameters sequence) next (actions_left old.parser.now.parameters new.sequence))
+  pub over : IfOk answer (λ next. next ≡ None → new.sequence ≡ None)
+  pub memory : OnErr answer (FirstTakes (actions_left old.parser.now.parameters sequence))
+
+-- The first action of an event is handed out, unless memory is refused; those of a control sequence go on behind it.
+pub record Begins (old : Pieces) (event : Event) (answer : Result (Option Action) AllocError) (new : Pieces) : Type 0 where
+  pub same : lender_of new ≡ lender_of old
+  pub parser : parser_of new ≡ record (parser_of old) { body = (parser_of new).body }
+  pub bytes : new.bytes ≡ old.bytes
+  pub count : new.count ≡ old.count
+  pub stage : new.stage ≡ old.stage
+  pub gives : IfOk answer (λ next. Gives (event_actions (lending_in old.parser.now) event) next (actions_left old.parser.now.parameters new.sequence))
+  pub over : IfOk answer (λ next. next ≡ None → new.sequence ≡ None)
+  pub memory : OnErr answer (FirstTakes (event_actions (lending_in old.parser.now) event))
+
+-- how often it can be read on at most
+abbrev pub steps_left : Pieces → ℕ
+steps_left it = 4 * (length it.bytes.now - it.count) + rank it.parser.now.held
 
 -- where it stands: its parser had failed before, it is open, or it is over
 abbrev pub HadFailed : Pieces → Type 0
@@ -181,11 +168,6 @@ pub record IsGoing (it : Pieces) : Type 0 where
   pub ready : IsUnderWay it
   pub failed : (parser_of it).failed ≡ true
 
--- the same, and nothing waits
-pub record IsIdle (it : Pieces) : Type 0 where
-  pub going : IsGoing it
-  pub empty : IsEmpty it.queue
-
 -- `next` may be called
 abbrev pub IsReady : Pieces → Type 0
 IsReady it = ready_at it.stage it
@@ -194,7 +176,7 @@ IsReady it = ready_at it.stage it
 -- a piece that memory is refused, or first of all that the parser had failed, and then nothing more.
 abbrev pub HandsOutPiece : Pieces → Option (Result PieceCode ParseError) → Pieces → Type 0
 HandsOutPiece old (Some (Ok piece)) new = IsOpen old × IsOpen new × HasGiven old (Some piece) new
-HandsOutPiece old (Some (Err refusal.Memory)) new = IsOpen old × IsOver new
+HandsOutPiece old (Some (Err refusal.Memory)) new = IsOpen old × IsOver new × AsksMemory old
 HandsOutPiece old (Some (Err refusal.Failed)) new = HadFailed old × IsOver new
 HandsOutPiece old None new = IsOver new × (IsOpen old → HasGiven old None new) × (HadFailed old → ⊥)
 

@@ -1,13 +1,15 @@
 -- Words of the private steps of a walk over the bytes of a call.
-use Rattle.std.specs.Prelude.{◌≡◌, ℕ, true, List, [], ◌∷◌, ◌++◌, Option, Some, None, Result, Ok, Err, IfOk}
+use Rattle.std.specs.Prelude.{◌≡◌, ◌<◌, ℕ, true, List, [], ◌∷◌, ◌++◌, Option, Some, None, Result, Ok, Err, IfOk, IfSome, OnErr}
 use Rattle.std.specs.List.{FoldsTo}
 use Rattle.std.specs.declared.alloc.AllocError.{AllocError}
 use Rattle.escape_stream.specs.Pieces.{Piece}
 use Rattle.escape_stream.specs.Items.{Item}
-use Rattle.escape_stream.specs.PiecesView.{lender_of, parser_of, open_pieces, held_at_end, item_handed, IsPiece, IsUnderWay, HasGiven}
+use Rattle.escape_stream.specs.PiecesView.{lender_of, parser_of, open_pieces, held_at_end, item_handed, steps_left, AsksMemory, IsPiece, IsUnderWay, HasGiven, ReadsBody}
+use Rattle.escape_stream.specs.declared.action.Action.{Action}
 use Rattle.escape_stream.specs.declared.perform.Halted.{Halted}
 use Rattle.escape_stream.specs.declared.perform.Halted.TheVariants as halted
 use Rattle.escape_stream.specs.declared.pieces.Piece.{Piece as PieceCode}
+use Rattle.escape_stream.specs.declared.pieces.Piece.TheVariants as code
 use Rattle.escape_stream.specs.declared.pieces.Reading.{Reading}
 
 -- an item was performed, or refused
@@ -23,6 +25,17 @@ pub record Finds (old : Reading) (answer : Result (Option PieceCode) AllocError)
   pub stage : new.stage ≡ old.stage
   pub failed : (parser_of new).failed ≡ true
   pub gives : IfOk answer (λ piece. HasGiven old piece new)
+  pub memory : OnErr answer (AsksMemory old)
+
+-- an action was found whole at the front, unless memory is refused, or nothing was read
+pub record FindsWhole (old : Reading) (answer : Option (Result Action AllocError)) (new : Reading) : Type 0 where
+  pub same : lender_of new ≡ lender_of old
+  pub stage : new.stage ≡ old.stage
+  pub failed : (parser_of new).failed ≡ true
+  pub finds : IfSome answer (λ found. IfOk found (λ action. HasGiven old (Some (code.Action action)) new))
+  pub closer : IfSome answer (λ found. steps_left new < steps_left old)
+  pub none : answer ≡ None → new ≡ old
+  pub memory : IfSome answer (λ found. OnErr found (AsksMemory old))
 
 -- a piece was handed to the performer
 pub record HandsPiece (happens : Item → Type 0) (old new : Reading) : Type 0 where
@@ -50,6 +63,7 @@ pub record Reaches {P : Type 0} (does : P → Item → P → Type 0) (old : Read
   pub handed : (start : ℕ) → HandsOver done old new start
   pub ready : IsUnderWay new
   pub ends : held_at_end new ≡ held_at_end old
+  pub bodies : (place : ℕ) → ReadsBody new place → ReadsBody old place
 
 -- a walk that ended: at the end, or early
 pub record WalksAll {P : Type 0} (does : P → Item → P → Type 0) (old : Reading) (first : P) (new : Reading) (last : P) : Type 0 where
@@ -60,6 +74,7 @@ pub record WalksAll {P : Type 0} (does : P → Item → P → Type 0) (old : Rea
 pub record WalksSome {P : Type 0} (does : P → Item → P → Type 0) (old : Reading) (first : P) (last : P) : Type 0 where
   pub it : Reading
   pub reached : Reaches does old first it last
+  pub memory : AsksMemory it
 
 pub record WalksUpTo {P E : Type 0} (does : P → Item → P → Type 0) (refuses : P → Item → E → P → Type 0) (old : Reading) (first : P) (refusal : E) (new : Reading) (last : P) : Type 0 where
   pub it : Reading

@@ -1,14 +1,11 @@
-//! Laws of the actions of a stream: each function ensures one or more. Most have an empty body.
-ghost use Rattle.std.specs.Prelude.{◌≡◌, ◌↔◌, IsTrue, ℕ, List, ◌++◌, Some, length, map, filter, nat_lt};
+//! Laws of the actions of a stream: functions that do nothing, each ensuring one or more.
+ghost use Rattle.std.specs.Prelude.{◌≡◌, ℕ, List, ◌++◌, Some, length, map, filter, nat_lt};
 ghost use Rattle.std.specs.List.{slice_get};
 ghost use Rattle.escape_stream.specs.StreamAction.{StreamAction};
-ghost use Rattle.escape_stream.specs.StreamActionView.{value_of};
 ghost use Rattle.escape_framing.specs.Dispatch.{Dispatch};
 ghost use Rattle.escape_framing.specs.Placed.{placed_from};
 ghost use Rattle.escape_stream.specs.Pieces.{pieces, Spells, actions_of_pieces, AreApart};
 ghost use Rattle.escape_stream.specs.StreamActions.{actions_of, stream_actions, newly_decided_actions, placed_actions, IsPlacedAction, IsUndecidedAction};
-
-use crate::action::Action;
 
 /// The placed actions are the stream's actions, in order, each with the least count of bytes that decides it however
 /// the stream goes on. Bytes behind a stream newly decide the actions whose places lie in them.
@@ -37,10 +34,3 @@ pub fn pieces_are_actions()
     ensures decided { (stream bytes : List ℕ) → actions_of_pieces (pieces stream bytes) ≡ newly_decided_actions stream bytes }
     ensures apart { (stream bytes : List ℕ) → AreApart (stream ++ bytes) (pieces stream bytes) }
 {}
-
-/// Two actions are equal where their values are, wherever these lie in memory.
-pub fn equality_is_by_value(a: &Action, b: &Action) -> bool
-    ensures { IsTrue result ↔ (value_of a.now ≡ value_of b.now) }
-{
-    *a == *b
-}

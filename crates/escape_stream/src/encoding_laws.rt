@@ -23,7 +23,7 @@ pub fn writable_lists_read_back()
     ensures whole { WritableListsEndWhole }
 {}
 
-/// The same behind any stream of which no bytes are left unfinished: what the bytes of a writable list decide there, and
+/// Behind any stream of which no bytes are left unfinished: what the bytes of a writable list decide there, and
 /// what they leave, does not hang on the stream. So a parser that has read such a stream, in any pieces, and then reads
 /// what `encode` wrote hands these out.
 pub fn writable_lists_read_on()

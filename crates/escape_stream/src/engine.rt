@@ -1,10 +1,13 @@
 //! The walk over the bytes of a call, which finds each text and each action and hands it to a performer.
-ghost use Rattle.std.specs.Prelude.{◌≡◌, true, OnOk};
-ghost use Rattle.escape_stream.specs.PiecesView.{item_handed, lender_of, parser_of, IsGoing, IsIdle};
+ghost use Rattle.std.specs.Prelude.{◌≡◌, ◌<◌, ◌≢◌, true, None, Some, IfOk, OnErr, OnOk, length};
+ghost use Rattle.escape_stream.specs.PiecesView.{item_handed, lender_of, parser_of, steps_left, AsksMemory, Begins, FindsHere, HandsOutOf, IsGoing};
 ghost use Rattle.escape_stream.specs.Walking.{Finds, Performs, WalksTo};
 
+use crate::action::Action;
 use crate::perform::{Halted, Perform};
-use crate::pieces::{Piece, Reading, is_nothing, lone_action};
+use crate::pieces::{Piece, Reading};
+use crate::sequence::Sequence;
+use escape_framing::{Event, Read};
 use std::alloc::AllocError;
 
 // Hands a piece to the performer.
@@ -28,197 +31,112 @@ fn perform<'a, P: Perform<'a>>(
 }
 
 impl<'p, 'a> Reading<'p, 'a> {
-    // The next piece, if there is one, whatever waits or is unfinished.
-    #[inline(never)]
-    fn find_any(&mut self) -> Result<Option<Piece<'a>>, AllocError>
-        requires { IsGoing self.old }
-        ensures { Finds self.old result self.new }
+    // The next action of a control sequence, which goes on behind it.
+    #[inline(always)]
+    fn next_of(&mut self, sequence: Sequence) -> Result<Option<Action>, AllocError>
+        ensures { HandsOutOf self.old (Some sequence) result self.new }
     {
-        loop {
-            let action = self.next_action()?;
-            if let Some(action) = action {
-                return Ok(Some(Piece::Action(action)));
+        let (next, left) = self.parser.next_of(sequence)?;
+        self.sequence = left;
+        Ok(next)
+    }
+
+    // The next action of the control sequence that was read last, if there is one.
+    #[inline(always)]
+    fn next_of_sequence(&mut self) -> Result<Option<Action>, AllocError>
+        ensures { HandsOutOf self.old self.old.sequence result self.new }
+    {
+        match self.sequence {
+            Some(sequence) => self.next_of(sequence),
+            None => Ok(None),
+        }
+    }
+
+    // The first action of an event that was read last, if there is one.
+    #[inline(always)]
+    fn begin(&mut self, event: Event) -> Result<Option<Action>, AllocError>
+        requires over { self.old.sequence ≡ None }
+        ensures { Begins self.old event result self.new }
+    {
+        match event {
+            Event::ControlSequence(control) => self.next_of(Sequence::start(control)),
+            _ => self.parser.action_of(event),
+        }
+    }
+
+    // Reads what stands at the front of the bytes that are left, as the framer does: a piece, or bytes that hand nothing out
+    // yet.
+    #[inline(always)]
+    fn read_event(&mut self) -> Result<Option<Piece<'a>>, AllocError>
+        requires going { IsGoing self.old }
+        requires over { self.old.sequence ≡ None }
+        requires some { self.old.count ≢ length self.old.bytes.now }
+        ensures same { lender_of self.new ≡ lender_of self.old }
+        ensures stage { self.new.stage ≡ self.old.stage }
+        ensures failed { (parser_of self.new).failed ≡ true }
+        ensures finds { IfOk result (λ piece. FindsHere self.old piece self.new) }
+        ensures closer { IfOk result (λ piece. steps_left self.new < steps_left self.old) }
+        ensures memory { OnErr result (AsksMemory self.old) }
+    {
+        let before = self.count;
+        let bytes = self.rest();
+        match self.parser.read(bytes)? {
+            Read::Text(len) => {
+                self.count = before + len;
+                Ok(Some(Piece::Text(self.text_at(before, len))))
             }
-            let count = self.count;
-            if count == self.bytes.len() {
-                return Ok(None);
-            }
-            let lone = self.read_lone();
-            if let Some(action) = lone_action(lone) {
-                return Ok(Some(Piece::Action(action)));
-            }
-            if !is_nothing(lone) {
-                continue;
-            }
-            let text = self.read()?;
-            if text != 0 {
-                return Ok(Some(Piece::Text(self.text_at(count, text))));
+            Read::Bytes { event, count } => {
+                self.count = before + count;
+                let Some(event) = event else {
+                    return Ok(None);
+                };
+                match self.begin(event)? {
+                    Some(action) => Ok(Some(Piece::Action(action))),
+                    None => Ok(None),
+                }
             }
         }
     }
 
-    // The same where nothing waits: of a byte that has an action by itself at once.
-    #[inline(never)]
-    fn find_byte(&mut self) -> Result<Option<Piece<'a>>, AllocError>
-        requires { IsIdle self.old }
-        ensures { Finds self.old result self.new }
-    {
-        let Some(action) = self.byte_action() else {
-            return self.find_any();
-        };
-        self.count += 1;
-        Ok(Some(Piece::Action(action)))
-    }
-
-    // The same of an escape sequence of two bytes, or a command.
-    #[inline(never)]
-    fn find_command(&mut self) -> Result<Option<Piece<'a>>, AllocError>
-        requires { IsIdle self.old }
-        ensures { Finds self.old result self.new }
-    {
-        if let Some(control) = self.pair() {
-            let action = self.take_pair(control);
-            return Ok(Some(Piece::Action(action)));
-        }
-        let Some((body, count)) = self.command() else {
-            return self.find_any();
-        };
-        let action = self.take_command(body, count)?;
-        Ok(Some(Piece::Action(action)))
-    }
-
-    // The same of any control sequence whose bytes stand there: its first action; the others wait.
-    #[inline(never)]
-    fn find_list(&mut self) -> Result<Option<Piece<'a>>, AllocError>
-        requires { IsIdle self.old }
-        ensures { Finds self.old result self.new }
-    {
-        let Some(control) = self.read_sequence() else {
-            return self.find_any();
-        };
-        match self.first_action(control) {
-            Ok(Some(action)) => Ok(Some(Piece::Action(action))),
-            Ok(None) => self.find_any(),
-            Err(error) => Err(error),
-        }
-    }
-
-    // The same of a control sequence of two or three short numbers with one action.
-    #[inline(never)]
-    fn find_numbers(&mut self) -> Result<Option<Piece<'a>>, AllocError>
-        requires { IsIdle self.old }
-        ensures { Finds self.old result self.new }
-    {
-        let Some((short, action)) = self.numbers() else {
-            return self.find_list();
-        };
-        let action = self.take_short(short, action);
-        Ok(Some(Piece::Action(action)))
-    }
-
-    // `find_byte`, called where it is wanted: the room for its answer is only cleared there.
+    // Reads what stands at the front of the bytes that are left, at once where a shortcut can.
     #[inline(always)]
-    fn find_by_byte(&mut self) -> Result<Option<Piece<'a>>, AllocError>
-        requires { IsIdle self.old }
-        ensures { Finds self.old result self.new }
+    fn read(&mut self) -> Result<Option<Piece<'a>>, AllocError>
+        requires going { IsGoing self.old }
+        requires over { self.old.sequence ≡ None }
+        requires some { self.old.count ≢ length self.old.bytes.now }
+        ensures same { lender_of self.new ≡ lender_of self.old }
+        ensures stage { self.new.stage ≡ self.old.stage }
+        ensures failed { (parser_of self.new).failed ≡ true }
+        ensures finds { IfOk result (λ piece. FindsHere self.old piece self.new) }
+        ensures closer { IfOk result (λ piece. steps_left self.new < steps_left self.old) }
+        ensures memory { OnErr result (AsksMemory self.old) }
     {
-        self.find_byte()
-    }
-
-    // `find_command`, called so.
-    #[inline(always)]
-    fn find_by_command(&mut self) -> Result<Option<Piece<'a>>, AllocError>
-        requires { IsIdle self.old }
-        ensures { Finds self.old result self.new }
-    {
-        self.find_command()
-    }
-
-    // `find_list`, called so.
-    #[inline(always)]
-    fn find_by_list(&mut self) -> Result<Option<Piece<'a>>, AllocError>
-        requires { IsIdle self.old }
-        ensures { Finds self.old result self.new }
-    {
-        self.find_list()
-    }
-
-    // `find_numbers`, called so.
-    #[inline(always)]
-    fn find_by_numbers(&mut self) -> Result<Option<Piece<'a>>, AllocError>
-        requires { IsIdle self.old }
-        ensures { Finds self.old result self.new }
-    {
-        self.find_numbers()
-    }
-
-    // The same of a control sequence: of one of at most one short number with one action at once.
-    #[inline(always)]
-    fn find_sequence(&mut self) -> Result<Option<Piece<'a>>, AllocError>
-        requires { IsIdle self.old }
-        ensures { Finds self.old result self.new }
-    {
-        if let Some((short, action)) = self.short() {
-            let action = self.take_short(short, action);
-            return Ok(Some(Piece::Action(action)));
-        }
-        if self.may_be_numbers() {
-            self.find_by_numbers()
-        } else {
-            self.find_by_list()
+        match self.read_command() {
+            Some(Ok(action)) => Ok(Some(Piece::Action(action))),
+            Some(Err(error)) => Err(error),
+            None => self.read_event(),
         }
     }
 
-    // The same of a sequence or a C0 control.
-    #[inline(always)]
-    fn find_control(&mut self) -> Result<Option<Piece<'a>>, AllocError>
-        requires { IsIdle self.old }
-        ensures { Finds self.old result self.new }
-    {
-        if self.is_at_sequence() {
-            return self.find_sequence();
-        }
-        if self.is_at_escape() {
-            return self.find_by_command();
-        }
-        let Some(control) = self.control() else {
-            return self.find_by_byte();
-        };
-        let action = self.take_control(control);
-        Ok(Some(Piece::Action(action)))
-    }
-
-    // The same of what stands at the front: a text, a sequence or a control at once.
-    #[inline(always)]
-    fn find_front(&mut self) -> Result<Option<Piece<'a>>, AllocError>
-        requires { IsIdle self.old }
-        ensures { Finds self.old result self.new }
-    {
-        if self.is_at_control() {
-            return self.find_control();
-        }
-        let len = self.text_len();
-        if len == 0 {
-            return self.find_by_byte();
-        }
-        let text = self.take_text(len);
-        Ok(Some(Piece::Text(text)))
-    }
-
-    // The next piece, if there is one: an action that waits, or what stands at the front.
+    // The next piece, if there is one.
     #[inline(always)]
     pub(crate) fn find(&mut self) -> Result<Option<Piece<'a>>, AllocError>
         requires { IsGoing self.old }
         ensures { Finds self.old result self.new }
     {
-        let action = self.next_action()?;
-        if let Some(action) = action {
-            return Ok(Some(Piece::Action(action)));
+        loop {
+            let action = self.next_of_sequence()?;
+            if let Some(action) = action {
+                return Ok(Some(Piece::Action(action)));
+            }
+            if self.count == self.bytes.len() {
+                return Ok(None);
+            }
+            let piece = self.read()?;
+            if piece.is_some() {
+                return Ok(piece);
+            }
         }
-        if self.count == self.bytes.len() {
-            return Ok(None);
-        }
-        self.find_front()
     }
 
     // Hands what is left to the performer, to the end or to the first that it refuses, which has been read then.

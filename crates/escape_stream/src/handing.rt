@@ -4,7 +4,7 @@ ghost use Rattle.std.specs.List.{FoldsTo};
 ghost use Rattle.escape_framing.specs.Held.{held_of};
 ghost use Rattle.escape_stream.specs.Items.{items, items_of};
 ghost use Rattle.escape_stream.specs.Performing.{HaltsAt};
-ghost use Rattle.escape_stream.specs.PiecesView.{items_to_come, lender_of, parser_of, open_pieces, held_at_end, HadFailed, IsOpen, IsOver, IsGoing, IsReady};
+ghost use Rattle.escape_stream.specs.PiecesView.{items_to_come, lender_of, AsksMemoryLater, BytesTakeMemory, parser_of, open_pieces, held_at_end, HadFailed, IsOpen, IsOver, IsGoing, IsReady};
 
 use crate::parser::Parser;
 use crate::perform::{Halted, Perform};
@@ -19,6 +19,7 @@ impl<'p, 'a> Reading<'p, 'a> {
         ensures ready { OnOk result (P.ready performer.new) }
         ensures done { OnOk result ((start : ℕ) → FoldsTo P.does performer.old (items_of (open_pieces start self.old)) performer.new) }
         ensures halted { IfErr result (λ halted. (start : ℕ) → HaltsAt P.does P.refuses performer.old (items_of (open_pieces start self.old)) halted performer.new) }
+        ensures memory { IsErrOf result Halted.Memory → AsksMemoryLater self.old }
         ensures held { OnOk result ((parser_of self.new).held ≡ held_at_end self.old) }
         ensures failed { (parser_of self.new).failed ≡ is_err result }
         ensures known { IsErrOf result Halted.Failed → ⊥ }
@@ -44,6 +45,8 @@ impl<'p, 'a> Reading<'p, 'a> {
         // The performer did all, in order, or those before one.
         ensures done { OnOk result (FoldsTo P.does performer.old (items_to_come self.old) performer.new) }
         ensures halted { IfErr result (λ halted. HaltsAt P.does P.refuses performer.old (items_to_come self.old) halted performer.new) }
+        // Memory is asked for where it is taken for something.
+        ensures memory { IsErrOf result Halted.Memory → AsksMemoryLater self.old }
         // All bytes have then been read.
         ensures held { OnOk result (IsOpen self.old → (parser_of self.new).held ≡ held_at_end self.old) }
         ensures failed { IsErrOf result Halted.Failed ↔ HadFailed self.old }
@@ -80,6 +83,8 @@ impl Parser {
         // part of it.
         ensures done { OnOk result ((stream : List ℕ) → self.old.held ≡ held_of stream → FoldsTo P.does performer.old (items stream bytes.now) performer.new) }
         ensures halted { IfErr result (λ halted. (stream : List ℕ) → self.old.held ≡ held_of stream → HaltsAt P.does P.refuses performer.old (items stream bytes.now) halted performer.new) }
+        // Memory is asked for where these bytes take some.
+        ensures memory { IsErrOf result Halted.Memory → (stream : List ℕ) → self.old.held ≡ held_of stream → BytesTakeMemory stream bytes.now }
         // The bytes have then been read too.
         ensures held { OnOk result ((stream : List ℕ) → self.old.held ≡ held_of stream → self.new.held ≡ held_of (stream ++ bytes.now)) }
         // A call fails where an earlier one ended early, and only then is that its error; nothing is done then.

@@ -8,13 +8,15 @@ mod device;
 mod encoding;
 pub mod encoding_laws;
 mod engine;
+mod event_actions;
+mod fast;
+mod first;
 mod handing;
 mod parse;
 mod parser;
-mod pending;
 mod perform;
 mod pieces;
-mod queue;
+mod sequence;
 
 pub use action::Action;
 pub use control::ControlCode;

@@ -35,7 +35,7 @@ fn call_at_chars<F: FnMut(Action)>(text: &str, callback: &mut F)
     }
 }
 
-// The same, faster where each character is one byte.
+// Calls the callback at a print of each character, faster where each is one byte.
 fn call_at_text<F: FnMut(Action)>(text: &str, callback: &mut F)
     requires { F.IsAlwaysCallable callback.old }
     ensures called { IsCalledAt (λ f a f'. F.step f a tt f') callback.old (map print (chars text.now)) callback.new }

@@ -158,16 +158,13 @@ fn joined(alloc: Global) -> Outcome {
     )
 }
 
-// A framer that was refused memory has failed.
+// A framer says where it is refused memory.
 fn framers(alloc: Global) -> Outcome {
     let mut framer = Framer::new(alloc);
     for byte in b"\x1b]2;hellotherehellothere\x1b\\" {
-        if let Err(error) = framer.feed(*byte) {
-            let stands = matches!(framer.feed(b'x'), Err(ParseError::Failed));
-            return refused(Stop::from(error), stands && framer.is_failed());
-        }
+        framer.next(&[*byte])?;
     }
-    Ok(framer.is_idle() && !framer.is_failed())
+    Ok(framer.body().len() == 22)
 }
 
 /// Checks parsers and lists of actions.

@@ -21,7 +21,7 @@ use crate::rows::{
     blank_lines, blank_rows, blank_rows_below, copy, resize, scroll, scroll_down, scroll_up,
     set_blanks, set_cell, set_plain, set_size, set_text,
 };
-use crate::text::{next_cluster, split_at_control, split_control};
+use crate::text::{lone_control, next_cluster, split_at_control, split_control};
 use crate::turning::Turning;
 use cell_base::{
     AttributeChange, CellAttributes, ColorAttribute, CursorShape, CursorVisibility, LineAttribute,
@@ -315,15 +315,15 @@ impl<W: Widths + Drop> Canvas<W> {
             self.put_plain(text)?;
             return Ok(());
         }
-        if text == "\n" {
-            self.line_feed()?;
+        if let Some(control) = lone_control(text) {
+            self.control(control)?;
             return Ok(());
         }
         self.draw_parts(text)?;
         Ok(())
     }
 
-    // The same, part by part.
+    // Draws any text with the pen, part by part.
     #[inline(never)]
     fn draw_parts(&mut self, text: &str) -> Result<(), AllocError>
         requires { IsDrawn self.old }

@@ -39,6 +39,17 @@ pub fn split_control(text: &str) -> Option<(u8, &str)>
     Some((control, behind))
 }
 
+/// The C0 control or DEL that a text consists of, if it is one.
+#[inline(always)]
+pub(crate) fn lone_control(text: &str) -> Option<u8>
+    ensures { IfSome result (λ control. text_parts text.now ≡ Control control ∷ []) }
+{
+    match text.as_bytes() {
+        [byte] if byte.is_ascii_control() => Some(*byte),
+        _ => None,
+    }
+}
+
 // Cuts off the first cluster of a text; of the empty text without a walk.
 pub(crate) fn next_cluster(text: &str) -> Option<(&str, &str)>
     ensures none { IsNone result ↔ (text.now ≡ []) }

@@ -133,7 +133,7 @@ impl<T> Turning<T> {
         self.turn_at_end();
     }
 
-    // The same where no place behind them is spare.
+    // Turns where no place behind the items is spare.
     #[cold]
     #[inline(never)]
     fn turn_at_end(&mut self)

@@ -39,7 +39,7 @@ fn write_region<'a>(
     Ok(())
 }
 
-// The same for whole lines.
+// Writes whole lines row by row, those that are there on both sides.
 fn write_lines<'a>(
     writer: &mut DifferenceWriter<'a>,
     number: usize,

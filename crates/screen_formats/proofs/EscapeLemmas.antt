@@ -1,13 +1,15 @@
 -- An escaped text reads back.
-use Rattle.std.proofs.Common.{◌≡◌, ℕ, ◌+◌, ◌/◌, ◌<◌, ◌≤◌, inl, inr, Bool, true, false, List, [], ◌∷◌, ◌++◌, refl, sym, ap, ◌∙◌, subst, arith, append_assoc, append-nil, length}
+use Rattle.std.proofs.Common.{◌≡◌, ℕ, ◌<◌, ◌≤◌, inl, inr, Bool, true, false, List, [], ◌∷◌, ◌++◌, refl, sym, ap, ◌∙◌, subst, arith, append_assoc, append-nil, get_or, length}
 use Rattle.std.specs.Prelude.{◌||◌, ◌⊎◌, ◌==◌, Option, Some, None, unwrap_or}
 use Rattle.std.specs.List.{flat_map, list_any}
 use Rattle.std.specs.Char.{encode_utf8}
 use Rattle.std.specs.Str.{IsUtf8, chars}
 use Rattle.std.proofs.lemmas.Bool.{cases_lt, eqb-true, or_parts}
 use Rattle.std.proofs.lemmas.Bool.Decides.{nat_tests}
-use Rattle.std.proofs.lemmas.Str.{encode_ascii, chars_past_char, chars-nil}
-use lib.Utf8.{encode, next}
+use Rattle.std.proofs.lemmas.List.{get_or_default}
+use Rattle.std.proofs.lemmas.List.Folds.{list_any_none}
+use Rattle.std.proofs.lemmas.Str.{encode_ascii, chars_past_char, chars-nil, inside_one}
+use lib.Utf8.{encode}
 use Rattle.cell_edits.proofs.CellLemmas.{by_test}
 use Rattle.screen_formats.specs.declared.escape.Markup.{Markup}
 use Rattle.screen_formats.specs.Escape.{entity_of, escaped, escaped_char, held, held_text, is_markup, put_before, read_behind, unescaped}
@@ -43,37 +45,15 @@ plain_bytes (b ∷ bytes) rest e =
 high_byte : (x : ℕ) → 128 ≤ x → is_special x ≡ false
 high_byte x h = grind (arith, nat_tests)
 
-two : (c : ℕ) → 128 ≤ c → c < 2048 → encode c ≡ (192 + c / 64) ∷ next c ∷ []
-unfolding encode
-two c l h = grind (arith, nat_tests)
-
-three : (c : ℕ) → 2048 ≤ c → c < 65536 → encode c ≡ (224 + c / 4096) ∷ next (c / 64) ∷ next c ∷ []
-unfolding encode
-three c l h = grind (arith, nat_tests)
-
-four : (c : ℕ) → 65536 ≤ c → encode c ≡ (240 + c / 262144) ∷ next (c / 4096) ∷ next (c / 64) ∷ next c ∷ []
-unfolding encode
-four c l = grind (arith, nat_tests)
-
-none_two : (x y : ℕ) → 128 ≤ x → 128 ≤ y → list_any is_special (x ∷ y ∷ []) ≡ false
-none_two x y p q = λ i. high_byte x p i || (high_byte y q i || false)
-
-none_three : (x y z : ℕ) → 128 ≤ x → 128 ≤ y → 128 ≤ z → list_any is_special (x ∷ y ∷ z ∷ []) ≡ false
-none_three x y z p q r = λ i. high_byte x p i || (high_byte y q i || (high_byte z r i || false))
-
-none_four : (x y z w : ℕ) → 128 ≤ x → 128 ≤ y → 128 ≤ z → 128 ≤ w → list_any is_special (x ∷ y ∷ z ∷ w ∷ []) ≡ false
-none_four x y z w p q r s = λ i. high_byte x p i || (high_byte y q i || (high_byte z r i || (high_byte w s i || false)))
-
 high_bytes : (c : ℕ) → 128 ≤ c → list_any is_special (encode c) ≡ false
-high_bytes c h = by_two (cases_lt c 2048)
+high_bytes c h = list_any_none is_special (encode c) (λ i d within.
+    ap is_special (get_or_default (encode c) i d 0 within) ∙ high_byte (get_or (encode c) i 0) (by_size i within (cases_lt (get_or (encode c) i 0) 128)))
   where
-    by_three : 2048 ≤ c → (c < 65536) ⊎ (65536 ≤ c) → list_any is_special (encode c) ≡ false
-    by_three g (inl l) = ap (list_any is_special) (three c g l) ∙ none_three (224 + c / 4096) (next (c / 64)) (next c) (omega arith) (omega arith) (omega arith)
-    by_three g (inr l) = ap (list_any is_special) (four c l) ∙ none_four (240 + c / 262144) (next (c / 4096)) (next (c / 64)) (next c) (omega arith) (omega arith) (omega arith) (omega arith)
-
-    by_two : (c < 2048) ⊎ (2048 ≤ c) → list_any is_special (encode c) ≡ false
-    by_two (inl l) = ap (list_any is_special) (two c h l) ∙ none_two (192 + c / 64) (next c) (omega arith) (omega arith)
-    by_two (inr g) = by_three g (cases_lt c 65536)
+    by_size : (i : ℕ) → i < length (encode c) → (get_or (encode c) i 0 < 128) ⊎ (128 ≤ get_or (encode c) i 0) → 128 ≤ get_or (encode c) i 0
+    by_size i within (inl low) =
+        let same : c ≡ get_or (encode c) i 0 = inside_one c [] (encode c) i (sym (append-nil (encode c))) within low in
+        absurd (omega (arith, same))
+    by_size i within (inr high) = high
 
 pub own_bytes : (c : ℕ) → is_special c ≡ false → list_any is_special (encode c) ≡ false
 own_bytes c e = by_size (cases_lt c 128)

@@ -1,13 +1,16 @@
 -- Runs that are made cell by cell are those of the groups.
 use Rattle.std.proofs.Common.{◌≡◌, ℕ, ◌+◌, Bool, true, false, List, [], ◌∷◌, ◌++◌, map, refl, sym, ap, ◌∙◌, arith}
-use Rattle.std.specs.Prelude.{not, sum_by, flat_map, fold, if◌then◌else◌}
+use Rattle.std.specs.List.{AllByRecursion}
+use Rattle.std.specs.Prelude.{◌==◌, not, sum_by, flat_map, fold, if◌then◌else◌}
+use Rattle.std.proofs.lemmas.Bool.{and_parts, eqb-true}
 use Rattle.std.proofs.lemmas.List.{append-nil}
 use Rattle.std.proofs.lemmas.List.Sums.{sum_by-append}
 use Rattle.std.proofs.lemmas.Grind.{flat_map-append}
 use Rattle.cell_edits.specs.VisibleCells.{VisibleCell, texts_joined}
-use Rattle.cell_views.specs.Groups.{joined, groups_by, IsCut}
+use Rattle.cell_base.specs.SameAttributes.{same_attributes, same_attributes_decides}
+use Rattle.cell_views.specs.Groups.{AreTogether, GoOn, joined, groups_by, IsCut}
 use Rattle.cell_views.proofs.GroupLemmas.{cut_joined, groups_are_cut}
-use Rattle.screen_formats.specs.Runs.{Run, begins_run, goes_on, run_of, runs_of}
+use Rattle.screen_formats.specs.Runs.{LooksAs, Run, begins_run, goes_on, run_of, runs_of}
 use Rattle.screen_formats.specs.RunSteps.{grown, with_cell}
 
 flat_map-one : {A : Type 0} (f : VisibleCell → List A) (cells : List VisibleCell) (v : VisibleCell) → flat_map f cells ++ f v ≡ flat_map f (cells ++ v ∷ [])
@@ -60,3 +63,33 @@ texts_of_groups (cells ∷ groups) =
 
 pub texts_of_runs : (cells : List VisibleCell) → flat_map (λ run. run.text) (runs_of cells) ≡ texts_joined cells
 texts_of_runs cells = texts_of_groups (groups_by begins_run cells) ∙ ap texts_joined (groups_are_cut begins_run cells).whole
+
+-- ---- the looks of the cells
+
+unless : (b : Bool) → not b ≡ false → b ≡ true
+unless true e = refl
+unless false e = sym e
+
+-- cells that go on behind a first one look as the runs that it begins
+others_look : (first : VisibleCell) (rest before cells : List VisibleCell) → GoOn begins_run (first ∷ before) cells → AllByRecursion (LooksAs (run_of (first ∷ rest))) cells
+others_look first rest before [] h = tt
+others_look first rest before (v ∷ cells) h =
+    let alike = and_parts (same_attributes first.cell.attributes v.cell.attributes) (first.cell.width == v.cell.width) (unless (goes_on (run_of (first ∷ before)) v) h.0) in (
+      record {
+        attributes = sym ((same_attributes_decides first.cell.attributes v.cell.attributes).0 alike.0);
+        width = sym (eqb-true first.cell.width v.cell.width alike.1);
+      },
+      others_look first rest (before ++ v ∷ []) cells h.1,
+    )
+
+group_looks : (group : List VisibleCell) → AreTogether begins_run group → AllByRecursion (LooksAs (run_of group)) group
+group_looks [] h = absurd h
+group_looks (first ∷ cells) h = (record { attributes = refl; width = refl }, others_look first cells [] cells h)
+
+all_look : (groups : List (List VisibleCell)) → IsCut begins_run groups → AllByRecursion (λ group. AllByRecursion (LooksAs (run_of group)) group) groups
+all_look [] h = tt
+all_look (group ∷ []) h = (group_looks group h, tt)
+all_look (group ∷ next ∷ groups) h = (group_looks group h.0, all_look (next ∷ groups) h.2)
+
+pub cells_look_as_runs : (cells : List VisibleCell) → AllByRecursion (λ group. AllByRecursion (LooksAs (run_of group)) group) (groups_by begins_run cells)
+cells_look_as_runs cells = all_look (groups_by begins_run cells) (groups_are_cut begins_run cells).cut

@@ -16,7 +16,7 @@ use Rattle.screen_formats.specs.Html.{html_pieces, html_row, html_rows, html_run
 use Rattle.screen_formats.specs.Links.{link_uri}
 use Rattle.screen_formats.specs.Pieces.{Piece, Opening, Closing, Words, element}
 use Rattle.screen_formats.specs.Runs.{Run, runs_of}
-use Rattle.screen_formats.specs.Svg.{column_units, placed_text, rectangle, row_units, sized_opening, svg_cursor, svg_front, svg_letters, svg_opening, svg_paper, svg_pieces, svg_row, svg_rows, svg_text, svg_text_of, Text}
+use Rattle.screen_formats.specs.Svg.{column_units, placed_text, rectangle, row_units, sized_opening, svg_cursor, svg_front, svg_letters, svg_opening, svg_paper, svg_part, svg_pieces, svg_row, svg_rows, svg_text, svg_text_of, Text}
 use Rattle.screen_formats.specs.declared.escape.Markup.{Markup}
 use Rattle.screen_formats.specs.declared.escape.Markup.TheVariants.{Html, Xml}
 use Rattle.screen_formats.proofs.ContentLemmas.{content_back}
@@ -84,7 +84,7 @@ rectangle_holds x y width height fill opacity = (((refl, (refl, (refl, (refl, (r
 
 letters_hold : (row : ℕ) (run : Run) → Holds Xml (svg_letters row run) (held_text Xml run.text)
 unfolding placed_text
-letters_hold row run = (((refl, (refl, (refl, (refl, (refl, (refl, tt)))))), (tt, (refl, tt))), append-nil (held_text Xml run.text))
+letters_hold row run = (((refl, (refl, (refl, (refl, (refl, (refl, (refl, tt))))))), (tt, (refl, tt))), append-nil (held_text Xml run.text))
 
 either : (b : Bool) (xs ys : List Piece) (text : List ℕ) → Holds Xml xs text → Holds Xml ys text → Holds Xml (if b then xs else ys) text
 either true xs ys text p q = p
@@ -110,7 +110,7 @@ svg_row_holds : (at : ℕ) (row : Row) → Holds Xml (svg_row at row) (row_conte
 unfolding svg_row
 svg_row_holds at row =
     let runs = runs_of (visible_cells row) in
-    holds_both Xml (flat_map (svg_paper at) runs) (flat_map (svg_text_of at) runs) [] (row_content Xml row) (holds_none Xml (svg_paper at) (paper_holds at) runs) (holds_each Xml (svg_text_of at) (λ run. held_text Xml run.text) (text_holds at) runs)
+    holds_both Xml (flat_map (svg_part false at) runs) (flat_map (svg_part true at) runs) [] (row_content Xml row) (holds_none Xml (svg_part false at) (paper_holds at) runs) (holds_each Xml (svg_part true at) (λ run. held_text Xml run.text) (text_holds at) runs)
 
 svg_rows_hold : (at : ℕ) (rows : List Row) → Holds Xml (svg_rows at rows) (flat_map (row_content Xml) rows)
 svg_rows_hold at [] = (tt, refl)
@@ -122,7 +122,7 @@ cursor_holds screen = either screen.visible _ [] [] (rectangle_holds (column_uni
 
 opening_holds : (width height : Text) → Holds Xml (svg_opening width height) []
 unfolding svg_opening sized_opening
-opening_holds width height = (((refl, (refl, (refl, (refl, (refl, (refl, (refl, (refl, tt)))))))), tt), refl)
+opening_holds width height = (((refl, (refl, (refl, (refl, (refl, (refl, (refl, tt))))))), tt), refl)
 
 title_holds : (title : Text) → Holds Xml (Opening (codes "title") [] ∷ Words title ∷ Closing (codes "title") ∷ []) (held_text Xml title)
 title_holds title = (((refl, tt), (tt, (refl, tt))), append-nil (held_text Xml title))

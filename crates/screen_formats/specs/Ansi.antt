@@ -5,57 +5,26 @@ use Rattle.text_clusters.specs.Plain.{is_printable}
 use Rattle.cell_base.specs.Attributes.{Attributes}
 use Rattle.cell_base.specs.Row.{Row}
 use Rattle.cell_base.specs.Screen.{Screen}
-use Rattle.cell_base.specs.declared.attributes.Intensity.{Intensity}
-use Rattle.cell_base.specs.declared.attributes.Intensity.TheVariants.{Normal, Bold, Half}
-use Rattle.cell_base.specs.declared.attributes.Underline.{Underline}
-use Rattle.cell_base.specs.declared.attributes.Underline.TheVariants.{None as no_underline, Single, Double, Curly, Dotted, Dashed}
-use Rattle.cell_base.specs.declared.attributes.Blink.{Blink}
-use Rattle.cell_base.specs.declared.attributes.Blink.TheVariants.{None as no_blink, Slow, Rapid}
-use Rattle.cell_base.specs.declared.attributes.VerticalAlign.{VerticalAlign}
-use Rattle.cell_base.specs.declared.attributes.VerticalAlign.TheVariants.{BaseLine, SuperScript, SubScript}
 use Rattle.cell_base.specs.declared.color.ColorAttribute.{ColorAttribute}
 use Rattle.cell_base.specs.declared.color.ColorAttribute.TheVariants.{Default, PaletteIndex, TrueColorWithDefaultFallback, TrueColorWithPaletteFallback}
 use Rattle.cell_edits.specs.VisibleCells.{visible_cells}
 use Rattle.screen_formats.specs.Links.{link_uri}
-use Rattle.screen_formats.specs.Looks.{Text, text_if}
+use Rattle.screen_formats.specs.Looks.{Text, align_look, blink_look, intensity_look, text_if, underline_look}
 use Rattle.screen_formats.specs.Runs.{Run, runs_of}
 
 -- ---- parameters of SGR, each behind a `;`
 
-abbrev pub intensity_code : Intensity → Text
-intensity_code Normal = []
-intensity_code Bold = codes ";1"
-intensity_code Half = codes ";2"
-
-abbrev pub underline_code : Underline → Text
-underline_code no_underline = []
-underline_code Single = codes ";4"
-underline_code Double = codes ";21"
-underline_code Curly = codes ";4:3"
-underline_code Dotted = codes ";4:4"
-underline_code Dashed = codes ";4:5"
-
-abbrev pub blink_code : Blink → Text
-blink_code no_blink = []
-blink_code Slow = codes ";5"
-blink_code Rapid = codes ";6"
-
-abbrev pub align_code : VerticalAlign → Text
-align_code BaseLine = []
-align_code SuperScript = codes ";73"
-align_code SubScript = codes ";74"
-
 unfoldable pub look_codes : Attributes → Text
 look_codes a =
-    intensity_code a.intensity
+    (intensity_look a.intensity).code
     ++ (text_if a.italic (codes ";3")
-    ++ (underline_code a.underline
-    ++ (blink_code a.blink
+    ++ ((underline_look a.underline).code
+    ++ ((blink_look a.blink).code
     ++ (text_if a.reverse (codes ";7")
     ++ (text_if a.invisible (codes ";8")
     ++ (text_if a.strikethrough (codes ";9")
     ++ (text_if a.overline (codes ";53")
-    ++ align_code a.vertical_align)))))))
+    ++ (align_look a.vertical_align).code)))))))
 
 -- the parameter of a layer (38 text, 48 behind it) and its colour
 unfoldable pub color_code : Text → ColorAttribute → Text

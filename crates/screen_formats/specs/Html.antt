@@ -1,6 +1,7 @@
 -- A screen as HTML.
-use Rattle.std.specs.Prelude.{ℕ, ◌==◌, List, [], ◌∷◌, ◌++◌, codes, decimal, length, if◌then◌else◌}
-use Rattle.std.specs.List.{flat_map}
+use Rattle.std.specs.Prelude.{Bool, ℕ, ◌==◌, ◌||◌, not, List, [], ◌∷◌, ◌++◌, codes, decimal, length, if◌then◌else◌}
+use Rattle.std.specs.List.{flat_map, list_all}
+use Rattle.text_clusters.specs.Plain.{is_printable}
 use Rattle.cell_base.specs.Attributes.{Attributes}
 use Rattle.cell_base.specs.Row.{Row}
 use Rattle.cell_base.specs.Screen.{Screen}
@@ -15,16 +16,20 @@ use Rattle.screen_formats.specs.declared.escape.Markup.TheVariants.{Html}
 abbrev pub background_style : Attributes → List ℕ
 background_style a = if has_background a then color_style (codes "background-color") (hex_color (paper a)) else []
 
--- cells of two columns take their columns whatever the font; `ch` is the width of a digit
-abbrev pub width_style : ℕ → ℕ → List ℕ
-width_style width columns = if width == 2 then codes "display:inline-block;width:" ++ decimal columns ++ codes "ch;" else []
+-- whether a font may give other widths to cells than as many digits have: to those of two columns, and to all but ASCII
+abbrev pub is_uneven : Run → Bool
+is_uneven run = run.width == 2 || not (list_all is_printable run.text)
+
+-- such cells take their columns whatever the font; `ch` is the width of a digit
+abbrev pub width_style : Bool → ℕ → List ℕ
+width_style is_set columns = if is_set then codes "display:inline-block;width:" ++ decimal columns ++ codes "ch;" else []
 
 abbrev pub ink_style : Attributes → List ℕ
 ink_style a = color_style (codes "color") (hex_color (ink a))
 
--- the style of cells of a width that take some columns
-unfoldable pub html_style : Attributes → ℕ → ℕ → List ℕ
-html_style a width columns = ink_style a ++ (background_style a ++ (look_style a ++ width_style width columns))
+-- the style of cells that take some columns, which are set or those of the font
+unfoldable pub html_style : Attributes → Bool → ℕ → List ℕ
+html_style a is_set columns = ink_style a ++ (background_style a ++ (look_style a ++ width_style is_set columns))
 
 -- a link where there is one
 abbrev pub html_name : List ℕ → List ℕ
@@ -34,7 +39,7 @@ abbrev pub html_element : List ℕ → List ℕ → List ℕ → List ℕ → Li
 html_element uri words style text = element (html_name uri) ((codes "href", uri) ∷ (codes "class", words) ∷ (codes "style", style) ∷ []) text
 
 unfoldable pub html_run : Run → List Piece
-html_run run = html_element (link_uri run.attributes) (look_words run.attributes) (html_style run.attributes run.width run.columns) run.text
+html_run run = html_element (link_uri run.attributes) (look_words run.attributes) (html_style run.attributes (is_uneven run) run.columns) run.text
 
 -- the runs of a row, and a line feed
 abbrev pub html_row : Row → List Piece
@@ -44,7 +49,7 @@ abbrev pub html_rows : List Row → List Piece
 html_rows rows = flat_map html_row rows
 
 unfoldable pub screen_style : List ℕ
-screen_style = color_style (codes "color") (hex_color default_foreground) ++ color_style (codes "background-color") (hex_color default_background)
+screen_style = color_style (codes "color") (hex_color default_foreground) ++ (color_style (codes "background-color") (hex_color default_background) ++ codes "line-height:1.25;")
 
 abbrev pub html_pieces : Screen → List Piece
 html_pieces screen = Opening (codes "pre") ((codes "class", codes "screen") ∷ (codes "style", screen_style) ∷ []) ∷ html_rows screen.rows ++ Closing (codes "pre") ∷ Words (10 ∷ []) ∷ []

@@ -19,61 +19,61 @@ Text = List ℕ
 abbrev pub text_if : Bool → Text → Text
 text_if holds text = if holds then text else []
 
--- ---- words, each with a space behind it
+-- a look: its word, with a space behind it; its parameter of SGR (ECMA-48 8.3.117), behind a `;`; and its declaration of CSS
+pub record Look : Type 0 where
+  pub word : Text
+  pub code : Text
+  pub style : Text
 
-abbrev pub intensity_word : Intensity → Text
-intensity_word Normal = []
-intensity_word Bold = codes "bold "
-intensity_word Half = codes "dim "
+abbrev pub plain_look : Look
+plain_look = record { word = []; code = []; style = [] }
 
-abbrev pub underline_word : Underline → Text
-underline_word no_underline = []
-underline_word Single = codes "underline "
-underline_word Double = codes "double-underline "
-underline_word Curly = codes "curly-underline "
-underline_word Dotted = codes "dotted-underline "
-underline_word Dashed = codes "dashed-underline "
+-- how bright a text is
+abbrev pub intensity_look : Intensity → Look
+intensity_look Normal = plain_look
+intensity_look Bold = record { word = codes "bold "; code = codes ";1"; style = codes "font-weight:bold;" }
+intensity_look Half = record { word = codes "dim "; code = codes ";2"; style = [] }
 
-abbrev pub blink_word : Blink → Text
-blink_word no_blink = []
-blink_word Slow = codes "blink "
-blink_word Rapid = codes "rapid-blink "
+-- the line under a text
+abbrev pub underline_look : Underline → Look
+underline_look no_underline = plain_look
+underline_look Single = record { word = codes "underline "; code = codes ";4"; style = [] }
+underline_look Double = record { word = codes "double-underline "; code = codes ";21"; style = codes "text-decoration-style:double;" }
+underline_look Curly = record { word = codes "curly-underline "; code = codes ";4:3"; style = codes "text-decoration-style:wavy;" }
+underline_look Dotted = record { word = codes "dotted-underline "; code = codes ";4:4"; style = codes "text-decoration-style:dotted;" }
+underline_look Dashed = record { word = codes "dashed-underline "; code = codes ";4:5"; style = codes "text-decoration-style:dashed;" }
 
-abbrev pub align_word : VerticalAlign → Text
-align_word BaseLine = []
-align_word SuperScript = codes "superscript "
-align_word SubScript = codes "subscript "
+-- whether a text blinks
+abbrev pub blink_look : Blink → Look
+blink_look no_blink = plain_look
+blink_look Slow = record { word = codes "blink "; code = codes ";5"; style = [] }
+blink_look Rapid = record { word = codes "rapid-blink "; code = codes ";6"; style = [] }
+
+-- whether a text is raised or lowered
+abbrev pub align_look : VerticalAlign → Look
+align_look BaseLine = plain_look
+align_look SuperScript = record { word = codes "superscript "; code = codes ";73"; style = [] }
+align_look SubScript = record { word = codes "subscript "; code = codes ";74"; style = [] }
+
+-- ---- the words of all looks
 
 abbrev pub look_words : Attributes → Text
 look_words a =
-    intensity_word a.intensity
+    (intensity_look a.intensity).word
     ++ (text_if a.italic (codes "italic ")
-    ++ (underline_word a.underline
+    ++ ((underline_look a.underline).word
     ++ (text_if a.overline (codes "overline ")
     ++ (text_if a.strikethrough (codes "strikethrough ")
-    ++ (blink_word a.blink
+    ++ ((blink_look a.blink).word
     ++ (text_if a.reverse (codes "reverse ")
     ++ (text_if a.invisible (codes "invisible ")
-    ++ align_word a.vertical_align)))))))
+    ++ (align_look a.vertical_align).word)))))))
 
 -- ---- declarations of CSS
-
-abbrev pub weight_style : Intensity → Text
-weight_style Normal = []
-weight_style Bold = codes "font-weight:bold;"
-weight_style Half = []
 
 -- the lines of a text: under it, above it and through it
 abbrev pub lines_style : Attributes → Text
 lines_style a = text_if (is_underlined a.underline) (codes "underline ") ++ text_if a.overline (codes "overline ") ++ text_if a.strikethrough (codes "line-through ")
-
-abbrev pub underline_style : Underline → Text
-underline_style no_underline = []
-underline_style Single = []
-underline_style Double = codes "text-decoration-style:double;"
-underline_style Curly = codes "text-decoration-style:wavy;"
-underline_style Dotted = codes "text-decoration-style:dotted;"
-underline_style Dashed = codes "text-decoration-style:dashed;"
 
 -- a declaration whose value is a colour
 abbrev pub color_style : Text → Text → Text
@@ -88,8 +88,8 @@ underline_color_style a = if is_default a.underline_color then [] else color_sty
 -- how a text looks, less its colours
 abbrev pub look_style : Attributes → Text
 look_style a =
-    weight_style a.intensity
+    (intensity_look a.intensity).style
     ++ (text_if a.italic (codes "font-style:italic;")
     ++ (lines_declared (lines_style a)
-    ++ (underline_style a.underline
+    ++ ((underline_look a.underline).style
     ++ underline_color_style a)))

@@ -1,5 +1,5 @@
 -- Runs: neighbouring visible cells that look alike.
-use Rattle.std.specs.Prelude.{ℕ, Bool, not, ◌&&◌, ◌==◌, List, [], ◌∷◌, map, sum_by}
+use Rattle.std.specs.Prelude.{◌≡◌, ℕ, Bool, not, ◌&&◌, ◌==◌, List, [], ◌∷◌, map, sum_by}
 use Rattle.cell_base.specs.Attributes.{Attributes, plain}
 use Rattle.cell_base.specs.SameAttributes.{same_attributes}
 use Rattle.cell_edits.specs.VisibleCells.{VisibleCell, first_column, texts_joined}
@@ -31,6 +31,11 @@ goes_on run v = same_attributes run.attributes v.cell.attributes && run.width ==
 
 abbrev pub begins_run : List VisibleCell → VisibleCell → Bool
 begins_run cells v = not (goes_on (run_of cells) v)
+
+-- a cell has the attributes and the width of a run
+pub record LooksAs (run : Run) (v : VisibleCell) : Type 0 where
+  pub attributes : v.cell.attributes ≡ run.attributes
+  pub width : v.cell.width ≡ run.width
 
 -- the runs of cells, in order
 abbrev pub runs_of : List VisibleCell → List Run

@@ -1,5 +1,5 @@
 -- A screen as SVG: a column is 10 units wide, and a row 20 units high.
-use Rattle.std.specs.Prelude.{ℕ, ◌+◌, ◌-◌, ◌*◌, ◌==◌, min, List, [], ◌∷◌, ◌++◌, codes, decimal, length, if◌then◌else◌}
+use Rattle.std.specs.Prelude.{Bool, true, false, ℕ, ◌+◌, ◌-◌, ◌*◌, ◌==◌, min, List, [], ◌∷◌, ◌++◌, codes, decimal, length, if◌then◌else◌}
 use Rattle.std.specs.List.{flat_map}
 use Rattle.cell_base.specs.Attributes.{Attributes}
 use Rattle.cell_base.specs.Row.{Row}
@@ -32,10 +32,10 @@ unfoldable pub rectangle : Text → Text → Text → Text → Text → Text →
 rectangle x y width height fill opacity =
     element (codes "rect") ((codes "x", x) ∷ (codes "y", y) ∷ (codes "width", width) ∷ (codes "height", height) ∷ (codes "fill", fill) ∷ (codes "fill-opacity", opacity) ∷ []) []
 
--- a text that is as long as its columns
+-- a text that is as long as its columns, of which no space is dropped
 unfoldable pub placed_text : Text → Text → Text → Text → Text → Text → List Piece
 placed_text x y len words style text =
-    element (codes "text") ((codes "x", x) ∷ (codes "y", y) ∷ (codes "textLength", len) ∷ (codes "class", words) ∷ (codes "style", style) ∷ []) text
+    element (codes "text") ((codes "x", x) ∷ (codes "y", y) ∷ (codes "textLength", len) ∷ (codes "xml:space", codes "preserve") ∷ (codes "class", words) ∷ (codes "style", style) ∷ []) text
 
 -- in a link, where there is one
 abbrev pub linked : Text → List Piece → List Piece
@@ -59,8 +59,14 @@ svg_text_of row run = linked (link_uri run.attributes) (svg_letters row run)
 
 -- ---- the screen
 
+-- of a run its text, or what is behind it
+abbrev pub svg_part : Bool → ℕ → Run → List Piece
+svg_part true row run = svg_text_of row run
+svg_part false row run = svg_paper row run
+
+-- the texts stand before all that is behind them
 abbrev pub svg_runs : ℕ → List Run → List Piece
-svg_runs row runs = flat_map (svg_paper row) runs ++ flat_map (svg_text_of row) runs
+svg_runs row runs = flat_map (svg_part false row) runs ++ flat_map (svg_part true row) runs
 
 unfoldable pub svg_row : ℕ → Row → List Piece
 svg_row row columns = svg_runs row (runs_of (visible_cells columns))
@@ -84,7 +90,6 @@ sized_opening width height view_box =
     ∷ (codes "viewBox", view_box)
     ∷ (codes "font-family", codes "monospace")
     ∷ (codes "font-size", codes "16")
-    ∷ (codes "xml:space", codes "preserve")
     ∷ []
     ) ∷ []
 

@@ -3,76 +3,31 @@ ghost use Rattle.std.specs.Prelude.{◌≡◌, ◌++◌, map, IfOk, OnOk};
 ghost use Rattle.std.specs.String.{string_bytes};
 ghost use Rattle.std.specs.List.{flat_map};
 ghost use Rattle.cell_surface.specs.Surface.{shown_by};
-ghost use Rattle.screen_formats.specs.Ansi.{align_code, ansi_row, ansi_run, ansi_text, blink_code, color_code, color_codes, intensity_code, look_codes, sent_text, sent_uri, underline_code, underline_color_code};
+ghost use Rattle.screen_formats.specs.Ansi.{ansi_row, ansi_run, ansi_text, color_code, color_codes, look_codes, sent_text, sent_uri, underline_color_code};
 
 use crate::links::link_uri;
-use crate::looks::text_if;
+use crate::looks::{align_look, blink_look, intensity_look, text_if, underline_look};
 use crate::runs::{Run, line_runs};
-use cell_base::{
-    Blink, CellAttributes, ColorAttribute, Intensity, Underline, VerticalAlign, Widths,
-};
+use cell_base::{CellAttributes, ColorAttribute, Widths};
 use cell_line::Line;
 use cell_surface::Surface;
 use std::alloc::{AllocError, Global};
 use text_clusters::are_printable;
-
-fn intensity_code(intensity: Intensity) -> &'static str
-    ensures { result.now ≡ intensity_code intensity }
-{
-    match intensity {
-        Intensity::Normal => "",
-        Intensity::Bold => ";1",
-        Intensity::Half => ";2",
-    }
-}
-
-fn underline_code(underline: Underline) -> &'static str
-    ensures { result.now ≡ underline_code underline }
-{
-    match underline {
-        Underline::None => "",
-        Underline::Single => ";4",
-        Underline::Double => ";21",
-        Underline::Curly => ";4:3",
-        Underline::Dotted => ";4:4",
-        Underline::Dashed => ";4:5",
-    }
-}
-
-fn blink_code(blink: Blink) -> &'static str
-    ensures { result.now ≡ blink_code blink }
-{
-    match blink {
-        Blink::None => "",
-        Blink::Slow => ";5",
-        Blink::Rapid => ";6",
-    }
-}
-
-fn align_code(align: VerticalAlign) -> &'static str
-    ensures { result.now ≡ align_code align }
-{
-    match align {
-        VerticalAlign::BaseLine => "",
-        VerticalAlign::SuperScript => ";73",
-        VerticalAlign::SubScript => ";74",
-    }
-}
 
 // The parameters of how a text looks, less its colours.
 #[tactic(auto, unfolding(crate::specs::Ansi::look_codes))]
 fn look_codes(alloc: Global, attrs: &CellAttributes) -> Result<String, AllocError>
     ensures { IfOk result (λ codes. string_bytes codes ≡ look_codes attrs.now) }
 {
-    let intensity = intensity_code(attrs.intensity());
+    let intensity = intensity_look(attrs.intensity()).code;
     let italic = text_if(attrs.italic(), ";3");
-    let underline = underline_code(attrs.underline());
-    let blink = blink_code(attrs.blink());
+    let underline = underline_look(attrs.underline()).code;
+    let blink = blink_look(attrs.blink()).code;
     let reverse = text_if(attrs.reverse(), ";7");
     let invisible = text_if(attrs.invisible(), ";8");
     let strikethrough = text_if(attrs.strikethrough(), ";9");
     let overline = text_if(attrs.overline(), ";53");
-    let align = align_code(attrs.vertical_align());
+    let align = align_look(attrs.vertical_align()).code;
     let text = format!(in alloc;
         "{intensity}{italic}{underline}{blink}{reverse}{invisible}{strikethrough}{overline}{align}"
     )?;

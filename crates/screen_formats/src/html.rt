@@ -2,7 +2,7 @@
 ghost use Rattle.std.specs.Prelude.{◌≡◌, ◌++◌, map, IfOk, OnOk};
 ghost use Rattle.std.specs.String.{string_bytes};
 ghost use Rattle.cell_surface.specs.Surface.{shown_by};
-ghost use Rattle.screen_formats.specs.Html.{background_style, html_element, html_name, html_row, html_rows, html_run, html_style, html_text, ink_style, screen_style, width_style};
+ghost use Rattle.screen_formats.specs.Html.{background_style, html_element, html_name, html_row, html_rows, html_run, html_style, html_text, ink_style, is_uneven, screen_style, width_style};
 ghost use Rattle.screen_formats.specs.Pieces.{pieces_text};
 ghost use Rattle.screen_formats.specs.declared.escape.Markup.TheVariants.{Html};
 
@@ -16,6 +16,7 @@ use cell_base::{CellAttributes, Widths};
 use cell_line::Line;
 use cell_surface::Surface;
 use std::alloc::{AllocError, Global};
+use text_clusters::are_printable;
 
 // The declaration of the colour behind a text, if one is seen.
 fn background_style(alloc: Global, attrs: &CellAttributes) -> Result<String, AllocError>
@@ -28,11 +29,18 @@ fn background_style(alloc: Global, attrs: &CellAttributes) -> Result<String, All
     Ok(style)
 }
 
-// The declaration of the columns that wide cells take.
-fn width_style(alloc: Global, width: usize, columns: usize) -> Result<String, AllocError>
-    ensures { IfOk result (λ style. string_bytes style ≡ width_style width columns) }
+// Whether a font may give the cells of a run other widths than as many digits have.
+fn is_uneven(run: &Run<'_>) -> bool
+    ensures { result ≡ is_uneven run.now }
 {
-    if width != 2 {
+    run.width == 2 || !are_printable(run.text.as_bytes())
+}
+
+// The declaration of the columns that cells take, if they are set.
+fn width_style(alloc: Global, is_set: bool, columns: usize) -> Result<String, AllocError>
+    ensures { IfOk result (λ style. string_bytes style ≡ width_style is_set columns) }
+{
+    if !is_set {
         return Ok(String::new(alloc));
     }
     let style = format!(in alloc; "display:inline-block;width:{columns}ch;")?;
@@ -47,20 +55,20 @@ fn ink_style(alloc: Global, attrs: &CellAttributes) -> Result<String, AllocError
     Ok(style)
 }
 
-// How cells of a width that take some columns look, as declarations of CSS.
+// How cells that take some columns look, as declarations of CSS.
 #[tactic(auto, unfolding(crate::specs::Html::html_style))]
 fn html_style(
     alloc: Global,
     attrs: &CellAttributes,
-    width: usize,
+    is_set: bool,
     columns: usize,
 ) -> Result<String, AllocError>
-    ensures { IfOk result (λ style. string_bytes style ≡ html_style attrs.now width columns) }
+    ensures { IfOk result (λ style. string_bytes style ≡ html_style attrs.now is_set columns) }
 {
     let color = ink_style(alloc, attrs)?;
     let background = background_style(alloc, attrs)?;
     let look = look_style(alloc, attrs)?;
-    let width = width_style(alloc, width, columns)?;
+    let width = width_style(alloc, is_set, columns)?;
     let style = format!(in alloc; "{color}{background}{look}{width}")?;
     Ok(style)
 }
@@ -100,7 +108,7 @@ fn push_run(alloc: Global, out: &mut String, run: &Run<'_>) -> Result<(), AllocE
     ensures { OnOk result (string_bytes out.new ≡ string_bytes out.old ++ pieces_text Html (html_run run.now)) }
 {
     let words = look_words(alloc, run.attrs)?;
-    let style = html_style(alloc, run.attrs, run.width, run.columns)?;
+    let style = html_style(alloc, run.attrs, is_uneven(run), run.columns)?;
     push_html_element(out, link_uri(run.attrs), &words, &style, &run.text)?;
     Ok(())
 }
@@ -137,15 +145,15 @@ fn screen_style(alloc: Global) -> Result<String, AllocError>
 {
     let color = color_style(alloc, "color", DEFAULT_FOREGROUND)?;
     let background = color_style(alloc, "background-color", DEFAULT_BACKGROUND)?;
-    let style = format!(in alloc; "{color}{background}")?;
+    let style = format!(in alloc; "{color}{background}line-height:1.25;")?;
     Ok(style)
 }
 
 /// Writes a screen as HTML: an element `pre` of class `screen`, in which each row has a line feed behind it. A run is a
 /// `span`, or an `a` where it has a link of the scheme http, https, mailto or file. Its class tells how it looks, in
 /// the
-/// words of `look_words`, and its style is complete but for texts that blink or are raised or lowered. Wide cells take
-/// two columns each.
+/// words of `look_words`, and its style is complete but for texts that blink or are raised or lowered. Cells that a font
+/// may give other widths take their columns.
 ///
 /// Of a surface that has failed nothing is said but that its cells are written.
 pub fn write_html<W: Widths + Drop>(

@@ -1,9 +1,9 @@
 //! Laws of the formats: each is the contract of a function that does nothing.
 ghost use Rattle.std.specs.Prelude.{◌≡◌, List, Some, map};
-ghost use Rattle.std.specs.List.{flat_map};
+ghost use Rattle.std.specs.List.{AllByRecursion, flat_map};
 ghost use Rattle.cell_edits.specs.VisibleCells.{VisibleCell, texts_joined};
 ghost use Rattle.cell_views.specs.Groups.{AreGroupsOf, groups_by};
-ghost use Rattle.screen_formats.specs.Runs.{begins_run, run_of, runs_of};
+ghost use Rattle.screen_formats.specs.Runs.{LooksAs, begins_run, run_of, runs_of};
 ghost use Rattle.cell_base.specs.Screen.{Screen};
 ghost use Rattle.screen_formats.specs.Content.{AreTagged, content, html_content, pieces_content, svg_content};
 ghost use Rattle.screen_formats.specs.Escape.{escaped, held_text, unescaped};
@@ -47,11 +47,13 @@ pub fn svg_holds_the_cells()
 {}
 
 /// The runs of cells are a cut of them, by the rule that a cell begins a run where its attributes or its width differ
-/// from those of the run before it. Each has the attributes, the width and the column of its first cell, and their texts,
-/// joined, are the texts of the cells.
+/// from those of the run before it. Each has the attributes and the width of each of its cells and the column of the
+/// first, and their texts, joined, are the texts of the cells.
 #[tactic(auto, using(crate::proofs::RunLemmas::texts_of_runs))]
 pub fn runs_hold_the_cells()
     ensures texts { (cells : List VisibleCell) → flat_map (λ run. run.text) (runs_of cells) ≡ texts_joined cells }
     ensures cut { (cells : List VisibleCell) → AreGroupsOf begins_run cells (groups_by begins_run cells) }
     ensures runs { (cells : List VisibleCell) → runs_of cells ≡ map run_of (groups_by begins_run cells) }
+    ensures looks { (cells : List VisibleCell)
+        → AllByRecursion (λ group. AllByRecursion (LooksAs (run_of group)) group) (groups_by begins_run cells) }
 {}

@@ -2,7 +2,7 @@
 ghost use Rattle.std.specs.Prelude.{◌≡◌, ◌++◌, IfOk};
 ghost use Rattle.std.specs.String.{string_bytes};
 ghost use Rattle.screen_formats.specs.Colors.{hex_color};
-ghost use Rattle.screen_formats.specs.Looks.{align_word, blink_word, color_style, intensity_word, lines_declared, lines_style, look_style, look_words, text_if, underline_color_style, underline_style, underline_word, weight_style};
+ghost use Rattle.screen_formats.specs.Looks.{align_look, blink_look, color_style, intensity_look, lines_declared, lines_style, look_style, look_words, text_if, underline_color_style, underline_look};
 
 use crate::colors::{Rgb, color_of, ink};
 use cell_base::{Blink, CellAttributes, ColorAttribute, Intensity, Underline, VerticalAlign};
@@ -15,46 +15,75 @@ pub(crate) fn text_if(holds: bool, text: &str) -> &str
     if holds { text } else { "" }
 }
 
-fn intensity_word(intensity: Intensity) -> &'static str
-    ensures { result.now ≡ intensity_word intensity }
+/// A look: its word, with a space behind it; its parameter of SGR, behind a `;`; and its declaration of CSS. Each is empty
+/// where there is none.
+#[derive(Clone, Copy)]
+pub(crate) struct Look {
+    pub(crate) word: &'static str,
+    pub(crate) code: &'static str,
+    pub(crate) style: &'static str,
+}
+
+fn look_of(word: &'static str, code: &'static str, style: &'static str) -> Look
+    ensures word { result.word.now ≡ word.now }
+    ensures code { result.code.now ≡ code.now }
+    ensures style { result.style.now ≡ style.now }
+{
+    Look { word, code, style }
+}
+
+// How bright a text is.
+pub(crate) fn intensity_look(intensity: Intensity) -> Look
+    ensures word { result.word.now ≡ (intensity_look intensity).word }
+    ensures code { result.code.now ≡ (intensity_look intensity).code }
+    ensures style { result.style.now ≡ (intensity_look intensity).style }
 {
     match intensity {
-        Intensity::Normal => "",
-        Intensity::Bold => "bold ",
-        Intensity::Half => "dim ",
+        Intensity::Normal => look_of("", "", ""),
+        Intensity::Bold => look_of("bold ", ";1", "font-weight:bold;"),
+        Intensity::Half => look_of("dim ", ";2", ""),
     }
 }
 
-fn underline_word(underline: Underline) -> &'static str
-    ensures { result.now ≡ underline_word underline }
+// The line under a text.
+pub(crate) fn underline_look(underline: Underline) -> Look
+    ensures word { result.word.now ≡ (underline_look underline).word }
+    ensures code { result.code.now ≡ (underline_look underline).code }
+    ensures style { result.style.now ≡ (underline_look underline).style }
 {
     match underline {
-        Underline::None => "",
-        Underline::Single => "underline ",
-        Underline::Double => "double-underline ",
-        Underline::Curly => "curly-underline ",
-        Underline::Dotted => "dotted-underline ",
-        Underline::Dashed => "dashed-underline ",
+        Underline::None => look_of("", "", ""),
+        Underline::Single => look_of("underline ", ";4", ""),
+        Underline::Double => look_of("double-underline ", ";21", "text-decoration-style:double;"),
+        Underline::Curly => look_of("curly-underline ", ";4:3", "text-decoration-style:wavy;"),
+        Underline::Dotted => look_of("dotted-underline ", ";4:4", "text-decoration-style:dotted;"),
+        Underline::Dashed => look_of("dashed-underline ", ";4:5", "text-decoration-style:dashed;"),
     }
 }
 
-fn blink_word(blink: Blink) -> &'static str
-    ensures { result.now ≡ blink_word blink }
+// Whether a text blinks.
+pub(crate) fn blink_look(blink: Blink) -> Look
+    ensures word { result.word.now ≡ (blink_look blink).word }
+    ensures code { result.code.now ≡ (blink_look blink).code }
+    ensures style { result.style.now ≡ (blink_look blink).style }
 {
     match blink {
-        Blink::None => "",
-        Blink::Slow => "blink ",
-        Blink::Rapid => "rapid-blink ",
+        Blink::None => look_of("", "", ""),
+        Blink::Slow => look_of("blink ", ";5", ""),
+        Blink::Rapid => look_of("rapid-blink ", ";6", ""),
     }
 }
 
-fn align_word(align: VerticalAlign) -> &'static str
-    ensures { result.now ≡ align_word align }
+// Whether a text is raised or lowered.
+pub(crate) fn align_look(align: VerticalAlign) -> Look
+    ensures word { result.word.now ≡ (align_look align).word }
+    ensures code { result.code.now ≡ (align_look align).code }
+    ensures style { result.style.now ≡ (align_look align).style }
 {
     match align {
-        VerticalAlign::BaseLine => "",
-        VerticalAlign::SuperScript => "superscript ",
-        VerticalAlign::SubScript => "subscript ",
+        VerticalAlign::BaseLine => look_of("", "", ""),
+        VerticalAlign::SuperScript => look_of("superscript ", ";73", ""),
+        VerticalAlign::SubScript => look_of("subscript ", ";74", ""),
     }
 }
 
@@ -64,37 +93,19 @@ fn align_word(align: VerticalAlign) -> &'static str
 pub fn look_words(alloc: Global, attrs: &CellAttributes) -> Result<String, AllocError>
     ensures { IfOk result (λ words. string_bytes words ≡ look_words attrs.now) }
 {
-    let intensity = intensity_word(attrs.intensity());
+    let intensity = intensity_look(attrs.intensity()).word;
     let italic = text_if(attrs.italic(), "italic ");
-    let underline = underline_word(attrs.underline());
+    let underline = underline_look(attrs.underline()).word;
     let overline = text_if(attrs.overline(), "overline ");
     let strikethrough = text_if(attrs.strikethrough(), "strikethrough ");
-    let blink = blink_word(attrs.blink());
+    let blink = blink_look(attrs.blink()).word;
     let reverse = text_if(attrs.reverse(), "reverse ");
     let invisible = text_if(attrs.invisible(), "invisible ");
-    let align = align_word(attrs.vertical_align());
+    let align = align_look(attrs.vertical_align()).word;
     let text = format!(in alloc;
         "{intensity}{italic}{underline}{overline}{strikethrough}{blink}{reverse}{invisible}{align}"
     )?;
     Ok(text)
-}
-
-fn weight_style(intensity: Intensity) -> &'static str
-    ensures { result.now ≡ weight_style intensity }
-{
-    text_if(intensity == Intensity::Bold, "font-weight:bold;")
-}
-
-fn underline_style(underline: Underline) -> &'static str
-    ensures { result.now ≡ underline_style underline }
-{
-    match underline {
-        Underline::None | Underline::Single => "",
-        Underline::Double => "text-decoration-style:double;",
-        Underline::Curly => "text-decoration-style:wavy;",
-        Underline::Dotted => "text-decoration-style:dotted;",
-        Underline::Dashed => "text-decoration-style:dashed;",
-    }
 }
 
 // The lines under, above and through a text.
@@ -145,10 +156,10 @@ fn underline_color_style(alloc: Global, attrs: &CellAttributes) -> Result<String
 pub(crate) fn look_style(alloc: Global, attrs: &CellAttributes) -> Result<String, AllocError>
     ensures { IfOk result (λ style. string_bytes style ≡ look_style attrs.now) }
 {
-    let weight = weight_style(attrs.intensity());
+    let weight = intensity_look(attrs.intensity()).style;
     let slant = text_if(attrs.italic(), "font-style:italic;");
     let lines = lines_declared(alloc, &lines_style(alloc, attrs)?)?;
-    let underline = underline_style(attrs.underline());
+    let underline = underline_look(attrs.underline()).style;
     let color = underline_color_style(alloc, attrs)?;
     let text = format!(in alloc; "{weight}{slant}{lines}{underline}{color}")?;
     Ok(text)

@@ -4,7 +4,7 @@ ghost use Rattle.std.specs.String.{string_bytes};
 ghost use Rattle.std.specs.List.{flat_map};
 ghost use Rattle.cell_surface.specs.Surface.{shown_by};
 ghost use Rattle.screen_formats.specs.Pieces.{Closing, Words, pieces_text};
-ghost use Rattle.screen_formats.specs.Svg.{base_line, column_units, placed_text, rectangle, row_units, sized_opening, svg_cursor, svg_front, svg_letters, svg_opening, svg_paper, svg_row, svg_rows, svg_runs, svg_style, svg_text, svg_text_of};
+ghost use Rattle.screen_formats.specs.Svg.{base_line, column_units, placed_text, rectangle, row_units, sized_opening, svg_cursor, svg_front, svg_letters, svg_opening, svg_paper, svg_part, svg_row, svg_rows, svg_runs, svg_style, svg_text, svg_text_of};
 ghost use Rattle.screen_formats.specs.declared.escape.Markup.TheVariants.{Xml};
 
 use crate::colors::{
@@ -112,6 +112,7 @@ fn push_placed_text<'a>(
             ("x", x),
             ("y", y),
             ("textLength", len),
+            ("xml:space", "preserve"),
             ("class", words),
             ("style", style),
         ],
@@ -170,34 +171,38 @@ fn push_text(alloc: Global, out: &mut String, row: usize, run: &Run<'_>) -> Resu
     Ok(())
 }
 
-// Writes what is behind runs.
-fn push_papers(
+// Writes the text of a run, or what is behind it.
+fn push_part(
     alloc: Global,
     out: &mut String,
     row: usize,
-    runs: &[Run<'_>],
+    run: &Run<'_>,
+    is_text: bool,
 ) -> Result<(), AllocError>
     ensures { OnOk result
-        (string_bytes out.new ≡ string_bytes out.old ++ pieces_text Xml (flat_map (svg_paper row) runs.now)) }
+        (string_bytes out.new ≡ string_bytes out.old ++ pieces_text Xml (svg_part is_text row run.now)) }
 {
-    for run in runs {
+    if is_text {
+        push_text(alloc, out, row, run)?;
+    } else {
         push_paper(alloc, out, row, run)?;
     }
     Ok(())
 }
 
-// Writes the texts of runs.
-fn push_texts(
+// Writes the texts of runs, or what is behind them.
+fn push_parts(
     alloc: Global,
     out: &mut String,
     row: usize,
     runs: &[Run<'_>],
+    is_text: bool,
 ) -> Result<(), AllocError>
     ensures { OnOk result
-        (string_bytes out.new ≡ string_bytes out.old ++ pieces_text Xml (flat_map (svg_text_of row) runs.now)) }
+        (string_bytes out.new ≡ string_bytes out.old ++ pieces_text Xml (flat_map (svg_part is_text row) runs.now)) }
 {
     for run in runs {
-        push_text(alloc, out, row, run)?;
+        push_part(alloc, out, row, run, is_text)?;
     }
     Ok(())
 }
@@ -209,8 +214,8 @@ fn push_row(alloc: Global, out: &mut String, row: usize, line: &Line) -> Result<
         (string_bytes out.new ≡ string_bytes out.old ++ pieces_text Xml (svg_row row line.now.columns)) }
 {
     let runs = line_runs(alloc, line)?;
-    push_papers(alloc, out, row, &runs)?;
-    push_texts(alloc, out, row, &runs)?;
+    push_parts(alloc, out, row, &runs, false)?;
+    push_parts(alloc, out, row, &runs, true)?;
     Ok(())
 }
 
@@ -271,7 +276,6 @@ fn push_sized_opening<'a>(
             ("viewBox", view_box),
             ("font-family", "monospace"),
             ("font-size", "16"),
-            ("xml:space", "preserve"),
         ],
     )?;
     Ok(())

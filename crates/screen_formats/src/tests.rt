@@ -88,7 +88,7 @@ fn wide_cells_and_marks(rt: HostRuntime) {
     assert_html(
         &rt,
         &surface,
-        "<pre class=\"screen\" style=\"color:#e5e5e5;background-color:#000000;\">\
+        "<pre class=\"screen\" style=\"color:#e5e5e5;background-color:#000000;line-height:1.25;\">\
          <span style=\"color:#e5e5e5;\">a</span><span style=\"color:#e5e5e5;display:inline-block;width:2ch;\">漢\
          </span><span style=\"color:#e5e5e5;\">&lt;&amp;&quot;</span>\n</pre>\n",
     );
@@ -100,7 +100,7 @@ fn looks(rt: HostRuntime) {
     assert_html(
         &rt,
         &surface,
-        "<pre class=\"screen\" style=\"color:#e5e5e5;background-color:#000000;\">\
+        "<pre class=\"screen\" style=\"color:#e5e5e5;background-color:#000000;line-height:1.25;\">\
          <span class=\"bold italic curly-underline overline strikethrough blink reverse superscript \" \
          style=\"color:#000000;background-color:#cd0000;font-weight:bold;font-style:italic;\
          text-decoration:underline overline line-through ;text-decoration-style:wavy;\">&#39;\
@@ -119,7 +119,7 @@ fn links(rt: HostRuntime) {
     assert_html(
         &rt,
         &page,
-        "<pre class=\"screen\" style=\"color:#e5e5e5;background-color:#000000;\">\
+        "<pre class=\"screen\" style=\"color:#e5e5e5;background-color:#000000;line-height:1.25;\">\
          <a href=\"https://e.org/?a&amp;&quot;&gt;\" style=\"color:#e5e5e5;\">x</a>\n</pre>\n",
     );
     assert_ansi(
@@ -131,7 +131,7 @@ fn links(rt: HostRuntime) {
     assert_html(
         &rt,
         &script,
-        "<pre class=\"screen\" style=\"color:#e5e5e5;background-color:#000000;\">\
+        "<pre class=\"screen\" style=\"color:#e5e5e5;background-color:#000000;line-height:1.25;\">\
          <span style=\"color:#e5e5e5;\">x</span>\n</pre>\n",
     );
 }
@@ -144,9 +144,9 @@ fn pictures(rt: HostRuntime) {
         &rt,
         &surface,
         "<svg xmlns=\"http://www.w3.org/2000/svg\" width=\"10\" height=\"20\" viewBox=\"0 0 10 20\" \
-         font-family=\"monospace\" font-size=\"16\" xml:space=\"preserve\">\
+         font-family=\"monospace\" font-size=\"16\">\
          <title>&lt;\u{FFFD}&gt;</title><rect x=\"0\" y=\"0\" width=\"10\" height=\"20\" fill=\"#000000\"></rect>\
-         <a href=\"file:x\"><text x=\"0\" y=\"15\" textLength=\"10\" style=\"fill:#e5e5e5;\">x</text></a>\
+         <a href=\"file:x\"><text x=\"0\" y=\"15\" textLength=\"10\" xml:space=\"preserve\" style=\"fill:#e5e5e5;\">x</text></a>\
          <rect x=\"0\" y=\"0\" width=\"10\" height=\"20\" fill=\"#e5e5e5\" fill-opacity=\"0.5\"></rect></svg>\n",
     );
 }
@@ -163,5 +163,38 @@ fn json(rt: HostRuntime) {
          \"looks\":\"bold italic curly-underline overline strikethrough blink reverse superscript \",\
          \"semantic_type\":\"output\",\"wrapped\":false},\"column\":0,\"columns\":2,\"text\":\"漢\",\
          \"width\":2}]],\"title\":\"\",\"width\":2}",
+    );
+}
+
+#[test]
+fn markup_in_texts_and_titles(rt: HostRuntime) {
+    let mut surface = row_of(&rt, 7, CellAttributes::blank(), "漢<&>\"'");
+    add(
+        &rt,
+        &mut surface,
+        Change::Title(text_of(&rt, "<&>\"'\u{7}")),
+    );
+    assert_svg(
+        &rt,
+        &surface,
+        "<svg xmlns=\"http://www.w3.org/2000/svg\" width=\"70\" height=\"20\" viewBox=\"0 0 70 20\" \
+         font-family=\"monospace\" font-size=\"16\">\
+         <title>&lt;&amp;&gt;&quot;&#39;\u{FFFD}</title>\
+         <rect x=\"0\" y=\"0\" width=\"70\" height=\"20\" fill=\"#000000\"></rect>\
+         <text x=\"0\" y=\"15\" textLength=\"20\" xml:space=\"preserve\" style=\"fill:#e5e5e5;\">漢</text>\
+         <text x=\"20\" y=\"15\" textLength=\"50\" xml:space=\"preserve\" style=\"fill:#e5e5e5;\">&lt;&amp;&gt;&quot;&#39;</text>\
+         <rect x=\"60\" y=\"0\" width=\"10\" height=\"20\" fill=\"#e5e5e5\" fill-opacity=\"0.5\"></rect></svg>\n",
+    );
+    assert_ansi(&rt, &surface, "\u{1b}[0m漢\u{1b}[0m<&>\"'\u{1b}[0m\n");
+}
+
+#[test]
+fn cells_that_a_font_may_widen(rt: HostRuntime) {
+    let surface = row_of(&rt, 2, CellAttributes::blank(), "ｶé");
+    assert_html(
+        &rt,
+        &surface,
+        "<pre class=\"screen\" style=\"color:#e5e5e5;background-color:#000000;line-height:1.25;\">\
+         <span style=\"color:#e5e5e5;display:inline-block;width:2ch;\">ｶé</span>\n</pre>\n",
     );
 }

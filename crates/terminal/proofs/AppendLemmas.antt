@@ -43,6 +43,10 @@ write_more a b c bytes n m h k = appends_more a b c bytes n m h (rw (rest_is byt
 pub no_fault : (x y z : Bool) → z ≡ (x || y) → x ≡ false → y ≡ false → z ≡ false
 no_fault x y z e f g = e ∙ (λ i. f i || g i)
 
+-- with no fault before, no call came after one
+pub not_gone_on : (failed before now : Bool) → now ≡ (failed || before) → failed ≡ false → now ≡ before
+not_gone_on failed before now e f = e ∙ ap (λ b. b || before) f
+
 pub took_some : (n : ℕ) (b : Bool) → (n ≡ 0 → ⊥) → ((n == 0) && b) ≡ false
 took_some n b h = by_test (n == 0) refl
   where

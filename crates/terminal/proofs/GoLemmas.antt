@@ -5,8 +5,9 @@ use Rattle.std.proofs.lemmas.Grind.{flat_map-append}
 use Rattle.std.proofs.lemmas.List.Sums.{fold-append}
 use Rattle.change_log.specs.LogSteps.{Sized, step_of_kept}
 use Rattle.escape_framing.specs.Framed.{IsReached}
-use Rattle.escape_framing.specs.Cut.{the_cut, newly_decided}
+use Rattle.escape_framing.specs.Cut.{newly_decided}
 use Rattle.escape_framing.specs.Held.{Held, held_of}
+use Rattle.escape_framing.proofs.Existence.CutLemmas.{is_the_cut}
 use Rattle.escape_framing.proofs.PlacedLemmas.{newly_join}
 use Rattle.escape_stream.specs.Items.{items}
 use Rattle.escape_stream.specs.StreamActions.{actions_of_dispatch, actions_of}
@@ -115,7 +116,7 @@ module _ {W : Type 0} (width_of : W → List ℕ → ℕ) where
   -- ---- a piece
 
   pub events_are : (stream bytes : List ℕ) → AreEvents (item_events (items stream bytes))
-  events_are stream bytes = call_events (λ s. (the_cut s).is_cut) newly_join pieces_spell stream bytes
+  events_are stream bytes = call_events is_the_cut newly_join pieces_spell stream bytes
 
   -- what is unfinished behind it
   piece_ends : (u w : Held) (bytes : List ℕ) → ((stream : List ℕ) → u ≡ held_of stream → w ≡ held_of (stream ++ bytes)) → (view : View) → u ≡ held_of view.stream → w ≡ held_of (view.stream ++ table.pieces (Piece bytes ∷ []))

@@ -1,5 +1,6 @@
 pub mod AnswerLemmas
 pub mod AppendLemmas
+pub mod FlushLemmas
 pub mod GoLemmas
 pub mod LawLemmas
 pub mod PlayLemmas
@@ -9,3 +10,4 @@ pub mod SendLemmas
 pub mod SpellLemmas
 pub mod UpdateLemmas
 pub mod ViewLemmas
+pub mod TakeLemmas

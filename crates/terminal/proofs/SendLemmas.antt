@@ -1,7 +1,7 @@
 -- The updates of an input, where it is known.
 use Rattle.std.proofs.Common.{◌≡◌, ℕ, ◌+◌, ◌<◌, ◌≤◌, ◌^◌, false, List, [], ◌∷◌, length, refl, sym, ap, subst, ◌∙◌, arith, Option, Some, None}
 use Rattle.std.specs.Prelude.{IfSome}
-use Rattle.std.specs.Io.KnownBytes.{Consumes, IsAtEnd, Keeps}
+use Rattle.std.specs.Io.KnownBytes.{Appends, Consumes, IsAtEnd, Keeps}
 use Rattle.terminal.specs.Sent.{IsAt, IsCounted, Lightens, Sent, Sends, SendsSome, SendsAll, SendsFirst, SendsPart, LooksNeedNumber, due_from, looked, number_behind, update_at, updates_from}
 use Rattle.terminal.specs.Shown.{AppendsPrefix}
 use Rattle.terminal.specs.Terminal.{Terminal, GoesBy, NeedsNumber}
@@ -122,6 +122,16 @@ module _ {W : Type 0} (width_of : W → List ℕ → ℕ) where
       → IfSome input (λ x. 2 ^ 64 ≤ number_behind (width_of w) every (new_standing width height) x)
   new_past w every t width height None at e n = tt
   new_past w every t width height (Some x) at e n = subst (λ (y : W). 2 ^ 64 ≤ number_behind (width_of y) every (new_standing width height) x) e (n (new_standing width height) at (omega arith))
+
+  pub new_all : (w : W) (every : ℕ) (t : Terminal W) (width height : ℕ) (input old new : Option (List ℕ)) → IsAt t (new_standing width height) → t.surface.canvas.widths ≡ w → SendsAll width_of every t input old new
+      → IfSome input (λ x. Appends old new (updates_from (width_of w) every (new_standing width height) x))
+  new_all w every t width height None old new at e sent = tt
+  new_all w every t width height (Some x) old new at e sent = subst (λ (y : W). Appends old new (updates_from (width_of y) every (new_standing width height) x)) e (sent (new_standing width height) at (omega arith))
+
+  pub new_part : (w : W) (every : ℕ) (t : Terminal W) (width height : ℕ) (input left old new : Option (List ℕ)) → IsAt t (new_standing width height) → t.surface.canvas.widths ≡ w → SendsFirst width_of every t input left old new
+      → IfSome input (λ x. SendsPart (width_of w) every (new_standing width height) x left old new)
+  new_part w every t width height None left old new at e sent = tt
+  new_part w every t width height (Some x) left old new at e sent = subst (λ (y : W). SendsPart (width_of y) every (new_standing width height) x left old new) e (sent (new_standing width height) at (omega arith))
 
 -- nothing was read
 pub none_read : (rest next : Option (List ℕ)) → Keeps rest next → Consumes rest next []

@@ -6,7 +6,7 @@ use Rattle.cell_base.specs.Screen.{Screen, height}
 use Rattle.cell_base.specs.Row.{plain_row}
 use Rattle.cell_surface.specs.Surface.{shown_by}
 use Rattle.change_log.specs.LogSteps.{Sized}
-use Rattle.escape_framing.specs.Cut.{the_cut}
+use Rattle.escape_framing.proofs.Existence.CutLemmas.{is_the_cut}
 use Rattle.escape_framing.specs.Framed.{IsReached}
 use Rattle.escape_framing.specs.Held.{Held, held_of}
 use Rattle.escape_stream.specs.Items.{items}
@@ -32,7 +32,7 @@ use Rattle.terminal_table.proofs.JoinLemmas.{nothing_behind}
 use Rattle.terminal_table.proofs.PrintLemmas.{AllCut, events_are}
 
 cut : AllCut
-cut stream = (the_cut stream).is_cut
+cut stream = is_the_cut stream
 
 -- ---- sizes
 

@@ -5,7 +5,7 @@ use Rattle.std.proofs.lemmas.Grind.{flat_map-append}
 use Rattle.std.proofs.lemmas.Bool.Decides.{eqb_tells}
 use Rattle.std.specs.Io.KnownBytes.{Appends}
 use Rattle.cell_surface.specs.Surface.{number_of}
-use Rattle.escape_framing.specs.Existence.Utf8Lemmas.{order}
+use Rattle.escape_framing.proofs.Existence.Utf8Lemmas.{order}
 use Rattle.terminal.specs.Fed.{AnswersAt}
 use Rattle.terminal.specs.Sent.{IsAt, IsCounted, Lightens, Sent, SendsPart, due_from, looked, lightened, update_at, updates_from, number_behind}
 use Rattle.terminal.specs.Shown.{AppendsPrefix}

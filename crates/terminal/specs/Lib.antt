@@ -1,4 +1,5 @@
 pub mod Terminal
+pub mod Taking
 pub mod TerminalView
 pub mod Played
 pub mod Watched

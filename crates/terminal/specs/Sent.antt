@@ -61,6 +61,10 @@ SendsSome width_of before number old new = (s : Standing) → IsAt before s → 
 abbrev pub updates_from : (List ℕ → ℕ) → ℕ → Standing → List ℕ → List ℕ
 updates_from width_of every start input = updates_behind width_of start 0 (in_pieces every [] input)
 
+-- how many updates that are: one behind each piece that is full, and one at the end
+abbrev pub update_count : ℕ → List ℕ → ℕ
+update_count every input = length (in_pieces every [] input)
+
 abbrev pub SendsAll : {W : Type 0} → (W → List ℕ → ℕ) → ℕ → Terminal W → Option (List ℕ) → Option (List ℕ) → Option (List ℕ) → Type 0
 SendsAll width_of every before None old new = Unit {0}
 SendsAll width_of every before (Some input) old new =

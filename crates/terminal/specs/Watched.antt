@@ -1,15 +1,23 @@
 -- A reader or a writer that is watched.
 use Rattle.std.specs.Prelude.{ℕ, ◌+◌, ◌^◌, ◌-◌, min, Bool, true, ◌&&◌, ◌==◌, not, List, length, Result, Ok, Err}
 
--- what is watched, whether it has failed, and how often it was read
+-- what is watched, whether it has failed, whether it was called after that, how often it was read and how often it was
+-- flushed, and whether the last write or flush was a flush that was no fault
 pub record Watched (T : Type 0) : Type 0 where
   pub inner : T
   pub has_failed : Bool
+  pub has_gone_on : Bool
   pub reads : ℕ
+  pub flushes : ℕ
+  pub is_flushed : Bool
 
 -- one more, up to the greatest number of 64 bits
 abbrev pub counted : ℕ → ℕ
 counted reads = min (reads + 1) (2 ^ 64 - 1)
+
+-- some more, up to that number
+abbrev pub counted_by : ℕ → ℕ → ℕ
+counted_by more count = min (count + more) (2 ^ 64 - 1)
 
 -- a write is a fault where it is refused, and where it takes none of some bytes
 abbrev pub is_fault : {E : Type 0} → List ℕ → Result ℕ E → Bool

@@ -6,6 +6,7 @@ ghost use Rattle.cell_surface.specs.Surface.{shown_by};
 ghost use Rattle.terminal.specs.Fed.{Feeds, FeedingNeedsNumber};
 ghost use Rattle.terminal.specs.Sent.{Lightens};
 ghost use Rattle.terminal.specs.Shown.{AppendsPrefix, rows_shown};
+ghost use Rattle.terminal.specs.Watched.{counted};
 ghost use Rattle.terminal_table.specs.History.{Piece, Look};
 ghost use Rattle.terminal_table.specs.Logged.{log_of};
 ghost use Rattle.terminal_table.specs.Meaning.{meaning};
@@ -18,13 +19,15 @@ use std::alloc::Global;
 use std::io::{Read, Write};
 use terminal_steps::TerminalError;
 
-// Writes the bytes, of which each write may take a part, and flushes.
-pub(crate) fn write_all<T: Write>(writer: &mut Watched<T>, bytes: &[u8]) -> Result<(), RunError>
+// Writes the bytes, of which each write may take a part.
+fn write_bytes<T: Write>(writer: &mut Watched<T>, bytes: &[u8]) -> Result<(), RunError>
     requires { writer.old.has_failed ≡ false }
     ensures ok { OnOk result (Appends (T.contents writer.old.inner) (T.contents writer.new.inner) bytes.now) }
     ensures err { OnErr result (AppendsPrefix (T.contents writer.old.inner) (T.contents writer.new.inner) bytes.now) }
     ensures fault { IsErrOf result RunError.Write ↔ IsTrue writer.new.has_failed }
     ensures only { IsErr result → IsErrOf result RunError.Write }
+    ensures ends { writer.new.has_gone_on ≡ writer.old.has_gone_on }
+    ensures flushes { writer.new.flushes ≡ writer.old.flushes }
 {
     let mut written = 0;
     while written < bytes.len() {
@@ -34,6 +37,21 @@ pub(crate) fn write_all<T: Write>(writer: &mut Watched<T>, bytes: &[u8]) -> Resu
             Err(_) => return Err(RunError::Write),
         }
     }
+    Ok(())
+}
+
+// Writes the bytes, and flushes them.
+pub(crate) fn write_all<T: Write>(writer: &mut Watched<T>, bytes: &[u8]) -> Result<(), RunError>
+    requires { writer.old.has_failed ≡ false }
+    ensures ok { OnOk result (Appends (T.contents writer.old.inner) (T.contents writer.new.inner) bytes.now) }
+    ensures err { OnErr result (AppendsPrefix (T.contents writer.old.inner) (T.contents writer.new.inner) bytes.now) }
+    ensures fault { IsErrOf result RunError.Write ↔ IsTrue writer.new.has_failed }
+    ensures only { IsErr result → IsErrOf result RunError.Write }
+    ensures ends { writer.new.has_gone_on ≡ writer.old.has_gone_on }
+    ensures flushes { OnOk result (writer.new.flushes ≡ counted writer.old.flushes) }
+    ensures flushed { OnOk result (IsTrue writer.new.is_flushed) }
+{
+    write_bytes(writer, bytes)?;
     match writer.flush() {
         Ok(()) => Ok(()),
         Err(_) => Err(RunError::Write),
@@ -63,6 +81,7 @@ fn feed_all<R: Read, W: Widths + Drop>(
     ensures ok { OnOk result (Feeds (λ w. W.width_of w) (R.remaining reader.old.inner) terminal.old terminal.new) }
     ensures sound { OnOk result (terminal.new.is_failed ≡ false) }
     ensures read { IsErrOf result RunError.Read ↔ IsTrue reader.new.has_failed }
+    ensures ends { reader.new.has_gone_on ≡ reader.old.has_gone_on }
     ensures too_long { IsErrOf result RunError.TooLong → reader.new.reads ≡ 2 ^ 48 }
     ensures write { IsErrOf result RunError.Write → ⊥ }
     ensures failed { IsErrOf result (RunError.Terminal TerminalError.Failed) → ⊥ }
@@ -100,6 +119,7 @@ fn read_all<R: Read, W: Widths + Drop>(
     ensures ok { IfOk result (λ t. IfSome (R.remaining reader.old.inner) (λ input.
         (shown_by t.surface).screen ≡ (meaning (W.width_of widths) width height (Piece input ∷ Look ∷ [])).state.screen)) }
     ensures read { IsErrOf result RunError.Read ↔ IsTrue reader.new.has_failed }
+    ensures ends { reader.new.has_gone_on ≡ reader.old.has_gone_on }
     ensures too_long { IsErrOf result RunError.TooLong → reader.new.reads ≡ 2 ^ 48 }
     ensures write { IsErrOf result RunError.Write → ⊥ }
     ensures failed { IsErrOf result (RunError.Terminal TerminalError.Failed) → ⊥ }
@@ -127,6 +147,7 @@ fn rows_of<R: Read, W: Widths + Drop>(
     requires unread { reader.old.reads ≡ 0 }
     ensures ok { IfOk result (λ text. IfSome (R.remaining reader.old.inner) (λ input. string_bytes text ≡ rows_shown (W.width_of widths) width height input)) }
     ensures read { IsErrOf result RunError.Read ↔ IsTrue reader.new.has_failed }
+    ensures ends { reader.new.has_gone_on ≡ reader.old.has_gone_on }
     ensures too_long { IsErrOf result RunError.TooLong → reader.new.reads ≡ 2 ^ 48 }
     ensures write { IsErrOf result RunError.Write → ⊥ }
     ensures failed { IsErrOf result (RunError.Terminal TerminalError.Failed) → ⊥ }
@@ -169,6 +190,13 @@ pub fn show<R: Read, T: Write, W: Widths + Drop>(
     // Nothing is written before the whole input was read.
     ensures others { IsErr result → (IsErrOf result RunError.Write → ⊥)
         → Keeps (T.contents writer.old.inner) (T.contents writer.new.inner) }
+    // It flushes once, after the last write.
+    ensures flushes { OnOk result (writer.new.flushes ≡ counted writer.old.flushes) }
+    ensures flushed { OnOk result (IsTrue writer.new.is_flushed) }
+    ensures unflushed { IsErr result → (IsErrOf result RunError.Write → ⊥) → writer.new.flushes ≡ writer.old.flushes }
+    // After a fault of the reader or the writer it is not called again.
+    ensures ends_reads { reader.new.has_gone_on ≡ reader.old.has_gone_on }
+    ensures ends_writes { writer.new.has_gone_on ≡ writer.old.has_gone_on }
     ensures failed { IsErrOf result (RunError.Terminal TerminalError.Failed) → ⊥ }
     ensures number { IsErrOf result (RunError.Terminal TerminalError.Number) → IfSome (R.remaining reader.old.inner) (λ input.
         2 ^ 64 ≤ (log_of (W.width_of widths) width height (Piece input ∷ Look ∷ [])).log.number) }

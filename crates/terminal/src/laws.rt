@@ -3,6 +3,7 @@ ghost use Rattle.std.specs.Prelude.{◌≡◌, ℕ, false, List, [], ◌∷◌, 
 ghost use Rattle.change_log.specs.LogSteps.{step_of_kept};
 ghost use Rattle.escape_stream.specs.StreamAction.{StreamAction};
 ghost use Rattle.escape_stream.specs.StreamWritable.{IsWritable};
+ghost use Rattle.terminal.specs.Taking.{Call, GoesThrough, history_in, taken_in, with_taken};
 ghost use Rattle.terminal.specs.Terminal.{Terminal, StandsAt, GoesBy, IsIdle, IsAlike, IsSpelled, state_in};
 ghost use Rattle.terminal_table.specs.Alone.{alone, row_done, row_logged};
 ghost use Rattle.terminal_table.specs.History.{History, Look, Piece};
@@ -34,6 +35,12 @@ pub fn histories_join<W: Widths>()
 /// and log, hold the same run, and go on alike.
 pub fn histories_decide<W: Widths>()
     ensures { (before : Terminal W) (one : Terminal W) (other : Terminal W) (history : History) (view : View) → StandsAt before view → GoesBy (λ w. W.width_of w) before one history → GoesBy (λ w. W.width_of w) before other history → IsAlike one other }
+{}
+
+/// Taking the replies on the way changes nothing else. With the replies that were taken in front of those that it still has a
+/// terminal has gone by the whole history: its screen, its log and all its replies are what the history means.
+pub fn replies_stand_apart<W: Widths>()
+    ensures { (before : Terminal W) (now : Terminal W) (calls : List Call) → before.is_failed ≡ false → GoesThrough (λ w. W.width_of w) before calls now → GoesBy (λ w. W.width_of w) before (with_taken (taken_in calls) now) (history_in calls) }
 {}
 
 /// The text of one action that is writable by itself, fed to an idle terminal that then settles, is the

@@ -117,6 +117,7 @@ impl<W: Widths + Drop> Terminal<W> {
         ensures done { OnOk result (GoesBy (λ w. W.width_of w) self.old self.new (Resize width height ∷ [])) }
         ensures failed { IsErrOf result TerminalError.Failed ↔ IsTrue self.old.is_failed }
         ensures number { IsErrOf result TerminalError.Number → NeedsNumber (λ w. W.width_of w) self.old (Resize width height ∷ []) }
+        ensures memory { IsErrOf result TerminalError.Memory → self.new.surface.is_failed ≡ true }
         ensures err { OnErr result (IsTrue self.new.is_failed) }
     {
         if self.is_failed {

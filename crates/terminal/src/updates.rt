@@ -1,8 +1,9 @@
 //! The updates of an input, written behind each of so many bytes.
 ghost use Rattle.std.specs.Prelude.{◌≡◌, ◌↔◌, ◌<◌, ◌≤◌, ◌^◌, false, IsTrue, IsErr, IfOk, IfSome, OnOk, OnErr, IsErrOf, [], ◌∷◌};
 ghost use Rattle.std.specs.Io.KnownBytes.{Appends};
-ghost use Rattle.terminal.specs.Sent.{LooksNeedNumber, Sends, SendsAll, SendsFirst, SendsPart, SendsSome, due_from, number_behind};
+ghost use Rattle.terminal.specs.Sent.{LooksNeedNumber, Sends, SendsAll, SendsFirst, SendsPart, SendsSome, due_from, number_behind, update_count};
 ghost use Rattle.terminal.specs.Terminal.{NeedsNumber};
+ghost use Rattle.terminal.specs.Watched.{counted, counted_by};
 ghost use Rattle.terminal_table.specs.History.{Look};
 ghost use Rattle.terminal_update.specs.Updates.{new_standing, updates};
 
@@ -29,6 +30,9 @@ fn write_update<T: Write, W: Widths + Drop>(
     ensures widths { OnOk result (terminal.new.surface.canvas.widths ≡ terminal.old.surface.canvas.widths) }
     ensures err { OnErr result (SendsSome (λ w. W.width_of w) terminal.old number (T.contents writer.old.inner) (T.contents writer.new.inner)) }
     ensures write { IsErrOf result RunError.Write ↔ IsTrue writer.new.has_failed }
+    ensures ends { writer.new.has_gone_on ≡ writer.old.has_gone_on }
+    ensures flushes { OnOk result (writer.new.flushes ≡ counted writer.old.flushes) }
+    ensures flushed { OnOk result (IsTrue writer.new.is_flushed) }
     ensures read { IsErrOf result RunError.Read → ⊥ }
     ensures too_long { IsErrOf result RunError.TooLong → ⊥ }
     ensures failed { IsErrOf result (RunError.Terminal TerminalError.Failed) → ⊥ }
@@ -71,6 +75,11 @@ fn write_updates<R: Read, T: Write, W: Widths + Drop>(
     ensures too_long { IsErrOf result RunError.TooLong → reader.new.reads ≡ 2 ^ 48 }
     ensures failed { IsErrOf result (RunError.Terminal TerminalError.Failed) → ⊥ }
     ensures number { IsErrOf result (RunError.Terminal TerminalError.Number) → LooksNeedNumber (λ w. W.width_of w) every terminal.old (R.remaining reader.old.inner) }
+    ensures flushes { OnOk result (IfSome (R.remaining reader.old.inner) (λ input.
+        writer.new.flushes ≡ counted_by (update_count every input) writer.old.flushes)) }
+    ensures flushed { OnOk result (IsTrue writer.new.is_flushed) }
+    ensures ends_reads { reader.new.has_gone_on ≡ reader.old.has_gone_on }
+    ensures ends_writes { writer.new.has_gone_on ≡ writer.old.has_gone_on }
 {
     let mut buffer = [0u8; 4096];
     let mut number = 0;
@@ -132,6 +141,13 @@ pub fn run<R: Read, T: Write, W: Widths + Drop>(
     ensures failed { IsErrOf result (RunError.Terminal TerminalError.Failed) → ⊥ }
     ensures number { IsErrOf result (RunError.Terminal TerminalError.Number) → IfSome (R.remaining reader.old.inner) (λ input.
         2 ^ 64 ≤ number_behind (W.width_of widths) every (new_standing width height) input) }
+    // It flushes once after each update, and nothing is written after the last flush.
+    ensures flushes { OnOk result (IfSome (R.remaining reader.old.inner) (λ input.
+        writer.new.flushes ≡ counted_by (update_count every input) writer.old.flushes)) }
+    ensures flushed { OnOk result (IsTrue writer.new.is_flushed) }
+    // After a fault of the reader or the writer it is not called again.
+    ensures ends_reads { reader.new.has_gone_on ≡ reader.old.has_gone_on }
+    ensures ends_writes { writer.new.has_gone_on ≡ writer.old.has_gone_on }
 {
     let mut terminal = Terminal::new(alloc, width, height, widths)?;
     write_updates(reader, writer, &mut terminal, every)

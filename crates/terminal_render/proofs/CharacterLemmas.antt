@@ -11,8 +11,8 @@ use Rattle.std.proofs.lemmas.Str.{chars-encodes}
 use Rattle.text_clusters.specs.Controls.{is_c1, holds_c1}
 use lib.Utf8.{scalar, scalars}
 use Rattle.escape_framing.specs.Segment.{IsPrintable}
-use Rattle.escape_framing.specs.Existence.Utf8Lemmas.{Spelled, in_one, in_two, in_three, in_four, spelled, order}
-use Rattle.escape_framing.specs.Existence.Utf8Lemmas.{append_nil}
+use Rattle.escape_framing.proofs.Existence.Utf8Lemmas.{Spelled, in_one, in_two, in_three, in_four, spelled, order}
+use Rattle.escape_framing.proofs.Existence.Utf8Lemmas.{append_nil}
 use Rattle.escape_stream.specs.StreamWritable.{IsPrintableText}
 use Rattle.screen_effects.specs.Strokes.{TextPart, Control, Plain, with_byte, text_parts}
 use Rattle.terminal_table.specs.Turns.{IsPrinted}

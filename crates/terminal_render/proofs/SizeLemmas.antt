@@ -18,7 +18,8 @@ use Rattle.cell_change.specs.ChangeValue.{ChangeValue, Attribute, AllAttributes,
 use Rattle.csi_codec.specs.Actions as codec
 use Rattle.csi_codec.specs.Sizes.{ActionsAreShort}
 use Rattle.csi_codec.specs.Writable as codec_writable
-use Rattle.csi_codec.specs.Writable.{IsColour, IsPlace, IsWritableCursor}
+use Rattle.csi_codec.specs.Slots.{IsPlace}
+use Rattle.csi_codec.specs.Writable.{IsColour}
 use Rattle.csi_codec.specs.declared.cursors.Cursor.{Cursor}
 use Rattle.csi_codec.specs.declared.cursors.Cursor.TheVariants as cursor
 use Rattle.csi_codec.specs.declared.edits.Edit.{Edit}

@@ -18,7 +18,8 @@ use Rattle.cell_base.specs.declared.color.ColorSpec.{ColorSpec}
 use Rattle.cell_base.specs.declared.color.ColorSpec.TheVariants as spec
 use Rattle.cell_base.specs.Attributes.{Attributes}
 use Rattle.csi_codec.specs.Parameters.{word_max}
-use Rattle.csi_codec.specs.Writable.{IsColour, IsPlace, IsWritableCursor, IsWritableSgr}
+use Rattle.csi_codec.specs.Slots.{IsPlace}
+use Rattle.csi_codec.specs.Writable.{IsColour, IsWritableCursor, IsWritableSgr}
 use Rattle.csi_codec.specs.declared.cursors.Cursor.{Cursor}
 use Rattle.csi_codec.specs.declared.cursors.Cursor.TheVariants as cursor
 use Rattle.csi_codec.specs.declared.rendition.Sgr.{Sgr}

@@ -26,7 +26,8 @@ use Rattle.csi_codec.specs.Actions as codec
 use Rattle.csi_codec.specs.Actions.{spelling_of}
 use Rattle.csi_codec.specs.Fronts.{whole_front}
 use Rattle.csi_codec.specs.Writable as codec_writable
-use Rattle.csi_codec.specs.Writable.{IsColour, IsPlace, IsWritableCursor, IsWritableSgr, WritableActionsReadBack, WritableTextsAreFronts}
+use Rattle.csi_codec.specs.Slots.{IsPlace}
+use Rattle.csi_codec.specs.Writable.{IsColour, IsWritableSgr, WritableActionsReadBack, WritableTextsAreFronts}
 use Rattle.csi_codec.specs.declared.cursors.Cursor.{Cursor}
 use Rattle.csi_codec.specs.declared.cursors.Cursor.TheVariants as cursor
 use Rattle.csi_codec.specs.declared.edits.Edit.{Edit}
@@ -37,7 +38,7 @@ use Rattle.escape_framing.specs.Segment.{IsPrintable}
 use Rattle.escape_osc.proofs.C1Lemmas.{holds_c1-cons, holds_c1-joint}
 use Rattle.escape_osc.specs.Command.{set_hyperlink, set_window_title}
 use Rattle.escape_osc.specs.Writable as osc
-use Rattle.escape_osc.specs.Writable.{IsReadableLink, LacksControls}
+use Rattle.escape_osc.specs.Writable.{LacksControls}
 use Rattle.escape_stream.specs.StreamAction.{StreamAction, print, print_string, control, enter, data_byte, exit, command, csi, esc}
 use Rattle.escape_stream.specs.StreamWritable.{IsReadBack, IsPrintableText, IsWritableAction, IsWritable}
 use Rattle.screen_effects.specs.Strokes.{TextPart, Control, Plain, text_parts}

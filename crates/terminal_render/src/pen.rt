@@ -132,7 +132,7 @@ fn settings(
     ]
 }
 
-/// The same with the colours of the attributes, if each can be told.
+/// The settings of the attributes and of their colours, if each colour can be told.
 pub(crate) fn pen_settings(a: &CellAttributes) -> Option<[Option<Sgr>; 12]>
     ensures { result ≡ pen_settings a.now }
 {

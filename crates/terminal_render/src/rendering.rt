@@ -359,7 +359,7 @@ pub fn append_renderings(
     result
 }
 
-// The same, where what was appended before a refusal stays.
+// Appends each rendering in turn; what was appended before a refusal stays.
 fn append_each(
     alloc: Global,
     changes: &[Change],

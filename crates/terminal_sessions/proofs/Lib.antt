@@ -1,3 +1,4 @@
 pub mod HistoryLemmas
 pub mod ChainLemmas
 pub mod SessionLemmas
+pub mod ReplyLemmas

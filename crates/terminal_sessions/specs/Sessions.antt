@@ -3,6 +3,7 @@ use Rattle.std.specs.Prelude.{ℕ, zero, suc, ◌+◌, List, [], ◌∷◌, ◌+
 use Rattle.cell_base.specs.Screen.{height}
 use Rattle.terminal_patch.specs.Patch.{patch_of}
 use Rattle.terminal_table.specs.History.{Step, History, Piece, Look, Resize, Forget}
+use Rattle.terminal_table.specs.Replies as replies
 use Rattle.terminal_update.specs.Update.{update_of}
 use Rattle.terminal_update.specs.Updates.{Standing, new_standing, standing_behind}
 
@@ -98,6 +99,10 @@ session width_of chain turns = fold (turned width_of) chain turns
 abbrev pub round : ℕ → List Answer → List Turn
 round at [] = []
 round at (answer ∷ answers) = Answers at answer ∷ round (at + 1) answers
+
+-- the terminal has replies that were taken too, in front of those that were not
+abbrev pub with_taken : List ℕ → Chain → Chain
+with_taken taken chain = record chain { terminal = record chain.terminal { view = replies.with_taken taken chain.terminal.view } }
 
 -- what the terminal goes through, if it has viewers: its steps, and a look for each answer to the first one
 abbrev pub steps_of : List Turn → History

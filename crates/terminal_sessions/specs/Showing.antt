@@ -3,7 +3,7 @@ use Rattle.std.specs.Prelude.{◌≡◌, ℕ, zero, suc, ◌<◌, ◌≤◌, ◌
 use Rattle.cell_base.specs.Row.{space}
 use Rattle.cell_base.specs.Screen.{Screen, height}
 use Rattle.screen_replay.specs.WrittenCells.{IsSoundDisplay}
-use Rattle.terminal_sessions.specs.Sessions.{Answer, Turn, Goes, Answers, Forgets, Viewer, new_chain, round, session, steps_of}
+use Rattle.terminal_sessions.specs.Sessions.{Answer, Turn, Goes, Answers, Forgets, Viewer, Chain, new_chain, round, session, steps_of, with_taken}
 use Rattle.terminal_spelling.specs.Spelling.{HaveSpellings, IsSpelledView}
 use Rattle.terminal_table.specs.History.{Step, Piece, Look, Resize, Forget}
 use Rattle.terminal_table.specs.Turns.{IsView}
@@ -58,3 +58,7 @@ TerminalsGoTheirWay = (width_of : List ℕ → ℕ) (terminal : Standing) (count
 
 abbrev pub ViewersStay : Type 0
 ViewersStay = (width_of : List ℕ → ℕ) (terminal : Standing) (count : ℕ) (turns : List Turn) → length (session width_of (new_chain terminal count) turns).viewers ≡ count
+
+-- replies that are taken from the terminal change nothing else of a session, then and later
+abbrev pub RepliesStandApart : Type 0
+RepliesStandApart = (width_of : List ℕ → ℕ) (taken : List ℕ) (chain : Chain) (turns : List Turn) → session width_of (with_taken taken chain) turns ≡ with_taken taken (session width_of chain turns)

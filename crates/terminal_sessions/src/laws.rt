@@ -1,5 +1,5 @@
 //! Laws of sessions: each is the contract of a function that does nothing.
-ghost use Rattle.terminal_sessions.specs.Showing.{AnswersAreShown, RoundsAreShown, TerminalsGoTheirWay, ViewersStay};
+ghost use Rattle.terminal_sessions.specs.Showing.{AnswersAreShown, RepliesStandApart, RoundsAreShown, TerminalsGoTheirWay, ViewersStay};
 
 use escape_framing::laws::one_cut;
 use terminal_patch::laws::viewers_read_patches;
@@ -18,8 +18,10 @@ pub fn sessions_show_the_screen()
 }
 
 /// The terminal of a session goes through its steps, and a look for each answer to its viewer, and through nothing
-/// else; and there are as many viewers as at first.
+/// else; there are as many viewers as at first; and replies that are taken from the terminal, at any time, change nothing
+/// else of what comes.
 pub fn sessions_go_on()
     ensures terminal { TerminalsGoTheirWay }
     ensures viewers { ViewersStay }
+    ensures replies { RepliesStandApart }
 {}

@@ -20,7 +20,7 @@ use Rattle.cell_change.specs.ChangeValue.{ChangeValue, AllAttributes, Text, Clea
 use Rattle.cell_change.specs.Texts.{stay_apart, texts}
 use Rattle.cell_change.specs.UpToLast.{up_to_last}
 use Rattle.cell_edits.specs.VisibleCells.{visible_from, contents}
-use Rattle.escape_framing.specs.Existence.Utf8Lemmas.{order}
+use Rattle.escape_framing.proofs.Existence.Utf8Lemmas.{order}
 use Rattle.screen_effects.specs.Display.{Display, IsDisplay}
 use Rattle.screen_repaint.specs.Repaint.{pen_left, row_cells, go_with_blanks, end_cleared, row_painted, in_next_row, rows_painted, are_some, cursor_placed, cursor_shown, title_due, repaint}
 use Rattle.terminal_spelling.specs.Spelling.{IsToldColor, IsSpelledPen, IsSpelledRun, IsSpelledRow, IsSpelledScreen, HasSpelling, HaveSpellings, IsLeftOut, HaveOtherSpellings}

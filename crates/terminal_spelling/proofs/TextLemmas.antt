@@ -10,14 +10,14 @@ use Rattle.std.proofs.lemmas.List.Folds.{list_all-append}
 use Rattle.std.proofs.lemmas.Str.{IsUtf8-append, IsUtf8-from_ascii, IsUtf8-nil, encodes-append}
 use Rattle.std.proofs.lemmas.Str.Ascii.{IsAscii-cons, IsAscii-nil}
 use Rattle.text_clusters.specs.Controls.{is_c1, holds_c1}
-use lib.Utf8.{encode, scalar, scalars}
+use lib.Utf8.{scalar, scalars}
 use Rattle.unicode_segmentation.specs.Grapheme.{graphemes}
 use Rattle.cell_base.specs.Cluster.{clusters}
 use Rattle.cell_base.specs.Row.{space}
 use Rattle.cell_base.proofs.Pieces.{all_joined}
 use Rattle.cell_base.proofs.PlainClusters.{clusters_are}
 use Rattle.escape_framing.specs.Segment.{IsPrintable}
-use Rattle.escape_framing.specs.Existence.Utf8Lemmas.{Spelled, in_one, in_two, in_three, in_four, spelled, order}
+use Rattle.escape_framing.proofs.Existence.Utf8Lemmas.{Spelled, in_one, in_two, in_three, in_four, spelled, order}
 use Rattle.escape_osc.proofs.C1Lemmas.{holds_c1-cons}
 use Rattle.screen_effects.specs.Strokes.{Stroke, CarriageReturn, LineFeed, Cluster, TextPart, Control, Plain, text_parts, part_strokes, strokes}
 use Rattle.terminal_render.proofs.CharacterLemmas.{IsGood, AreGood, above, no_c1_behind, parts_good}

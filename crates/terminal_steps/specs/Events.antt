@@ -19,10 +19,6 @@ view_of t = record { state = state_of t.surface t.saved t.replies.items; stream 
 abbrev pub surface_in : {W : Type 0} → TerminalState W → Surface W
 surface_in t = t.surface
 
--- the replies were taken
-abbrev pub without_replies : View → View
-without_replies view = record view { state = record view.state { replies = [] } }
-
 -- the surface hasn't failed, and shows a lawful display; no control is held
 pub record IsReady {W : Type 0} (t : TerminalState W) : Type 0 where
   pub stays : t.surface.is_failed ≡ false

@@ -25,7 +25,7 @@ fn add_one<W: Widths + Drop>(surface: &mut Surface<W>, change: Change) -> Result
     Ok(())
 }
 
-// The same, called where it is wanted: the room for what is added is only cleared there.
+// Adds it where it is called: the room for what is added is only cleared there.
 #[inline(always)]
 pub(crate) fn add<W: Widths + Drop>(
     surface: &mut Surface<W>,
@@ -67,7 +67,7 @@ fn add_one_attribute<W: Widths + Drop>(
     Ok(())
 }
 
-// The same, called where it is wanted: the room for what is added is only cleared there.
+// Adds it where it is called: the room for what is added is only cleared there.
 #[inline(always)]
 pub(crate) fn add_attribute<W: Widths + Drop>(
     surface: &mut Surface<W>,
@@ -91,7 +91,7 @@ fn add_whole_pen<W: Widths + Drop>(surface: &mut Surface<W>, pen: Pen) -> Result
     Ok(())
 }
 
-// The same, called where it is wanted: the room for what is added is only cleared there.
+// Adds it where it is called: the room for what is added is only cleared there.
 #[inline(always)]
 pub(crate) fn add_pen<W: Widths + Drop>(
     surface: &mut Surface<W>,

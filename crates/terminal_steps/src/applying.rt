@@ -20,7 +20,7 @@ use crate::moving::move_cursor;
 use crate::pen::render;
 use crate::reading::control_function_of;
 use crate::replying::{report_position, report_status};
-use crate::saved::{SavedCursor, cursor_of, full_reset, restore_cursor};
+use crate::saved::{SavedCursor, full_reset, restore_cursor, save_cursor};
 use cell_base::{AttributeChange, CursorVisibility, Widths};
 use cell_change::Change;
 use cell_surface::{Surface, SurfaceError};
@@ -37,15 +37,18 @@ fn visibility(shown: bool) -> CursorVisibility
     }
 }
 
-// What a control function does, but for those of saved cursors and replies, which add no change here.
-fn change_screen<W: Widths + Drop>(
+// What a control function does.
+fn perform<W: Widths + Drop>(
     surface: &mut Surface<W>,
-    saved: &Option<SavedCursor>,
+    saved: &mut Option<SavedCursor>,
+    replies: &mut Vec<u8>,
     function: ControlFunction,
 ) -> Result<(), SurfaceError>
-    ensures added { IfOk result (λ _. AddsAll (λ w. W.width_of w) surface.old surface.new (changes (table_function function) saved.now (shown_by surface.old).screen)) }
+    ensures added { IfOk result (λ _. AddsAll (λ w. W.width_of w) surface.old surface.new (changes (table_function function) saved.old (shown_by surface.old).screen)) }
+    ensures saved { IfOk result (λ _. saved.new ≡ saved_step (table_function function) saved.old (shown_by surface.old).screen) }
+    ensures replies { IfOk result (λ _. replies.new.items ≡ reply_step (table_function function) replies.old.items (shown_by surface.old).screen) }
     ensures failed { IsErrOf result SurfaceError.Failed → surface.old.is_failed ≡ true }
-    ensures numbers { IsErrOf result SurfaceError.Number → 2 ^ 64 ≤ number_of surface.old + length (changes (table_function function) saved.now (shown_by surface.old).screen) }
+    ensures numbers { IsErrOf result SurfaceError.Number → 2 ^ 64 ≤ number_of surface.old + length (changes (table_function function) saved.old (shown_by surface.old).screen) }
 {
     match function {
         ControlFunction::Moves(movement) => move_cursor(surface, movement),
@@ -67,39 +70,9 @@ fn change_screen<W: Widths + Drop>(
         ControlFunction::ShowCursor(shown) => {
             add(surface, Change::CursorVisibility(visibility(shown)))
         }
+        ControlFunction::SaveCursor => save_cursor(surface, saved),
         ControlFunction::RestoreCursor => restore_cursor(surface, saved),
-        ControlFunction::FullReset => full_reset(surface),
-        ControlFunction::SaveCursor
-        | ControlFunction::ReportStatus
-        | ControlFunction::ReportPosition => add_nothing(surface),
-    }
-}
-
-// What a control function does.
-fn perform<W: Widths + Drop>(
-    surface: &mut Surface<W>,
-    saved: &mut Option<SavedCursor>,
-    replies: &mut Vec<u8>,
-    function: ControlFunction,
-) -> Result<(), SurfaceError>
-    ensures added { IfOk result (λ _. AddsAll (λ w. W.width_of w) surface.old surface.new (changes (table_function function) saved.old (shown_by surface.old).screen)) }
-    ensures saved { IfOk result (λ _. saved.new ≡ saved_step (table_function function) saved.old (shown_by surface.old).screen) }
-    ensures replies { IfOk result (λ _. replies.new.items ≡ reply_step (table_function function) replies.old.items (shown_by surface.old).screen) }
-    ensures failed { IsErrOf result SurfaceError.Failed → surface.old.is_failed ≡ true }
-    ensures numbers { IsErrOf result SurfaceError.Number → 2 ^ 64 ≤ number_of surface.old + length (changes (table_function function) saved.old (shown_by surface.old).screen) }
-{
-    match function {
-        ControlFunction::SaveCursor => {
-            let cursor = cursor_of(surface)?;
-            add_nothing(surface)?;
-            *saved = Some(cursor);
-            Ok(())
-        }
-        ControlFunction::FullReset => {
-            full_reset(surface)?;
-            *saved = None;
-            Ok(())
-        }
+        ControlFunction::FullReset => full_reset(surface, saved),
         ControlFunction::ReportStatus => {
             report_status(replies)?;
             add_nothing(surface)
@@ -108,7 +81,6 @@ fn perform<W: Widths + Drop>(
             report_position(surface, replies)?;
             add_nothing(surface)
         }
-        other => change_screen(surface, saved, other),
     }
 }
 

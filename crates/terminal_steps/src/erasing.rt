@@ -39,7 +39,7 @@ pub(crate) fn erase_to_end_of_line<W: Widths + Drop>(
     Ok(())
 }
 
-/// The same, and all rows below.
+/// The columns from the cursor to the end of its row, and all rows below, become blanks.
 pub(crate) fn erase_to_end_of_display<W: Widths + Drop>(
     surface: &mut Surface<W>,
 ) -> Result<(), SurfaceError>

@@ -1,5 +1,5 @@
 //! Cursors that were saved.
-ghost use Rattle.std.specs.Prelude.{◌≡◌, ◌+◌, ◌^◌, ◌≤◌, None, true, IfOk, IsErrOf};
+ghost use Rattle.std.specs.Prelude.{◌≡◌, ◌+◌, ◌^◌, ◌≤◌, [], Some, None, true, IfOk, IsErrOf};
 ghost use Rattle.cell_surface.specs.Surface.{number_of, shown_by};
 ghost use Rattle.terminal_table.specs.Changes.{changes};
 ghost use Rattle.terminal_table.specs.Functions as table;
@@ -7,7 +7,7 @@ ghost use Rattle.terminal_table.specs.State.{cursor_of};
 ghost use Rattle.terminal_table.specs.Steps.{cursor_to_restore};
 ghost use Rattle.terminal_steps.specs.Adding.{AddsAll};
 
-use crate::adding::{add, add_cursor};
+use crate::adding::{add, add_cursor, add_nothing};
 use crate::cursor::Pen;
 use crate::moving::position_at;
 use cell_base::{CellAttributes, ColorAttribute, CursorVisibility, Widths};
@@ -35,13 +35,29 @@ impl Model for SavedCursor {
     ghost view = { saved_of };
 }
 
-/// The cursor of a surface, to be saved.
-pub(crate) fn cursor_of<W: Widths + Drop>(surface: &Surface<W>) -> Result<SavedCursor, AllocError>
+// The cursor of a surface, to be saved.
+fn cursor_of<W: Widths + Drop>(surface: &Surface<W>) -> Result<SavedCursor, AllocError>
     ensures { IfOk result (λ cursor. cursor ≡ cursor_of (shown_by surface.now).screen) }
 {
     let (column, row) = surface.cursor_position();
     let pen = surface.pen().try_clone()?;
     Ok(SavedCursor { column, row, pen })
+}
+
+/// The cursor is saved, which adds no change.
+pub(crate) fn save_cursor<W: Widths + Drop>(
+    surface: &mut Surface<W>,
+    saved: &mut Option<SavedCursor>,
+) -> Result<(), SurfaceError>
+    ensures added { IfOk result (λ _. AddsAll (λ w. W.width_of w) surface.old surface.new []) }
+    ensures saved { IfOk result (λ _. saved.new ≡ Some (cursor_of (shown_by surface.old).screen)) }
+    ensures failed { IsErrOf result SurfaceError.Failed → surface.old.is_failed ≡ true }
+    ensures numbers { IsErrOf result SurfaceError.Number → ⊥ }
+{
+    let cursor = cursor_of(surface)?;
+    add_nothing(surface)?;
+    *saved = Some(cursor);
+    Ok(())
 }
 
 // A cursor that is restored; one at home with a plain pen, where none was saved.
@@ -76,13 +92,18 @@ pub(crate) fn restore_cursor<W: Widths + Drop>(
     add_cursor(surface, place, Pen { attributes: pen })
 }
 
-/// A full reset, which leaves the title alone.
-pub(crate) fn full_reset<W: Widths + Drop>(surface: &mut Surface<W>) -> Result<(), SurfaceError>
+/// A full reset, which leaves the title alone, and forgets the saved cursor.
+pub(crate) fn full_reset<W: Widths + Drop>(
+    surface: &mut Surface<W>,
+    saved: &mut Option<SavedCursor>,
+) -> Result<(), SurfaceError>
     ensures added { IfOk result (λ _. AddsAll (λ w. W.width_of w) surface.old surface.new (changes table.FullReset None (shown_by surface.old).screen)) }
+    ensures saved { IfOk result (λ _. saved.new ≡ None) }
     ensures failed { IsErrOf result SurfaceError.Failed → surface.old.is_failed ≡ true }
     ensures numbers { IsErrOf result SurfaceError.Number → 2 ^ 64 ≤ number_of surface.old + 2 }
 {
     add(surface, Change::ClearScreen(ColorAttribute::Default))?;
     add(surface, Change::CursorVisibility(CursorVisibility::Visible))?;
+    *saved = None;
     Ok(())
 }

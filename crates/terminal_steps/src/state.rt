@@ -6,7 +6,8 @@ ghost use Rattle.cell_surface.specs.Surface.{shown_by};
 ghost use Rattle.change_log.specs.Log.{new_log};
 ghost use Rattle.terminal_table.specs.Meaning.{new_view};
 ghost use Rattle.terminal_table.specs.History.{Act, Forgot, Looked, Resized};
-ghost use Rattle.terminal_steps.specs.Events.{Does, IsReady, NeedsNumber, surface_in, view_of, without_replies};
+ghost use Rattle.terminal_steps.specs.Events.{Does, IsReady, NeedsNumber, surface_in, view_of};
+ghost use Rattle.terminal_table.specs.Replies.{without_replies};
 
 use crate::applying::{apply, print};
 use crate::saved::SavedCursor;
@@ -103,6 +104,7 @@ impl<W: Widths + Drop> TerminalState<W> {
         ensures done { OnOk result (Does (λ w. W.width_of w) self.old self.new (Resized width height ∷ [])) }
         ensures failed { IsErrOf result SurfaceError.Failed → IsReady self.old → ⊥ }
         ensures numbers { IsErrOf result SurfaceError.Number → NeedsNumber (λ w. W.width_of w) self.old (Resized width height ∷ []) }
+        ensures memory { IsErrOf result SurfaceError.Memory → (surface_in self.new).is_failed ≡ true }
     {
         self.settle()?;
         self.surface.resize(width, height)?;

@@ -9,3 +9,4 @@ pub mod JoinLemmas
 pub mod OtherLemmas
 pub mod TextLemmas
 pub mod LoneLemmas
+pub mod ReplyLemmas

@@ -11,7 +11,7 @@ use Rattle.unicode_segmentation.proofs.Computing.{unicode_segmentation}
 use Rattle.cell_base.specs.Cluster.{clusters}
 use Rattle.cell_base.specs.Screen.{put, put_run}
 use Rattle.escape_framing.specs.Segment.{IsPrintable}
-use Rattle.escape_framing.specs.Existence.Utf8Lemmas.{Spelled, in_one, in_two, in_three, in_four, spelled}
+use Rattle.escape_framing.proofs.Existence.Utf8Lemmas.{Spelled, in_one, in_two, in_three, in_four, spelled}
 use Rattle.screen_effects.specs.Display.{Display}
 use Rattle.screen_effects.specs.Effect.{effect}
 use Rattle.screen_effects.specs.Strokes.{Plain, Cluster, with_byte, text_parts, part_strokes, strokes, stroke_done}

@@ -8,3 +8,4 @@ pub mod Logged
 pub mod Samples
 pub mod Turns
 pub mod Alone
+pub mod Replies

@@ -7,9 +7,11 @@ ghost use Rattle.terminal_table.specs.Alone.{IsIdle, alone, row_done, row_logged
 ghost use Rattle.terminal_table.specs.Functions.{ControlFunction, function_of};
 ghost use Rattle.escape_framing.specs.Held.{held_of};
 ghost use Rattle.escape_stream.specs.StreamAction.{StreamAction, is_print};
-ghost use Rattle.terminal_table.specs.History.{History, Piece, Event, Act, events};
+ghost use Rattle.escape_stream.specs.StreamActions.{newly_decided_actions};
+ghost use Rattle.terminal_table.specs.History.{History, Piece, Forget, Event, Act, events};
 ghost use Rattle.terminal_table.specs.Logged.{run_logged, event_logged, logged};
 ghost use Rattle.terminal_table.specs.Meaning.{View, settled, event_done, after, with_size};
+ghost use Rattle.terminal_table.specs.Replies.{with_taken, without_replies};
 ghost use Rattle.terminal_table.specs.State.{State, IsState, new_state};
 ghost use Rattle.terminal_table.specs.Steps.{step, step_of, run_step};
 ghost use Rattle.terminal_table.specs.Changes.{changes, changes_of, run_change};
@@ -80,6 +82,19 @@ pub fn histories_join()
 {
     actions_of_pieces_join();
 }
+
+/// Taking the replies changes nothing else, then and later: what goes on from there shows, saves, holds and logs the same, and
+/// has the same new replies, which follow those that were taken.
+pub fn replies_stand_apart()
+    ensures after { (width_of : List ℕ → ℕ) (view : View) (history : History) → after width_of view history ≡ with_taken view.state.replies (after width_of (without_replies view) history) }
+    ensures logged { (width_of : List ℕ → ℕ) (view : View) (history : History) → logged width_of (without_replies view) history ≡ logged width_of view history }
+{}
+
+/// A run that is held goes on where the log forgets changes between two steps, and where bytes decide no action.
+pub fn runs_go_on()
+    ensures forgets { (width_of : List ℕ → ℕ) (view : View) (first : History) (second : History) (number : ℕ) → after width_of view (first ++ Forget number ∷ second) ≡ after width_of view (first ++ second) }
+    ensures undecided { (width_of : List ℕ → ℕ) (view : View) (bytes : List ℕ) → newly_decided_actions view.stream bytes ≡ [] → after width_of view (Piece bytes ∷ []) ≡ record view { stream = view.stream ++ bytes } }
+{}
 
 /// Of the stream so far only its unfinished end matters: views go on alike where every continuation of
 /// their streams has the same further actions, and so where the same is held of them.

@@ -201,7 +201,7 @@ impl Receiver {
         result
     }
 
-    // The same, where what was appended before a refusal stays.
+    // Appends what is sent; what was appended before a refusal stays.
     fn append_again<W: Widths + Drop>(
         &self,
         bytes: &mut Vec<u8>,

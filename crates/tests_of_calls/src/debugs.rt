@@ -10,10 +10,9 @@ use cell_change::Change;
 use cell_line::{CellRef, Line};
 use cell_surface::SurfaceError;
 use csi_codec::{
-    CSI, CSIPlace, CrackError, Cracked, CsiParam, Edit, Esc, Font, OneBased, ShortNumbers,
-    Unspecified, read_csi,
+    CSI, CSIPlace, CrackError, Cracked, CsiParam, Edit, Esc, Font, OneBased, Unspecified, read_csi,
 };
-use escape_framing::{Dispatch, Lone, ParseError, ShortSequence, Step};
+use escape_framing::{Event, ParseError, Read};
 use escape_osc::{OperatingSystemCommand, Selection};
 use escape_stream::{Action, ControlCode, DeviceControlMode, EnterDeviceControlMode, Piece};
 use std::fmt::Debug;
@@ -141,7 +140,6 @@ fn lists_of_parameters(rt: HostRuntime) {
     assert_begins(&rt, &entries, "Cracked { ");
     assert_begins(&rt, &CSIPlace::start(), "CSIPlace { ");
     assert_begins(&rt, &OneBased::new(3), "OneBased { ");
-    assert_debug(&rt, &ShortNumbers::Two(1, 2), "Two(1, 2)");
     let front = read_csi(rt.alloc(), b"\x1b[5Hx").expect(&rt, "memory");
     assert_debug(
         &rt,
@@ -199,26 +197,12 @@ fn actions(rt: HostRuntime) {
 
 #[test]
 fn dispatches(rt: HostRuntime) {
-    assert_debug(&rt, &Dispatch::Print('a'), "Print('a')");
-    assert_debug(&rt, &Lone::Control(7), "Control(7)");
-    let short = ShortSequence {
-        numbers: ShortNumbers::One(3),
-        control: b'B',
-        count: 4,
+    assert_debug(&rt, &Event::Print('a'), "Print('a')");
+    assert_debug(&rt, &Event::Control(7), "Control(7)");
+    assert_debug(&rt, &Read::Text(2), "Text(2)");
+    let read = Read::Bytes {
+        event: Some(Event::Exit),
+        count: 1,
     };
-    assert_debug(
-        &rt,
-        &short,
-        "ShortSequence { numbers: One(3), control: 66, count: 4 }",
-    );
-    let step = Step {
-        text: 2,
-        dispatches: [None, None, None, None],
-        count: 2,
-    };
-    assert_debug(
-        &rt,
-        &step,
-        "Step { text: 2, dispatches: [None, None, None, None], count: 2 }",
-    );
+    assert_debug(&rt, &read, "Bytes { event: Some(Exit), count: 1 }");
 }

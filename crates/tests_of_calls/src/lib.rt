@@ -39,7 +39,6 @@ mod sequences;
 #[cfg(test)]
 mod service;
 #[cfg(test)]
-mod short;
 #[cfg(test)]
 mod streams;
 #[cfg(test)]

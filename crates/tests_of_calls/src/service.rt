@@ -78,3 +78,15 @@ fn watched_counts_reads_and_keeps_faults(rt: HostRuntime) {
     assert!(rt; writer.write(b"a").is_ok() && writer.failed());
     assert_eq!(rt; writer.reads(), 0);
 }
+
+#[test]
+fn watched_counts_flushes_and_calls_after_a_fault(rt: HostRuntime) {
+    let mut writer = Watched::new(sink_of(rt.alloc(), 100, 100, 1));
+    assert!(rt; !writer.is_flushed() && !writer.has_gone_on());
+    assert!(rt; writer.write(b"a").is_ok() && !writer.is_flushed());
+    assert!(rt; writer.flush().is_ok() && writer.is_flushed());
+    assert_eq!(rt; writer.flushes(), 1);
+    assert!(rt; writer.flush().is_err() && !writer.is_flushed() && !writer.has_gone_on());
+    assert!(rt; writer.write(b"b").is_ok() && writer.has_gone_on());
+    assert_eq!(rt; writer.flushes(), 2);
+}

@@ -1,5 +1,5 @@
 //! Callbacks, copies of actions, the bytes that are controls, and framers that have not failed.
-use escape_framing::Framer;
+use escape_framing::{Framer, Read};
 use escape_stream::{Action, ControlCode, Parser};
 use std::process::Abort;
 
@@ -35,9 +35,9 @@ fn bytes_that_are_controls(rt: HostRuntime) {
     }
 }
 
-// Feeds a byte, which is not refused.
+// Reads a byte of a control sequence, which is not refused.
 fn feed<R: Abort>(rt: &R, framer: &mut Framer, byte: u8) {
-    assert!(rt; framer.feed(byte).is_ok());
+    assert!(rt; matches!(framer.next(&[byte]), Ok(Read::Bytes { count: 1, .. })));
 }
 
 #[test]
@@ -52,5 +52,5 @@ fn framers_count_tokens(rt: HostRuntime) {
     feed(&rt, &mut framer, b'm');
     assert_eq!(rt; framer.parameters().len(), 256);
     assert!(rt; framer.parameters_truncated());
-    assert!(rt; !framer.is_failed());
+    assert!(rt; framer.is_idle());
 }

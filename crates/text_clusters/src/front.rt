@@ -112,7 +112,7 @@ pub fn split_printable(text: &str, most: usize) -> (&str, &str)
     text.split_at(apart_len(text, most))
 }
 
-// The same as `split_first_cluster`, by a walk over the text.
+// Cuts off the first cluster, as `split_first_cluster` does, by a walk over the text.
 #[inline(never)]
 fn walk_first_cluster(text: &str) -> Option<(&str, &str)>
     ensures none { IsNone result ↔ (text.now ≡ []) }

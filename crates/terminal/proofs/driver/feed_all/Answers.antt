@@ -4,13 +4,14 @@ use Rattle.std.proofs.lemmas.Result.{err_from_is_err_and}
 use Rattle.terminal_steps.specs.declared.error.TerminalError.{TerminalError}
 use Rattle.terminal_steps.specs.declared.error.TerminalError.TheVariants.{Number}
 use Rattle.terminal.specs.Terminal.{Terminal as Value}
-use Rattle.terminal.proofs.AppendLemmas.{no_fault}
+use Rattle.terminal.proofs.AppendLemmas.{no_fault, not_gone_on}
 use Rattle.terminal.proofs.ReadAllLemmas.{feeds_first, feeds_more, feeds_all, number_fed}
 use Rattle.terminal.proofs.driver.feed_all.Goals as goal
 
 pub loop-init : goal.loop-init
 loop-init g c = record {
   not_failed = c.requires.not_failed;
+  ends = refl;
   reads = c.requires.unread;
   sound = c.requires.sound;
   feeds = feeds_first (λ w. g.W.Widths.width_of w) (g.R.Read.remaining c.args.reader.now.inner) c.args.terminal.now c.requires.sound;
@@ -30,6 +31,7 @@ returns-then-count-eq0-clause-ok g c =
 pub loop-preserved : goal.loop-preserved
 loop-preserved g c = record {
   not_failed = no_fault _ _ _ c.in-Ok.ensures.failed c.loop.invariant.not_failed refl;
+  ends = not_gone_on _ _ _ c.in-Ok.ensures.gone_on c.loop.invariant.not_failed ∙ c.loop.invariant.ends;
   reads = let h = c.in-Ok.ensures.reads in omega (arith, h, c.loop.invariant.reads, c.loop-test.true);
   sound = ap (λ (t : Value g.row.W.Denot). t.is_failed) c.forget.ensures.lighter.dropped ∙ c.forget.ensures.lighter.goes.sound;
   feeds = feeds_more (λ w. g.W.Widths.width_of w) (g.R.Read.remaining c.args.reader.now.inner) (g.R.Read.remaining c.loop.reader.inner) (g.R.Read.remaining c.read.new.self.inner)

@@ -9,7 +9,8 @@ use Rattle.terminal.specs.Terminal.{GoesBy, NeedsNumber}
 use Rattle.terminal.specs.Terminal.{Terminal as Value}
 use Rattle.terminal.specs.Watched.{Watched}
 use Rattle.terminal_table.specs.History.{Piece}
-use Rattle.terminal.proofs.AppendLemmas.{keeps_same, no_fault}
+use Rattle.terminal.proofs.AppendLemmas.{keeps_same, no_fault, not_gone_on}
+use Rattle.terminal.proofs.FlushLemmas.{none_flushed, flushes_more, flushes_next, flushes_all}
 use Rattle.terminal.proofs.SendLemmas.{SendsOn, none_read, on_first, on_lighter, on_more, on_next, on_all, on_part, on_some, on_last, on_feed_past, on_look_past, on_end_past}
 use Rattle.terminal.proofs.updates.write_updates.Goals as goal
 use Rattle.terminal.proofs.updates.write_updates.Goals.{then-left-eq0+in_ok-number, else-left-eq0}
@@ -27,6 +28,8 @@ front (suc n) (x ∷ xs) ys h = ap (λ zs. x ∷ zs) (front n xs ys (omega (arit
 pub loop-init : goal.loop-init
 loop-init g c = record {
   reader = c.requires.reader;
+  ends_reads = refl;
+  ends_writes = refl;
   reads = c.requires.unread;
   writer = c.requires.writer;
   sound = c.requires.sound;
@@ -34,6 +37,7 @@ loop-init g c = record {
   room = refl;
   some = c.requires.every;
   sends = on_first (λ w. g.W.Widths.width_of w) c.args.every c.args.terminal.now (g.R.Read.remaining c.args.reader.now.inner) (g.T.Write.contents c.args.writer.now.inner) c.requires.sound;
+  flushes = none_flushed c.args.every (g.R.Read.remaining c.args.reader.now.inner) c.args.writer.now.flushes;
 }
 
 pub returns-clause-err : goal.returns-clause-err
@@ -66,6 +70,13 @@ returns-then-count-eq0-clause-ok g c =
     let room : 0 < length c.read.new.buffer = omega (arith, c.read.auto.buffer, c.min-most.ensures, c.loop.invariant.room, c.loop.invariant.some, length-take c.min-most.result c.loop.buffer) in
     on_all (λ w. g.W.Widths.width_of w) c.args.every c.args.terminal.now (g.T.Write.contents c.args.writer.now.inner) (g.T.Write.contents c.loop.writer.inner) c.loop.terminal c.loop.number c.loop.left c.loop.invariant.widths (g.R.Read.remaining c.args.reader.now.inner) (g.R.Read.remaining c.loop.reader.inner) (g.R.Read.remaining c.read.new.self.inner) c.write_update.new.terminal _ _ c.loop.invariant.sends
     (subst (λ (n : ℕ). Consumes (g.R.Read.remaining c.loop.reader.inner) (g.R.Read.remaining c.read.new.self.inner) (take n c.read.new.buffer)) none c.in-Ok.ensures.bytes.0) (c.in-Ok.ensures.bytes.1 none room) c.in_ok-write_update.ensures.ok
+
+pub returns-then-count-eq0-clause-flushes : goal.returns-then-count-eq0-clause-flushes
+returns-then-count-eq0-clause-flushes g c =
+    let none = c.if-count-eq0.true in
+    let room : 0 < length c.read.new.buffer = omega (arith, c.read.auto.buffer, c.min-most.ensures, c.loop.invariant.room, c.loop.invariant.some, length-take c.min-most.result c.loop.buffer) in
+    flushes_all c.args.every c.args.writer.now.flushes c.loop.writer.flushes c.loop.left (g.R.Read.remaining c.args.reader.now.inner) (g.R.Read.remaining c.loop.reader.inner) (g.R.Read.remaining c.read.new.self.inner) _ c.loop.invariant.flushes
+    (subst (λ (n : ℕ). Consumes (g.R.Read.remaining c.loop.reader.inner) (g.R.Read.remaining c.read.new.self.inner) (take n c.read.new.buffer)) none c.in-Ok.ensures.bytes.0) (c.in-Ok.ensures.bytes.1 none room) c.in_ok-write_update.ensures.flushes
 
 pub returns-in_err-feed-clause-err : goal.returns-in_err-feed-clause-err
 returns-in_err-feed-clause-err g c =
@@ -109,12 +120,15 @@ loop-preserved g c =
     let reads = c.in-Ok.ensures.reads in
     let counted : c.read.new.self.reads ≡ c.loop.counter + 1 = omega (arith, reads, c.loop.invariant.reads, c.loop-test.true) in
     let room : length (c.read.new.buffer ++ drop c.min-most.result c.loop.buffer) ≡ 4096 = omega (arith, c.read.auto.buffer, c.loop.invariant.room, length-take c.min-most.result c.loop.buffer, length-drop c.min-most.result c.loop.buffer, length-append c.read.new.buffer (drop c.min-most.result c.loop.buffer)) in
+    let ends_reads = not_gone_on _ _ _ c.in-Ok.ensures.gone_on c.loop.invariant.reader ∙ c.loop.invariant.ends_reads in
     elim c.if-left-eq0.branch [
       | then-left-eq0+in_ok-number w ↦
           let full : length (take c.in-Ok.count c.read.new.buffer) ≡ c.loop.left = omega (arith, within, w.if-left-eq0.true, c.read.auto.buffer, c.min-most.ensures, length-take c.min-most.result c.loop.buffer, length-take c.in-Ok.count c.read.new.buffer) in
           record {
             reader = no_fault _ _ _ c.in-Ok.ensures.failed c.loop.invariant.reader refl;
             reads = counted;
+            ends_reads = ends_reads;
+            ends_writes = ap (λ (x : Watched g.row.T.Denot). x.has_gone_on) w.writer-is ∙ w.in_ok-number.ensures.ends ∙ c.loop.invariant.ends_writes;
             writer = ap (λ (x : Watched g.row.T.Denot). x.has_failed) w.writer-is ∙ never _ (λ h. let wrong = w.in_ok-number.ensures.write.1 h in cc);
             sound = ap (λ (t : Value g.row.W.Denot). t.is_failed) w.terminal-is ∙ w.in_ok-number.ensures.sound;
             widths = ap (λ (t : Value g.row.W.Denot). t.surface.canvas.widths) w.terminal-is ∙ w.in_ok-number.ensures.widths ∙ c.in_ok-feed.ensures.done.widths ∙ c.loop.invariant.widths;
@@ -123,6 +137,8 @@ loop-preserved g c =
             sends = subst (λ (T : Type 0). T) (sym (λ i. SendsOn (λ w. g.W.Widths.width_of w) c.args.every c.args.terminal.now (g.R.Read.remaining c.args.reader.now.inner) (g.R.Read.remaining c.read.new.self.inner) (g.T.Write.contents c.args.writer.now.inner) (g.T.Write.contents (w.writer-is i).inner) (w.terminal-is i) (w.number-is i) (w.left-is i)))
                 (on_next (λ w. g.W.Widths.width_of w) c.args.every c.args.terminal.now (g.T.Write.contents c.args.writer.now.inner) (g.T.Write.contents c.loop.writer.inner) c.loop.terminal c.loop.number c.loop.left c.loop.invariant.widths (g.R.Read.remaining c.args.reader.now.inner) (g.R.Read.remaining c.loop.reader.inner) (g.R.Read.remaining c.read.new.self.inner) (take c.in-Ok.count c.read.new.buffer) c.feed.new.self w.write_update-then-left-eq0.new.terminal _ _ c.loop.invariant.sends c.in-Ok.ensures.bytes.0 fed full c.loop.invariant.some
                 w.in_ok-number.ensures.ok w.in_ok-number.ensures.widths w.in_ok-number.ensures.sound);
+            flushes = flushes_next c.args.every c.args.writer.now.flushes c.loop.writer.flushes c.loop.left (g.R.Read.remaining c.args.reader.now.inner) (g.R.Read.remaining c.loop.reader.inner) (g.R.Read.remaining c.read.new.self.inner) (take c.in-Ok.count c.read.new.buffer) _ _ c.loop.invariant.flushes c.in-Ok.ensures.bytes.0 full c.loop.invariant.some
+                (ap (λ (x : Watched g.row.T.Denot). x.flushes) w.writer-is ∙ w.in_ok-number.ensures.flushes) w.left-is;
           }
       | else-left-eq0 w ↦
           let less : c.loop.left - c.in-Ok.count + length (take c.in-Ok.count c.read.new.buffer) ≡ c.loop.left = omega (arith, within, c.read.auto.buffer, c.min-most.ensures, length-take c.min-most.result c.loop.buffer, length-take c.in-Ok.count c.read.new.buffer) in
@@ -130,6 +146,8 @@ loop-preserved g c =
           record {
             reader = no_fault _ _ _ c.in-Ok.ensures.failed c.loop.invariant.reader refl;
             reads = counted;
+            ends_reads = ends_reads;
+            ends_writes = ap (λ (x : Watched g.row.T.Denot). x.has_gone_on) w.writer-is ∙ c.loop.invariant.ends_writes;
             writer = ap (λ (x : Watched g.row.T.Denot). x.has_failed) w.writer-is ∙ c.loop.invariant.writer;
             sound = ap (λ (t : Value g.row.W.Denot). t.is_failed) w.terminal-is ∙ ap (λ (t : Value g.row.W.Denot). t.is_failed) w.forget.ensures.lighter.dropped ∙ w.forget.ensures.lighter.goes.sound;
             widths = ap (λ (t : Value g.row.W.Denot). t.surface.canvas.widths) w.terminal-is ∙ ap (λ (t : Value g.row.W.Denot). t.surface.canvas.widths) w.forget.ensures.lighter.dropped ∙ w.forget.ensures.lighter.goes.widths
@@ -141,5 +159,7 @@ loop-preserved g c =
                 (g.R.Read.remaining c.args.reader.now.inner) (g.R.Read.remaining c.read.new.self.inner) w.forget.new.terminal w.due_from-from.result
                 (on_more (λ w. g.W.Widths.width_of w) c.args.every c.args.terminal.now (g.T.Write.contents c.args.writer.now.inner) (g.T.Write.contents c.loop.writer.inner) c.loop.terminal c.loop.number c.loop.left c.loop.invariant.widths (g.R.Read.remaining c.args.reader.now.inner) (g.R.Read.remaining c.loop.reader.inner) (g.R.Read.remaining c.read.new.self.inner) (take c.in-Ok.count c.read.new.buffer) c.feed.new.self (c.loop.left - c.in-Ok.count) c.loop.invariant.sends c.in-Ok.ensures.bytes.0 fed less some)
                 w.due_from-from.ensures w.forget.ensures.lighter);
+            flushes = flushes_more c.args.every c.args.writer.now.flushes c.loop.writer.flushes c.loop.left (g.R.Read.remaining c.args.reader.now.inner) (g.R.Read.remaining c.loop.reader.inner) (g.R.Read.remaining c.read.new.self.inner) (take c.in-Ok.count c.read.new.buffer) (c.loop.left - c.in-Ok.count) _ _ c.loop.invariant.flushes c.in-Ok.ensures.bytes.0 less some
+                (ap (λ (x : Watched g.row.T.Denot). x.flushes) w.writer-is) w.left-is;
           }
     ]

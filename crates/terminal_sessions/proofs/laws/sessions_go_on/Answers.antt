@@ -1,3 +1,4 @@
+use Rattle.terminal_sessions.proofs.ReplyLemmas.{session_with}
 use Rattle.terminal_sessions.proofs.SessionLemmas.{terminals_go, viewers_stay}
 use Rattle.terminal_sessions.proofs.laws.sessions_go_on.Goals as goal
 
@@ -6,3 +7,6 @@ returns-clause-terminal c = terminals_go
 
 pub returns-clause-viewers : goal.returns-clause-viewers
 returns-clause-viewers c = viewers_stay
+
+pub returns-clause-replies : goal.returns-clause-replies
+returns-clause-replies c = session_with

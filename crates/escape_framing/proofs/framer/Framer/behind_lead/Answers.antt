@@ -1,35 +1,39 @@
-use Rattle.std.proofs.Common.{◌≡◌, Result, Ok, Err, ◌-◌, refl, ap, subst, ◌∙◌, rules}
-use Rattle.std.specs.Prelude.{OnErr}
-use Rattle.escape_framing.specs.Held.{Held, Kept, kept_step, fresh_step}
-use Rattle.escape_framing.specs.Dispatched.{TakesMemory}
-use Rattle.escape_framing.proofs.WaitingLemmas.{took_memory, escape_cuts, lead_cuts, never, shows_pair, shows_other}
+use Rattle.std.proofs.Common.{◌≡◌, ◌∙◌, true, false, None, sym, ap, subst, rules}
+use Rattle.escape_framing.specs.Held.{TakesMemory, Step, kept_step}
+use Rattle.escape_framing.specs.Lending.{Lending}
+use Rattle.escape_framing.specs.FramerView.{lending_of}
+use Rattle.escape_framing.specs.Event.{handed_out, resumed}
+use Rattle.escape_framing.proofs.WaitingLemmas.{took_memory, lead_cuts}
+use Rattle.escape_framing.proofs.EventLemmas.{other_left, other_goes, lead_is_left, data_goes, data_is_left, on_err}
 use Rattle.escape_framing.proofs.framer.Framer.behind_lead.Goals as goal
 
-on_err : {T E : Type 0} (r : Result T E) (P : Type 0) → P → OnErr r P
-on_err (Ok x) P h = tt
-on_err (Err e) P h = h
+pub returns-then-not-first-clause-steps : goal.returns-then-not-first-clause-steps
+returns-then-not-first-clause-steps c =
+    let r : c.in_ok-first.first.is_read ≡ false = search rules in
+    other_left c.args.self.now.held c.step.new.self.held c.args.byte (handed_out c.step.new.self c.in_ok-first.first.event) c.in_ok-first.first.is_read c.requires.waiting c.in_ok-first.ensures.waiting c.requires.plain r c.in_ok-first.ensures.steps
 
-pub returns-in_err-second-clause-memory : goal.returns-in_err-second-clause-memory
-returns-in_err-second-clause-memory c =
-    let kept : c.step.new.self.held.kept ≡ (kept_step c.args.self.now.held.kept 0x1B).kept = ap (λ (h : Held). h.kept) c.in_ok-first.ensures.held in
-    on_err _ _ (took_memory c.args.self.now.held.kept 0x1B escape_cuts (subst TakesMemory kept c.in_err-second.ensures.memory))
+pub returns-then-not-first-clause-left : goal.returns-then-not-first-clause-left
+returns-then-not-first-clause-left c = λ r.
+    lead_is_left c.args.self.now.held c.step.new.self.held c.args.byte (handed_out c.step.new.self c.in_ok-first.first.event) c.in_ok-first.first.event c.in_ok-first.first.is_read c.requires.waiting c.in_ok-first.ensures.waiting r c.in_ok-first.ensures.steps (c.in_ok-first.ensures.left r)
 
-pub returns-in_err-second-2-clause-memory : goal.returns-in_err-second-2-clause-memory
-returns-in_err-second-2-clause-memory c =
-    let kept : c.step-else-is_c1.new.self.held.kept ≡ (kept_step c.args.self.now.held.kept 0xC2).kept = ap (λ (h : Held). h.kept) c.in_ok-first-2.ensures.held in
-    on_err _ _ (took_memory c.args.self.now.held.kept 0xC2 lead_cuts (subst TakesMemory kept c.in_err-second-2.ensures.memory))
+pub returns-in_err-second-in-None-clause-memory : goal.returns-in_err-second-in-None-clause-memory
+returns-in_err-second-in-None-clause-memory c =
+    let r : c.in_ok-first.first.is_read ≡ true = search rules in
+    let n : c.in_ok-first.first.event ≡ None = search rules in
+    let k : c.step.new.self.held.kept ≡ (kept_step c.args.self.now.held.kept 0xC2).kept = sym (ap (λ (s : Step). s.kept) (c.in_ok-first.ensures.steps ∙ (λ i. resumed (handed_out c.step.new.self (n i)) c.step.new.self.held.kept (r i) 0xC2))) in
+    on_err _ _ (took_memory c.args.self.now.held.kept 0xC2 lead_cuts (subst TakesMemory (ap (λ (l : Lending). l.held.kept) c.self.view_is ∙ k) c.in_err-second-in-None.ensures.memory))
 
-pub returns-in_ok-second-clause-shows : goal.returns-in_ok-second-clause-shows
-returns-in_ok-second-clause-shows c =
-    let kept : c.step.new.self.held.kept ≡ (kept_step c.args.self.now.held.kept 0x1B).kept = ap (λ (h : Held). h.kept) c.in_ok-first.ensures.held in
-    shows_pair c.step-then-is_c1.new.self.parameters c.in_ok-first.first c.in_ok-second.second c.args.self.now.held.kept c.args.byte (search rules)
-    (c.in_ok-first.ensures.shows c.step-then-is_c1.new.self.parameters (never 0x1B escape_cuts))
-    (c.in_ok-second.ensures.shows c.step-then-is_c1.new.self.parameters (λ e. refl) ∙ ap (λ (k : Kept). (kept_step k (c.args.byte - 0x40)).dispatches) kept)
+pub returns-in-Some-clause-steps : goal.returns-in-Some-clause-steps
+returns-in-Some-clause-steps c =
+    let r : c.in_ok-first.first.is_read ≡ true = search rules in
+    data_goes c.args.self.now.held c.args.byte c.step.new.self (lending_of c.self.inside) c.in_ok-first.first c.left.result c.in-Some.event c.requires.waiting c.self.view_is r c.in-Some.is c.left.ensures c.in_ok-first.ensures.steps c.requires.plain
 
-pub returns-in_ok-second-2-clause-shows : goal.returns-in_ok-second-2-clause-shows
-returns-in_ok-second-2-clause-shows c =
-    let kept : c.step-else-is_c1.new.self.held.kept ≡ (kept_step c.args.self.now.held.kept 0xC2).kept = ap (λ (h : Held). h.kept) c.in_ok-first-2.ensures.held in
-    shows_other c.fresh.new.self.parameters c.in_ok-first-2.first c.in_ok-second-2.second c.args.self.now.held.kept c.args.byte
-    (search rules)
-    (c.in_ok-first-2.ensures.shows c.fresh.new.self.parameters (never 0xC2 lead_cuts))
-    (c.in_ok-second-2.ensures.shows ∙ ap (λ (k : Kept). (fresh_step k c.args.byte).dispatches) kept)
+pub returns-in-Some-clause-left : goal.returns-in-Some-clause-left
+returns-in-Some-clause-left c = λ z.
+    let r : c.in_ok-first.first.is_read ≡ true = search rules in
+    data_is_left c.args.self.now.held c.args.byte c.step.new.self (lending_of c.self.inside) c.in_ok-first.first c.left.result c.in-Some.event c.requires.waiting c.self.view_is r c.in-Some.is c.left.ensures c.in_ok-first.ensures.steps (c.in_ok-first.ensures.goes r)
+
+pub returns-in_ok-second-in-None-clause-steps : goal.returns-in_ok-second-in-None-clause-steps
+returns-in_ok-second-in-None-clause-steps c =
+    let r : c.in_ok-first.first.is_read ≡ true = search rules in
+    other_goes c.args.self.now.held _ c.args.byte c.step.new.self c.in_ok-first.first.event c.in_ok-first.first.is_read _ c.requires.waiting c.requires.plain c.in-None.is r (sym (ap (λ (l : Lending). l.held.kept) c.self.view_is)) c.in_ok-first.ensures.steps c.in_ok-second-in-None.ensures.steps

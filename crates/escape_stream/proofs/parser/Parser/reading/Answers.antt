@@ -1,9 +1,12 @@
 use Rattle.std.proofs.Common.{refl, ap, ◌∙◌}
-use Rattle.escape_framing.specs.Framing.{Framing}
-use Rattle.escape_stream.proofs.AdvanceLemmas.{begins}
+use Rattle.escape_stream.specs.ParserShown.{Parsing}
+use Rattle.escape_stream.proofs.AdvanceLemmas.{begins, bytes_ask}
 use Rattle.escape_stream.proofs.parser.Parser.reading.Goals as goal
 
 pub returns-clause-pieces : goal.returns-clause-pieces
 returns-clause-pieces c = λ stream e.
-    let b = begins _ stream c.args.bytes.now (ap (λ (f : Framing). f.held) c.fail.ensures ∙ e) refl refl (c.new.ensures c.fail.new.self.parameters) in
+    let b = begins _ stream c.args.bytes.now (ap (λ (p : Parsing). p.held) c.fail.ensures ∙ e) refl refl refl in
     (b.ready, b.pieces, b.ends)
+
+pub returns-clause-memory : goal.returns-clause-memory
+returns-clause-memory c = λ asks stream e. bytes_ask _ stream c.args.bytes.now (ap (λ (p : Parsing). p.held) c.fail.ensures ∙ e) refl refl refl asks

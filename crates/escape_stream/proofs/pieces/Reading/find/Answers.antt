@@ -1,32 +1,51 @@
-use Rattle.std.proofs.Common.{subst, ap, ◌∙◌, Option}
-use Rattle.escape_framing.specs.Framing.{Framing}
+use Rattle.std.proofs.Common.{ap, subst, sym, ◌∙◌}
+use Rattle.std.specs.Prelude.{Option}
 use Rattle.escape_stream.specs.declared.action.Action.{Action}
-use Rattle.escape_stream.specs.Pending.{Gives}
-use Rattle.escape_stream.specs.Queue.{queue_actions}
-use Rattle.escape_stream.proofs.AdvanceLemmas.{stays, gives_action, gives_none}
-use Rattle.escape_stream.proofs.StepLemmas.{same_waiting}
+use Rattle.escape_stream.specs.ParserShown.{Parsing}
+use Rattle.escape_stream.specs.Sequences.{Gives, actions_left}
+use Rattle.escape_stream.proofs.AdvanceLemmas.{gives_action, gives_none, sequence_over, found_behind}
 use Rattle.escape_stream.proofs.pieces.Reading.find.Goals as goal
 
 pub returns-in-Some : goal.returns-in-Some
 returns-in-Some c =
     let n = c.in_ok-action.ensures in
-    let p = c.args.self.now.parser.now.parameters in
-    let k = subst (λ (x : Option Action). Gives (queue_actions p c.args.self.now.queue) x (queue_actions p c.next_action.new.self.queue)) c.in-Some.is n.gives in
+    let i = c.loop-action.invariant in
+    let p = c.loop-action.self.parser.now.parameters in
     record {
-      same = n.same;
-      stage = n.stage;
-      failed = ap (λ (f : Framing). f.failed) n.parser ∙ c.requires.failed;
-      gives = gives_action c.args.self.now c.args.self.now c.next_action.new.self c.in-Some.action (stays c.args.self.now c.requires.ready) (same_waiting c.args.self.now c.next_action.new.self _ n) k;
+      same = n.others.same ∙ i.same;
+      stage = n.others.stage ∙ i.stage;
+      failed = ap (λ (x : Parsing). x.failed) n.others.parser ∙ i.failed;
+      gives = gives_action c.args.self.now c.loop-action.self c.next_of_sequence.new.self c.in-Some.action i.goes n.others
+          (subst (λ (x : Option Action). Gives (actions_left p c.loop-action.self.sequence) x (actions_left p c.next_of_sequence.new.self.sequence)) c.in-Some.is n.gives);
+      memory = tt;
     }
 
 pub returns-then-self : goal.returns-then-self
 returns-then-self c =
     let n = c.in_ok-action.ensures in
-    let p = c.args.self.now.parser.now.parameters in
-    let k = subst (λ (x : Option Action). Gives (queue_actions p c.args.self.now.queue) x (queue_actions p c.next_action.new.self.queue)) c.in_default.is n.gives in
+    let i = c.loop-action.invariant in
+    let p = c.loop-action.self.parser.now.parameters in
+    let none = subst (λ (x : Option Action). Gives (actions_left p c.loop-action.self.sequence) x (actions_left p c.next_of_sequence.new.self.sequence)) c.in_default.is n.gives in
     record {
-      same = n.same;
-      stage = n.stage;
-      failed = ap (λ (f : Framing). f.failed) n.parser ∙ c.requires.failed;
-      gives = gives_none c.args.self.now c.args.self.now c.next_action.new.self (queue_actions p c.next_action.new.self.queue) (stays c.args.self.now c.requires.ready) (same_waiting c.args.self.now c.next_action.new.self _ n) k c.if-self.true;
+      same = n.others.same ∙ i.same;
+      stage = n.others.stage ∙ i.stage;
+      failed = ap (λ (x : Parsing). x.failed) n.others.parser ∙ i.failed;
+      gives = gives_none c.args.self.now c.next_of_sequence.new.self (sequence_over c.args.self.now c.loop-action.self c.next_of_sequence.new.self i.goes n.others none (n.over c.in_default.is)) (n.over c.in_default.is) c.if-self.true;
+      memory = tt;
+    }
+
+pub returns-then-is_some : goal.returns-then-is_some
+returns-then-is_some c =
+    let n = c.in_ok-action.ensures in
+    let i = c.loop-action.invariant in
+    let r = c.in_ok-piece.ensures in
+    let p = c.loop-action.self.parser.now.parameters in
+    let none = subst (λ (x : Option Action). Gives (actions_left p c.loop-action.self.sequence) x (actions_left p c.next_of_sequence.new.self.sequence)) c.in_default.is n.gives in
+    let over = sequence_over c.args.self.now c.loop-action.self c.next_of_sequence.new.self i.goes n.others none (n.over c.in_default.is) in
+    record {
+      same = r.same ∙ n.others.same ∙ i.same;
+      stage = r.stage ∙ n.others.stage ∙ i.stage;
+      failed = r.failed;
+      gives = found_behind c.args.self.now c.next_of_sequence.new.self c.read.new.self c.in_ok-piece.piece over r.finds (sym c.is_some.ensures ∙ c.if-is_some.true);
+      memory = tt;
     }

@@ -1,5 +1,0 @@
-use Rattle.std.proofs.lemmas.Str.{IsUtf8-had}
-use Rattle.cell_base.proofs.few_text.FewText.as_str.Goals as goal
-
-pub from_utf8_unchecked-requires : goal.from_utf8_unchecked-requires
-from_utf8_unchecked-requires c = rw c.as_bytes.ensures (IsUtf8-had _ c.args.self.now.text)

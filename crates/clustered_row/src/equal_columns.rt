@@ -1,0 +1,200 @@
+//! Columns in which two rows are the same.
+ghost use Rattle.std.specs.Prelude.{◌≡◌, ◌+◌, ◌<◌, ◌≤◌, ◌^◌, false, length, take, drop, IsTrue};
+ghost use Rattle.cell_base.specs.Attributes.{Attributes};
+ghost use Rattle.clustered_row.specs.Faces.{starts_right};
+ghost use Rattle.clustered_row.specs.Place.{IsPlace, IsBefore};
+ghost use Rattle.clustered_row.specs.Runs.{spread};
+ghost use Rattle.clustered_row.specs.Sizes.{width_of};
+ghost use Rattle.clustered_row.specs.TextsShown.{faces};
+ghost use Rattle.clustered_row.specs.VisibleColumns.{is_halved};
+
+use crate::cell_size::CellSize;
+use crate::columns::Columns;
+use crate::cut_text::CutText;
+use crate::kept_alike::{same_run, same_size};
+use crate::place::{Place, START};
+use crate::row::ClusteredRow;
+use crate::run::Run;
+use crate::runs::Runs;
+use crate::texts::Texts;
+use cell_base::CellAttributes;
+
+// How many bytes at the front of both are the same.
+fn equal_bytes(bytes: &[u8], others: &[u8]) -> usize
+    ensures within { result ≤ length bytes.now }
+    ensures other_within { result ≤ length others.now }
+    ensures equal { take result bytes.now ≡ take result others.now }
+{
+    let most = bytes.len().min(others.len());
+    for at in 0..most {
+        if bytes[at] != others[at] {
+            return at;
+        }
+    }
+    most
+}
+
+// How many sizes at the front of both are the same.
+fn equal_sizes(sizes: &[CellSize], others: &[CellSize]) -> usize
+    ensures within { result ≤ length sizes.now }
+    ensures other_within { result ≤ length others.now }
+    ensures equal { take result sizes.now ≡ take result others.now }
+{
+    let most = sizes.len().min(others.len());
+    for at in 0..most {
+        if !same_size(&sizes[at], &others[at]) {
+            return at;
+        }
+    }
+    most
+}
+
+// How many columns at the front of two runs have the same attributes.
+fn equal_part(run: &Run, other: &Run) -> usize
+    ensures within { result ≤ run.now.count }
+    ensures other_within { result ≤ other.now.count }
+    ensures equal { 0 < result → run.now.attributes ≡ other.now.attributes }
+{
+    if run.attributes == other.attributes {
+        return run.count.min(other.count) as usize;
+    }
+    0
+}
+
+// How many columns at the front of both have the same attributes.
+fn equal_runs(runs: &[Run], others: &[Run]) -> usize
+    requires small { length (spread runs.now) < 2 ^ 64 }
+    ensures within { result ≤ length (spread runs.now) }
+    ensures other_within { result ≤ length (spread others.now) }
+    ensures equal { take result (spread runs.now) ≡ take result (spread others.now) }
+{
+    let mut columns = 0;
+    for at in 0..runs.len().min(others.len()) {
+        let run = &runs[at];
+        let other = &others[at];
+        if !same_run(run, other) {
+            return columns + equal_part(run, other);
+        }
+        columns += run.count as usize;
+    }
+    columns
+}
+
+// Whether a cell has at most so many bytes and columns.
+#[inline(always)]
+fn fits(size: CellSize, bytes: usize, columns: usize) -> bool
+    ensures { IsTrue result → (size.len ≤ bytes) × (width_of size.is_wide ≤ columns) }
+{
+    size.len <= bytes && size.columns() <= columns
+}
+
+// The place behind the first cells, of so many as many as have at most so many bytes and columns.
+fn place_within(sizes: &[CellSize], count: usize, bytes: usize, columns: usize) -> Place
+    requires { count ≤ length sizes.now }
+    ensures place { IsPlace sizes.now result }
+    ensures index { result.index ≤ count }
+    ensures bytes { result.bytes ≤ bytes }
+    ensures columns { result.columns ≤ columns }
+{
+    let mut place = START;
+    while place.index < count {
+        let size = sizes[place.index];
+        if !fits(size, bytes - place.bytes, columns - place.columns) {
+            break;
+        }
+        place = place.behind(size);
+    }
+    place
+}
+
+impl Runs {
+    // How many columns at the front of both have the same attributes.
+    fn equal_columns(&self, other: &Runs) -> usize
+        ensures within { result ≤ length self.now }
+        ensures other_within { result ≤ length other.now }
+        ensures equal { take result self.now ≡ take result other.now }
+    {
+        let _fits = self.len();
+        equal_runs(&self.runs, &other.runs)
+    }
+}
+
+impl CutText {
+    // The place behind the cells at the front that are the same in both texts, in at most so many columns.
+    fn equal_place(&self, other: &CutText, most: usize) -> Place
+        ensures place { IsBefore self.now.text.items self.now.sizes.items result }
+        ensures other_place { IsBefore other.now.text.items other.now.sizes.items result }
+        ensures text { take result.bytes self.now.text.items ≡ take result.bytes other.now.text.items }
+        ensures sizes { take result.index self.now.sizes.items ≡ take result.index other.now.sizes.items }
+        ensures most { result.columns ≤ most }
+    {
+        let bytes = equal_bytes(&self.text, &other.text);
+        let count = equal_sizes(&self.sizes, &other.sizes);
+        let place = place_within(&self.sizes, count, bytes, most);
+        if place.index < self.sizes.len().max(other.sizes.len()) {
+            return place;
+        }
+        let plain = (bytes - place.bytes).min(most - place.columns);
+        Place {
+            index: place.index,
+            bytes: place.bytes + plain,
+            columns: place.columns + plain,
+        }
+    }
+}
+
+impl Texts {
+    // How many columns at the front of both show the same texts, at most so many; no cell is cut behind them.
+    fn equal_columns(&self, other: &Texts, most: usize) -> usize
+        ensures most { result ≤ most }
+        ensures equal { take result (faces self.now) ≡ take result (faces other.now) }
+        ensures whole { starts_right (drop result (faces self.now)) ≡ false }
+        ensures other_whole { starts_right (drop result (faces other.now)) ≡ false }
+    {
+        self.cut.equal_place(&other.cut, most).columns
+    }
+}
+
+impl Columns {
+    // How many columns at the front of both are the same; no cell is cut behind them.
+    fn equal_columns(&self, other: &Columns) -> usize
+        ensures within { result ≤ length self.now }
+        ensures other_within { result ≤ length other.now }
+        ensures equal { take result self.now ≡ take result other.now }
+        ensures whole { is_halved result self.now ≡ false }
+        ensures other_whole { is_halved result other.now ≡ false }
+    {
+        let most = self.runs.equal_columns(&other.runs);
+        self.texts.equal_columns(&other.texts, most)
+    }
+}
+
+// Whether blanks behind columns have the same attributes and end at the same column.
+fn same_blanks(
+    width: usize,
+    rest: &CellAttributes,
+    other_width: usize,
+    other_rest: &CellAttributes,
+) -> bool
+    ensures { IsTrue result → (width ≡ other_width) × (rest.now ≡ other_rest.now) }
+{
+    width == other_width && *rest == *other_rest
+}
+
+impl ClusteredRow {
+    ghost use Rattle.clustered_row.specs.EqualColumns.{AreEqualAround};
+
+    /// Columns outside of which two rows are the same: those from the first of these on and before the second. No cell
+    /// is cut at either. Rows that are kept otherwise may be the same in some of them.
+    pub fn unequal_columns(&self, other: &ClusteredRow) -> (usize, usize)
+        ensures { AreEqualAround result.0 result.1 self.now other.now }
+    {
+        let start = self.columns.equal_columns(&other.columns);
+        let len = self.columns.len();
+        let other_len = other.columns.len();
+        if same_blanks(self.width, &self.rest, other.width, &other.rest) {
+            return (start, len.max(other_len));
+        }
+        (start, self.width.max(other.width))
+    }
+}

@@ -1,0 +1,48 @@
+-- The parameters of a cursor sequence or an edit: what is written for them, and which of their numbers can be written.
+use Rattle.std.specs.Prelude.{ℕ, ◌≤◌, List, [], ◌∷◌, ◌++◌}
+use Rattle.csi_codec.specs.Parameters.{word_max, Spelled, spelled, number_tokens, count_tokens, pair_tokens, extent_tokens}
+use Rattle.csi_codec.specs.declared.parameters.CsiParam.{CsiParam}
+use Rattle.csi_codec.specs.declared.parameters.CsiParam.TheVariants.{P}
+
+pub data Slots : Type 0 where
+  -- no parameters
+  nothing : Slots
+  -- a count, not written where it is 1
+  counted : ℕ → Slots
+  -- a place, always written
+  placed : ℕ → Slots
+  -- two places, both written
+  paired : ℕ → ℕ → Slots
+  -- the number of a name, always written
+  named : ℕ → Slots
+  -- the number of an extent, not written where it is 0
+  extent : ℕ → Slots
+  -- the number of a name, and behind it a space
+  spaced : ℕ → Slots
+
+abbrev pub slots_tokens : Slots → List CsiParam
+slots_tokens nothing = []
+slots_tokens (counted n) = count_tokens n
+slots_tokens (placed n) = number_tokens n
+slots_tokens (paired a b) = pair_tokens a b
+slots_tokens (named n) = number_tokens n
+slots_tokens (extent n) = extent_tokens n
+slots_tokens (spaced n) = number_tokens n ++ P 32 ∷ []
+
+-- parameters and a final byte, as they are written
+abbrev pub slots_spelling : Slots × ℕ → Spelled
+slots_spelling slots = spelled (slots_tokens slots.0) slots.1
+
+-- a count or a place: 1 to the largest value of a parameter
+abbrev pub IsPlace : ℕ → Type 0
+IsPlace n = (1 ≤ n) × (n ≤ word_max)
+
+-- counts and places that can be written; the number of a name always can
+abbrev pub ArePlaces : Slots → Type 0
+ArePlaces (counted n) = IsPlace n
+ArePlaces (placed n) = IsPlace n
+ArePlaces (paired a b) = IsPlace a × IsPlace b
+ArePlaces nothing = Unit {0}
+ArePlaces (named n) = Unit {0}
+ArePlaces (extent n) = Unit {0}
+ArePlaces (spaced n) = Unit {0}

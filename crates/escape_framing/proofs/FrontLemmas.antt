@@ -1,0 +1,149 @@
+-- Bytes at the front that hand out one event or none, none of which prints: a run, or a whole control sequence.
+use Rattle.std.proofs.Common.{◌≡◌, ℕ, ◌+◌, ◌<◌, ◌≤◌, true, false, List, [], ◌∷◌, ◌++◌, length, map, fold, take, drop, Option, Some, None, refl, sym, ap, subst, ◌∙◌, arith, append_assoc, length-append}
+use Rattle.std.specs.Prelude.{◌==◌}
+use Rattle.std.specs.List.{prefix_len, list_all}
+use Rattle.std.proofs.lemmas.Bool.Decides.{nat_tests}
+use Rattle.std.proofs.lemmas.List.{map-append, take-append-drop, length-take-le}
+use Rattle.std.proofs.lemmas.List.Sums.{prefix_len-le-length}
+use Rattle.csi_codec.specs.Tokens.{is_parameter, Parameters, no_parameters, with_byte}
+use Rattle.escape_framing.specs.Bytes.{is_stop, is_embedded, is_intermediate, is_final, is_opener, is_cut}
+use Rattle.escape_framing.specs.Dispatch.{Dispatch, Print, Control, Escape, ControlSequence, OperatingSystemCommand, Enter, Data, Exit}
+use Rattle.escape_framing.specs.Held.{InEscape, Step, Held, Handed, handed, escape_step, opened, control_sequence_step, fresh_step, held_step, nothing_held, hand_out}
+use Rattle.escape_framing.specs.Framed.{Framed, Lone, placed_behind, framed_behind, begun_bytes, no_text, IsReached, Frames}
+use Rattle.escape_framing.specs.Fronts.{IsSilent}
+use Rattle.escape_framing.specs.Lending.{Lending}
+use Rattle.escape_framing.specs.Event.{handed_out}
+use Rattle.escape_framing.specs.Read.{ReadsEvent}
+use Rattle.escape_framing.specs.declared.event.Event.{Event}
+use Rattle.escape_framing.specs.declared.event.Event.TheVariants as event
+use Rattle.escape_framing.specs.declared.event.Read.TheVariants as read
+use Rattle.escape_framing.proofs.HeldLemmas.{hand_append, held_append}
+use Rattle.escape_framing.proofs.PrintLemmas.{PrintNone}
+use Rattle.escape_framing.proofs.LoneLemmas.{none_alone, carried_none}
+use Rattle.escape_framing.proofs.FirstLemmas.{first_escape}
+use Rattle.escape_framing.proofs.RunLemmas.{all_pass, in_sequence, parameters_handed}
+use Rattle.escape_framing.proofs.BodyLemmas.{opens_read}
+
+-- ---- bytes whose dispatches print nothing
+
+both_none : (xs ys : List Dispatch) → PrintNone (xs ++ ys) → PrintNone xs × PrintNone ys
+both_none [] ys p = (tt, p)
+both_none (Print c ∷ xs) ys p = absurd p
+both_none (Control b ∷ xs) ys p = both_none xs ys p
+both_none (Escape i f ∷ xs) ys p = both_none xs ys p
+both_none (ControlSequence t x f ∷ xs) ys p = both_none xs ys p
+both_none (OperatingSystemCommand body ∷ xs) ys p = both_none xs ys p
+both_none (Enter h f ∷ xs) ys p = both_none xs ys p
+both_none (Data b ∷ xs) ys p = both_none xs ys p
+both_none (Exit ∷ xs) ys p = both_none xs ys p
+
+front_alone : (start count : ℕ) (h : Held) (front rest : List ℕ) → PrintNone (hand_out h front).dispatches
+    → framed_behind start count h (front ++ rest) ≡ map Lone (hand_out h front).dispatches ++ framed_behind start (count + length front) (hand_out h front).held rest
+unfolding placed_behind hand_out
+front_alone start count h [] rest p = let k : count ≡ count + 0 = omega arith in ap (λ (n : ℕ). framed_behind start n h rest) k
+front_alone start count h (b ∷ front) rest p =
+    let first = held_step h b in
+    let more = hand_out first.held front in
+    let q = both_none first.dispatches more.dispatches p in
+    let n : count + 1 + length front ≡ count + length (b ∷ front) = omega arith in
+    none_alone start (count + 1) first.dispatches q.0 (placed_behind (count + 1) first.held (front ++ rest))
+    ∙ ap (λ (l : List Framed). map Lone first.dispatches ++ l)
+    (front_alone start (count + 1) first.held front rest q.1 ∙ ap (λ (m : ℕ). map Lone more.dispatches ++ framed_behind start m more.held rest) n)
+    ∙ sym (append_assoc (map Lone first.dispatches) (map Lone more.dispatches) (framed_behind start (count + length (b ∷ front)) more.held rest))
+    ∙ ap (λ (l : List Framed). l ++ framed_behind start (count + length (b ∷ front)) more.held rest) (sym (map-append Lone first.dispatches more.dispatches))
+
+drop_front : (front rest : List ℕ) → drop (length front) (front ++ rest) ≡ rest
+drop_front [] rest = refl
+drop_front (b ∷ front) rest = drop_front front rest
+
+take_front : (front rest : List ℕ) → take (length front) (front ++ rest) ≡ front
+take_front [] rest = refl
+take_front (b ∷ front) rest = ap (λ (l : List ℕ). b ∷ l) (take_front front rest)
+
+frames_front : (h after : Held) (front rest : List ℕ) (ds : List Dispatch) (count : ℕ) → hand_out h front ≡ record { dispatches = ds; held = after } → PrintNone ds → begun_bytes after ≡ [] → IsReached h
+    → Frames count h (front ++ rest) (λ from. map Lone ds) (length front) after
+frames_front h after front rest ds count e q z r =
+    let d : (hand_out h front).dispatches ≡ ds = ap (λ (x : Handed). x.dispatches) e in
+    let a : (hand_out h front).held ≡ after = ap (λ (x : Handed). x.held) e in
+    record {
+      within = omega (arith, length-append front rest);
+      lends = λ start.
+          front_alone start (start + count) h front rest (subst PrintNone (sym d) q)
+          ∙ (λ i. map Lone (d i) ++ framed_behind start (start + count + length front) (a i) (sym (drop_front front rest) i));
+      keeps = ap (λ (x : Handed). x.held) (hand_append h front rest) ∙ (λ i. (hand_out (a i) (sym (drop_front front rest) i)).held);
+      reached = (r.0 ++ front, sym a ∙ ap (λ (x : Held). (hand_out x front).held) r.1 ∙ sym (held_append r.0 front));
+      carried = carried_none 0 (count + length front) after (drop (length front) (front ++ rest)) z;
+    }
+
+reads_front : (old : Held) (bytes front rest : List ℕ) (n : ℕ) (e : Option Event) (l : Lending) → front ++ rest ≡ bytes → length front ≡ n → 0 < n → hand_out old front ≡ record { dispatches = handed_out l e; held = l.held } → PrintNone (handed_out l e) → begun_bytes l.held ≡ []
+    → ReadsEvent old bytes (read.Bytes e n) l
+reads_front old bytes front rest n e l is len z h q none =
+    subst (λ (m : ℕ). ReadsEvent old bytes (read.Bytes e m) l) len
+    (subst (λ (m : List ℕ). ReadsEvent old m (read.Bytes e (length front)) l) is (record {
+      frames = λ count r c. frames_front old l.held front rest (handed_out l e) count h q none r;
+      within = omega (arith, length-append front rest);
+      text = no_text;
+      moves = λ x y. absurd (omega (arith, len));
+      opens = λ r. opens_read old l.held (front ++ rest) (length front) (ap (λ (x : List ℕ). (hand_out old x).held) (take_front front rest) ∙ ap (λ (x : Handed). x.held) h);
+    }))
+
+pub reads_run : (old : Held) (bytes : List ℕ) (n : ℕ) (l : Lending) → 0 < n → IsSilent old bytes n l.held → ReadsEvent old bytes (read.Bytes None n) l
+reads_run old bytes n l z q =
+    reads_front old bytes (take n bytes) (drop n bytes) n None l (take-append-drop n bytes) (length-take-le n bytes q.within) z
+    (λ i. record { dispatches = q.silent i; held = q.keeps i }) tt q.none
+
+-- ---- a whole control sequence
+
+pub escape_handed : held_step nothing_held 0x1B ≡ record { dispatches = []; held = record { kept = InEscape []; waiting = false } }
+unfolding held_step fresh_step
+escape_handed = ap (λ (s : Step). handed s false) first_escape
+
+bracket_handed : held_step (record { kept = InEscape []; waiting = false }) 0x5B ≡ record { dispatches = []; held = in_sequence no_parameters }
+unfolding held_step fresh_step escape_step opened is_embedded is_stop is_intermediate is_cut is_opener
+bracket_handed = refl
+
+opening_handed : (xs : List ℕ) → hand_out nothing_held (0x1B ∷ 0x5B ∷ xs) ≡ hand_out (in_sequence no_parameters) xs
+unfolding hand_out
+opening_handed xs = rw escape_handed (rw bracket_handed refl)
+
+final_not : (b : ℕ) → is_final b ≡ true → (is_embedded b ≡ false) × (is_parameter b ≡ false) × (is_cut b ≡ false) × ((b == 0xC2) ≡ false)
+unfolding is_final is_embedded is_parameter is_cut is_stop
+final_not b h = (grind (arith, nat_tests), grind (arith, nat_tests), grind (arith, nat_tests), grind (arith, nat_tests))
+
+final_handed : (p : Parameters) (b : ℕ) → is_final b ≡ true → hand_out (in_sequence p) (b ∷ []) ≡ record { dispatches = ControlSequence p.tokens p.truncated b ∷ []; held = nothing_held }
+unfolding hand_out held_step fresh_step control_sequence_step
+final_handed p b h = let e = final_not b h in rw (e.3, e.0, e.1, e.2) refl
+
+-- parameter bytes behind ESC [, of which so many stand there, and this final byte
+pub reads_sequence : (old : Held) (bytes others : List ℕ) (n b : ℕ) (rest : List ℕ) (l : Lending) → old ≡ nothing_held → l.held ≡ nothing_held → bytes ≡ 0x1B ∷ 0x5B ∷ others → n ≡ prefix_len is_parameter others
+    → l.parameters ≡ fold with_byte no_parameters (take n others) → is_final b ≡ true → drop n others ≡ b ∷ rest → ReadsEvent old bytes (read.Bytes (Some (event.ControlSequence b)) (n + 3)) l
+reads_sequence old bytes others n b rest l o g is k p f d =
+    reads_front old bytes (front ++ b ∷ []) rest (n + 3) (Some (event.ControlSequence b)) l parted counted (omega arith)
+    (ap (λ (h : Held). hand_out h (front ++ b ∷ [])) o ∙ sequence_handed
+    ∙ (λ i. record { dispatches = ControlSequence (sym p i).tokens (sym p i).truncated b ∷ []; held = sym g i })) tt (ap begun_bytes g)
+  where
+    front : List ℕ
+    front = 0x1B ∷ 0x5B ∷ take n others
+
+    within : n ≤ length others
+    within = let m = prefix_len-le-length is_parameter others in omega (arith, k)
+
+    parted : (front ++ b ∷ []) ++ rest ≡ bytes
+    parted =
+        append_assoc front (b ∷ []) rest
+        ∙ ap (λ (x : List ℕ). 0x1B ∷ 0x5B ∷ x) (ap (λ (x : List ℕ). take n others ++ x) (sym d) ∙ take-append-drop n others)
+        ∙ sym is
+
+    counted : length (front ++ b ∷ []) ≡ n + 3
+    counted = omega (arith, length-append front (b ∷ []), length-take-le n others within)
+
+    q : Parameters
+    q = fold with_byte no_parameters (take n others)
+
+    opened_front : hand_out nothing_held front ≡ record { dispatches = []; held = in_sequence q }
+    opened_front =
+        opening_handed (take n others)
+        ∙ parameters_handed no_parameters (take n others) (subst (λ (m : ℕ). list_all is_parameter (take m others) ≡ true) (sym k) (all_pass is_parameter others))
+
+    sequence_handed : hand_out nothing_held (front ++ b ∷ []) ≡ record { dispatches = ControlSequence q.tokens q.truncated b ∷ []; held = nothing_held }
+    sequence_handed = hand_append nothing_held front (b ∷ []) ∙ rw opened_front (final_handed q b f)

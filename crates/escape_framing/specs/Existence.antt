@@ -1,7 +1,0 @@
--- That each stream has a cut: the plain reading gives one. These are proofs, which `the_cut` rests on.
-pub mod Utf8Lemmas
-pub mod OutcomeLemmas
-pub mod SevenBitLemmas
-pub mod StepLemmas
-pub mod SequenceLemmas
-pub mod CutLemmas

@@ -1,0 +1,11 @@
+-- What a framer shows.
+use Rattle.std.specs.Prelude.{ℕ, List}
+use Rattle.csi_codec.specs.Tokens.{Parameters}
+use Rattle.escape_framing.specs.Held.{Held}
+
+-- what is held of the stream, and what is lent: the parameters of the last control sequence, and the last body of a
+-- command or header of a device control string, or what there is of one
+pub record Lending : Type 0 where
+  pub held : Held
+  pub parameters : Parameters
+  pub body : List ℕ

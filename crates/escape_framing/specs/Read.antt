@@ -1,0 +1,48 @@
+-- What a framer has read of some bytes.
+use Rattle.std.specs.Prelude.{◌≡◌, ◌≤◌, ◌<◌, ℕ, ◌+◌, List, [], ◌∷◌, length, take, drop, map, Some}
+use Rattle.escape_framing.specs.Held.{Held, TakesMemory, hand_out}
+use Rattle.escape_framing.specs.Framed.{Framed, Text, Lone, IsText, IsReached, IsCarried, Frames}
+use Rattle.escape_framing.specs.Lending.{Lending}
+use Rattle.escape_framing.specs.Event.{handed_out, rank}
+use Rattle.escape_framing.specs.declared.event.Event.TheVariants as event
+use Rattle.escape_framing.specs.declared.event.Read.{Read}
+use Rattle.escape_framing.specs.declared.event.Read.TheVariants as read
+
+-- how many bytes were read
+abbrev pub count_of : Read → ℕ
+count_of (read.Text n) = n
+count_of (read.Bytes event n) = n
+
+abbrev pub text_of : Read → ℕ
+text_of (read.Text n) = n
+text_of (read.Bytes event n) = 0
+
+-- the text that was read of the bytes behind so many, or the event, with what is lent
+abbrev pub items_of : Lending → Read → List ℕ → ℕ → List Framed
+items_of l (read.Text n) bytes from = Text from (take n bytes) ∷ []
+items_of l (read.Bytes event n) bytes from = map Lone (handed_out l event)
+
+-- a control sequence of so many bytes, by its final byte
+abbrev pub whole_sequence : ℕ → ℕ → Read
+whole_sequence final n = read.Bytes (Some (event.ControlSequence final)) n
+
+-- an operating system command
+abbrev pub whole_command : ℕ → Read
+whole_command n = read.Bytes (Some event.OperatingSystemCommand) n
+
+-- behind so many of some bytes the body of a command or a header is read, which takes memory
+abbrev pub TakesMemoryAt : Held → List ℕ → ℕ → Type 0
+TakesMemoryAt held bytes n = TakesMemory (hand_out held (take n bytes)).held.kept
+
+-- Of the bytes, behind what was held, this has been read, and now the framer shows this.
+pub record ReadsEvent (held : Held) (bytes : List ℕ) (r : Read) (after : Lending) : Type 0 where
+  -- in a call that holds these bytes, with `count` others of it read
+  pub frames : (count : ℕ) → IsReached held → IsCarried 0 count held bytes
+      → Frames count held bytes (items_of after r bytes) (count_of r) after.held
+  -- so many of the bytes were read, and the text is one of them
+  pub within : count_of r ≤ length bytes
+  pub text : IsText (take (text_of r) bytes)
+  -- where none of some bytes is read, something was closed for them, which can't go on: the rank is at most 3
+  pub moves : count_of r ≡ 0 → 0 < length bytes → rank after.held < rank held
+  -- where a body or a header is read behind these and some more bytes, it is so behind what was held
+  pub opens : IsReached held → (m : ℕ) → TakesMemoryAt after.held (drop (count_of r) bytes) m → TakesMemoryAt held bytes (count_of r + m)

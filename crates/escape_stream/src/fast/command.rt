@@ -1,0 +1,26 @@
+//! Operating system commands that stand whole at the front, whose body is lent from the bytes of the call.
+ghost use Rattle.std.specs.Prelude.{◌≡◌, ◌≢◌, None, length};
+ghost use Rattle.escape_stream.specs.PiecesView.{IsGoing};
+ghost use Rattle.escape_stream.specs.Walking.{FindsWhole};
+
+use crate::action::Action;
+use crate::pieces::Reading;
+use std::alloc::AllocError;
+
+impl<'p, 'a> Reading<'p, 'a> {
+    // Reads the operating system command at the front of what is left, where it stands there whole. `None`: take the general
+    // way.
+    #[inline(always)]
+    pub(crate) fn read_command(&mut self) -> Option<Result<Action, AllocError>>
+        requires going { IsGoing self.old }
+        requires over { self.old.sequence ≡ None }
+        requires some { self.old.count ≢ length self.old.bytes.now }
+        ensures { FindsWhole self.old result self.new }
+    {
+        let before = self.count;
+        let bytes = self.rest();
+        let (body, count) = self.parser.whole_command(bytes)?;
+        self.count = before + count;
+        Some(self.parser.command_action(body))
+    }
+}

@@ -1,0 +1,2 @@
+mod NumeralLemmas
+mod OrderLemmas

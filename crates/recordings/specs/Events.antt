@@ -1,0 +1,76 @@
+-- What a line of a recording says: asciicast, versions 2 and 3.
+use Rattle.std.specs.Prelude.{Bool, ℕ, ◌==◌, List, Option, Some, None, Result, Ok, Err, codes, length, nat_lt, option_and_then, if◌then◌else◌}
+use Rattle.std.specs.List.{after_first, before_first, position_or_len}
+use Rattle.std.specs.Str.{bytes_eq, is_utf8}
+use Rattle.json.specs.Find.{as_number, as_str, at}
+use Rattle.json.specs.Json.{Json, document}
+use Rattle.recordings.specs.Numerals.{size_of, time_of}
+use Rattle.recordings.specs.declared.fault.Fault.{Fault}
+use Rattle.recordings.specs.declared.fault.Fault.TheVariants.{Code, Data, Size, Time}
+
+-- the value of a line that is UTF-8 and JSON
+abbrev pub json_of : List ℕ → Option Json
+json_of line = if is_utf8 line then document line else None
+
+-- bytes come from the application, or the terminal has another size
+pub data Act : Type 0 where
+  Output : List ℕ → Act
+  Resize : ℕ → ℕ → Act
+
+-- at its time, in microseconds from the beginning; in a line of version 3 from the event before it
+pub record Event : Type 0 where
+  pub time : ℕ
+  pub act : Act
+
+-- what a line says; nothing is done for other codes of events than `o` and `r`
+pub record Entry : Type 0 where
+  pub time : ℕ
+  pub act : Option Act
+
+-- ---- what is done
+
+-- the columns and the rows
+abbrev pub sized : Option ℕ → Option ℕ → Option Act
+sized None rows = None
+sized (Some width) None = None
+sized (Some width) (Some height) = Some (Resize width height)
+
+abbrev pub is_x : ℕ → Bool
+is_x byte = byte == 120
+
+-- the size that a text such as 80x24 writes
+unfoldable pub resize_of : List ℕ → Option Act
+resize_of text =
+    if nat_lt (position_or_len is_x text) (length text) then sized (size_of (before_first is_x text)) (size_of (after_first is_x text))
+    else None
+
+abbrev pub output_in : Option (List ℕ) → Result (Option Act) Fault
+output_in None = Err Data
+output_in (Some bytes) = Ok (Some (Output bytes))
+
+abbrev pub resize_in : Option Act → Result (Option Act) Fault
+resize_in None = Err Size
+resize_in (Some act) = Ok (Some act)
+
+-- by the code of the event
+unfoldable pub act_in : List ℕ → Option (List ℕ) → Result (Option Act) Fault
+act_in code text =
+    if bytes_eq code (codes "o") then output_in text
+    else (if bytes_eq code (codes "r") then resize_in (option_and_then resize_of text) else Ok None)
+
+-- ---- [time, code, data]
+
+abbrev pub entry_at : ℕ → Result (Option Act) Fault → Result Entry Fault
+entry_at time (Err fault) = Err fault
+entry_at time (Ok act) = Ok (record { time = time; act = act })
+
+abbrev pub entry_with : Option ℕ → Option (List ℕ) → Option (List ℕ) → Result Entry Fault
+entry_with None code text = Err Time
+entry_with (Some time) None text = Err Code
+entry_with (Some time) (Some code) text = entry_at time (act_in code text)
+
+abbrev pub text_at : ℕ → Json → Option (List ℕ)
+text_at n event = option_and_then as_str (at n event)
+
+unfoldable pub entry_in : Json → Result Entry Fault
+entry_in event = entry_with (option_and_then time_of (option_and_then as_number (at 0 event))) (text_at 1 event) (text_at 2 event)

@@ -1,0 +1,9 @@
+-- What the code's first lines hold.
+use Rattle.recordings.specs.Recordings as value
+use Rattle.recordings.specs.declared.header.Head.{Head}
+use Rattle.recordings.specs.declared.header.Head.TheVariants.{Bad, Bytes, Recorded}
+
+abbrev pub head_value : Head → value.Head
+head_value Bytes = value.Bytes
+head_value (Bad fault) = value.Bad fault
+head_value (Recorded version size) = value.Recorded version size.width size.height

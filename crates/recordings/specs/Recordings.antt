@@ -1,0 +1,145 @@
+-- A recording: its header, and its lines in turn.
+use Rattle.std.specs.Prelude.{Bool, true, false, ℕ, ◌+◌, ◌==◌, ◌||◌, List, [], ◌∷◌, ◌++◌, Option, Some, None, Result, Ok, Err, codes, length, slice_index, option_and_then, is_some, nat_le, nat_lt, if◌then◌else◌}
+use Rattle.std.specs.List.{slice_split}
+use Rattle.json.specs.Find.{as_number, get}
+use Rattle.json.specs.Json.{Json}
+use Rattle.recordings.specs.Events.{Act, Output, Event, Entry, entry_in, json_of}
+use Rattle.recordings.specs.Numerals.{count_of, size_of, too_late}
+use Rattle.recordings.specs.declared.fault.BadLine.{BadLine}
+use Rattle.recordings.specs.declared.fault.Fault.{Fault}
+use Rattle.recordings.specs.declared.fault.Fault.TheVariants.{Back, HeaderSize, Late, NotJson, Version as UnknownVersion}
+use Rattle.recordings.specs.declared.header.Version.{Version}
+use Rattle.recordings.specs.declared.header.Version.TheVariants.{Two, Three}
+
+-- ---- the header
+
+-- what a first line is: no header, one that is wrong, or one of a version, with columns and rows
+pub data Head : Type 0 where
+  Bytes : Head
+  Bad : Fault → Head
+  Recorded : Version → ℕ → ℕ → Head
+
+-- the number of the member of that name
+abbrev pub member_of : (List ℕ → Option ℕ) → List ℕ → Json → Option ℕ
+member_of read name value = option_and_then read (option_and_then as_number (get name value))
+
+abbrev pub head_of_size : Version → Option ℕ → Option ℕ → Head
+head_of_size version None height = Bad HeaderSize
+head_of_size version (Some width) None = Bad HeaderSize
+head_of_size version (Some width) (Some height) = Recorded version width height
+
+-- version 2 has its size as width and height
+abbrev pub second_head : Json → Head
+second_head header = head_of_size Two (member_of size_of (codes "width") header) (member_of size_of (codes "height") header)
+
+-- version 3 has it as cols and rows of a member term
+abbrev pub term_head : Option Json → Head
+term_head None = Bad HeaderSize
+term_head (Some term) = head_of_size Three (member_of size_of (codes "cols") term) (member_of size_of (codes "rows") term)
+
+abbrev pub head_by : Option ℕ → Json → Head
+head_by None header = Bytes
+head_by (Some version) header =
+    if version == 2 then second_head header else (if version == 3 then term_head (get (codes "term") header) else Bad UnknownVersion)
+
+abbrev pub head_in : Option Json → Head
+head_in None = Bytes
+head_in (Some header) = head_by (member_of count_of (codes "version") header) header
+
+-- a first line is a header where it is an object with a member version that is a number, and else some bytes
+unfoldable pub head_of : List ℕ → Head
+head_of line = head_in (json_of line)
+
+-- ---- the lines
+
+-- what was read of a recording so far
+pub record Reading : Type 0 where
+  pub version : Version
+  -- that of the last event
+  pub time : ℕ
+  pub events : List Event
+  pub fault : Option BadLine
+
+-- an empty line, and a comment in version 3, which begins with `#`
+abbrev pub is_passed_over : Version → List ℕ → Bool
+is_passed_over Two line = length line == 0
+is_passed_over Three line = (length line == 0) || (slice_index line 0 == 35)
+
+-- the time behind an event whose line has a time, from the time before it: of version 2 one at which nothing is done is
+-- passed over, and in version 3 each goes on from the one before it
+abbrev pub time_after : Version → ℕ → ℕ → Bool → Result ℕ Fault
+time_after Two before time false = Ok before
+time_after Two before time true = if nat_le before time then Ok time else Err Back
+time_after Three before time is_done = if nat_lt (before + time) too_late then Ok (before + time) else Err Late
+
+abbrev pub with_fault : ℕ → Fault → Reading → Reading
+with_fault number fault reading = record reading { fault = Some (record { line = number; fault = fault }) }
+
+abbrev pub with_act : ℕ → Option Act → Reading → Reading
+with_act time None reading = record reading { time = time }
+with_act time (Some act) reading = record reading { time = time; events = reading.events ++ record { time = time; act = act } ∷ [] }
+
+abbrev pub with_time : ℕ → Result ℕ Fault → Option Act → Reading → Reading
+with_time number (Err fault) act reading = with_fault number fault reading
+with_time number (Ok time) act reading = with_act time act reading
+
+abbrev pub with_entry : ℕ → Result Entry Fault → Reading → Reading
+with_entry number (Err fault) reading = with_fault number fault reading
+with_entry number (Ok entry) reading = with_time number (time_after reading.version reading.time entry.time (is_some entry.act)) entry.act reading
+
+abbrev pub with_value : ℕ → Option Json → Reading → Reading
+with_value number None reading = with_fault number NotJson reading
+with_value number (Some event) reading = with_entry number (entry_in event) reading
+
+-- the line of a number is read; none is behind a fault
+unfoldable pub line_read : ℕ → Reading → List ℕ → Reading
+line_read number reading line =
+    if is_some reading.fault || is_passed_over reading.version line then reading else with_value number (json_of line) reading
+
+-- lines, of which the first has a number
+abbrev pub lines_read : ℕ → Reading → List (List ℕ) → Reading
+lines_read number reading [] = reading
+lines_read number reading (line ∷ lines) = lines_read (number + 1) (line_read number reading line) lines
+
+-- ---- the whole
+
+-- the size at first, what happens in turn, and the line that is wrong, behind which nothing was read
+pub record Recording : Type 0 where
+  pub width : ℕ
+  pub height : ℕ
+  pub events : List Event
+  pub fault : Option BadLine
+
+-- the lines of an input, without the line feeds behind them
+abbrev pub lines_of : List ℕ → List (List ℕ)
+lines_of input = slice_split (λ byte. byte == 10) input
+
+abbrev pub reading_first : Version → Reading
+reading_first version = record { version = version; time = 0; events = []; fault = None }
+
+abbrev pub recording_read : ℕ → ℕ → Reading → Recording
+recording_read width height reading = record { width = width; height = height; events = reading.events; fault = reading.fault }
+
+-- the bytes of an application, all of them at the beginning
+abbrev pub bytes_recording : ℕ → ℕ → List ℕ → Recording
+bytes_recording width height input =
+    record { width = width; height = height; events = record { time = 0; act = Output input } ∷ []; fault = None }
+
+-- nothing is known but what is wrong with the header
+abbrev pub bad_recording : ℕ → ℕ → Fault → Recording
+bad_recording width height fault =
+    record { width = width; height = height; events = []; fault = Some (record { line = 1; fault = fault }) }
+
+-- an input without a header is the bytes of an application
+abbrev pub recording_by : Head → ℕ → ℕ → List ℕ → List (List ℕ) → Recording
+recording_by Bytes width height input lines = bytes_recording width height input
+recording_by (Bad fault) width height input lines = bad_recording width height fault
+recording_by (Recorded version columns rows) width height input lines = recording_read columns rows (lines_read 2 (reading_first version) lines)
+
+abbrev pub recording_in : ℕ → ℕ → List ℕ → List (List ℕ) → Recording
+recording_in width height input [] = bytes_recording width height input
+recording_in width height input (line ∷ lines) = recording_by (head_of line) width height input lines
+
+-- the recording that an input is; the size is that of an input without a header
+unfoldable pub recording_of : ℕ → ℕ → List ℕ → Recording
+recording_of width height input = recording_in width height input (lines_of input)

@@ -1,0 +1,122 @@
+//! What a line says.
+ghost use Rattle.std.specs.Prelude.{◌≡◌, IfOk, option_and_then, option_map};
+ghost use Rattle.json.specs.Find.{as_number, at};
+ghost use Rattle.json.specs.Value.{value_view};
+ghost use Rattle.recordings.specs.Numerals.{time_of};
+ghost use Rattle.recordings.specs.Events.{act_in, entry_in, json_of, output_in, resize_in, resize_of, text_at};
+ghost use Rattle.recordings.specs.EventView.{entry_of, line_act_of, result_of};
+
+use crate::fault::Fault;
+use crate::numerals::{size_of, time_of};
+use crate::size::Size;
+use json::{Error, Scratch, Value};
+use std::alloc::{AllocError, Global};
+use std::str;
+
+/// What is done, as a line has it.
+#[derive(Clone, Copy, Debug)]
+pub(crate) enum LineAct<'a> {
+    Output(&'a str),
+    Resize(Size),
+}
+
+/// The time of a line, and what is done, unless its code is another one than `o` or `r`.
+#[derive(Clone, Copy, Debug)]
+pub(crate) struct Entry<'a> {
+    pub(crate) time: u64,
+    pub(crate) act: Option<LineAct<'a>>,
+}
+
+/// The value of a line that is UTF-8 and JSON.
+pub(crate) fn json_of<'a>(
+    alloc: Global,
+    line: &'a [u8],
+    scratch: &'a mut Scratch,
+) -> Result<Option<Value<'a>>, AllocError>
+    ensures { IfOk result (λ value. option_map value_view value ≡ json_of line.now) }
+{
+    let Ok(text) = str::from_utf8(line) else {
+        return Ok(None);
+    };
+    match Value::parse(alloc, text, scratch) {
+        Ok(value) => Ok(Some(value)),
+        Err(Error::Invalid) => Ok(None),
+        Err(_) => Err(AllocError),
+    }
+}
+
+// The size that a text such as 80x24 writes.
+#[tactic(auto, unfolding(crate::specs::Events::resize_of))]
+fn resize_of(text: &str) -> Option<LineAct<'_>>
+    ensures { option_map line_act_of result ≡ resize_of text.now }
+{
+    let (width, height) = text.split_once('x')?;
+    let width = size_of(width)?;
+    let height = size_of(height)?;
+    Some(LineAct::Resize(Size { width, height }))
+}
+
+fn output_in(text: Option<&str>) -> Result<Option<LineAct<'_>>, Fault>
+    ensures { result_of (option_map line_act_of) result ≡ output_in (option_map (λ t. t.now) text.entry) }
+{
+    match text {
+        Some(text) => Ok(Some(LineAct::Output(text))),
+        None => Err(Fault::Data),
+    }
+}
+
+fn resize_in(text: Option<&str>) -> Result<Option<LineAct<'_>>, Fault>
+    ensures { result_of (option_map line_act_of) result
+        ≡ resize_in (option_and_then resize_of (option_map (λ t. t.now) text.entry)) }
+{
+    let Some(text) = text else {
+        return Err(Fault::Size);
+    };
+    match resize_of(text) {
+        Some(act) => Ok(Some(act)),
+        None => Err(Fault::Size),
+    }
+}
+
+// What is done, by the code of the event and its text.
+#[tactic(auto, unfolding(crate::specs::Events::act_in))]
+fn act_in<'a>(code: &str, text: Option<&'a str>) -> Result<Option<LineAct<'a>>, Fault>
+    ensures { result_of (option_map line_act_of) result ≡ act_in code.now (option_map (λ t. t.now) text.entry) }
+{
+    match code {
+        "o" => output_in(text),
+        "r" => resize_in(text),
+        _ => Ok(None),
+    }
+}
+
+// An item of an event that is a text.
+fn text_at<'a>(event: &Value<'a>, index: usize) -> Option<&'a str>
+    ensures { option_map (λ t. t.now) result ≡ text_at index (value_view event.now) }
+{
+    event.at(index)?.as_str()
+}
+
+// The first item of an event, where it is a time.
+fn time_in(event: &Value<'_>) -> Option<u64>
+    ensures { result ≡ option_and_then time_of (option_and_then as_number (at 0 (value_view event.now))) }
+{
+    time_of(event.at(0)?.as_number()?)
+}
+
+/// What an event says.
+#[tactic(auto, unfolding(crate::specs::Events::entry_in))]
+pub(crate) fn entry_in<'a>(event: &Value<'a>) -> Result<Entry<'a>, Fault>
+    ensures { result_of entry_of result ≡ entry_in (value_view event.now) }
+{
+    let Some(time) = time_in(event) else {
+        return Err(Fault::Time);
+    };
+    let Some(code) = text_at(event, 1) else {
+        return Err(Fault::Code);
+    };
+    match act_in(code, text_at(event, 2)) {
+        Ok(act) => Ok(Entry { time, act }),
+        Err(fault) => Err(fault),
+    }
+}

@@ -1,0 +1,107 @@
+//! The times and the counts that texts write.
+ghost use Rattle.std.specs.Prelude.{◌≡◌, ◌≤◌, ◌<◌, IfSome, min, take};
+ghost use Rattle.recordings.specs.Numerals.{count_of, greatest, micro_point, micros, most_digits, number_behind, number_of, size_of, time_of, zeros};
+
+use fast_float::Numeral;
+
+// The number that decimal digits write behind those of another one, or the greatest.
+fn with_digits(value: u64, digits: &[u8]) -> u64
+    ensures { result ≡ min (number_behind value digits.now) greatest }
+{
+    let mut value = value;
+    for digit in digits {
+        let unit = u64::from(digit.saturating_sub(b'0'));
+        value = value.saturating_mul(10).saturating_add(unit);
+    }
+    value
+}
+
+// How many digits stand before the point of the microseconds.
+fn micro_point(numeral: &Numeral<'_>) -> u64
+    ensures { result ≡ min (micro_point numeral.now) greatest }
+{
+    let point = numeral.whole().len() as u64 + 6;
+    let exponent = with_digits(0, numeral.exponent());
+    if numeral.is_exponent_negative() {
+        point.saturating_sub(exponent)
+    } else {
+        point.saturating_add(exponent)
+    }
+}
+
+const MOST_DIGITS: u64 = 19;
+
+const ZEROS: [u8; 19] = *b"0000000000000000000";
+
+// The first digits, as many as asked for or all.
+fn first(digits: &[u8], count: usize) -> &[u8]
+    ensures { result.now ≡ take count digits.now }
+{
+    &digits[..count.min(digits.len())]
+}
+
+// The microseconds of a number of seconds, or the greatest number.
+#[tactic(auto, unfolding(crate::specs::Numerals::micros))]
+fn micros(numeral: &Numeral<'_>, point: usize) -> u64
+    requires point { point ≡ micro_point numeral.now }
+    requires few { point ≤ most_digits }
+    ensures { result ≡ min (micros numeral.now) greatest }
+{
+    let (whole, fraction) = (numeral.whole(), numeral.fraction());
+    let behind = point.saturating_sub(whole.len());
+    let value = with_digits(0, first(whole, point));
+    let value = with_digits(value, first(fraction, behind));
+    with_digits(value, first(&ZEROS, behind.saturating_sub(fraction.len())))
+}
+
+const TOO_LATE: u64 = 1 << 63;
+
+/// The microseconds of a text that is a decimal number of seconds from 0 on, with or without an exponent; further digits
+/// are cut. None of any other text, and none from 2^63 on.
+#[tactic(auto, unfolding(crate::specs::Numerals::time_of))]
+pub fn time_of(text: &str) -> Option<u64>
+    ensures { result ≡ time_of text.now }
+{
+    let numeral = Numeral::scan(text.as_bytes());
+    if numeral.len() != text.len() || !numeral.has_digits() {
+        return None;
+    }
+    let point = micro_point(&numeral);
+    if point > MOST_DIGITS {
+        return None;
+    }
+    let micros = micros(&numeral, point as usize);
+    if micros < TOO_LATE {
+        Some(micros)
+    } else {
+        None
+    }
+}
+
+/// The number of a text that is digits and nothing else, or the greatest.
+#[tactic(auto, unfolding(crate::specs::Numerals::count_of))]
+pub(crate) fn count_of(text: &str) -> Option<u64>
+    ensures { result ≡ count_of text.now }
+{
+    let numeral = Numeral::scan(text.as_bytes());
+    if numeral.whole().len() != text.len() || text.is_empty() {
+        return None;
+    }
+    Some(with_digits(0, text.as_bytes()))
+}
+
+const MOST_SIZE: u64 = 4096;
+
+/// A number of columns or rows, from 1 to 4096.
+#[tactic(auto, unfolding(crate::specs::Numerals::size_of))]
+pub(crate) fn size_of(text: &str) -> Option<usize>
+    ensures size { result ≡ size_of text.now }
+    ensures range { IfSome result (λ n. (0 < n) × (n ≤ 4096)) }
+{
+    let count = count_of(text)?;
+    if 0 < count && count <= MOST_SIZE {
+        Some(count as usize)
+    } else {
+        None
+    }
+}

@@ -1,0 +1,62 @@
+-- Events that are cut at a time, and a recording of one screen.
+use Rattle.std.proofs.Common.{◌≡◌, ◌≤◌, ◌<◌, ℕ, suc, ◌+◌, Bool, true, false, List, [], ◌∷◌, ◌++◌, Option, None, take, drop, refl, sym, ap, ◌∙◌, arith, append-nil}
+use Rattle.std.specs.Prelude.{cond, filter, is_some, nat_le, nat_lt, not, ◌||◌, if◌then◌else◌}
+use Rattle.std.specs.List.{prefix_len}
+use Rattle.std.proofs.lemmas.Bool.{leb-false, lt-leb}
+use Rattle.cell_base.specs.Cluster.{program_width}
+use Rattle.recordings.specs.Events.{Event}
+use Rattle.recordings.specs.Order.{AreFrom}
+use Rattle.recordings.specs.Recordings.{Recording}
+use Rattle.shot.specs.Pictures.{picture}
+use Rattle.shot.specs.Play.{behind, is_by, steps_of, until, view_at}
+use Rattle.shot.specs.Shots.{end_of, last_time, multiples, pictures, shots}
+use Rattle.shot.specs.declared.format.Format.{Format}
+use Rattle.terminal_table.specs.History.{Look}
+use Rattle.terminal_table.specs.Meaning.{meaning, new_view}
+
+by_test : {P : Type 0} (b : Bool) → (b ≡ true → P) → (b ≡ false → P) → P
+by_test {P} b is not_is = (elim b as (λ w. b ≡ w → P) [ true ↦ is | false ↦ not_is ]) refl
+
+later : (time : ℕ) (event : Event) → time < event.time → is_by time event ≡ false
+later time event h = lt-leb event.time time h
+
+-- of events that are all later none is by a time
+none_by : (time late : ℕ) (events : List Event) → time < late → AreFrom late events → filter (is_by time) events ≡ []
+none_by time late [] h from = refl
+none_by time late (event ∷ events) h from =
+    let behind_time : time < event.time = omega (arith, h, from.0) in
+    rw (later time event behind_time) (none_by time event.time events behind_time from.1)
+
+all_later : (time late : ℕ) (events : List Event) → time < late → AreFrom late events → filter (λ event. not (is_by time event)) events ≡ events
+all_later time late [] h from = refl
+all_later time late (event ∷ events) h from =
+    let behind_time : time < event.time = omega (arith, h, from.0) in
+    rw (later time event behind_time) (ap (λ es. event ∷ es) (all_later time event.time events behind_time from.1))
+
+pub until_is : (time early : ℕ) (events : List Event) → AreFrom early events → until time events ≡ filter (is_by time) events
+until_is time early [] from = refl
+until_is time early (event ∷ events) from =
+    by_test (is_by time event)
+    (λ is.
+    let more : 1 + prefix_len (is_by time) events ≡ suc (prefix_len (is_by time) events) = omega arith in
+    rw is (ap (λ n. take n (event ∷ events)) more ∙ ap (λ es. event ∷ es) (until_is time event.time events from.1)))
+    (λ is. rw is (sym (none_by time event.time events (leb-false event.time time is) from.1)))
+
+pub behind_is : (time early : ℕ) (events : List Event) → AreFrom early events → behind time events ≡ filter (λ event. not (is_by time event)) events
+behind_is time early [] from = refl
+behind_is time early (event ∷ events) from =
+    by_test (is_by time event)
+    (λ is.
+    let more : 1 + prefix_len (is_by time) events ≡ suc (prefix_len (is_by time) events) = omega arith in
+    rw is (ap (λ n. drop n (event ∷ events)) more ∙ behind_is time event.time events from.1))
+    (λ is. rw is (ap (λ es. event ∷ es) (sym (all_later time event.time events (leb-false event.time time is) from.1))))
+
+pub one_screen : (format : Format) (at : Option ℕ) (recording : Recording) → recording.fault ≡ None
+    → shots format at 0 recording
+    ≡ picture format (meaning program_width recording.width recording.height (steps_of (until (end_of at recording.events) recording.events) ++ Look ∷ [])).state.screen
+unfolding shots view_at
+one_screen format at recording none =
+    let last = end_of at recording.events in
+    ap (λ fault. pictures format (new_view recording.width recording.height) recording.events
+    (if not (is_some fault) || nat_lt last (last_time recording.events) then multiples 0 last (last ∷ []) else multiples 0 (last_time recording.events) [])) none
+    ∙ append-nil (picture format (view_at (new_view recording.width recording.height) recording.events last).state.screen)

@@ -1,0 +1,23 @@
+use Rattle.std.proofs.Common.{◌≡◌, ◌+◌, ◌*◌, ◌-◌, ◌<◌, ℕ, suc, map, refl, subst, arith}
+use Rattle.recordings.specs.EventView.{event_of}
+use Rattle.shot.specs.Writing.{IsWriting}
+use Rattle.shot.proofs.WriteLemmas.{one_less, writing_next}
+use Rattle.shot.proofs.shots.write_steps.Goals as goal
+
+pub loop-left-preserved : goal.loop-left-preserved
+loop-left-preserved g c =
+    let left = c.loop-left.left in
+    let more : 0 < left = omega (arith, c.loop-left-test.true) in
+    let one : left ≡ suc (left - 1) = omega (arith, more) in
+    let before = g.T.Write.contents c.args.writer.now in
+    let out = g.T.Write.contents c.loop-left.writer in
+    let events = map event_of c.args.events.now in
+    let rest = map event_of c.loop-left.rest.now in
+    record {
+      writing = λ view st.
+          writing_next c.args.format view events c.args.step c.args.count c.loop-left.terminal c.write_screen.new.terminal rest (map event_of c.in_ok-rest.rest.now)
+          c.loop-left.time (c.loop-left.time + c.args.step) (left - 1) before out (g.T.Write.contents c.write_screen.new.writer)
+          (subst (λ n. IsWriting c.args.format view events c.args.step c.args.count c.loop-left.terminal rest c.loop-left.time n before out) one (c.loop-left.invariant.writing view st))
+          refl c.in_ok-rest.ensures.stands c.in_ok-rest.ensures.writes c.in_ok-rest.ensures.rest;
+      at = omega (arith, c.loop-left.invariant.at, one_less left c.args.step more);
+    }

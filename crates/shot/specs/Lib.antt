@@ -1,0 +1,4 @@
+pub mod Pictures
+pub mod Play
+pub mod Shots
+pub mod Writing

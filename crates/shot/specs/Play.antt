@@ -1,0 +1,36 @@
+-- A recording that is played to a terminal.
+use Rattle.std.specs.Prelude.{ℕ, Bool, nat_le, List, [], ◌∷◌, ◌++◌, map, take, drop}
+use Rattle.std.specs.List.{prefix_len}
+use Rattle.cell_base.specs.Cluster.{program_width}
+use Rattle.cell_base.specs.Screen.{Screen}
+use Rattle.recordings.specs.Events as recorded
+use Rattle.terminal_table.specs.History.{History, Step, Piece, Look, Resize}
+use Rattle.terminal_table.specs.Meaning.{View, after}
+
+-- what an event does to a terminal
+abbrev pub step_of : recorded.Act → Step
+step_of (recorded.Output bytes) = Piece bytes
+step_of (recorded.Resize width height) = Resize width height
+
+abbrev pub steps_of : List recorded.Event → History
+steps_of events = map (λ (event : recorded.Event). step_of event.act) events
+
+-- whether an event is at a time or before it
+abbrev pub is_by : ℕ → recorded.Event → Bool
+is_by time event = nat_le event.time time
+
+-- the events that are, and those behind them; no event is before the one in front of it
+abbrev pub until : ℕ → List recorded.Event → List recorded.Event
+until time events = take (prefix_len (is_by time) events) events
+
+abbrev pub behind : ℕ → List recorded.Event → List recorded.Event
+behind time events = drop (prefix_len (is_by time) events) events
+
+-- from a view, events up to a time, and a look at it
+unfoldable pub view_at : View → List recorded.Event → ℕ → View
+view_at view events time = after program_width view (steps_of (until time events) ++ Look ∷ [])
+
+-- the screens at some times, each looked at behind the ones before it
+abbrev pub screens_at : View → List recorded.Event → List ℕ → List Screen
+screens_at view events [] = []
+screens_at view events (time ∷ times) = (view_at view events time).state.screen ∷ screens_at (view_at view events time) (behind time events) times

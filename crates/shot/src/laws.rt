@@ -1,0 +1,28 @@
+//! Laws of the definitions, as the contracts of functions that do nothing.
+ghost use Rattle.std.specs.Prelude.{◌≡◌, ◌++◌, ◌∷◌, [], ℕ, List, None, Option, filter, not};
+ghost use Rattle.cell_base.specs.Cluster.{program_width};
+ghost use Rattle.recordings.specs.Events.{Event as RecordedEvent};
+ghost use Rattle.recordings.specs.Order.{AreFrom};
+ghost use Rattle.recordings.specs.Recordings.{Recording};
+ghost use Rattle.shot.specs.Pictures.{picture};
+ghost use Rattle.shot.specs.Play.{behind, is_by, steps_of, until};
+ghost use Rattle.shot.specs.Shots.{end_of, shots};
+ghost use Rattle.shot.specs.declared.format.Format.{Format};
+ghost use Rattle.terminal_table.specs.History.{Look};
+ghost use Rattle.terminal_table.specs.Meaning.{meaning};
+
+/// The events of a recording up to a time are exactly those at it or before it, and the others are behind them.
+pub fn events_are_cut_at_a_time()
+    ensures until { (time : ℕ) (events : List RecordedEvent) → AreFrom 0 events
+        → until time events ≡ filter (is_by time) events }
+    ensures behind { (time : ℕ) (events : List RecordedEvent) → AreFrom 0 events
+        → behind time events ≡ filter (λ event. not (is_by time event)) events }
+{}
+
+/// Without a step one screen is written of a recording without a wrong line: that of a new terminal of its size behind the
+/// events up to the time that is asked for, and a look.
+pub fn one_screen_is_that_of_the_time()
+    ensures { (format : Format) (at : Option ℕ) (recording : Recording) → recording.fault ≡ None
+        → shots format at 0 recording ≡ picture format (meaning program_width recording.width recording.height
+        (steps_of (until (end_of at recording.events) recording.events) ++ Look ∷ [])).state.screen }
+{}

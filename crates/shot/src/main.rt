@@ -1,0 +1,64 @@
+//! Writes the screen that an application's output or a recording leads to.
+#![tactic(auto)]
+
+mod error;
+mod format;
+mod laws;
+mod options;
+mod play;
+mod service;
+mod shots;
+#[cfg(test)]
+mod tests;
+
+use options::{Options, read};
+use service::{explain_words, refuse, refuse_input, serve, tell};
+use std::io::ErrorKind;
+use std::process::ExitCode;
+use std::{env, fs};
+
+fn run(rt: &HostRuntime, options: Options<'_>) -> u8 {
+    let alloc = rt.alloc();
+    let mut writer = rt.stdout();
+    let mut faults = rt.stderr();
+    let Some(name) = options.file else {
+        let mut reader = rt.stdin();
+        return serve(
+            alloc,
+            options,
+            "standard input",
+            &mut reader,
+            &mut writer,
+            &mut faults,
+        );
+    };
+    match fs::open(rt, name) {
+        Ok(mut file) => serve(alloc, options, name, &mut file, &mut writer, &mut faults),
+        Err(_) => refuse_input(alloc, name, &mut faults),
+    }
+}
+
+fn answer(rt: &HostRuntime, words: &[String]) -> u8 {
+    match read(rt.alloc(), words) {
+        Ok(options) => run(rt, options),
+        Err(error) => explain_words(rt.alloc(), &error, &mut rt.stdout(), &mut rt.stderr()),
+    }
+}
+
+fn main(rt: HostRuntime) -> ExitCode {
+    let mut faults = rt.stderr();
+    let words: Vec<String> = match env::args(&rt) {
+        Ok(words) => match words.collect(rt.alloc()) {
+            Ok(words) => words,
+            Err(_) => return ExitCode::from(tell(&mut faults, "out of memory")),
+        },
+        Err(error) if error.kind() == ErrorKind::OutOfMemory => {
+            return ExitCode::from(tell(&mut faults, "out of memory"));
+        }
+        Err(_) => {
+            let text = "error: invalid UTF-8 was detected in one or more arguments\n";
+            return ExitCode::from(refuse(&mut faults, &[text]));
+        }
+    };
+    ExitCode::from(answer(&rt, words.as_slice()))
+}

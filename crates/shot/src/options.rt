@@ -1,0 +1,156 @@
+//! What the words of a command line give.
+use crate::format::Format;
+use crate::shots::Shots;
+use clap::{Arg, ArgAction, ArgMatches, Command, Error, value_parser};
+use recordings::time_of;
+use std::alloc::{AllocError, Global};
+use std::convert::AsStr;
+
+/// What a command line asks for.
+#[derive(Clone, Copy, Debug)]
+pub struct Options<'a> {
+    /// What is written.
+    pub asked: Shots,
+    /// Columns of the screen in place of those of the input, from 1 to 4096.
+    pub width: Option<u32>,
+    /// Rows of the screen in place of those of the input, from 1 to 4096.
+    pub height: Option<u32>,
+    /// The file that is read, or standard input.
+    pub file: Option<&'a str>,
+}
+
+/// Why words are no command line.
+#[derive(Debug, Drop)]
+pub enum BadWords {
+    /// The words are none, or only ask for help or for the version.
+    Command(Error),
+    /// A number of seconds is none, of the option of that name.
+    Seconds(&'static str),
+}
+
+const FORMATS: [&str; 5] = ["text", "ansi", "html", "svg", "json"];
+
+// An option with a value.
+fn option<'a>(alloc: Global, name: &'a str, value: &'a str, help: &'a str) -> Arg<'a> {
+    Arg::new(alloc, name)
+        .long(name)
+        .value_name(value)
+        .action(ArgAction::Set)
+        .help(help)
+}
+
+// An option whose value is a number of columns or rows.
+fn size_option<'a>(alloc: Global, name: &'a str, help: &'a str) -> Arg<'a> {
+    option(alloc, name, "N", help).value_parser(value_parser!(u32).range(1..=4096))
+}
+
+fn format_option<'a>(alloc: Global) -> Arg<'a> {
+    option(alloc, "format", "FORMAT", "The form of the screen")
+        .value_parser(FORMATS.as_slice())
+        .default_value("text")
+}
+
+// What is read and written.
+const MORE: &str = "\
+Input: the bytes that an application writes to its terminal; or a recording in
+asciicast version 2 or 3, which has its size, and is told by its first line.
+
+Examples:
+  shot < output
+  shot --format svg session.cast > last.svg
+  shot --format html --at 12.5 session.cast > page.html
+  shot --format json --step 1 session.cast";
+
+fn named_command<'a>(alloc: Global) -> Result<Command<'a>, AllocError> {
+    let command = Command::new(alloc, "shot")
+        .about("Writes the screen that an application's output or a recording leads to")
+        .after_help(MORE)
+        .version("0.1.0")
+        .bin_name("shot")?;
+    command.arg(format_option(alloc))
+}
+
+fn timed_command<'a>(alloc: Global, command: Command<'a>) -> Result<Command<'a>, AllocError> {
+    let at = option(
+        alloc,
+        "at",
+        "SECONDS",
+        "The time of the screen in a recording [default: its end]",
+    );
+    let step = option(
+        alloc,
+        "step",
+        "SECONDS",
+        "Also write the screen at each multiple of this time before that",
+    );
+    command.arg(at)?.arg(step)
+}
+
+fn command<'a>(alloc: Global) -> Result<Command<'a>, AllocError> {
+    let width = size_option(
+        alloc,
+        "width",
+        "Columns of the screen, 1 to 4096 [default: the recording's, or 80]",
+    );
+    let height = size_option(
+        alloc,
+        "height",
+        "Rows of the screen, 1 to 4096 [default: the recording's, or 24]",
+    );
+    let file = Arg::new(alloc, "FILE").help("The input [default: standard input]");
+    let command = named_command(alloc)?.arg(width)?.arg(height)?;
+    timed_command(alloc, command)?.arg(file)
+}
+
+fn format_of(name: Option<&str>) -> Format {
+    match name.unwrap_or("") {
+        "ansi" => Format::Ansi,
+        "html" => Format::Html,
+        "svg" => Format::Svg,
+        "json" => Format::Json,
+        _ => Format::Text,
+    }
+}
+
+// A number of seconds in microseconds, where the option is given.
+fn seconds(matches: &ArgMatches<'_>, name: &'static str) -> Result<Option<u64>, BadWords> {
+    let Some(text) = matches.get_str(name) else {
+        return Ok(None);
+    };
+    match time_of(text) {
+        Some(time) => Ok(Some(time)),
+        None => Err(BadWords::Seconds(name)),
+    }
+}
+
+// What the matches ask for.
+fn asked(matches: &ArgMatches<'_>) -> Result<Shots, BadWords> {
+    let format = format_of(matches.get_str("format"));
+    let at = seconds(matches, "at")?;
+    match seconds(matches, "step")? {
+        Some(0) => Err(BadWords::Seconds("step")),
+        step => Ok(Shots {
+            format,
+            at,
+            step: step.unwrap_or(0),
+        }),
+    }
+}
+
+/// Reads a command line, of which the first word is the program's name.
+pub fn read<'a, S: AsStr>(alloc: Global, words: &'a [S]) -> Result<Options<'a>, BadWords> {
+    let matches = match matches_of(alloc, words) {
+        Ok(matches) => matches,
+        Err(error) => return Err(BadWords::Command(error)),
+    };
+    Ok(Options {
+        asked: asked(&matches)?,
+        width: matches.get_one::<u32>("width"),
+        height: matches.get_one::<u32>("height"),
+        file: matches.get_str("FILE"),
+    })
+}
+
+fn matches_of<'a, S: AsStr>(alloc: Global, words: &'a [S]) -> Result<ArgMatches<'a>, Error> {
+    command(alloc)?.try_get_matches_from(words)
+}

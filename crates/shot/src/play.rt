@@ -1,0 +1,89 @@
+//! A recording that is played to a terminal.
+ghost use Rattle.std.specs.Prelude.{◌≡◌, [], ◌∷◌, map, IfOk, OnOk};
+ghost use Rattle.std.specs.List.{prefix_len};
+ghost use Rattle.std.specs.Io.KnownBytes.{Appends};
+ghost use Rattle.cell_base.specs.Cluster.{program_width};
+ghost use Rattle.recordings.specs.EventView.{act_of, event_of};
+ghost use Rattle.shot.specs.Pictures.{picture};
+ghost use Rattle.shot.specs.Play.{behind, is_by, step_of, steps_of, until, view_at};
+ghost use Rattle.terminal.specs.Terminal.{GoesBy, StandsAt};
+ghost use Rattle.terminal_table.specs.Meaning.{View, after};
+
+use crate::error::ShotError;
+use crate::format::{Format, picture};
+use recordings::{Act, Event};
+use std::alloc::Global;
+use std::io::Write;
+use terminal::{ProgramWidth, Terminal, TerminalError};
+
+/// A terminal that recordings are played to.
+pub type Screen = Terminal<ProgramWidth>;
+
+// Does what is done.
+fn act(terminal: &mut Screen, act: &Act) -> Result<(), TerminalError>
+    ensures { OnOk result (GoesBy (λ w. program_width) terminal.old terminal.new (step_of (act_of act.now) ∷ [])) }
+{
+    match act {
+        Act::Output(bytes) => terminal.feed(bytes),
+        Act::Resize(size) => terminal.resize(size.width, size.height),
+    }
+}
+
+// Does what events do.
+fn act_all(terminal: &mut Screen, events: &[Event]) -> Result<(), TerminalError>
+    ensures { OnOk result ((view : View) → StandsAt terminal.old view
+        → StandsAt terminal.new (after program_width view (steps_of (map event_of events.now)))) }
+{
+    for event in events {
+        act(terminal, &event.act)?;
+    }
+    Ok(())
+}
+
+// How many events, the first ones, are at a time or before it.
+fn count_until(events: &[Event], time: u64) -> usize
+    ensures { result ≡ prefix_len (λ event. is_by time (event_of event)) events.now }
+{
+    events.iter().take_while(|event| event.time <= time).count()
+}
+
+// Does what the events up to a time do, and looks; the events behind it are left.
+#[tactic(auto, unfolding(crate::specs::Play::view_at))]
+fn play_until<'a>(
+    terminal: &mut Screen,
+    events: &'a [Event],
+    time: u64,
+) -> Result<&'a [Event], TerminalError>
+    ensures stands { OnOk result ((view : View) → StandsAt terminal.old view
+        → StandsAt terminal.new (view_at view (map event_of events.entry.now) time)) }
+    ensures rest { IfOk result (λ rest. map event_of rest.now ≡ behind time (map event_of events.entry.now)) }
+{
+    let (now, later) = events.split_at(count_until(events, time));
+    act_all(terminal, now)?;
+    terminal.settle()?;
+    Ok(later)
+}
+
+/// Plays the events up to a time, and writes the screen; the events behind it are left.
+pub fn write_screen<'a, T: Write>(
+    alloc: Global,
+    terminal: &mut Screen,
+    events: &'a [Event],
+    time: u64,
+    format: Format,
+    writer: &mut T,
+) -> Result<&'a [Event], ShotError>
+    ensures stands { OnOk result ((view : View) → StandsAt terminal.old view
+        → StandsAt terminal.new (view_at view (map event_of events.entry.now) time)) }
+    ensures writes { OnOk result ((view : View) → StandsAt terminal.old view
+        → Appends (T.contents writer.old) (T.contents writer.new)
+        (picture format (view_at view (map event_of events.entry.now) time).state.screen)) }
+    ensures rest { IfOk result (λ rest. map event_of rest.now ≡ behind time (map event_of events.entry.now)) }
+{
+    let rest = play_until(terminal, events, time)?;
+    let text = picture(alloc, format, terminal.surface())?;
+    if writer.write_all(text.as_bytes()).is_err() {
+        return Err(ShotError::Write);
+    }
+    Ok(rest)
+}

@@ -1,0 +1,216 @@
+//! The program on an input, and on its streams.
+ghost use Rattle.std.specs.Prelude.{◌≡◌, ◌<◌, ◌≤◌, None, IfOk, IfSome, OnOk};
+ghost use Rattle.std.specs.Io.KnownBytes.{Appends, Keeps};
+ghost use Rattle.recordings.specs.Recordings.{recording_of};
+ghost use Rattle.shot.specs.Shots.{chosen, shots, with_size};
+
+use crate::error::ShotError;
+use crate::options::{BadWords, Options};
+use crate::shots::write_shots;
+use clap::Error;
+use clap::error::ErrorKind;
+use recordings::{BadLine, Recording, Size, read_recording};
+use std::alloc::Global;
+use std::io;
+use std::io::{Read, Write};
+use terminal::TerminalError;
+
+const FAULT: u8 = 1;
+
+const BAD_WORDS: u8 = 2;
+
+/// Writes a line on what went wrong. That it can't be written is dropped.
+pub fn tell<F: Write>(faults: &mut F, fault: &str) -> u8
+    ensures { result ≡ FAULT }
+{
+    let _ = write_text(faults, &["shot: ", fault, "\n"]);
+    FAULT
+}
+
+// Writes some texts, one behind another, and flushes.
+fn write_text<F: Write>(faults: &mut F, texts: &[&str]) -> io::Result<()> {
+    for text in texts {
+        faults.write_all(text.as_bytes())?;
+    }
+    faults.flush()
+}
+
+/// Writes why the words are no command line. That it can't be written is dropped.
+pub fn refuse<F: Write>(faults: &mut F, texts: &[&str]) -> u8
+    ensures { result ≡ BAD_WORDS }
+{
+    let _ = write_text(faults, texts);
+    BAD_WORDS
+}
+
+fn fault_of(error: ShotError) -> &'static str {
+    match error {
+        ShotError::Write => "cannot write",
+        ShotError::Terminal(TerminalError::Number) => "numbers used up",
+        ShotError::Terminal(TerminalError::Memory) => "out of memory",
+        ShotError::Terminal(TerminalError::Failed) => "out of memory",
+    }
+}
+
+// Help and the version go to the writer, and what is wrong with the words to faults.
+fn explain<T: Write, F: Write>(alloc: Global, error: &Error, writer: &mut T, faults: &mut F) -> u8
+    ensures { result ≤ 2 }
+{
+    if error.kind() == ErrorKind::OutOfMemory {
+        return tell(faults, "out of memory");
+    }
+    let Ok(text) = error.to_string(alloc) else {
+        return tell(faults, "out of memory");
+    };
+    if error.use_stderr() {
+        return refuse(faults, &[text.as_str()]);
+    }
+    if write_text(writer, &[text.as_str()]).is_err() {
+        return tell(faults, "cannot write");
+    }
+    0
+}
+
+/// Tells why the words are no command line; help and the version go to the writer.
+pub fn explain_words<T: Write, F: Write>(
+    alloc: Global,
+    words: &BadWords,
+    writer: &mut T,
+    faults: &mut F,
+) -> u8
+    ensures { result ≤ 2 }
+{
+    match words {
+        BadWords::Command(error) => explain(alloc, error, writer, faults),
+        BadWords::Seconds(name) => refuse(
+            faults,
+            &[
+                "error: the value of '--",
+                *name,
+                " <SECONDS>' is no decimal number of seconds, or too large, or a step of none\n\n",
+                "For more information, try '--help'.\n",
+            ],
+        ),
+    }
+}
+
+// The number that is given, where it is from 1 to 4096, or else the other one.
+fn chosen(other: usize, given: Option<u32>) -> usize
+    requires { (0 < other) × (other ≤ 4096) }
+    ensures range { (0 < result) × (result ≤ 4096) }
+    ensures choice { result ≡ chosen other given }
+{
+    match given {
+        Some(given) if 0 < given && given <= 4096 => given as usize,
+        _ => other,
+    }
+}
+
+const USUAL: Size = Size {
+    width: 80,
+    height: 24,
+};
+
+/// Writes what is asked for of an input to the writer, and answers the line of it that is wrong, if one is; then those
+/// screens are written that no more lines could have changed.
+pub fn shoot<T: Write>(
+    alloc: Global,
+    options: Options<'_>,
+    input: &[u8],
+    writer: &mut T,
+) -> Result<Option<BadLine>, ShotError>
+    ensures writes { OnOk result (Appends (T.contents writer.old) (T.contents writer.new)
+        (shots options.entry.asked.format options.entry.asked.at options.entry.asked.step
+        (with_size options.entry.width options.entry.height (recording_of 80 24 input.now)))) }
+    ensures fault { IfOk result (λ fault. fault ≡ (recording_of 80 24 input.now).fault) }
+{
+    let Recording {
+        size,
+        events,
+        fault,
+    } = read_recording(alloc, USUAL, input)?;
+    let size = Size {
+        width: chosen(size.width, options.width),
+        height: chosen(size.height, options.height),
+    };
+    let recording = Recording {
+        size,
+        events,
+        fault,
+    };
+    write_shots(alloc, &recording, options.asked, writer)?;
+    Ok(fault)
+}
+
+// Tells which line of a file is wrong.
+fn tell_line<F: Write>(alloc: Global, name: &str, bad: BadLine, faults: &mut F) -> u8
+    ensures { result ≡ FAULT }
+{
+    let BadLine { line, fault } = bad;
+    match format!(in alloc; "{name}:{line}: {fault}") {
+        Ok(text) => tell(faults, &text),
+        Err(_) => tell(faults, "out of memory"),
+    }
+}
+
+// Writes what is asked for of an input that was read.
+fn answer<T: Write, F: Write>(
+    alloc: Global,
+    options: Options<'_>,
+    name: &str,
+    input: &[u8],
+    writer: &mut T,
+    faults: &mut F,
+) -> u8
+    ensures status { result ≤ 1 }
+    ensures quiet { result ≡ 0 → Keeps (F.contents faults.old) (F.contents faults.new) }
+    ensures whole { result ≡ 0 → (recording_of 80 24 input.now).fault ≡ None }
+    ensures shows { result ≡ 0 → Appends (T.contents writer.old) (T.contents writer.new)
+        (shots options.entry.asked.format options.entry.asked.at options.entry.asked.step
+        (with_size options.entry.width options.entry.height (recording_of 80 24 input.now))) }
+{
+    match shoot(alloc, options, input, writer) {
+        Ok(Some(bad)) => {
+            let _ = writer.flush();
+            tell_line(alloc, name, bad, faults)
+        }
+        Ok(None) if writer.flush().is_ok() => 0,
+        Ok(None) => tell(faults, "cannot write"),
+        Err(error) => tell(faults, fault_of(error)),
+    }
+}
+
+/// Reads an input of a name to its end, and writes what is asked for of it. It answers the status: 0; or 1 with one line
+/// on `faults`, where the input can't be read or a line of it is wrong, or where writing or memory failed; what was
+/// written before stands.
+pub fn serve<R: Read, T: Write, F: Write>(
+    alloc: Global,
+    options: Options<'_>,
+    name: &str,
+    reader: &mut R,
+    writer: &mut T,
+    faults: &mut F,
+) -> u8
+    ensures status { result ≤ 1 }
+    ensures quiet { result ≡ 0 → Keeps (F.contents faults.old) (F.contents faults.new) }
+    ensures whole { result ≡ 0 → IfSome (R.remaining reader.old) (λ input. (recording_of 80 24 input).fault ≡ None) }
+    ensures shows { result ≡ 0 → IfSome (R.remaining reader.old) (λ input. Appends (T.contents writer.old) (T.contents writer.new)
+        (shots options.entry.asked.format options.entry.asked.at options.entry.asked.step
+        (with_size options.entry.width options.entry.height (recording_of 80 24 input)))) }
+{
+    let mut input = Vec::new(alloc);
+    if reader.read_to_end(&mut input).is_err() {
+        return refuse_input(alloc, name, faults);
+    }
+    answer(alloc, options, name, &input, writer, faults)
+}
+
+/// Tells that an input can't be read.
+pub fn refuse_input<F: Write>(alloc: Global, name: &str, faults: &mut F) -> u8
+    ensures { result ≡ FAULT }
+{
+    match format!(in alloc; "{name}: cannot read") {
+        Ok(text) => tell(faults, &text),
+        Err(_) => tell(faults, "out of memory"),
+    }
+}

@@ -1,0 +1,171 @@
+//! The screens of a recording.
+ghost use Rattle.std.specs.Prelude.{◌≡◌, ◌<◌, ◌≤◌, ◌*◌, ◌^◌, [], ◌∷◌, map, IfOk, OnOk};
+ghost use Rattle.std.specs.Io.KnownBytes.{Appends};
+ghost use Rattle.recordings.specs.EventView.{event_of};
+ghost use Rattle.recordings.specs.RecordingView.{recording_value};
+ghost use Rattle.shot.specs.Shots.{count_below, last_time, multiples, pictures, shots, times_of};
+ghost use Rattle.shot.specs.Writing.{IsWriting};
+ghost use Rattle.terminal.specs.Terminal.{StandsAt};
+ghost use Rattle.terminal_table.specs.Meaning.{View};
+
+use crate::error::ShotError;
+use crate::format::Format;
+use crate::play::{Screen, write_screen};
+use recordings::{Event, Recording};
+use std::alloc::Global;
+use std::io::Write;
+use terminal::{ProgramWidth, Terminal};
+
+// The time of the last event, or 0.
+fn last_time(events: &[Event]) -> u64
+    ensures { result ≡ last_time (map event_of events.now) }
+{
+    if events.is_empty() {
+        return 0;
+    }
+    events[events.len() - 1].time
+}
+
+// How many multiples of a step from 1 on are below a time.
+fn count_below(step: u64, time: u64) -> u64
+    ensures count { result ≡ count_below step time }
+    ensures below { result * step ≤ time }
+{
+    if step == 0 {
+        return 0;
+    }
+    time.saturating_sub(1) / step
+}
+
+// Writes the screens at so many times, each a step behind the one before it; the events behind the last one are left.
+fn write_steps<'a, T: Write>(
+    alloc: Global,
+    terminal: &mut Screen,
+    events: &'a [Event],
+    step: u64,
+    count: u64,
+    format: Format,
+    writer: &mut T,
+) -> Result<&'a [Event], ShotError>
+    requires { count * step < 2 ^ 64 }
+    ensures { IfOk result (λ rest. (view : View) → StandsAt terminal.old view
+        → IsWriting format view (map event_of events.entry.now) step count terminal.new (map event_of rest.now) (count * step) 0
+        (T.contents writer.old) (T.contents writer.new)) }
+{
+    let mut rest = events;
+    let mut time = 0;
+    let mut left = count;
+    while left > 0 {
+        left -= 1;
+        time += step;
+        rest = write_screen(alloc, terminal, rest, time, format, writer)?;
+    }
+    Ok(rest)
+}
+
+// Writes the screens at the multiples of a step below the end, and at the end.
+fn write_whole<T: Write>(
+    alloc: Global,
+    terminal: &mut Screen,
+    events: &[Event],
+    step: u64,
+    end: u64,
+    format: Format,
+    writer: &mut T,
+) -> Result<(), ShotError>
+    ensures { OnOk result ((view : View) → StandsAt terminal.old view
+        → Appends (T.contents writer.old) (T.contents writer.new)
+        (pictures format view (map event_of events.now) (multiples step end (end ∷ [])))) }
+{
+    let count = count_below(step, end);
+    let rest = write_steps(alloc, terminal, events, step, count, format, writer)?;
+    write_screen(alloc, terminal, rest, end, format, writer)?;
+    Ok(())
+}
+
+// Writes the screens at the multiples of a step below a time.
+fn write_part<T: Write>(
+    alloc: Global,
+    terminal: &mut Screen,
+    events: &[Event],
+    step: u64,
+    end: u64,
+    format: Format,
+    writer: &mut T,
+) -> Result<(), ShotError>
+    ensures { OnOk result ((view : View) → StandsAt terminal.old view
+        → Appends (T.contents writer.old) (T.contents writer.new)
+        (pictures format view (map event_of events.now) (multiples step end []))) }
+{
+    let count = count_below(step, end);
+    write_steps(alloc, terminal, events, step, count, format, writer)?;
+    Ok(())
+}
+
+/// What is asked for of a recording.
+#[derive(Clone, Copy, Debug, PartialEq, Eq)]
+pub struct Shots {
+    /// The form of each screen.
+    pub format: Format,
+    /// At how many microseconds; without it at the last event.
+    pub at: Option<u64>,
+    /// And at each multiple of so many microseconds before that, if not 0.
+    pub step: u64,
+}
+
+// Writes the screens that are asked for, by a new terminal.
+fn write_by<T: Write>(
+    alloc: Global,
+    terminal: &mut Screen,
+    recording: &Recording,
+    asked: Shots,
+    writer: &mut T,
+) -> Result<(), ShotError>
+    ensures { OnOk result ((view : View) → StandsAt terminal.old view
+        → Appends (T.contents writer.old) (T.contents writer.new)
+        (pictures asked.format view (recording_value recording.now).events (times_of asked.at asked.step (recording_value recording.now)))) }
+{
+    let events = recording.events.as_slice();
+    let last = last_time(events);
+    let end = asked.at.unwrap_or(last);
+    if recording.fault.is_none() || end < last {
+        write_whole(
+            alloc,
+            terminal,
+            events,
+            asked.step,
+            end,
+            asked.format,
+            writer,
+        )?;
+    } else {
+        write_part(
+            alloc,
+            terminal,
+            events,
+            asked.step,
+            last,
+            asked.format,
+            writer,
+        )?;
+    }
+    Ok(())
+}
+
+/// Plays a recording to a new terminal of its size, and writes the screen at the time that is asked for, as it is behind
+/// all that is done at that time or before it; and before it those at each multiple of the step. A screen is looked at
+/// behind those before it. Of a recording with a line that is wrong those are written that no more events can change.
+pub fn write_shots<T: Write>(
+    alloc: Global,
+    recording: &Recording,
+    asked: Shots,
+    writer: &mut T,
+) -> Result<(), ShotError>
+    ensures { OnOk result (Appends (T.contents writer.old) (T.contents writer.new)
+        (shots asked.format asked.at asked.step (recording_value recording.now))) }
+{
+    let size = recording.size;
+    let mut terminal = Terminal::new(alloc, size.width, size.height, ProgramWidth)?;
+    write_by(alloc, &mut terminal, recording, asked, writer)?;
+    Ok(())
+}
