@@ -40,24 +40,32 @@ def lanes():
     return max(int(os.environ.get("RT_JOBS") or min(len(os.sched_getaffinity(0)), free // ROOM)), 1)
 
 
-def outputs(crate, cases):
-    """Returns what the program of a crate writes for each case, by name, with a line feed at the end where it wrote none.
+def endings(crate, cases, files=()):
+    """Returns how the program of a crate ends for each case, by name: its status, what it writes, with a line feed at the end
+    where it wrote none, and what it tells on standard error.
 
     The sources run unproved, by `rt try`: one compile for all cases.
-    A case is the program's words and its standard input. A case that does not end has no output; where nothing ran the
-    kit's lines are printed and the process ends.
+    A case is the program's words and its standard input; the files that words name lie where it runs. A case that does not
+    end has no ending; where nothing ran the kit's lines are printed and the process ends.
     """
     with tempfile.TemporaryDirectory() as folder:
         for name, (words, given) in cases.items():
             Path(folder, name).write_bytes(given)
             Path(folder, name + ".args").write_text("".join(word + "\n" for word in words))
-        words = [kit_command(), "try", "--cases", folder]
+        words = [kit_command(), "try", "--cases", folder, *(word for it in files for word in ("--data", f"{it.name}={it}"))]
         ran = subprocess.run(words, cwd=ROOT / "crates" / crate, capture_output=True)
     parts = re.split(rb"^== (\S+)\n", ran.stdout, flags=re.M)
-    found = {name.decode(): output for name, output in zip(parts[1::2], parts[2::2])}
-    if not found:
+    written = {name.decode(): output for name, output in zip(parts[1::2], parts[2::2])}
+    if not written:
         sys.exit(f"{crate}: rt try ran nothing\n{ran.stderr.decode(errors='replace')}")
-    return found
+    told = re.findall(rb"(.*?)^case=(\S+) (?:run=ended status=(\d+))?.*?\n", ran.stderr, flags=re.M | re.S)
+    named = {name.decode(): (int(status), faults) for faults, name, status in told if status}
+    return {name: (status, written.get(name, b""), faults) for name, (status, faults) in named.items()}
+
+
+def outputs(crate, cases):
+    """Returns what the program of a crate writes for each case, as `endings` does."""
+    return {name: written for name, (_, written, _) in endings(crate, cases).items()}
 
 
 def recordings():

@@ -1,17 +1,18 @@
 -- What tables of whole lists give reads back.
-use Rattle.std.proofs.Common.{◌≡◌, ℕ, zero, suc, ◌≤◌, ℤ, pos, negsuc, eqb, leb, Bool, true, false, not, cond, ◌||◌, List, [], ◌∷◌, Option, Some, None, option_map, option_and_then, arith, refl, sym, ap, ◌∙◌, subst}
+use Rattle.std.proofs.Common.{◌≡◌, ℕ, zero, suc, ◌≤◌, ℤ, pos, negsuc, eqb, leb, Bool, true, false, cond, ◌||◌, List, [], ◌∷◌, Option, Some, None, option_map, option_and_then, arith, refl, sym, ap, ◌∙◌, subst}
 use Rattle.std.specs.Option.{option_map_or, option_or, option_zip}
-use Rattle.std.proofs.lemmas.Bool.{cond_both, eqb-true, leb-true, le-leb, false≢true, not-true}
+use Rattle.std.proofs.lemmas.Bool.{cond_both, eqb-true, leb-true, le-leb, false≢true}
 use Rattle.std.proofs.Math.Dec.{eqb-suc-zero}
 use Rattle.csi_codec.specs.declared.parameters.CsiParam.{CsiParam}
 use Rattle.csi_codec.specs.declared.parameters.CsiParam.TheVariants.{Integer, P}
 use Rattle.csi_codec.specs.declared.cursors.Cursor.{Cursor}
 use Rattle.csi_codec.specs.declared.edits.Edit.{Edit}
-use Rattle.csi_codec.specs.Parameters.{word_max, or_default, place, one_slot, two_slots, count, place_pair, Lines, read_by, number_tokens, count_tokens, pair_tokens, extent_tokens}
+use Rattle.csi_codec.specs.Parameters.{word_max, or_default, place, one_slot, two_slots, count, place_pair, Lines, read_by, number_tokens, count_tokens, pair_tokens}
 use Rattle.csi_codec.specs.Slots.{Slots, nothing, counted, placed, paired, named, extent, spaced, slots_tokens, IsPlace}
 use Rattle.csi_codec.specs.Cursors.{cursor_reading}
 use Rattle.csi_codec.specs.Edits.{edit_reading}
 use Rattle.csi_codec.specs.Devices.{device_reading}
+use Rattle.csi_codec.specs.Laws.{begins_with_question}
 use Rattle.csi_codec.specs.Actions.{Action, cursor, edit, device, unspecified, lone_reading, standard_reading, other_reading, csi_reading}
 
 -- ---- Places and counts
@@ -49,25 +50,20 @@ place_number d (suc n) h = rw (le-leb (suc n) word_max h.1, eqb-suc-zero n) refl
 
 -- ---- Lists that no `?` begins, under finals of lone spellings
 
-abbrev pub is_plain : List CsiParam → Bool
-is_plain [] = true
-is_plain (Integer z ∷ ts) = true
-is_plain (P b ∷ ts) = not (eqb b 63)
-
-plain_reading : (truncated : Bool) (final : ℕ) (ts : List CsiParam) → is_plain ts ≡ true → other_reading truncated final ts ≡ standard_reading truncated final ts
-plain_reading truncated final [] h = refl
-plain_reading truncated final (Integer z ∷ ts) h = refl
-plain_reading truncated final (P b ∷ ts) h = rw (not-true (eqb b 63) h) refl
+pub standard_is : (truncated : Bool) (final : ℕ) (ts : List CsiParam) → begins_with_question ts ≡ false → other_reading truncated final ts ≡ standard_reading truncated final ts
+standard_is truncated final [] h = refl
+standard_is truncated final (Integer z ∷ ts) h = refl
+standard_is truncated final (P b ∷ ts) h = rw h refl
 
 -- finals under which one spelling covers the whole list
 pub record IsLone (final : ℕ) : Type 0 where
   pub other : eqb final 109 ≡ false
   pub no_modes : (eqb final 104 || eqb final 108) ≡ false
 
-pub lone_back : (truncated : Bool) (final : ℕ) (ts : List CsiParam) (a : Action) → IsLone final → is_plain ts ≡ true → lone_reading final ts ≡ Some a → csi_reading ts truncated final ≡ a ∷ []
+pub lone_back : (truncated : Bool) (final : ℕ) (ts : List CsiParam) (a : Action) → IsLone final → begins_with_question ts ≡ false → lone_reading final ts ≡ Some a → csi_reading ts truncated final ≡ a ∷ []
 unfolding csi_reading
 lone_back truncated final ts a l p e =
-    rw l.other (plain_reading truncated final ts p
+    rw l.other (standard_is truncated final ts p
     ∙ rw l.no_modes (ap (λ found. option_map_or (λ known. known ∷ []) found (unspecified ts truncated final ∷ [])) e))
 
 -- ---- Lines of a table
@@ -98,19 +94,13 @@ count_tokens_back n h = by (eqb n 1) refl
     by true e = ap Some (sym (eqb-true n 1 e))
     by false e = count_back n h
 
-extent_tokens_plain : (n : ℕ) → is_plain (extent_tokens n) ≡ true
-extent_tokens_plain n = elim (eqb n 0) as (λ b. is_plain (cond b [] (number_tokens n)) ≡ true) [ true ↦ refl | false ↦ refl ]
-
-count_tokens_plain : (n : ℕ) → is_plain (count_tokens n) ≡ true
-count_tokens_plain n = elim (eqb n 1) as (λ b. is_plain (cond b [] (number_tokens n)) ≡ true) [ true ↦ refl | false ↦ refl ]
-
-pub slots_plain : (s : Slots) → is_plain (slots_tokens s) ≡ true
+pub slots_plain : (s : Slots) → begins_with_question (slots_tokens s) ≡ false
 slots_plain nothing = refl
-slots_plain (counted n) = count_tokens_plain n
+slots_plain (counted n) = cond_both (eqb n 1) [] (number_tokens n) (λ ts. begins_with_question ts ≡ false) (λ e. refl) (λ e. refl)
 slots_plain (placed n) = refl
 slots_plain (paired a b) = refl
 slots_plain (named n) = refl
-slots_plain (extent n) = extent_tokens_plain n
+slots_plain (extent n) = cond_both (eqb n 0) [] (number_tokens n) (λ ts. begins_with_question ts ≡ false) (λ e. refl) (λ e. refl)
 slots_plain (spaced n) = refl
 
 -- ---- Cursor sequences

@@ -1,12 +1,16 @@
 -- The sequence at the front of some bytes.
-use Rattle.std.proofs.Common.{◌≡◌, ℕ, suc, ◌+◌, ◌≤◌, ltb, Bool, true, false, cond, List, [], ◌∷◌, ◌++◌, length, take, drop, arith, refl, ap, sym, subst, ◌∙◌}
-use Rattle.std.proofs.lemmas.List.{take-append-drop}
+use Rattle.std.proofs.Common.{◌≡◌, ℕ, suc, ◌+◌, ◌-◌, ◌≤◌, ltb, Bool, true, false, cond, List, [], ◌∷◌, ◌++◌, length, take, drop, arith, refl, ap, sym, subst, ◌∙◌}
+use Rattle.std.proofs.lemmas.List.{take-append-drop, take_rest}
 use Rattle.std.proofs.Math.Seq.{take-append_seam, drop-append_seam}
 use Rattle.std.proofs.lemmas.Bool.{and_from, and_parts}
 use Rattle.std.proofs.lemmas.Bool.Decides.{nat_tests}
+use Rattle.std.specs.List.{prefix_len}
+use Rattle.std.specs.Prelude.{fold}
 use Rattle.csi_codec.specs.Rendition.{is_between}
+use Rattle.csi_codec.specs.Tokens.{Parameters, is_parameter, no_parameters, with_byte}
+use Rattle.csi_codec.proofs.TokenLemmas.{Keeps, keeps_tokens}
 use Rattle.csi_codec.specs.Texts.{tokens_of, all_parameter_bytes}
-use Rattle.csi_codec.specs.Fronts.{most_tokens, Front, IsSequence, HasNoFront, OneFront}
+use Rattle.csi_codec.specs.Fronts.{most_tokens, Front, IsSequence, HasFront, HasNoFront, OneFront}
 use Rattle.csi_codec.specs.FrontView.{parameter_len}
 
 not_parameter : (b : ℕ) → 64 ≤ b → is_between 32 63 b ≡ false
@@ -48,27 +52,43 @@ others-sequence bytes behind body control rest e s =
     ∙ ap (λ n. drop n (body ++ control ∷ rest)) (parameter_len-sequence body control rest s.parameters s.low)
     ∙ drop-append_seam body (control ∷ rest)
 
-pub no_introducer : (bytes : List ℕ) → ((behind : List ℕ) → bytes ≡ 27 ∷ 91 ∷ behind → ⊥) → HasNoFront bytes
-no_introducer bytes none body control rest s = none (body ++ control ∷ rest) s.text
+-- what stands behind the parameter bytes that are read
+behind_parameters : (len : ℕ) (behind : List ℕ) → len ≡ prefix_len is_parameter behind → take (length behind - len) (drop len behind) ≡ drop (parameter_len behind) behind
+unfolding is_parameter
+behind_parameters len behind e = take_rest behind len ∙ ap (λ n. drop n behind) e
 
-pub no_final : (bytes behind others : List ℕ) → bytes ≡ 27 ∷ 91 ∷ behind → others ≡ drop (parameter_len behind) behind → length others ≡ 0 → HasNoFront bytes
-no_final bytes behind others e o z body control rest s =
-    let q : others ≡ control ∷ rest = o ∙ others-sequence bytes behind body control rest e s in
-    absurd (omega (arith, ap length q))
+module _ (bytes behind : List ℕ) (len : ℕ) (text : bytes ≡ 27 ∷ 91 ∷ behind) (count : len ≡ prefix_len is_parameter behind) where
+  abbrev others : List ℕ
+  others = take (length behind - len) (drop len behind)
 
-pub other_final : (bytes behind others : List ℕ) (b : ℕ) (bs : List ℕ) → bytes ≡ 27 ∷ 91 ∷ behind → others ≡ drop (parameter_len behind) behind → others ≡ b ∷ bs → (64 ≤ b → b ≤ 126 → ⊥) → HasNoFront bytes
-other_final bytes behind others b bs e o q none body control rest s =
-    let q' : control ∷ rest ≡ b ∷ bs = sym (others-sequence bytes behind body control rest e s) ∙ sym o ∙ q in
-    let c : control ≡ b = cc in
-    none (omega (arith, s.low, c)) (omega (arith, s.high, c))
+  pub no_final : length others ≡ 0 → HasNoFront bytes
+  no_final z body control rest s =
+      let q : others ≡ control ∷ rest = behind_parameters len behind count ∙ others-sequence bytes behind body control rest text s in
+      absurd (omega (arith, ap length q))
 
-pub found_front : (bytes behind body others : List ℕ) (b : ℕ) (bs : List ℕ) → bytes ≡ 27 ∷ 91 ∷ behind → body ≡ take (parameter_len behind) behind → others ≡ drop (parameter_len behind) behind → others ≡ b ∷ bs → 64 ≤ b → b ≤ 126 → IsSequence bytes body b bs
-found_front bytes behind body others b bs e t o q low high = record {
-  text = e ∙ ap (λ (x : List ℕ). 27 ∷ 91 ∷ x) (sym (take-append-drop (parameter_len behind) behind) ∙ cc);
-  parameters = ap all_parameter_bytes t ∙ parameters-front behind;
-  low = low;
-  high = high;
-}
+  pub other_final : (b : ℕ) (bs : List ℕ) → others ≡ b ∷ bs → (64 ≤ b → b ≤ 126 → ⊥) → HasNoFront bytes
+  other_final b bs q none body control rest s =
+      let q' : control ∷ rest ≡ b ∷ bs = sym (others-sequence bytes behind body control rest text s) ∙ sym (behind_parameters len behind count) ∙ q in
+      let c : control ≡ b = cc in
+      none (omega (arith, s.low, c)) (omega (arith, s.high, c))
+
+  pub read_front : (p start : Parameters) (b : ℕ) (bs : List ℕ) → others ≡ b ∷ bs → (64 ≤ b) × (b ≤ 126) → start ≡ no_parameters → p ≡ fold with_byte start (take len behind)
+      → HasFront bytes (record { params = p.tokens; truncated = p.truncated; control = b; rest = bs })
+  unfolding is_parameter
+  read_front p start b bs q final none read =
+      let P : Parameters → Type 0 = λ q. Keeps q (tokens_of (take len behind)) in
+      let keeps : Keeps p (tokens_of (take len behind)) = subst P (sym (read ∙ ap (λ (q : Parameters). fold with_byte q (take len behind)) none)) (keeps_tokens (take len behind)) in
+      record {
+        body = take len behind;
+        sequence = record {
+          text = text ∙ ap (λ (x : List ℕ). 27 ∷ 91 ∷ x) (sym (take-append-drop len behind) ∙ ap (λ (x : List ℕ). take len behind ++ x) (ap (λ n. drop n behind) count ∙ sym (behind_parameters len behind count) ∙ q));
+          parameters = ap (λ n. all_parameter_bytes (take n behind)) count ∙ parameters-front behind;
+          low = final.0;
+          high = final.1;
+        };
+        kept = keeps.kept;
+        dropped = keeps.more;
+      }
 
 -- ---- At most one
 

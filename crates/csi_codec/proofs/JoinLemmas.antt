@@ -1,5 +1,5 @@
 -- SGR lists joined by a `;`.
-use Rattle.std.proofs.Common.{◌≡◌, ℕ, zero, suc, ◌+◌, ◌-◌, ◌<◌, ◌≤◌, ℤ, pos, negsuc, eqb, Bool, true, false, not, cond, ◌&&◌, List, [], ◌∷◌, ◌++◌, length, Option, Some, None, IfSome, option_map, option_and_then, slice_get, arith, refl, sym, ap, ◌∙◌, subst}
+use Rattle.std.proofs.Common.{◌≡◌, ℕ, zero, suc, ◌+◌, ◌-◌, ◌<◌, ◌≤◌, ℤ, pos, negsuc, eqb, Bool, true, false, not, cond, ◌&&◌, List, [], ◌∷◌, ◌++◌, length, drop, get_or, Option, Some, None, IfSome, option_map, option_and_then, slice_get, arith, refl, sym, ap, ◌∙◌, subst}
 use Rattle.std.specs.Prelude.{is_some}
 use Rattle.std.specs.Option.{option_map_or}
 use Rattle.std.proofs.lemmas.Option.{slice_get_past}
@@ -18,6 +18,7 @@ use Rattle.csi_codec.specs.Actions.{Action, sgr, unspecified, rendition_piece, p
 use Rattle.csi_codec.specs.Laws.{is_semicolon, ends_in_semicolon, all_known, SgrListsJoin}
 use Rattle.csi_codec.proofs.ShapeLemmas.{first_form-each, numbered_shape-by}
 use Rattle.csi_codec.proofs.SgrLemmas.{stands-length, sgr_shape_takes, Takes}
+use Rattle.csi_codec.proofs.PieceLemmas.{semicolon_count-le}
 
 -- ---- Shapes at the front of a longer list
 
@@ -100,32 +101,26 @@ second_conflict ps qs (t ∷ u ∷ ts) x h =
     and_right (is_part (byte_part 59) t) (is_part (number_part 2) u && stands qs (ts ++ x)) (rw (code_conflict u (and_parts (is_part (number_part 5) u) (stands ps ts) r).0) refl)
 
 -- what a list of forms finds is found again where the list goes on behind a `;`
-abbrev IsStable : List Form → Type 0
-IsStable forms = (ts x : List CsiParam) → is_some (first_form forms ts) ≡ true → first_form forms (ts ++ P 59 ∷ x) ≡ first_form forms ts
-
-none-stable : IsStable []
-none-stable ts x h = cc
+record IsStable (forms : List Form) : Type 0 where
+  again : (ts x : List CsiParam) → is_some (first_form forms ts) ≡ true → first_form forms (ts ++ P 59 ∷ x) ≡ first_form forms ts
 
 -- a form that stands goes on standing, so it is enough that it cannot come to stand where a later one stands
 form-stable : (form : Form) (forms : List Form) → Reads form → IsStable forms
     → ((ts x : List CsiParam) → stands form.0 ts ≡ false → is_some (first_form forms ts) ≡ true → stands form.0 (ts ++ P 59 ∷ x) ≡ false) → IsStable (form ∷ forms)
-form-stable form forms reads stable apart ts x =
-    cond_both (stands form.0 ts) _ _
-    (λ found. is_some found ≡ true → cond (stands form.0 (ts ++ P 59 ∷ x)) (taking (length form.0) (form.1 (ts ++ P 59 ∷ x))) (first_form forms (ts ++ P 59 ∷ x)) ≡ found)
-    (λ e h. rw (stands-append form.0 ts (P 59 ∷ x) e) (ap (taking (length form.0)) (reads ts (P 59 ∷ x) e)))
-    (λ e h. rw (apart ts x e h) (stable ts x h))
+form-stable form forms reads stable apart = record {
+  again = λ ts x.
+      cond_both (stands form.0 ts) _ _
+      (λ found. is_some found ≡ true → cond (stands form.0 (ts ++ P 59 ∷ x)) (taking (length form.0) (form.1 (ts ++ P 59 ∷ x))) (first_form forms (ts ++ P 59 ∷ x)) ≡ found)
+      (λ e h. rw (stands-append form.0 ts (P 59 ∷ x) e) (ap (taking (length form.0)) (reads ts (P 59 ∷ x) e)))
+      (λ e h. rw (apart ts x e h) (stable.again ts x h));
+}
 
 colon_form-stable : (form : Form) (forms : List Form) → no_semicolon form.0 ≡ true → Reads form → IsStable forms → IsStable (form ∷ forms)
 colon_form-stable form forms n reads stable = form-stable form forms reads stable (λ ts x e h. stands_open form.0 ts x n ∙ e)
 
-abbrev palette_form : Form
-palette_form = (byte_part 58 ∷ number_part 5 ∷ byte_part 58 ∷ any_number ∷ [], palette_at 3)
-
-abbrev palette_semicolons : Form
-palette_semicolons = (byte_part 59 ∷ number_part 5 ∷ byte_part 59 ∷ any_number ∷ [], palette_at 3)
-
+-- the forms of the palette, which are the last two
 abbrev palettes : List Form
-palettes = palette_form ∷ palette_semicolons ∷ []
+palettes = drop 5 colour_forms
 
 abbrev semicolons_rest : List Part
 semicolons_rest = byte_part 59 ∷ any_number ∷ byte_part 59 ∷ any_number ∷ byte_part 59 ∷ any_number ∷ []
@@ -143,41 +138,19 @@ palettes_apart ts x h =
       (λ ts c s e. second_conflict (byte_part 59 ∷ any_number ∷ []) semicolons_rest ts x s, tt),
     ) ts)
 
-last_form-stable : IsStable (palette_semicolons ∷ [])
-last_form-stable = form-stable palette_semicolons [] (palette_reads palette_semicolons.0 3 (omega arith)) none-stable (λ ts x e h. cc)
+abbrev form_at : ℕ → Form
+form_at n = get_or colour_forms n ([], palette_at 0)
 
-abbrev alpha_form : Form
-alpha_form = (byte_part 58 ∷ number_part 6 ∷ byte_part 58 ∷ byte_part 58 ∷ any_number ∷ byte_part 58 ∷ any_number ∷ byte_part 58 ∷ any_number ∷ byte_part 58 ∷ any_number ∷ [], colour_at 4 6 8 10)
-
-abbrev space_form : Form
-space_form = (byte_part 58 ∷ number_part 2 ∷ byte_part 58 ∷ any_number ∷ byte_part 58 ∷ any_number ∷ byte_part 58 ∷ any_number ∷ byte_part 58 ∷ any_number ∷ [], opaque_at 5 7 9)
-
-abbrev no_space_form : Form
-no_space_form = (byte_part 58 ∷ number_part 2 ∷ byte_part 58 ∷ byte_part 58 ∷ any_number ∷ byte_part 58 ∷ any_number ∷ byte_part 58 ∷ any_number ∷ [], opaque_at 4 6 8)
-
-abbrev bare_form : Form
-bare_form = (byte_part 58 ∷ number_part 2 ∷ byte_part 58 ∷ any_number ∷ byte_part 58 ∷ any_number ∷ byte_part 58 ∷ any_number ∷ [], opaque_at 3 5 7)
-
-abbrev semicolons_form : Form
-semicolons_form = (byte_part 59 ∷ number_part 2 ∷ semicolons_rest, opaque_at 3 5 7)
-
-palettes-stable : IsStable palettes
-palettes-stable = colon_form-stable palette_form (palette_semicolons ∷ []) refl (palette_reads palette_form.0 3 (omega arith)) last_form-stable
-
-semicolons-stable : IsStable (semicolons_form ∷ palettes)
-semicolons-stable = form-stable semicolons_form palettes (opaque_reads semicolons_form.0 3 5 7 (omega arith) (omega arith) (omega arith)) palettes-stable (λ ts x e h. palettes_apart ts (P 59 ∷ x) h)
-
-bare-stable : IsStable (bare_form ∷ semicolons_form ∷ palettes)
-bare-stable = colon_form-stable bare_form (semicolons_form ∷ palettes) refl (opaque_reads bare_form.0 3 5 7 (omega arith) (omega arith) (omega arith)) semicolons-stable
-
-no_space-stable : IsStable (no_space_form ∷ bare_form ∷ semicolons_form ∷ palettes)
-no_space-stable = colon_form-stable no_space_form (bare_form ∷ semicolons_form ∷ palettes) refl (opaque_reads no_space_form.0 4 6 8 (omega arith) (omega arith) (omega arith)) bare-stable
-
-space-stable : IsStable (space_form ∷ no_space_form ∷ bare_form ∷ semicolons_form ∷ palettes)
-space-stable = colon_form-stable space_form (no_space_form ∷ bare_form ∷ semicolons_form ∷ palettes) refl (opaque_reads space_form.0 5 7 9 (omega arith) (omega arith) (omega arith)) no_space-stable
-
-pub colour_forms-stable : IsStable colour_forms
-colour_forms-stable = colon_form-stable alpha_form (space_form ∷ no_space_form ∷ bare_form ∷ semicolons_form ∷ palettes) refl (colour_reads alpha_form.0 4 6 8 10 (omega arith) (omega arith) (omega arith) (omega arith)) space-stable
+colour_forms-stable : IsStable colour_forms
+colour_forms-stable =
+    colon_form-stable (form_at 0) (drop 1 colour_forms) refl (colour_reads (form_at 0).0 4 6 8 10 (omega arith) (omega arith) (omega arith) (omega arith))
+    (colon_form-stable (form_at 1) (drop 2 colour_forms) refl (opaque_reads (form_at 1).0 5 7 9 (omega arith) (omega arith) (omega arith))
+    (colon_form-stable (form_at 2) (drop 3 colour_forms) refl (opaque_reads (form_at 2).0 4 6 8 (omega arith) (omega arith) (omega arith))
+    (colon_form-stable (form_at 3) (drop 4 colour_forms) refl (opaque_reads (form_at 3).0 3 5 7 (omega arith) (omega arith) (omega arith))
+    (form-stable (form_at 4) palettes (opaque_reads (form_at 4).0 3 5 7 (omega arith) (omega arith) (omega arith))
+    (colon_form-stable (form_at 5) (drop 6 colour_forms) refl (palette_reads (form_at 5).0 3 (omega arith))
+    (form-stable (form_at 6) [] (palette_reads (form_at 6).0 3 (omega arith)) (record { again = λ ts x h. cc }) (λ ts x e h. cc)))
+    (λ ts x e h. palettes_apart ts (P 59 ∷ x) h)))))
 
 -- ---- Shapes
 
@@ -190,7 +163,7 @@ some_from_with target (Some f) e = refl
 
 colour_shape-stable : (target : ColorSpec → Sgr) (ts x : List CsiParam) → is_some (colour_shape target ts) ≡ true → colour_shape target (ts ++ P 59 ∷ x) ≡ colour_shape target ts
 unfolding colour_form
-colour_shape-stable target ts x h = ap (with_color target) (colour_forms-stable ts x (some_from_with target (first_form colour_forms ts) h))
+colour_shape-stable target ts x h = ap (with_color target) (colour_forms-stable.again ts x (some_from_with target (first_form colour_forms ts) h))
 
 underline_shape-stable : (ts x : List CsiParam) → underline_shape (ts ++ P 59 ∷ x) ≡ underline_shape ts
 underline_shape-stable [] [] = refl
@@ -239,11 +212,6 @@ semicolon_last (t ∷ u ∷ ts) (suc n) e h = semicolon_last (u ∷ ts) n (omega
 ends-tail : (t : CsiParam) (ts : List CsiParam) → 0 < length ts → ends_in_semicolon (t ∷ ts) ≡ false → ends_in_semicolon ts ≡ false
 ends-tail t [] h e = absurd (omega arith)
 ends-tail t (u ∷ ts) h e = e
-
-semicolon_count-le : (t : Option CsiParam) → semicolon_count t ≤ 1
-semicolon_count-le None = omega arith
-semicolon_count-le (Some (Integer z)) = omega arith
-semicolon_count-le (Some (P b)) = elim (eqb b 59) as (λ v. ones v ≤ 1) [ true ↦ omega arith | false ↦ omega arith ]
 
 -- a list's actions are used up with its tokens
 from-behind : (piece : List CsiParam → Option (Action × ℕ)) (unread : List CsiParam → Action) (ts b : List CsiParam) → pieces_from piece unread (suc (length ts)) (ts ++ P 59 ∷ b) ≡ pieces_from piece unread 0 b

@@ -10,6 +10,7 @@ mod JoinLemmas
 mod BackLemmas
 pub mod ReadWritable
 mod TableBack
+mod SgrForms
 mod SgrBack
 mod ModeBack
 mod RoundTrip
@@ -17,11 +18,9 @@ mod TextLemmas
 mod Written
 mod TextTrip
 pub mod TokenLemmas
-pub mod RunLemmas
 mod FrontLemmas
 mod FrontTrip
 mod PairTrip
 mod SizeLemmas
 mod LongestLemmas
 mod ColourLemmas
-mod ChosenLemmas

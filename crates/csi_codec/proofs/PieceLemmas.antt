@@ -13,7 +13,7 @@ use Rattle.csi_codec.proofs.SgrLemmas.{Takes, taking-takes, sgr_shape_takes}
 
 -- ---- How many tokens a piece takes
 
-semicolon_count-le : (t : Option CsiParam) → semicolon_count t ≤ 1
+pub semicolon_count-le : (t : Option CsiParam) → semicolon_count t ≤ 1
 semicolon_count-le None = omega arith
 semicolon_count-le (Some (Integer z)) = omega arith
 semicolon_count-le (Some (P b)) = elim (eqb b 59) as (λ v. cond v 1 0 ≤ 1) [ true ↦ omega arith | false ↦ omega arith ]

@@ -13,7 +13,8 @@ use Rattle.csi_codec.specs.Parsing.{actions_behind, list_kind}
 use Rattle.csi_codec.specs.Laws.{begins_with_question}
 use Rattle.csi_codec.specs.Rendition.{sgr_piece}
 use Rattle.csi_codec.specs.Sequences.{HandsOut}
-use Rattle.csi_codec.specs.Actions.{Kind, Action, sgr, sgr_pieces, private_mode_pieces, standard_mode_pieces, unspecified, rendition_piece, piece_of, pieces, all_sgr_tokens, sgr_reading, modes_or, lone_or, standard_reading, other_reading, csi_reading}
+use Rattle.csi_codec.specs.Actions.{Kind, Action, sgr, sgr_pieces, private_mode_pieces, standard_mode_pieces, unspecified, rendition_piece, piece_of, pieces, all_sgr_tokens, sgr_reading, modes_or, lone_or, csi_reading}
+use Rattle.csi_codec.proofs.BackLemmas.{standard_is}
 use Rattle.csi_codec.proofs.PieceLemmas.{piece_of_takes, pieces_found, pieces_rest, pieces_ended}
 use Rattle.csi_codec.proofs.ReadingLemmas.{csi_reading-counted}
 use Rattle.csi_codec.proofs.SgrTokens.{sgr_tokens_behind}
@@ -144,18 +145,13 @@ private_modes (suc read) at ts truncated final m q h one =
     ∙ further_modes private_mode_pieces truncated final (drop (suc read) ts) (omega (arith, length-drop (suc read) ts))
     ∙ ap (λ n. modes_or private_mode_pieces truncated final (drop n ts) (drop (suc read) ts)) same
 
-standard_is : (ts : List CsiParam) (truncated : Bool) (final : ℕ) → begins_with_question ts ≡ false → other_reading truncated final ts ≡ standard_reading truncated final ts
-standard_is [] truncated final q = refl
-standard_is (Integer z ∷ ts) truncated final q = refl
-standard_is (P b ∷ ts) truncated final q = rw q refl
-
 -- the modes of any other list: under h and l, or behind the first action
 pub standard_modes : (read : ℕ) (ts : List CsiParam) (truncated : Bool) (final : ℕ) → ¬ (final ≡ 109) → begins_with_question ts ≡ false → read < max (length ts) 1
     → (nat_lt 0 read || (final == 104 || final == 108)) ≡ true
     → actions_behind read ts truncated final ≡ modes_or standard_mode_pieces truncated final (drop read ts) (drop read ts)
 unfolding actions_behind csi_reading
 standard_modes zero ts truncated final m q h e =
-    rw (other_final final m) (standard_is ts truncated final q ∙ ap (λ b. cond b (modes_or standard_mode_pieces truncated final ts ts) (lone_or truncated final ts)) e)
+    rw (other_final final m) (standard_is truncated final ts q ∙ ap (λ b. cond b (modes_or standard_mode_pieces truncated final ts ts) (lone_or truncated final ts)) e)
 standard_modes (suc read) ts truncated final m q h e =
     let kind : list_kind final ts ≡ standard_mode_pieces = rw (other_final final m, q) refl in
     behind_some (suc read) ts truncated final (omega arith) ∙ ap (λ k. pieces k truncated final (drop (suc read) ts)) kind
@@ -167,7 +163,7 @@ pub lone_first : (read : ℕ) (ts : List CsiParam) (truncated : Bool) (final : �
     → (nat_lt 0 read || (final == 104 || final == 108)) ≡ false → actions_behind read ts truncated final ≡ lone_or truncated final ts
 unfolding actions_behind csi_reading
 lone_first zero ts truncated final m q e =
-    rw (other_final final m) (standard_is ts truncated final q ∙ ap (λ b. cond b (modes_or standard_mode_pieces truncated final ts ts) (lone_or truncated final ts)) e)
+    rw (other_final final m) (standard_is truncated final ts q ∙ ap (λ b. cond b (modes_or standard_mode_pieces truncated final ts ts) (lone_or truncated final ts)) e)
 lone_first (suc read) ts truncated final m q e = let some = some_read (suc read) (omega arith) in cc
 
 -- ---- The end of a list

@@ -22,10 +22,7 @@ use Rattle.csi_codec.specs.Modes.{dec_private_mode_named, dec_mode_by, dec_mode_
 use Rattle.csi_codec.specs.Rendition.{byte_of, byte_at, palette_at, opaque_at, colour_at, colour, colour_forms, listed_or, single_codes, ranged_code, single_code, is_between, sgr_shape}
 use Rattle.csi_codec.specs.Writable.{IsWritableCursor, IsWritableEdit, IsWritablePrivateMode, IsWritableStandardMode, IsWritableMode, IsColour, IsWritableSgr}
 use Rattle.csi_codec.proofs.BackLemmas.{EachLine, read_by-each, made, count_valid, pair_valid}
-use Rattle.csi_codec.proofs.ShapeLemmas.{EachForm, EachShape, sgr_shape-each}
-use Rattle.csi_codec.specs.declared.sgr_reading.Target.{Target}
-use Rattle.csi_codec.specs.declared.sgr_reading.Target.TheVariants as target
-use Rattle.csi_codec.specs.Targets.{set_to}
+use Rattle.csi_codec.proofs.ShapeLemmas.{EachForm, EachShape, Target, foreground, background, underline_colour, set_to, sgr_shape-each}
 
 same_value : {A : Type 0} (Q : A → Type 0) (x y : A) → Some x ≡ Some y → Q x → Q y
 same_value Q x y e h = let q : x ≡ y = cc in subst Q q h
@@ -227,9 +224,9 @@ single-writable None = tt
 single-writable (Some n) = listed_or-writable single_codes n (ranged_code n) listed-writable (ranged-writable n)
 
 set_to-writable : (t : Target) (c : ColorSpec) → IsColour c → IsWritableSgr (set_to t c)
-set_to-writable target.Foreground c h = h
-set_to-writable target.Background c h = h
-set_to-writable target.Underline c h = h
+set_to-writable foreground c h = h
+set_to-writable background c h = h
+set_to-writable underline_colour c h = h
 
 shapes-writable : EachShape (λ ts f. IsColour f.0) (λ ts f. IsWritableSgr f.0)
 shapes-writable = record {

@@ -1,12 +1,11 @@
--- Each action of a list reads back.
-use Rattle.std.proofs.Common.{◌≡◌, ℕ, zero, suc, ◌-◌, ◌<◌, ◌≤◌, ℤ, eqb, Bool, true, false, cond, ◌||◌, List, [], ◌∷◌, length, length-drop, drop, Option, Some, None, option_map, inl, inr, arith, refl, sym, ap, ◌∙◌, subst}
+-- Each action of a list can be written, but for the rest of the list; so each reads back.
+use Rattle.std.proofs.Common.{◌≡◌, ◌⊎◌, ℕ, zero, suc, ◌+◌, ◌-◌, ◌<◌, ◌≤◌, ℤ, eqb, Bool, true, false, cond, ◌||◌, List, [], ◌∷◌, length, length-drop, drop, drop-drop, Option, Some, None, option_map, inl, inr, arith, refl, sym, ap, ◌∙◌, subst}
 use Rattle.std.specs.Prelude.{is_some}
 use Rattle.std.specs.Option.{option_map_or, option_or}
 use Rattle.std.proofs.lemmas.Bool.{eqb-true, le-leb, false≢true, and_parts, or_parts, or_cases, or_left}
 use Rattle.csi_codec.specs.declared.parameters.CsiParam.{CsiParam}
 use Rattle.csi_codec.specs.declared.parameters.CsiParam.TheVariants.{Integer, P}
 use Rattle.csi_codec.specs.declared.rendition.Sgr.{Sgr}
-use Rattle.csi_codec.specs.declared.rendition.Sgr.TheVariants as value
 use Rattle.csi_codec.specs.declared.modes.Mode.{Mode}
 use Rattle.csi_codec.specs.declared.cursors.Cursor.{Cursor}
 use Rattle.csi_codec.specs.declared.edits.Edit.{Edit}
@@ -18,20 +17,33 @@ use Rattle.csi_codec.specs.Devices.{device_reading}
 use Rattle.csi_codec.specs.Modes.{private_mode_reading, mode_reading}
 use Rattle.csi_codec.specs.Rendition.{taking, sgr_shape, sgr_piece}
 use Rattle.csi_codec.specs.Actions.{Kind, sgr_pieces, private_mode_pieces, standard_mode_pieces, Action, sgr, cursor, edit, mode, device, unspecified, mode_piece, piece_of, pieces_from, pieces, is_sgr_token, all_sgr_tokens, sgr_reading, modes_or, lone_or, standard_reading, other_reading, csi_reading}
-use Rattle.csi_codec.specs.Writable.{WritableActionsReadBack}
-use Rattle.csi_codec.specs.Laws.{ReadsBack, is_exempt, begins_with_question, EachReadsBack, ActionsReadBack}
+use Rattle.csi_codec.specs.Writable.{IsWritable, IsWritableMode, IsWritableSgr, WritableActionsReadBack}
+use Rattle.csi_codec.specs.Laws.{IsSuffix, KeepsRests, ReadsBack, is_exempt, begins_with_question, EachReadsBack, ActionsReadBack}
+use Rattle.csi_codec.proofs.BackLemmas.{standard_is}
 use Rattle.csi_codec.proofs.PieceLemmas.{piece_of_takes, pieces_found, pieces_rest}
 use Rattle.csi_codec.proofs.ReadWritable.{cursor_reading-writable, edit_reading-writable, private_mode-writable, standard_mode-writable, sgr_shape-writable}
 use Rattle.csi_codec.proofs.TableBack.{cursor_back, edit_back, device_back}
 use Rattle.csi_codec.proofs.SgrBack.{sgr_back}
 use Rattle.csi_codec.proofs.ModeBack.{mode_back, neither_mode, some_private}
 
-abbrev pub as_actions : Option (Sgr × ℕ) → Option (Action × ℕ)
-as_actions found = option_map (λ f. (sgr f.0, f.1)) found
+-- ---- Each action of a list
 
-abbrev pub first_of : Action → Option (Action × ℕ) → Action
-first_of a None = a
-first_of a (Some f) = f.0
+-- what is left of a list, which reads back but for the exception
+pub record IsRest (whole : List CsiParam) (truncated : Bool) (final : ℕ) (rest : List CsiParam) : Type 0 where
+  pub suffix : IsSuffix rest whole
+  pub back : is_exempt whole final (unspecified rest truncated final) ≡ false → ReadsBack truncated (unspecified rest truncated final)
+
+-- each action can be written, but that the last one may be what is left of the list
+abbrev pub Each : List CsiParam → Bool → ℕ → List Action → Type 0
+Each whole truncated final [] = Unit {0}
+Each whole truncated final (a ∷ others) =
+    (IsWritable a × Each whole truncated final others)
+    ⊎ ((rest : List CsiParam) × (a ≡ unspecified rest truncated final) × (others ≡ []) × IsRest whole truncated final rest)
+
+suffix_tail : (whole : List CsiParam) (t : CsiParam) (ts : List CsiParam) → IsSuffix (t ∷ ts) whole → IsSuffix ts whole
+suffix_tail whole t ts s = (s.0 + 1, ap (drop 1) s.1 ∙ drop-drop 1 s.0 whole)
+
+-- ---- Pieces
 
 -- pieces that are modes
 abbrev IsModes : Kind → Type 0
@@ -39,31 +51,33 @@ IsModes sgr_pieces = ⊥
 IsModes private_mode_pieces = Unit {0}
 IsModes standard_mode_pieces = Unit {0}
 
+abbrev first_of : Action → Option (Action × ℕ) → Action
+first_of a None = a
+first_of a (Some f) = f.0
+
+rendition-writable : (found : Option (Sgr × ℕ)) (ts : List CsiParam) → ((f : Sgr × ℕ) → found ≡ Some f → IsWritableSgr f.0) → (a : Action) (n : ℕ)
+    → option_map {U = Action × ℕ} (λ f. (sgr f.0, f.1)) (with_semicolon ts found) ≡ Some (a, n) → IsWritable a
+rendition-writable None ts h a n e = cc
+rendition-writable (Some f) ts h a n e = subst IsWritable (ap (first_of a) e) (h f refl)
+
+moded-writable : (found : Option Mode) (ts : List CsiParam) → ((m : Mode) → found ≡ Some m → IsWritableMode m) → (a : Action) (n : ℕ)
+    → with_semicolon ts (taking 1 (option_map mode found)) ≡ Some (a, n) → IsWritable a
+moded-writable None ts h a n e = cc
+moded-writable (Some m) ts h a n e = subst IsWritable (ap (first_of a) e) (h m refl)
+
+mode_piece-writable : (read : ℤ → Option Mode) → ((z : ℤ) (m : Mode) → read z ≡ Some m → IsWritableMode m) → (ts : List CsiParam) (a : Action) (n : ℕ) → mode_piece read ts ≡ Some (a, n) → IsWritable a
+unfolding mode_piece
+mode_piece-writable read h [] a n e = cc
+mode_piece-writable read h (P b ∷ ts) a n e = cc
+mode_piece-writable read h (Integer z ∷ ts) a n e = moded-writable (read z) (Integer z ∷ ts) (h z) a n e
+
+piece-writable : (k : Kind) (final : ℕ) (ts : List CsiParam) (a : Action) (n : ℕ) → piece_of k final ts ≡ Some (a, n) → IsWritable a
+unfolding sgr_piece
+piece-writable sgr_pieces final ts a n e = rendition-writable (sgr_shape ts) ts (λ f q. sgr_shape-writable ts f q) a n e
+piece-writable private_mode_pieces final ts a n e = mode_piece-writable (private_mode_reading final) (λ z m q. private_mode-writable final z m q) ts a n e
+piece-writable standard_mode_pieces final ts a n e = mode_piece-writable (mode_reading final) (λ z m q. standard_mode-writable final z m q) ts a n e
+
 module _ (truncated : Bool) where
-  -- ---- Pieces
-
-  rendition-back : (found : Option (Sgr × ℕ)) (ts : List CsiParam) → ((f : Sgr × ℕ) → found ≡ Some f → ReadsBack truncated (sgr f.0)) → (a : Action) (n : ℕ)
-      → as_actions (with_semicolon ts found) ≡ Some (a, n) → ReadsBack truncated a
-  rendition-back None ts h a n e = cc
-  rendition-back (Some f) ts h a n e = let q : sgr f.0 ≡ a = ap (first_of a) e in subst (λ (x : Action). ReadsBack truncated x) q (h f refl)
-
-  moded-back : (found : Option Mode) (ts : List CsiParam) → ((m : Mode) → found ≡ Some m → ReadsBack truncated (mode m)) → (a : Action) (n : ℕ)
-      → with_semicolon ts (taking 1 (option_map mode found)) ≡ Some (a, n) → ReadsBack truncated a
-  moded-back None ts h a n e = cc
-  moded-back (Some m) ts h a n e = let q : mode m ≡ a = ap (first_of a) e in subst (λ (x : Action). ReadsBack truncated x) q (h m refl)
-
-  mode_piece-back : (read : ℤ → Option Mode) → ((z : ℤ) (m : Mode) → read z ≡ Some m → ReadsBack truncated (mode m)) → (ts : List CsiParam) (a : Action) (n : ℕ) → mode_piece read ts ≡ Some (a, n) → ReadsBack truncated a
-  unfolding mode_piece
-  mode_piece-back read h [] a n e = cc
-  mode_piece-back read h (P b ∷ ts) a n e = cc
-  mode_piece-back read h (Integer z ∷ ts) a n e = moded-back (read z) (Integer z ∷ ts) (h z) a n e
-
-  piece-back : (k : Kind) (final : ℕ) (ts : List CsiParam) (a : Action) (n : ℕ) → piece_of k final ts ≡ Some (a, n) → ReadsBack truncated a
-  unfolding sgr_piece
-  piece-back sgr_pieces final ts a n e = rendition-back (sgr_shape ts) ts (λ f q. sgr_back truncated f.0 (sgr_shape-writable ts f q)) a n e
-  piece-back private_mode_pieces final ts a n e = mode_piece-back (private_mode_reading final) (λ z m q. mode_back truncated m (private_mode-writable final z m q)) ts a n e
-  piece-back standard_mode_pieces final ts a n e = mode_piece-back (mode_reading final) (λ z m q. mode_back truncated m (standard_mode-writable final z m q)) ts a n e
-
   -- ---- A list of pieces
 
   module _ (k : Kind) (final : ℕ) (whole : List CsiParam) (Keeps : List CsiParam → Type 0) (tail : (t : CsiParam) (ts : List CsiParam) → Keeps (t ∷ ts) → Keeps ts)
@@ -71,25 +85,25 @@ module _ (truncated : Bool) where
     abbrev from : ℕ → List CsiParam → List Action
     from = pieces_from (piece_of k final) (λ rest. unspecified rest truncated final)
 
-    from_found : (t : CsiParam) (ts : List CsiParam) (others : ℕ → List Action) (found : Option (Action × ℕ)) → piece_of k final (t ∷ ts) ≡ found → Keeps (t ∷ ts)
-        → ((j : ℕ) → EachReadsBack whole truncated final (others j))
-        → EachReadsBack whole truncated final (option_map_or (λ f. f.0 ∷ others (f.1 - 1)) found (unspecified (t ∷ ts) truncated final ∷ []))
-    from_found t ts others None e h each = (unread t ts h e, tt)
-    from_found t ts others (Some f) e h each = (λ x. piece-back k final (t ∷ ts) f.0 f.1 e, each (f.1 - 1))
+    from_found : (t : CsiParam) (ts : List CsiParam) (others : ℕ → List Action) (found : Option (Action × ℕ)) → piece_of k final (t ∷ ts) ≡ found → Keeps (t ∷ ts) → IsSuffix (t ∷ ts) whole
+        → ((j : ℕ) → Each whole truncated final (others j))
+        → Each whole truncated final (option_map_or (λ f. f.0 ∷ others (f.1 - 1)) found (unspecified (t ∷ ts) truncated final ∷ []))
+    from_found t ts others None e h s each = inr (t ∷ ts, refl, refl, record { suffix = s; back = unread t ts h e })
+    from_found t ts others (Some f) e h s each = inl (piece-writable k final (t ∷ ts) f.0 f.1 e, each (f.1 - 1))
 
-    from-each : (j : ℕ) (ts : List CsiParam) → Keeps ts → EachReadsBack whole truncated final (from j ts)
-    from-each zero [] h = tt
-    from-each (suc j) [] h = tt
-    from-each (suc j) (t ∷ ts) h = from-each j ts (tail t ts h)
-    from-each zero (t ∷ ts) h = from_found t ts (λ j. from j ts) (piece_of k final (t ∷ ts)) refl h (λ j. from-each j ts (tail t ts h))
+    from-each : (j : ℕ) (ts : List CsiParam) → Keeps ts → IsSuffix ts whole → Each whole truncated final (from j ts)
+    from-each zero [] h s = tt
+    from-each (suc j) [] h s = tt
+    from-each (suc j) (t ∷ ts) h s = from-each j ts (tail t ts h) (suffix_tail whole t ts s)
+    from-each zero (t ∷ ts) h s = from_found t ts (λ j. from j ts) (piece_of k final (t ∷ ts)) refl h s (λ j. from-each j ts (tail t ts h) (suffix_tail whole t ts s))
 
-    pieces-each : (ts : List CsiParam) → Keeps ts → EachReadsBack whole truncated final (pieces k truncated final ts)
+    pieces-each : (ts : List CsiParam) → Keeps ts → IsSuffix ts whole → Each whole truncated final (pieces k truncated final ts)
     unfolding pieces
-    pieces-each ts h = from-each 0 ts h
+    pieces-each ts h s = from-each 0 ts h s
 
   -- a list that stays whole reads back as it is
-  whole-each : (ts : List CsiParam) (final : ℕ) → csi_reading ts truncated final ≡ unspecified ts truncated final ∷ [] → EachReadsBack ts truncated final (unspecified ts truncated final ∷ [])
-  whole-each ts final e = (λ x. e, tt)
+  whole-each : (ts : List CsiParam) (final : ℕ) → csi_reading ts truncated final ≡ unspecified ts truncated final ∷ [] → Each ts truncated final (unspecified ts truncated final ∷ [])
+  whole-each ts final e = inr (ts, refl, refl, record { suffix = (0, refl); back = λ x. e })
 
   -- ---- SGR
 
@@ -103,13 +117,13 @@ module _ (truncated : Bool) where
       ∙ pieces_rest sgr_pieces truncated 109 (t ∷ ts) e (omega arith)
 
   sgr_by : (t : CsiParam) (ts : List CsiParam) (b : Bool) → all_sgr_tokens (t ∷ ts) ≡ b
-      → EachReadsBack (t ∷ ts) truncated 109 (cond b (pieces sgr_pieces truncated 109 (t ∷ ts)) (unspecified (t ∷ ts) truncated 109 ∷ []))
+      → Each (t ∷ ts) truncated 109 (cond b (pieces sgr_pieces truncated 109 (t ∷ ts)) (unspecified (t ∷ ts) truncated 109 ∷ []))
   unfolding csi_reading
-  sgr_by t ts true h = pieces-each sgr_pieces 109 (t ∷ ts) AreSgr (λ u us h. (and_parts (is_sgr_token u) (all_sgr_tokens us) h).1) (λ u us r e x. sgr_rest u us r e) (t ∷ ts) h
+  sgr_by t ts true h = pieces-each sgr_pieces 109 (t ∷ ts) AreSgr (λ u us h. (and_parts (is_sgr_token u) (all_sgr_tokens us) h).1) (λ u us r e x. sgr_rest u us r e) (t ∷ ts) h (0, refl)
   sgr_by t ts false h = whole-each (t ∷ ts) 109 (ap (λ b. cond b (pieces sgr_pieces truncated 109 (t ∷ ts)) (unspecified (t ∷ ts) truncated 109 ∷ [])) h)
 
-  sgr-each : (ts : List CsiParam) → EachReadsBack ts truncated 109 (sgr_reading truncated 109 ts)
-  sgr-each [] = (λ x. sgr_back truncated value.Reset tt, tt)
+  sgr-each : (ts : List CsiParam) → Each ts truncated 109 (sgr_reading truncated 109 ts)
+  sgr-each [] = inl (tt, tt)
   sgr-each (t ∷ ts) = sgr_by t ts (all_sgr_tokens (t ∷ ts)) refl
 
   -- ---- Modes
@@ -137,12 +151,8 @@ module _ (truncated : Bool) where
   standard_whole : (final : ℕ) (ts : List CsiParam) → eqb final 109 ≡ false → (eqb final 104 || eqb final 108) ≡ true → begins_with_question ts ≡ false → piece_of standard_mode_pieces final ts ≡ None
       → csi_reading ts truncated final ≡ unspecified ts truncated final ∷ []
   unfolding csi_reading
-  standard_whole final ts o h q e = rw o (plain ts q ∙ rw h (ap (λ found. cond (is_some found) (pieces standard_mode_pieces truncated final ts) (unspecified ts truncated final ∷ [])) e))
-    where
-      plain : (us : List CsiParam) → begins_with_question us ≡ false → other_reading truncated final us ≡ standard_reading truncated final us
-      plain [] r = refl
-      plain (Integer z ∷ us) r = refl
-      plain (P b ∷ us) r = rw r refl
+  standard_whole final ts o h q e =
+      rw o (standard_is truncated final ts q ∙ rw h (ap (λ found. cond (is_some found) (pieces standard_mode_pieces truncated final ts) (unspecified ts truncated final ∷ [])) e))
 
   exempt_not : (final : ℕ) (whole rest : List CsiParam) → length rest < length whole → eqb final 109 ≡ false → is_exempt whole final (unspecified rest truncated final) ≡ false
       → (begins_with_question rest || (eqb final 115 || eqb final 114)) ≡ false
@@ -164,19 +174,20 @@ module _ (truncated : Bool) where
       standard_whole final (t ∷ ts) o standard parts.0 (no_standard_of k final (t ∷ ts) m standard e)
 
   modes-each : (k : Kind) (final : ℕ) (whole ts : List CsiParam) → IsModes k → eqb final 109 ≡ false → ((eqb final 104 || eqb final 108) || (eqb final 115 || eqb final 114)) ≡ true
-      → Shorter whole ts → EachReadsBack whole truncated final (pieces k truncated final ts)
-  modes-each k final whole ts m o h s = pieces-each k final whole (Shorter whole) (λ t us r. omega arith) (modes_rest k final whole m o h) ts s
+      → Shorter whole ts → IsSuffix ts whole → Each whole truncated final (pieces k truncated final ts)
+  modes-each k final whole ts m o h l s = pieces-each k final whole (Shorter whole) (λ t us r. omega arith) (modes_rest k final whole m o h) ts l s
 
   -- the first mode stands, and so the others are those of a shorter list
   standing-each : (k : Kind) (final : ℕ) (whole ts : List CsiParam) (found : Option (Action × ℕ)) → IsModes k → eqb final 109 ≡ false
-      → ((eqb final 104 || eqb final 108) || (eqb final 115 || eqb final 114)) ≡ true → length ts ≤ length whole
-      → piece_of k final ts ≡ found → is_some found ≡ true → EachReadsBack whole truncated final (pieces k truncated final ts)
-  standing-each k final whole ts None m o h l e x = cc
-  standing-each k final whole ts (Some f) m o h l e x =
+      → ((eqb final 104 || eqb final 108) || (eqb final 115 || eqb final 114)) ≡ true → IsSuffix ts whole
+      → piece_of k final ts ≡ found → is_some found ≡ true → Each whole truncated final (pieces k truncated final ts)
+  standing-each k final whole ts None m o h s e x = cc
+  standing-each k final whole ts (Some f) m o h s e x =
       let takes : (0 < f.1) × (f.1 ≤ length ts) = piece_of_takes k final ts f.0 f.1 e in
-      let shorter : length (drop f.1 ts) < length whole = omega (arith, length-drop f.1 ts, takes.0, takes.1) in
-      let both : EachReadsBack whole truncated final (f.0 ∷ pieces k truncated final (drop f.1 ts)) = (λ y. piece-back k final ts f.0 f.1 e, modes-each k final whole (drop f.1 ts) m o h shorter) in
-      subst (λ (actions : List Action). EachReadsBack whole truncated final actions) (sym (pieces_found k truncated final ts f.0 f.1 e)) both
+      let shorter : length (drop f.1 ts) < length whole = omega (arith, length-drop f.1 ts, takes.0, takes.1, ap length s.1, length-drop s.0 whole) in
+      let behind : IsSuffix (drop f.1 ts) whole = (s.0 + f.1, ap (drop f.1) s.1 ∙ drop-drop f.1 s.0 whole) in
+      let both : Each whole truncated final (f.0 ∷ pieces k truncated final (drop f.1 ts)) = inl (piece-writable k final ts f.0 f.1 e, modes-each k final whole (drop f.1 ts) m o h shorter behind) in
+      subst (Each whole truncated final) (sym (pieces_found k truncated final ts f.0 f.1 e)) both
 
   finals_of_private : (final : ℕ) (ts : List CsiParam) → is_some (piece_of private_mode_pieces final ts) ≡ true → ((eqb final 104 || eqb final 108) || (eqb final 115 || eqb final 114)) ≡ true
   unfolding mode_piece
@@ -189,9 +200,9 @@ module _ (truncated : Bool) where
       some_from (Some m) us q = refl
 
   modes_or-each : (k : Kind) (final : ℕ) (whole ts : List CsiParam) (b : Bool) → is_some (piece_of k final ts) ≡ b → IsModes k → eqb final 109 ≡ false
-      → (is_some (piece_of k final ts) ≡ true → ((eqb final 104 || eqb final 108) || (eqb final 115 || eqb final 114)) ≡ true) → length ts ≤ length whole
+      → (is_some (piece_of k final ts) ≡ true → ((eqb final 104 || eqb final 108) || (eqb final 115 || eqb final 114)) ≡ true) → IsSuffix ts whole
       → csi_reading whole truncated final ≡ modes_or k truncated final ts whole
-      → EachReadsBack whole truncated final (cond b (pieces k truncated final ts) (unspecified whole truncated final ∷ []))
+      → Each whole truncated final (cond b (pieces k truncated final ts) (unspecified whole truncated final ∷ []))
   modes_or-each k final whole ts true e m o finals l q = standing-each k final whole ts (piece_of k final ts) m o (finals e) l refl e
   modes_or-each k final whole ts false e m o finals l q =
       whole-each whole final (q ∙ ap (λ b. cond b (pieces k truncated final ts) (unspecified whole truncated final ∷ [])) e)
@@ -200,10 +211,10 @@ module _ (truncated : Bool) where
 
   lone_by : (ts : List CsiParam) (final : ℕ) (c : Option Cursor) (e : Option Edit) (d : Option Device) → cursor_reading final ts ≡ c → edit_reading final ts ≡ e → device_reading final ts ≡ d
       → csi_reading ts truncated final ≡ lone_or truncated final ts
-      → EachReadsBack ts truncated final (option_map_or (λ known. known ∷ []) (option_or (option_map cursor c) (option_or (option_map edit e) (option_map device d))) (unspecified ts truncated final ∷ []))
-  lone_by ts final (Some c) e d p q r w = (λ x. cursor_back truncated c (cursor_reading-writable final ts c p), tt)
-  lone_by ts final None (Some e) d p q r w = (λ x. edit_back truncated e (edit_reading-writable final ts e q), tt)
-  lone_by ts final None None (Some d) p q r w = (λ x. device_back truncated d, tt)
+      → Each ts truncated final (option_map_or (λ known. known ∷ []) (option_or (option_map cursor c) (option_or (option_map edit e) (option_map device d))) (unspecified ts truncated final ∷ []))
+  lone_by ts final (Some c) e d p q r w = inl (cursor_reading-writable final ts c p, tt)
+  lone_by ts final None (Some e) d p q r w = inl (edit_reading-writable final ts e q, tt)
+  lone_by ts final None None (Some d) p q r w = inl (tt, tt)
   lone_by ts final None None None p q r w = whole-each ts final (w
       ∙ ap (λ c. option_map_or (λ known. known ∷ []) (option_or (option_map cursor c) (option_or (option_map edit (edit_reading final ts)) (option_map device (device_reading final ts)))) (unspecified ts truncated final ∷ [])) p
       ∙ ap (λ e. option_map_or (λ known. known ∷ []) (option_or (option_map edit e) (option_map device (device_reading final ts))) (unspecified ts truncated final ∷ [])) q
@@ -211,37 +222,37 @@ module _ (truncated : Bool) where
 
   standard_by : (ts : List CsiParam) (final : ℕ) (b : Bool) → (eqb final 104 || eqb final 108) ≡ b → eqb final 109 ≡ false
       → csi_reading ts truncated final ≡ cond b (modes_or standard_mode_pieces truncated final ts ts) (lone_or truncated final ts)
-      → EachReadsBack ts truncated final (cond b (modes_or standard_mode_pieces truncated final ts ts) (lone_or truncated final ts))
+      → Each ts truncated final (cond b (modes_or standard_mode_pieces truncated final ts ts) (lone_or truncated final ts))
   standard_by ts final true h o w =
-      modes_or-each standard_mode_pieces final ts ts (is_some (piece_of standard_mode_pieces final ts)) refl tt o (λ x. or_left (eqb final 104 || eqb final 108) (eqb final 115 || eqb final 114) h) (omega arith) w
+      modes_or-each standard_mode_pieces final ts ts (is_some (piece_of standard_mode_pieces final ts)) refl tt o (λ x. or_left (eqb final 104 || eqb final 108) (eqb final 115 || eqb final 114) h) (0, refl) w
   standard_by ts final false h o w = lone_by ts final (cursor_reading final ts) (edit_reading final ts) (device_reading final ts) refl refl refl w
 
-  standard-each : (ts : List CsiParam) (final : ℕ) → eqb final 109 ≡ false → csi_reading ts truncated final ≡ standard_reading truncated final ts → EachReadsBack ts truncated final (standard_reading truncated final ts)
+  standard-each : (ts : List CsiParam) (final : ℕ) → eqb final 109 ≡ false → csi_reading ts truncated final ≡ standard_reading truncated final ts → Each ts truncated final (standard_reading truncated final ts)
   standard-each ts final o w = standard_by ts final (eqb final 104 || eqb final 108) refl o w
 
   question_by : (b : ℕ) (ts : List CsiParam) (final : ℕ) (v : Bool) → eqb final 109 ≡ false
       → csi_reading (P b ∷ ts) truncated final ≡ cond v (modes_or private_mode_pieces truncated final ts (P b ∷ ts)) (standard_reading truncated final (P b ∷ ts))
-      → EachReadsBack (P b ∷ ts) truncated final (cond v (modes_or private_mode_pieces truncated final ts (P b ∷ ts)) (standard_reading truncated final (P b ∷ ts)))
+      → Each (P b ∷ ts) truncated final (cond v (modes_or private_mode_pieces truncated final ts (P b ∷ ts)) (standard_reading truncated final (P b ∷ ts)))
   question_by b ts final true o w =
-      modes_or-each private_mode_pieces final (P b ∷ ts) ts (is_some (piece_of private_mode_pieces final ts)) refl tt o (finals_of_private final ts) (omega arith) w
+      modes_or-each private_mode_pieces final (P b ∷ ts) ts (is_some (piece_of private_mode_pieces final ts)) refl tt o (finals_of_private final ts) (1, refl) w
   question_by b ts final false o w = standard-each (P b ∷ ts) final o w
 
-  other-each : (ts : List CsiParam) (final : ℕ) → eqb final 109 ≡ false → csi_reading ts truncated final ≡ other_reading truncated final ts → EachReadsBack ts truncated final (other_reading truncated final ts)
+  other-each : (ts : List CsiParam) (final : ℕ) → eqb final 109 ≡ false → csi_reading ts truncated final ≡ other_reading truncated final ts → Each ts truncated final (other_reading truncated final ts)
   other-each [] final o w = standard-each [] final o w
   other-each (Integer z ∷ ts) final o w = standard-each (Integer z ∷ ts) final o w
   other-each (P b ∷ ts) final o w = question_by b ts final (eqb b 63) o w
 
   reading_by : (ts : List CsiParam) (final : ℕ) (b : Bool) → eqb final 109 ≡ b
       → csi_reading ts truncated final ≡ cond b (sgr_reading truncated final ts) (other_reading truncated final ts)
-      → EachReadsBack ts truncated final (cond b (sgr_reading truncated final ts) (other_reading truncated final ts))
-  reading_by ts final true e w = subst (λ (f : ℕ). EachReadsBack ts truncated f (sgr_reading truncated f ts)) (sym (eqb-true final 109 e)) (sgr-each ts)
+      → Each ts truncated final (cond b (sgr_reading truncated final ts) (other_reading truncated final ts))
+  reading_by ts final true e w = subst (λ (f : ℕ). Each ts truncated f (sgr_reading truncated f ts)) (sym (eqb-true final 109 e)) (sgr-each ts)
   reading_by ts final false e w = other-each ts final e w
 
-pub actions_read_back-lem : ActionsReadBack
+pub reading-each : (ts : List CsiParam) (truncated : Bool) (final : ℕ) → Each ts truncated final (csi_reading ts truncated final)
 unfolding csi_reading
-actions_read_back-lem ts truncated final = reading_by truncated ts final (eqb final 109) refl refl
+reading-each ts truncated final = reading_by truncated ts final (eqb final 109) refl refl
 
--- ---- By value
+-- ---- Each reads back
 
 pub writable_actions_read_back-lem : WritableActionsReadBack
 writable_actions_read_back-lem truncated (sgr v) h = sgr_back truncated v h
@@ -250,3 +261,28 @@ writable_actions_read_back-lem truncated (edit e) h = edit_back truncated e h
 writable_actions_read_back-lem truncated (mode m) h = mode_back truncated m h
 writable_actions_read_back-lem truncated (device d) h = device_back truncated d
 writable_actions_read_back-lem truncated (unspecified params flag final) h = absurd h
+
+pub actions_read_back-lem : ActionsReadBack
+actions_read_back-lem ts truncated final = by (csi_reading ts truncated final) (reading-each ts truncated final)
+  where
+    by : (actions : List Action) → Each ts truncated final actions → EachReadsBack ts truncated final actions
+    by [] h = tt
+    by (a ∷ others) (inl h) = (λ x. writable_actions_read_back-lem truncated a h.0, by others h.1)
+    by (a ∷ others) (inr r) =
+        let Back : Action → Type 0 = λ a. is_exempt ts final a ≡ false → ReadsBack truncated a in
+        (subst Back (sym r.1) r.3.back, subst (EachReadsBack ts truncated final) (sym r.2) tt)
+
+-- ---- The rest comes last
+
+known_keeps : (ts : List CsiParam) (truncated : Bool) (final : ℕ) (a : Action) (others : List Action) → IsWritable a → KeepsRests ts truncated final others → KeepsRests ts truncated final (a ∷ others)
+known_keeps ts truncated final (unspecified rest flag control) others w h = absurd w
+known_keeps ts truncated final (sgr v) others w h = h
+known_keeps ts truncated final _ others w h = h
+
+pub csi_reading-keeps : (ts : List CsiParam) (truncated : Bool) (final : ℕ) → KeepsRests ts truncated final (csi_reading ts truncated final)
+csi_reading-keeps ts truncated final = by (csi_reading ts truncated final) (reading-each ts truncated final)
+  where
+    by : (actions : List Action) → Each ts truncated final actions → KeepsRests ts truncated final actions
+    by [] h = tt
+    by (a ∷ others) (inl h) = known_keeps ts truncated final a others h.0 (by others h.1)
+    by (a ∷ others) (inr r) = subst (λ (x : Action). KeepsRests ts truncated final (x ∷ others)) (sym r.1) (r.3.suffix, refl, refl, r.2)

@@ -8,11 +8,8 @@ use Rattle.csi_codec.specs.declared.parameters.CsiParam.{CsiParam}
 use Rattle.csi_codec.specs.declared.parameters.CsiParam.TheVariants.{Integer, P}
 use Rattle.csi_codec.specs.declared.rendition.Sgr.{Sgr}
 use Rattle.csi_codec.specs.declared.rendition.Sgr.TheVariants as value
-use Rattle.csi_codec.specs.declared.sgr_reading.Target.{Target}
-use Rattle.csi_codec.specs.declared.sgr_reading.Target.TheVariants as target
 use Rattle.csi_codec.specs.Parameters.{is_number}
 use Rattle.csi_codec.specs.Rendition.{stands, taking, Form, first_form, colour_forms, colour_form, colour_shape, plain_code, single_code, underline_numbered, underline_or_single, underline_shape, numbered_shape, sgr_shape}
-use Rattle.csi_codec.specs.Targets.{set_to}
 
 pub number_is : (k : ℕ) (z : ℤ) → is_number k z ≡ true → z ≡ pos k
 number_is k (negsuc m) h = cc
@@ -51,6 +48,17 @@ numbered_shape-by Q z ts fore back line under lone =
     cond_both (is_number 4 z) _ _ Q (λ s. under (number_is 4 z s)) (λ s. lone p q r s))))
 
 -- ---- Every shape
+
+-- what a colour is for: the text, what is behind it, or its underline
+pub data Target : Type 0 where
+  foreground : Target
+  background : Target
+  underline_colour : Target
+
+abbrev pub set_to : Target → ColorSpec → Sgr
+set_to foreground c = value.Foreground c
+set_to background c = value.Background c
+set_to underline_colour c = value.UnderlineColor c
 
 -- R holds of each colour that a form gives, and Q of each shape
 pub record EachShape (R : List CsiParam → ColorSpec × ℕ → Type 0) (Q : List CsiParam → Sgr × ℕ → Type 0) : Type 0 where
@@ -91,7 +99,7 @@ module _ {R : List CsiParam → ColorSpec × ℕ → Type 0} {Q : List CsiParam 
   numbered_shape-each : (z : ℤ) (ts : List CsiParam) → IfSome (numbered_shape z ts) (Q (Integer z ∷ ts))
   numbered_shape-each z ts =
       numbered_shape-by (λ found. IfSome found (Q (Integer z ∷ ts))) z ts
-      (λ p. colour_shape-each target.Foreground z ts) (λ p. colour_shape-each target.Background z ts) (λ p. colour_shape-each target.Underline z ts)
+      (λ p. colour_shape-each foreground z ts) (λ p. colour_shape-each background z ts) (λ p. colour_shape-each underline_colour z ts)
       (λ p. underline_shape-each z ts p) (λ p q r s. taking-each (Q (Integer z ∷ ts)) 1 (plain_code z) (λ v e. each.lone z ts v e))
 
   pub sgr_shape-each : (ts : List CsiParam) → IfSome (sgr_shape ts) (Q ts)

@@ -1,27 +1,17 @@
 -- How many bytes the text of a value that can be written has at most.
-use Rattle.std.proofs.Common.{◌≡◌, ℕ, suc, ◌+◌, ◌<◌, ◌≤◌, ◌^◌, pos, eqb, ltb, true, false, cond, List, [], ◌∷◌, length, length-append, Option, Some, None, arith, ap, subst, sym, refl}
+use Rattle.std.proofs.Common.{◌≡◌, ℕ, ◌+◌, ◌<◌, ◌≤◌, ◌^◌, pos, eqb, List, [], ◌∷◌, length, length-append, Option, Some, None, arith, ap, subst, sym, refl}
 use Rattle.std.specs.Prelude.{flat_map, encode_utf8}
 use Rattle.std.specs.Fmt.{decimal}
 use Rattle.std.proofs.lemmas.Fmt.{length-decimal-le}
 use Rattle.std.proofs.lemmas.Bool.{leb-true, cond_both}
 use Rattle.std.proofs.lemmas.Str.{encode_ascii}
-use Rattle.cell_base.specs.declared.color.ColorSpec.{ColorSpec}
-use Rattle.cell_base.specs.declared.color.ColorSpec.TheVariants as color
-use Rattle.cell_base.specs.declared.color.SrgbaTuple.{SrgbaTuple}
-use Rattle.cell_base.specs.declared.attributes.Intensity.TheVariants as intensity
-use Rattle.cell_base.specs.declared.attributes.Underline.{Underline}
-use Rattle.cell_base.specs.declared.attributes.Underline.TheVariants as underline
-use Rattle.cell_base.specs.declared.attributes.Blink.TheVariants as blink
-use Rattle.cell_base.specs.declared.attributes.VerticalAlign.TheVariants as align
 use Rattle.csi_codec.specs.declared.parameters.CsiParam.{CsiParam}
 use Rattle.csi_codec.specs.declared.parameters.CsiParam.TheVariants.{Integer, P}
 use Rattle.csi_codec.specs.declared.devices.Device.TheVariants.{SoftReset, RequestPrimaryDeviceAttributes, StatusReport}
 use Rattle.csi_codec.specs.declared.modes.DecPrivateMode.{DecPrivateMode}
 use Rattle.csi_codec.specs.declared.modes.TerminalMode.{TerminalMode}
 use Rattle.csi_codec.specs.declared.modes.Mode.TheVariants as does
-use Rattle.csi_codec.specs.declared.rendition.Sgr.TheVariants as value
-use Rattle.csi_codec.specs.declared.rendition.Font.TheVariants as font
-use Rattle.csi_codec.specs.Parameters.{token_text, number_tokens, count_tokens, pair_tokens, extent_tokens, private_tokens}
+use Rattle.csi_codec.specs.Parameters.{token_text, number_tokens, pair_tokens, private_tokens}
 use Rattle.csi_codec.specs.declared.edits.Edit.{Edit}
 use Rattle.csi_codec.specs.declared.edits.Edit.TheVariants as change
 use Rattle.csi_codec.specs.Slots.{Slots, nothing, counted, placed, paired, named, extent, spaced, slots_tokens, IsPlace, ArePlaces}
@@ -29,15 +19,17 @@ use Rattle.csi_codec.specs.Cursors.{cursor_slots, cursor_spelling}
 use Rattle.csi_codec.specs.Edits.{edit_slots, edit_spelling}
 use Rattle.csi_codec.specs.Devices.{device_spelling}
 use Rattle.csi_codec.specs.Modes.{mode_spelling, dec_mode_code, ansi_mode_code}
-use Rattle.csi_codec.specs.Rendition.{palette_tokens, opaque_tokens, alpha_tokens, colour_tokens, short_colour_tokens, underline_colour_tokens, underline_tokens, sgr_spelling}
+use Rattle.csi_codec.specs.Rendition.{palette_tokens, opaque_tokens, alpha_tokens, sgr_spelling}
 use Rattle.csi_codec.specs.Actions.{Action, sgr, cursor, edit, mode, device, unspecified, spelling_of}
 use Rattle.csi_codec.specs.Sequences.{csi_text}
 use Rattle.csi_codec.specs.Escapes.{bytes_of_pair}
-use Rattle.csi_codec.specs.Writable.{IsWritablePrivateMode, IsWritableStandardMode, IsColour, pair_bytes}
+use Rattle.csi_codec.specs.Writable.{IsWritablePrivateMode, IsWritableStandardMode, pair_bytes}
 use Rattle.csi_codec.specs.Sizes.{SgrsAreShort, CursorsAreShort, EditsAreShort, ModesAreShort, DevicesAreShort, ActionsAreShort, PairsAreShort}
 use Rattle.csi_codec.proofs.SlotLemmas.{AreDigits, cursor_digits, edit_digits, cursor_final, edit_final}
 use Rattle.csi_codec.proofs.ModeBack.{private_within, standard_within}
 use Rattle.csi_codec.proofs.PairTrip.{pairs_read_back-lem}
+use Rattle.csi_codec.proofs.ShapeLemmas.{Target, foreground}
+use Rattle.csi_codec.proofs.SgrForms.{EachWritten, number_of, sgr_tokens-each}
 
 -- ---- Tokens
 
@@ -75,9 +67,6 @@ kind_first k target kind ts h d l =
     (number_first (k + 1 + 1) 2 target (P 58 ∷ Integer (pos kind) ∷ ts) (omega arith) (omega arith) (omega arith)
     (sign_first (k + 1) 58 (Integer (pos kind) ∷ ts) (omega arith) (number_first k 1 kind ts (omega arith) (omega arith) (omega arith) l))) (omega arith)
 
-count_short : (n : ℕ) → IsPlace n → Short 10 (count_tokens n)
-count_short n h = cond_both (eqb n 1) [] (number_tokens n) (Short 10) (λ e. omega arith) (λ e. number_short 10 n (omega arith) (omega (arith, h.1)) (omega (arith, h.1)))
-
 pair_short : (a b : ℕ) → IsPlace a → IsPlace b → Short 21 (pair_tokens a b)
 pair_short a b h l =
     number_first 11 10 a (P 59 ∷ Integer (pos b) ∷ []) (omega arith) (omega (arith, h.1)) (omega (arith, h.1))
@@ -93,12 +82,6 @@ text_short k a h c =
 digit_short : (n : ℕ) → n < 10 → Short 1 (number_tokens n)
 digit_short n h = number_short 1 n (omega arith) (omega arith) (omega arith)
 
-digit_and_space : (n : ℕ) → n < 10 → Short 2 (Integer (pos n) ∷ P 32 ∷ [])
-digit_and_space n h = number_first 1 1 n (P 32 ∷ []) (omega arith) (omega arith) (omega arith) (sign_first 0 32 [] (omega arith) (omega arith))
-
-extent_short : (n : ℕ) → n < 10 → Short 10 (extent_tokens n)
-extent_short n h = cond_both (eqb n 0) [] (number_tokens n) (Short 10) (λ e. omega arith) (λ e. weaker 1 10 (number_tokens n) (digit_short n h) (omega arith))
-
 -- one number takes ten bytes at most, and two with a `;` 21
 abbrev width : Slots → ℕ
 width (paired a b) = 21
@@ -111,12 +94,12 @@ width (spaced n) = 10
 
 slots_short : (s : Slots) → ArePlaces s → AreDigits s → Short (width s) (slots_tokens s)
 slots_short nothing h d = omega arith
-slots_short (counted n) h d = count_short n h
+slots_short (counted n) h d = cond_both (eqb n 1) [] (number_tokens n) (Short 10) (λ e. omega arith) (λ e. number_short 10 n (omega arith) (omega (arith, h.1)) (omega (arith, h.1)))
 slots_short (placed n) h d = number_short 10 n (omega arith) (omega (arith, h.1)) (omega (arith, h.1))
 slots_short (paired a b) h d = pair_short a b h.0 h.1
-slots_short (named n) h d = weaker 1 10 (number_tokens n) (digit_short n d) (omega arith)
-slots_short (extent n) h d = extent_short n d
-slots_short (spaced n) h d = weaker 2 10 (Integer (pos n) ∷ P 32 ∷ []) (digit_and_space n d) (omega arith)
+slots_short (named n) h d = number_short 10 n (omega arith) (omega arith) (omega arith)
+slots_short (extent n) h d = cond_both (eqb n 0) [] (number_tokens n) (Short 10) (λ e. omega arith) (λ e. number_short 10 n (omega arith) (omega arith) (omega arith))
+slots_short (spaced n) h d = number_first 1 9 n (P 32 ∷ []) (omega arith) (omega arith) (omega arith) (sign_first 0 32 [] (omega arith) (omega arith))
 
 width_within : (s : Slots) → width s ≤ 21
 width_within (paired a b) = omega arith
@@ -167,7 +150,7 @@ modes_are_short (does.ResetMode m) h = text_short 6 (mode (does.ResetMode m)) (s
 -- ---- SGR
 
 byte_short : (n : ℕ) → n ≤ 255 → Short 21 (number_tokens n)
-byte_short n h = weaker 3 21 (number_tokens n) (number_short 3 n (omega arith) (omega arith) (omega arith)) (omega arith)
+byte_short n h = number_short 21 n (omega arith) (omega arith) (omega arith)
 
 palette_short : (target n : ℕ) → target < 100 → n ≤ 255 → Short 21 (palette_tokens target n)
 palette_short target n t h =
@@ -187,66 +170,27 @@ alpha_short target r g b a t h l m o =
     (channel_first 12 r (channel g (channel b (channel a []))) h
     (channel_first 8 g (channel b (channel a [])) l (channel_first 4 b (channel a []) m (channel_first 0 a [] o (omega arith))))))
 
-colour_short : (target : ℕ) (c : SrgbaTuple) → target < 100 → IsColour (color.TrueColor c) → Short 21 (colour_tokens target c)
-colour_short target c t h = cond_both (eqb c.3 255) (opaque_tokens target c.0 c.1 c.2) (alpha_tokens target c.0 c.1 c.2 c.3) (Short 21) (λ e. opaque_short target c.0 c.1 c.2 t h.0 h.1 h.2) (λ e. alpha_short target c.0 c.1 c.2 c.3 t h.0 h.1 h.2 h.3)
-
-index_short : (target low bright n : ℕ) → target < 100 → low < 100 → bright < 100 → n ≤ 255
-    → Short 21 (cond (ltb n 8) (number_tokens (low + n)) (cond (ltb n 16) (number_tokens (bright + n)) (palette_tokens target n)))
-index_short target low bright n t l m h =
-    cond_both (ltb n 8) _ _ (Short 21) (λ e. let small : n < 8 = leb-true (suc n) 8 e in byte_short (low + n) (omega arith)) (λ e.
-    cond_both (ltb n 16) _ _ (Short 21) (λ e. let small : n < 16 = leb-true (suc n) 16 e in byte_short (bright + n) (omega arith)) (λ e. palette_short target n t h))
-
-named_short : (target off low bright : ℕ) (c : ColorSpec) → target < 100 → off < 100 → low < 100 → bright < 100 → IsColour c → Short 21 (short_colour_tokens target off low bright c)
-named_short target off low bright color.Default t o l m h = byte_short off (omega arith)
-named_short target off low bright (color.PaletteIndex n) t o l m h = index_short target low bright n t l m h
-named_short target off low bright (color.TrueColor c) t o l m h = colour_short target c t h
-
-line_colour_short : (c : ColorSpec) → IsColour c → Short 21 (underline_colour_tokens c)
-line_colour_short color.Default h = byte_short 59 (omega arith)
-line_colour_short (color.PaletteIndex n) h = palette_short 58 n (omega arith) h
-line_colour_short (color.TrueColor c) h = colour_short 58 c (omega arith) h
-
 wavy_short : (k : ℕ) → k < 10 → Short 21 (Integer (pos 4) ∷ P 58 ∷ Integer (pos k) ∷ [])
 wavy_short k h =
     weaker 3 21 (Integer (pos 4) ∷ P 58 ∷ Integer (pos k) ∷ [])
     (number_first 2 1 4 (P 58 ∷ Integer (pos k) ∷ []) (omega arith) (omega arith) (omega arith) (sign_first 1 58 (Integer (pos k) ∷ []) (omega arith) (digit_short k h))) (omega arith)
 
-underline_short : (known : Underline) → Short 21 (underline_tokens known)
-underline_short underline.None = byte_short 24 (omega arith)
-underline_short underline.Single = byte_short 4 (omega arith)
-underline_short underline.Double = byte_short 21 (omega arith)
-underline_short underline.Curly = wavy_short 3 (omega arith)
-underline_short underline.Dotted = wavy_short 4 (omega arith)
-underline_short underline.Dashed = wavy_short 5 (omega arith)
+target_few : (t : Target) → number_of t < 100
+target_few foreground = omega arith
+target_few _ = omega arith
+
+forms_short : EachWritten (λ ts v. Short 21 ts)
+forms_short = record {
+  lone = λ n v h e. byte_short n h;
+  line = λ k u h e. wavy_short k h;
+  palette = λ t n h. palette_short (number_of t) n (target_few t) h;
+  opaque = λ t r g b h k l. opaque_short (number_of t) r g b (target_few t) h k l;
+  alpha = λ t r g b a h k l m. alpha_short (number_of t) r g b a (target_few t) h k l m;
+}
 
 pub sgrs_are_short : SgrsAreShort
 unfolding sgr_spelling
-sgrs_are_short value.Reset h = text_short 21 (sgr value.Reset) (byte_short 0 (omega arith)) (omega arith)
-sgrs_are_short (value.Intensity intensity.Bold) h = text_short 21 (sgr (value.Intensity intensity.Bold)) (byte_short 1 (omega arith)) (omega arith)
-sgrs_are_short (value.Intensity intensity.Half) h = text_short 21 (sgr (value.Intensity intensity.Half)) (byte_short 2 (omega arith)) (omega arith)
-sgrs_are_short (value.Intensity intensity.Normal) h = text_short 21 (sgr (value.Intensity intensity.Normal)) (byte_short 22 (omega arith)) (omega arith)
-sgrs_are_short (value.Blink blink.Slow) h = text_short 21 (sgr (value.Blink blink.Slow)) (byte_short 5 (omega arith)) (omega arith)
-sgrs_are_short (value.Blink blink.Rapid) h = text_short 21 (sgr (value.Blink blink.Rapid)) (byte_short 6 (omega arith)) (omega arith)
-sgrs_are_short (value.Blink blink.None) h = text_short 21 (sgr (value.Blink blink.None)) (byte_short 25 (omega arith)) (omega arith)
-sgrs_are_short (value.Italic true) h = text_short 21 (sgr (value.Italic true)) (byte_short 3 (omega arith)) (omega arith)
-sgrs_are_short (value.Italic false) h = text_short 21 (sgr (value.Italic false)) (byte_short 23 (omega arith)) (omega arith)
-sgrs_are_short (value.Inverse true) h = text_short 21 (sgr (value.Inverse true)) (byte_short 7 (omega arith)) (omega arith)
-sgrs_are_short (value.Inverse false) h = text_short 21 (sgr (value.Inverse false)) (byte_short 27 (omega arith)) (omega arith)
-sgrs_are_short (value.Invisible true) h = text_short 21 (sgr (value.Invisible true)) (byte_short 8 (omega arith)) (omega arith)
-sgrs_are_short (value.Invisible false) h = text_short 21 (sgr (value.Invisible false)) (byte_short 28 (omega arith)) (omega arith)
-sgrs_are_short (value.StrikeThrough true) h = text_short 21 (sgr (value.StrikeThrough true)) (byte_short 9 (omega arith)) (omega arith)
-sgrs_are_short (value.StrikeThrough false) h = text_short 21 (sgr (value.StrikeThrough false)) (byte_short 29 (omega arith)) (omega arith)
-sgrs_are_short (value.Overline true) h = text_short 21 (sgr (value.Overline true)) (byte_short 53 (omega arith)) (omega arith)
-sgrs_are_short (value.Overline false) h = text_short 21 (sgr (value.Overline false)) (byte_short 55 (omega arith)) (omega arith)
-sgrs_are_short (value.Font font.Default) h = text_short 21 (sgr (value.Font font.Default)) (byte_short 10 (omega arith)) (omega arith)
-sgrs_are_short (value.VerticalAlign align.SuperScript) h = text_short 21 (sgr (value.VerticalAlign align.SuperScript)) (byte_short 73 (omega arith)) (omega arith)
-sgrs_are_short (value.VerticalAlign align.SubScript) h = text_short 21 (sgr (value.VerticalAlign align.SubScript)) (byte_short 74 (omega arith)) (omega arith)
-sgrs_are_short (value.VerticalAlign align.BaseLine) h = text_short 21 (sgr (value.VerticalAlign align.BaseLine)) (byte_short 75 (omega arith)) (omega arith)
-sgrs_are_short (value.Font (font.Alternate k)) h = text_short 21 (sgr (value.Font (font.Alternate k))) (byte_short (10 + k) (omega (arith, h.1))) (omega arith)
-sgrs_are_short (value.Underline known) h = text_short 21 (sgr (value.Underline known)) (underline_short known) (omega arith)
-sgrs_are_short (value.Foreground c) h = text_short 21 (sgr (value.Foreground c)) (named_short 38 39 30 82 c (omega arith) (omega arith) (omega arith) (omega arith) h) (omega arith)
-sgrs_are_short (value.Background c) h = text_short 21 (sgr (value.Background c)) (named_short 48 49 40 92 c (omega arith) (omega arith) (omega arith) (omega arith) h) (omega arith)
-sgrs_are_short (value.UnderlineColor c) h = text_short 21 (sgr (value.UnderlineColor c)) (line_colour_short c h) (omega arith)
+sgrs_are_short v h = text_short 21 (sgr v) (sgr_tokens-each forms_short v h) (omega arith)
 
 pub actions_are_short : ActionsAreShort
 actions_are_short (sgr v) h = sgrs_are_short v h

@@ -1,5 +1,5 @@
 -- The parameters of cursor sequences and edits: how they are written, and how much of that there is.
-use Rattle.std.proofs.Common.{◌≡◌, ℕ, ◌≤◌, ◌<◌, eqb, true, false, cond, [], length, arith, refl}
+use Rattle.std.proofs.Common.{◌≡◌, ℕ, ◌≤◌, ◌<◌, eqb, true, [], arith, refl}
 use Rattle.std.proofs.lemmas.Bool.{cond_both, le-leb}
 use Rattle.csi_codec.specs.declared.cursors.CursorStyle.{CursorStyle}
 use Rattle.csi_codec.specs.declared.cursors.CursorStyle.TheVariants as style
@@ -15,7 +15,7 @@ use Rattle.csi_codec.specs.declared.edits.EraseInDisplay.{EraseInDisplay}
 use Rattle.csi_codec.specs.declared.edits.EraseInDisplay.TheVariants as display
 use Rattle.csi_codec.specs.declared.edits.Edit.{Edit}
 use Rattle.csi_codec.specs.declared.edits.Edit.TheVariants as change
-use Rattle.csi_codec.specs.Parameters.{word_max, number_tokens, count_tokens, pair_tokens, extent_tokens}
+use Rattle.csi_codec.specs.Parameters.{word_max, number_tokens, pair_tokens}
 use Rattle.csi_codec.specs.Slots.{Slots, nothing, counted, placed, paired, named, extent, spaced, slots_tokens, IsPlace, ArePlaces}
 use Rattle.csi_codec.specs.Cursors.{cursor_style_number, tabulation_clear_number, tabulation_control_number, cursor_slots}
 use Rattle.csi_codec.specs.Edits.{erase_in_line_number, erase_in_display_number, edit_slots}
@@ -85,13 +85,6 @@ edit_final _ = record { low = omega arith; high = omega arith }
 pub number_written : (n : ℕ) → n ≤ word_max → is_spellable (number_tokens n) ≡ true
 number_written n h = rw (le-leb n largest_number (omega arith)) refl
 
-count_written : (n : ℕ) → IsPlace n → is_spellable (count_tokens n) ≡ true
-count_written n h = elim (eqb n 1) as (λ b. is_spellable (cond b [] (number_tokens n)) ≡ true) [ true ↦ refl | false ↦ number_written n h.1 ]
-
-extent_written : (n : ℕ) → n < 10 → is_spellable (extent_tokens n) ≡ true
-extent_written n h =
-    elim (eqb n 0) as (λ b. is_spellable (cond b [] (number_tokens n)) ≡ true) [ true ↦ refl | false ↦ number_written n (omega arith) ]
-
 pair_written : (a b : ℕ) → IsPlace a → IsPlace b → is_spellable (pair_tokens a b) ≡ true
 pair_written a b h k =
     let x : a ≤ largest_number = omega (arith, h.1) in
@@ -101,19 +94,9 @@ pair_written a b h k =
 -- they can be spelled by bytes
 pub slots_written : (s : Slots) → ArePlaces s → AreDigits s → is_spellable (slots_tokens s) ≡ true
 slots_written nothing h d = refl
-slots_written (counted n) h d = count_written n h
+slots_written (counted n) h d = cond_both (eqb n 1) [] (number_tokens n) (λ ts. is_spellable ts ≡ true) (λ e. refl) (λ e. number_written n h.1)
 slots_written (placed n) h d = number_written n h.1
 slots_written (paired a b) h d = pair_written a b h.0 h.1
 slots_written (named n) h d = number_written n (omega arith)
-slots_written (extent n) h d = extent_written n d
+slots_written (extent n) h d = cond_both (eqb n 0) [] (number_tokens n) (λ ts. is_spellable ts ≡ true) (λ e. refl) (λ e. number_written n (omega arith))
 slots_written (spaced n) h d = rw (le-leb n largest_number (omega arith)) refl
-
--- there are few
-pub slots_few : (s : Slots) → length (slots_tokens s) ≤ 12
-slots_few nothing = omega arith
-slots_few (counted n) = cond_both (eqb n 1) [] (number_tokens n) (λ ts. length ts ≤ 12) (λ e. omega arith) (λ e. omega arith)
-slots_few (placed n) = omega arith
-slots_few (paired a b) = omega arith
-slots_few (named n) = omega arith
-slots_few (extent n) = cond_both (eqb n 0) [] (number_tokens n) (λ ts. length ts ≤ 12) (λ e. omega arith) (λ e. omega arith)
-slots_few (spaced n) = omega arith

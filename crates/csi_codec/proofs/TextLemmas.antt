@@ -67,7 +67,7 @@ not_number [] h = refl
 not_number (Integer z ∷ ts) h = cc
 not_number (P b ∷ ts) h = refl
 
-nonempty_decimal : (n : ℕ) → n < 2 ^ 64 → 0 < length (decimal n)
+pub nonempty_decimal : (n : ℕ) → n < 2 ^ 64 → 0 < length (decimal n)
 nonempty_decimal n h = (decimal_is_IsNumeral n h).0.0
 
 mutual

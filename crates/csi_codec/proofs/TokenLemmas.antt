@@ -1,10 +1,10 @@
 -- The parameters that are kept byte by byte are the first tokens of all parameter bytes.
-use Rattle.std.proofs.Common.{◌≡◌, ◌⊎◌, ℕ, zero, suc, pos, ◌+◌, ◌-◌, ◌*◌, ◌<◌, ◌≤◌, min, ⊎_elim, Bool, true, false, List, [], ◌∷◌, ◌++◌, length, take, drop, refl, sym, ap, subst, ◌∙◌, arith, Option, Some, None, append_assoc, length-append}
+use Rattle.std.proofs.Common.{◌≡◌, ◌⊎◌, ℕ, pos, ◌+◌, ◌-◌, ◌*◌, ◌<◌, ◌≤◌, min, ⊎_elim, Bool, true, false, List, [], ◌∷◌, ◌++◌, length, take, refl, sym, ap, subst, ◌∙◌, arith, Option, Some, None, append_assoc, length-append}
 use Rattle.std.specs.Prelude.{nat_lt, unwrap_or, fold}
 use Rattle.std.specs.Char.{is_ascii_digit}
 use Rattle.std.proofs.lemmas.Bool.Decides.{nat_tests}
 use Rattle.std.proofs.lemmas.Bool.{cases_lt}
-use Rattle.std.proofs.lemmas.List.{append-nil, take-append-le, drop_all}
+use Rattle.std.proofs.lemmas.List.{append-nil, length-take-le, take-append-le, take_all}
 use Rattle.std.proofs.Math.Seq.{take-length}
 use Rattle.csi_codec.specs.Texts.{largest_number, begun_token, tokens_behind, tokens_of}
 use Rattle.csi_codec.specs.Fronts.{most_tokens}
@@ -27,31 +27,19 @@ record Shows (p : Parameters) (whole : List CsiParam) (begun : Option ℕ) : Typ
   keeps : Keeps p (whole ++ begun_token begun)
   number : p.number ≡ cut begun
 
-abbrev pub with_one : Bool → Parameters → CsiParam → Option ℕ → Parameters
+abbrev with_one : Bool → Parameters → CsiParam → Option ℕ → Parameters
 with_one true p token number = record { tokens = p.tokens ++ token ∷ []; truncated = p.truncated; number = number }
 with_one false p token number = record { tokens = p.tokens; truncated = true; number = number }
 
-pub with_token_is : (p : Parameters) (token : CsiParam) (number : Option ℕ) → with_token p token number ≡ with_one (nat_lt (length p.tokens) most_tokens) p token number
+with_token_is : (p : Parameters) (token : CsiParam) (number : Option ℕ) → with_token p token number ≡ with_one (nat_lt (length p.tokens) most_tokens) p token number
 with_token_is p token number = by_test (nat_lt (length p.tokens) most_tokens) refl
   where
     by_test : (t : Bool) → nat_lt (length p.tokens) most_tokens ≡ t → with_token p token number ≡ with_one (nat_lt (length p.tokens) most_tokens) p token number
     by_test true e = rw e refl
     by_test false e = rw e refl
 
-pub length-one : (xs : List CsiParam) (x : CsiParam) → length (xs ++ x ∷ []) ≡ length xs + 1
+length-one : (xs : List CsiParam) (x : CsiParam) → length (xs ++ x ∷ []) ≡ length xs + 1
 length-one xs x = length-append xs (x ∷ [])
-
-take-all : (xs : List CsiParam) (n : ℕ) → length xs ≤ n → take n xs ≡ xs
-take-all [] zero h = refl
-take-all [] (suc n) h = refl
-take-all (x ∷ xs) zero h = absurd (omega arith)
-take-all (x ∷ xs) (suc n) h = ap (λ l. x ∷ l) (take-all xs n (omega arith))
-
-length-taken : (xs : List CsiParam) (n : ℕ) → n ≤ length xs → length (take n xs) ≡ n
-length-taken [] zero h = refl
-length-taken [] (suc n) h = absurd (omega arith)
-length-taken (x ∷ xs) zero h = refl
-length-taken (x ∷ xs) (suc n) h = ap suc (length-taken xs n (omega arith))
 
 -- one token more
 token_more : (p : Parameters) (ts : List CsiParam) (token : CsiParam) (number : Option ℕ) → Keeps p ts → Keeps (with_token p token number) (ts ++ token ∷ [])
@@ -62,17 +50,17 @@ token_more p ts token number k = ⊎_elim few many (order (length ts) most_token
 
     few : length ts < most_tokens → Keeps (with_token p token number) (ts ++ token ∷ [])
     few l =
-        let all : p.tokens ≡ ts = k.kept ∙ take-all ts most_tokens (omega arith) in
+        let all : p.tokens ≡ ts = k.kept ∙ take_all most_tokens ts (omega arith) in
         let room : nat_lt (length p.tokens) most_tokens ≡ true = let e = ap length all in grind (arith, nat_tests) in
         subst (λ (q : Parameters). Keeps q (ts ++ token ∷ [])) (sym (with_token_is p token number ∙ ap (λ (t : Bool). with_one t p token number) room))
         (record {
-          kept = ap (λ l. l ++ token ∷ []) all ∙ sym (take-all (ts ++ token ∷ []) most_tokens (omega (arith, length-one ts token)));
+          kept = ap (λ l. l ++ token ∷ []) all ∙ sym (take_all most_tokens (ts ++ token ∷ []) (omega (arith, length-one ts token)));
           more = k.more ∙ (let e = length-one ts token in grind (arith, nat_tests));
         })
 
     many : most_tokens ≤ length ts → Keeps (with_token p token number) (ts ++ token ∷ [])
     many l =
-        let full : length p.tokens ≡ most_tokens = ap length k.kept ∙ length-taken ts most_tokens l in
+        let full : length p.tokens ≡ most_tokens = ap length k.kept ∙ length-take-le most_tokens ts l in
         let none : nat_lt (length p.tokens) most_tokens ≡ false = grind (arith, nat_tests) in
         subst (λ (q : Parameters). Keeps q (ts ++ token ∷ [])) (sym (with_token_is p token number ∙ ap (λ (t : Bool). with_one t p token number) none))
         (record {
@@ -81,11 +69,11 @@ token_more p ts token number k = ⊎_elim few many (order (length ts) most_token
         })
 
 -- the last token is another number
-abbrev pub renumbered : Bool → Parameters → ℕ → Parameters
+abbrev renumbered : Bool → Parameters → ℕ → Parameters
 renumbered true p n = record { tokens = p.tokens; truncated = true; number = Some n }
 renumbered false p n = record { tokens = take (length p.tokens - 1) p.tokens ++ Integer (pos n) ∷ []; truncated = false; number = Some n }
 
-pub with_number_is : (p : Parameters) (n : ℕ) → with_number p n ≡ renumbered p.truncated p n
+with_number_is : (p : Parameters) (n : ℕ) → with_number p n ≡ renumbered p.truncated p n
 with_number_is p n = by_test p.truncated refl
   where
     by_test : (t : Bool) → p.truncated ≡ t → with_number p n ≡ renumbered p.truncated p n
@@ -108,16 +96,16 @@ number_more p ts token n k = by_test (nat_lt most_tokens (length (ts ++ token �
         })
     by_test false e =
         let l : length (ts ++ token ∷ []) ≤ most_tokens = grind (arith, nat_tests) in
-        let all : p.tokens ≡ ts ++ token ∷ [] = k.kept ∙ take-all (ts ++ token ∷ []) most_tokens l in
+        let all : p.tokens ≡ ts ++ token ∷ [] = k.kept ∙ take_all most_tokens (ts ++ token ∷ []) l in
         let count : length p.tokens - 1 ≡ length ts = omega (arith, ap length all, length-one ts token) in
         let front : take (length p.tokens - 1) p.tokens ≡ ts = ap (λ (m : ℕ). take m p.tokens) count ∙ ap (λ xs. take (length ts) xs) all ∙ take-append-le (length ts) ts (token ∷ []) (omega arith) ∙ take-length ts in
         subst (λ (q : Parameters). Keeps q (ts ++ Integer (pos n) ∷ [])) (sym (with_number_is p n ∙ ap (λ (t : Bool). renumbered t p n) (k.more ∙ e)))
         (record {
-          kept = ap (λ xs. xs ++ Integer (pos n) ∷ []) front ∙ sym (take-all (ts ++ Integer (pos n) ∷ []) most_tokens (omega (arith, same)));
+          kept = ap (λ xs. xs ++ Integer (pos n) ∷ []) front ∙ sym (take_all most_tokens (ts ++ Integer (pos n) ∷ []) (omega (arith, same)));
           more = sym (ap (λ (m : ℕ). nat_lt most_tokens m) same ∙ e);
         })
 
-pub numbered : (p : Parameters) (token : CsiParam) (number : Option ℕ) → (with_token p token number).number ≡ number
+numbered : (p : Parameters) (token : CsiParam) (number : Option ℕ) → (with_token p token number).number ≡ number
 numbered p token number = ap (λ (q : Parameters). q.number) (with_token_is p token number) ∙ by_test (nat_lt (length p.tokens) most_tokens)
   where
     by_test : (t : Bool) → (with_one t p token number).number ≡ number
@@ -174,7 +162,3 @@ keeps_all (b ∷ bytes) p ts begun s = by_test (λ q us c h. keeps_all bytes q u
 
 pub keeps_tokens : (bytes : List ℕ) → Keeps (parameters_of bytes) (tokens_of bytes)
 keeps_tokens bytes = keeps_all bytes no_parameters [] None (record { keeps = record { kept = refl; more = refl }; number = refl })
-
--- once all bytes were pushed
-pub all_pushed : (p : Parameters) (body : List ℕ) (i : ℕ) → length body ≤ i → fold with_byte p (drop i body) ≡ parameters_of body → Keeps p (tokens_of body)
-all_pushed p body i h e = subst (λ (q : Parameters). Keeps q (tokens_of body)) (sym e ∙ ap (fold with_byte p) (drop_all i body h)) (keeps_tokens body)

@@ -22,5 +22,4 @@ pub mod FrontView
 pub mod Writable
 pub mod Sizes
 pub mod Longest
-pub mod Targets
 pub mod Writing

@@ -1,7 +1,6 @@
 -- The tokens of a control sequence that are kept while its bytes come.
-use Rattle.std.specs.Prelude.{◌≡◌, ◌<◌, ℕ, pos, ◌+◌, ◌-◌, ◌*◌, min, Bool, true, false, ◌&&◌, nat_le, nat_lt, List, [], ◌∷◌, ◌++◌, Option, Some, None, unwrap_or, is_some, length, take, fold, if◌then◌else◌}
+use Rattle.std.specs.Prelude.{ℕ, pos, ◌+◌, ◌-◌, ◌*◌, min, Bool, true, false, ◌&&◌, nat_le, nat_lt, List, [], ◌∷◌, ◌++◌, Option, Some, None, unwrap_or, is_some, length, take, fold, if◌then◌else◌}
 use Rattle.std.specs.Char.{is_ascii_digit}
-use Rattle.std.specs.List.{prefix_len}
 use Rattle.csi_codec.specs.Texts.{largest_number}
 use Rattle.csi_codec.specs.Fronts.{most_tokens}
 use Rattle.csi_codec.specs.declared.parameters.CsiParam.{CsiParam}
@@ -45,14 +44,3 @@ with_byte p b =
 -- the parameter bytes in turn
 abbrev pub parameters_of : List ℕ → Parameters
 parameters_of bytes = fold with_byte no_parameters bytes
-
--- a number whose digits go on, with those at the front, and what stands behind them
-abbrev pub number_run : ℕ → List ℕ → ℕ × List ℕ
-number_run n [] = (n, [])
-number_run n (b ∷ bytes) = if is_ascii_digit b then number_run (next_number (Some n) b) bytes else (n, b ∷ bytes)
-
--- some parameter bytes at the front were read, and others may be behind them
-pub record IsPushed (p : Parameters) (bytes rest : List ℕ) (after : Parameters) : Type 0 where
-  pub shorter : length rest < length bytes
-  pub counted : length bytes - length rest + prefix_len is_parameter rest ≡ prefix_len is_parameter bytes
-  pub folded : fold with_byte after (take (prefix_len is_parameter rest) rest) ≡ fold with_byte p (take (prefix_len is_parameter bytes) bytes)

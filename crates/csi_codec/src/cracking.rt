@@ -1,7 +1,7 @@
 //! A list as entries: numbers and absent ones.
 ghost use Rattle.std.specs.Prelude.{◌≡◌, ◌↔◌, IfOk, IsErrOf, IsTrue, false, length, ok_or, option_copied, slice_get};
 ghost use Rattle.std.specs.Option.{option_flatten};
-ghost use Rattle.csi_codec.specs.Cracking.{all_crackable, cracked, entry_number, is_crackable};
+ghost use Rattle.csi_codec.specs.Cracking.{all_crackable, cracked, entry_number};
 
 use crate::parameters::{CrackError, CsiParam};
 use std::alloc::{AllocError, Global};
@@ -82,14 +82,7 @@ impl Cracked {
 fn all_crackable(params: &[CsiParam]) -> bool
     ensures { result ≡ all_crackable params.now }
 {
-    params.iter().all(|param| is_crackable(*param))
-}
-
-/// Whether a token is a number or a `;`.
-fn is_crackable(param: CsiParam) -> bool
-    ensures { result ≡ is_crackable param }
-{
-    matches!(param, CsiParam::Integer(_) | CsiParam::P(b';'))
+    params.iter().all(|param| matches!(param, CsiParam::Integer(_) | CsiParam::P(b';')))
 }
 
 fn entries_of(alloc: Global, params: &[CsiParam]) -> Result<Vec<Option<CsiParam>>, AllocError>

@@ -1,6 +1,6 @@
 //! ESC pairs: an ESC, at most one intermediate byte, and a final byte.
 ghost use Rattle.std.specs.Prelude.{◌≡◌, ◌++◌, OnErr, OnOk, Some};
-ghost use Rattle.csi_codec.specs.Escapes.{bytes_of_pair, esc_bytes, esc_code_bytes, esc_reading, esc_text, known_code};
+ghost use Rattle.csi_codec.specs.Escapes.{bytes_of_pair, esc_code_bytes, esc_reading, esc_text, known_code};
 
 use crate::text::SequenceText;
 use std::alloc::AllocError;
@@ -163,7 +163,16 @@ impl Esc {
         ensures { text.new ≡ esc_text self.now }
     {
         let (intermediate, control) = self.bytes();
-        put_pair(intermediate, control, text);
+        let mut built = SequenceText::new();
+        built.push_sign(0x1b);
+        match intermediate {
+            Some(byte) => {
+                built.push_character(byte);
+                built.push_character(control);
+            }
+            None => built.push_character(control),
+        }
+        *text = built;
     }
 
     /// The byte between ESC and the final byte, if there is one, and the final byte.
@@ -192,20 +201,4 @@ impl Esc {
             },
         }
     }
-}
-
-/// ESC, an intermediate byte, if there is one, and a final byte.
-fn put_pair(intermediate: Option<u8>, control: u8, text: &mut SequenceText)
-    ensures { text.new ≡ esc_bytes intermediate control }
-{
-    let mut built = SequenceText::new();
-    built.push_sign(0x1b);
-    match intermediate {
-        Some(byte) => {
-            built.push_character(byte);
-            built.push_character(control);
-        }
-        None => built.push_character(control),
-    }
-    *text = built;
 }

@@ -1,8 +1,7 @@
 //! A control sequence at the front of some bytes (ECMA-48 5.4).
-ghost use Rattle.std.specs.Prelude.{◌≡◌, ◌≤◌, ◌↔◌, IsTrue, ℕ, List, ◌∷◌, length, nat_lt, take, IfNone, IfOk, IfSome, OnErr};
-ghost use Rattle.csi_codec.specs.FrontView.{front_of, parameter_len};
-ghost use Rattle.csi_codec.specs.Fronts.{Front, HasFront, HasNoFront, IsSequence, most_tokens};
-ghost use Rattle.csi_codec.specs.Texts.{tokens_of};
+ghost use Rattle.std.specs.Prelude.{◌≡◌, ◌≤◌, ◌↔◌, IsTrue, ℕ, List, ◌∷◌, IfNone, IfOk, IfSome, OnErr};
+ghost use Rattle.csi_codec.specs.FrontView.{front_of};
+ghost use Rattle.csi_codec.specs.Fronts.{Front, HasFront, HasNoFront};
 
 use crate::parameters::CsiParam;
 use crate::tokens::Parameters;
@@ -43,35 +42,24 @@ pub fn read_csi<'a>(alloc: Global, bytes: &'a [u8]) -> Result<Option<CsiFront<'a
     ensures none { IfOk result (λ found. IfNone found (HasNoFront bytes.now)) }
     ensures refused { OnErr result ((front : Front) × HasFront bytes.now front) }
 {
-    let Some((body, control, rest)) = split_front(bytes) else {
+    let Some(behind) = behind_introducer(bytes) else {
         return Ok(None);
     };
-    let parameters = read_parameters(body);
+    let mut parameters = Parameters::new();
+    let len = parameters.push_all(behind);
+    let Some((control, rest)) = behind[len..].split_first() else {
+        return Ok(None);
+    };
+    if !is_final(*control) {
+        return Ok(None);
+    }
     let params = Vec::from_slice(alloc, parameters.tokens())?;
     Ok(Some(CsiFront {
         params,
         truncated: parameters.is_truncated(),
-        control: char::from(control),
+        control: char::from(*control),
         rest,
     }))
-}
-
-/// The bytes between `ESC [` and the final byte, the final byte, and the bytes behind it.
-#[tactic(auto, using(crate::proofs::FrontLemmas::no_introducer))]
-fn split_front(bytes: &[u8]) -> Option<(&[u8], u8, &[u8])>
-    ensures some { IfSome result (λ split. IsSequence bytes.now split.0.now split.1 split.2.now) }
-    ensures none { IfNone result (HasNoFront bytes.now) }
-{
-    let behind = behind_introducer(bytes)?;
-    let (body, others) = behind.split_at(parameter_len(behind));
-    let Some((control, rest)) = others.split_first() else {
-        return None;
-    };
-    if is_final(*control) {
-        Some((body, *control, rest))
-    } else {
-        None
-    }
 }
 
 /// Whether a byte ends a control sequence: 40h to 7Eh.
@@ -90,27 +78,4 @@ fn behind_introducer(bytes: &[u8]) -> Option<&[u8]>
         [0x1b, b'[', behind @ ..] => Some(behind),
         _ => None,
     }
-}
-
-/// How many bytes 20h to 3Fh stand at the front.
-fn parameter_len(bytes: &[u8]) -> usize
-    ensures count { result ≡ parameter_len bytes.now }
-    ensures within { result ≤ length bytes.now }
-{
-    bytes
-        .iter()
-        .take_while(|byte| matches!(**byte, 0x20..=0x3f))
-        .count()
-}
-
-/// The tokens of parameter bytes.
-fn read_parameters(body: &[u8]) -> Parameters
-    ensures kept { result.tokens ≡ take most_tokens (tokens_of body.now) }
-    ensures dropped { result.truncated ≡ nat_lt most_tokens (length (tokens_of body.now)) }
-{
-    let mut parameters = Parameters::new();
-    for byte in body {
-        parameters.push(*byte);
-    }
-    parameters
 }

@@ -5,16 +5,15 @@ ghost use Rattle.csi_codec.specs.Modes.{
   dec_private_mode_number,
   terminal_mode_named,
   terminal_mode_number,
-  dec_mode_of,
   dec_mode_code,
-  ansi_mode_of,
   ansi_mode_code,
   private_mode_reading,
   mode_reading,
   mode_spelling,
 };
-ghost use Rattle.csi_codec.specs.Parameters.{number_within, private_tokens, sequence_text, spelled, spelled_text};
+ghost use Rattle.csi_codec.specs.Parameters.{private_tokens, sequence_text, spelled, spelled_text};
 
+use crate::parameters::number_within;
 use crate::spelling::{ControlSequence, put_number, write_parameters};
 use crate::text::SequenceText;
 use std::fmt;
@@ -218,17 +217,6 @@ impl DecPrivateMode {
             DecPrivateMode::Unspecified(number) => number,
         }
     }
-
-    /// The private mode of this number: by its name, where it has one.
-    #[inline(always)]
-    fn of_number(number: u16) -> Self
-        ensures { result ≡ dec_mode_of number }
-    {
-        DecPrivateModeCode::from_i64(i64::from(number)).map_or(
-            DecPrivateMode::Unspecified(number),
-            DecPrivateMode::Code,
-        )
-    }
 }
 
 impl TerminalMode {
@@ -241,16 +229,6 @@ impl TerminalMode {
             TerminalMode::Unspecified(number) => number,
         }
     }
-
-    /// The mode of this number: by its name, where it has one.
-    fn of_number(number: u16) -> Self
-        ensures { result ≡ ansi_mode_of number }
-    {
-        TerminalModeCode::from_i64(i64::from(number)).map_or(
-            TerminalMode::Unspecified(number),
-            TerminalMode::Code,
-        )
-    }
 }
 
 /// What a number behind `?` spells before a final byte.
@@ -258,7 +236,9 @@ impl TerminalMode {
 pub(crate) fn private_mode_reading(value: i64, control: char) -> Option<Mode>
     ensures { result ≡ private_mode_reading control value }
 {
-    let mode = DecPrivateMode::of_number(mode_number(value)?);
+    let number = number_within(65535, value)? as u16;
+    let named = DecPrivateModeCode::from_i64(i64::from(number));
+    let mode = named.map_or(DecPrivateMode::Unspecified(number), DecPrivateMode::Code);
     match control {
         'h' => Some(Mode::SetDecPrivateMode(mode)),
         'l' => Some(Mode::ResetDecPrivateMode(mode)),
@@ -273,22 +253,12 @@ pub(crate) fn private_mode_reading(value: i64, control: char) -> Option<Mode>
 pub(crate) fn mode_reading(value: i64, control: char) -> Option<Mode>
     ensures { result ≡ mode_reading control value }
 {
-    let mode = TerminalMode::of_number(mode_number(value)?);
+    let number = number_within(65535, value)? as u16;
+    let named = TerminalModeCode::from_i64(i64::from(number));
+    let mode = named.map_or(TerminalMode::Unspecified(number), TerminalMode::Code);
     match control {
         'h' => Some(Mode::SetMode(mode)),
         'l' => Some(Mode::ResetMode(mode)),
         _ => None,
-    }
-}
-
-/// The number of a mode, if it is from 0 to 65535.
-#[inline(always)]
-fn mode_number(value: i64) -> Option<u16>
-    ensures { result ≡ number_within 65535 value }
-{
-    if 0 <= value && value <= 65535 {
-        Some(value as u16)
-    } else {
-        None
     }
 }

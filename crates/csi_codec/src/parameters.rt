@@ -49,10 +49,8 @@ fn signed_text(number: i64) -> SequenceText
     let mut text = SequenceText::new();
     if number < 0 {
         text.push_sign(b'-');
-        text.push_large_number(size);
-    } else {
-        text.push_large_number(size);
     }
+    text.push_large_number(size);
     text
 }
 

@@ -2,16 +2,13 @@
 ghost use Rattle.std.specs.Prelude.{◌≡◌, ◌≤◌, IfSome, pos, ◌∷◌, []};
 ghost use Rattle.csi_codec.specs.Parameters.{number_within};
 ghost use Rattle.csi_codec.specs.declared.parameters.CsiParam.TheVariants.{Integer, P};
-ghost use Rattle.csi_codec.specs.Targets.{target_numbered, set_to};
 ghost use Rattle.csi_codec.specs.Rendition.{
   colour_form,
   palette_at,
   opaque_at,
   colour_at,
   taking,
-  colour_shape,
   single_code,
-  ranged_code,
   plain_code,
   underline_numbered,
   underline_shape,
@@ -240,16 +237,6 @@ fn single_code(code: u8) -> Option<Sgr>
         39 => Some(Sgr::Foreground(ColorSpec::Default)),
         49 => Some(Sgr::Background(ColorSpec::Default)),
         59 => Some(Sgr::UnderlineColor(ColorSpec::Default)),
-        _ => ranged_code(code),
-    }
-}
-
-/// Fonts 11 to 19, and the first sixteen colours of the palette.
-#[inline(always)]
-fn ranged_code(code: u8) -> Option<Sgr>
-    ensures { result ≡ ranged_code code }
-{
-    match code {
         11..=19 => Some(Sgr::Font(Font::Alternate(code - 10))),
         30..=37 => Some(Sgr::Foreground(ColorSpec::PaletteIndex(code - 30))),
         40..=47 => Some(Sgr::Background(ColorSpec::PaletteIndex(code - 40))),
@@ -265,23 +252,19 @@ fn numbered_shape(value: i64, params: &[CsiParam]) -> Option<(Sgr, usize)>
     ensures shape { result ≡ numbered_shape value params.now }
     ensures short { IfSome result (λ found. found.1 ≤ 12) }
 {
-    if let Some(target) = Target::of_number(value) {
-        return colored_shape(target, params);
-    }
     match value {
+        38 | 48 | 58 => {
+            let (color, len) = color_form(params)?;
+            let setting = match value {
+                38 => Sgr::Foreground(color),
+                48 => Sgr::Background(color),
+                _ => Sgr::UnderlineColor(color),
+            };
+            Some((setting, len + 1))
+        }
         4 => underline_shape(params),
         _ => Some((plain_code(value)?, 1)),
     }
-}
-
-/// What a colour for this target stands for, where its form is at the front of a list, and how many tokens it takes with the
-/// number of the target.
-fn colored_shape(target: Target, params: &[CsiParam]) -> Option<(Sgr, usize)>
-    ensures shape { result ≡ colour_shape (set_to target) params.now }
-    ensures short { IfSome result (λ found. found.1 ≤ 12) }
-{
-    let (color, len) = color_form(params)?;
-    Some((target.set_to(color), len + 1))
 }
 
 /// What the longest shape at the front of a list stands for, and how many tokens it takes.
@@ -305,37 +288,4 @@ pub(crate) fn sgr_piece(params: &[CsiParam]) -> Option<(Sgr, usize)>
 {
     let (value, len) = sgr_shape(params)?;
     Some((value, len + semicolon_at(params, len)))
-}
-
-/// What a colour is for.
-#[derive(Clone, Copy, Debug)]
-pub(crate) enum Target {
-    Foreground,
-    Background,
-    Underline,
-}
-
-impl Target {
-    /// The target of this number, if there is one.
-    pub(crate) fn of_number(value: i64) -> Option<Self>
-        ensures { result ≡ target_numbered value }
-    {
-        match value {
-            38 => Some(Self::Foreground),
-            48 => Some(Self::Background),
-            58 => Some(Self::Underline),
-            _ => None,
-        }
-    }
-
-    /// The setting of this target to a colour.
-    pub(crate) fn set_to(self, color: ColorSpec) -> Sgr
-        ensures { result ≡ set_to self color }
-    {
-        match self {
-            Target::Foreground => Sgr::Foreground(color),
-            Target::Background => Sgr::Background(color),
-            Target::Underline => Sgr::UnderlineColor(color),
-        }
-    }
 }

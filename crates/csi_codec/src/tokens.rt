@@ -1,9 +1,9 @@
 //! The tokens of a control sequence, as its bytes come.
-ghost use Rattle.std.specs.Prelude.{◌≡◌, ◌≤◌, ◌∷◌, Some, None, IsSome, true, false, fold, take};
+ghost use Rattle.std.specs.Prelude.{◌≡◌, ◌≤◌, IsSome, fold, take};
 ghost use Rattle.std.specs.List.{prefix_len};
 ghost use Rattle.std.specs.Char.{IsAsciiDigit};
-ghost use Rattle.csi_codec.specs.Tokens.{is_parameter as in_parameters, no_parameters, with_token, with_number, with_byte, IsPushed};
-ghost use Rattle.csi_codec.specs.Tokens.{next_number as number_behind, number_run as number_with};
+ghost use Rattle.csi_codec.specs.Tokens.{is_parameter as in_parameters, no_parameters, with_token, with_number, with_byte};
+ghost use Rattle.csi_codec.specs.Tokens.{next_number as number_behind};
 
 use crate::parameters::CsiParam;
 use std::marker::Model;
@@ -39,26 +39,6 @@ fn next_number(number: Option<u64>, byte: u8) -> u64
             .saturating_add(digit)
             .min(LARGEST_NUMBER)
     }
-}
-
-/// A number whose digits go on, with those at the front, and what stands behind them.
-#[inline(always)]
-fn number_run(first: u64, bytes: &[u8]) -> (u64, &[u8])
-    requires { first ≤ LARGEST_NUMBER }
-    ensures number { result.0 ≡ (number_with first bytes.now).0 }
-    ensures behind { result.1.now ≡ (number_with first bytes.now).1 }
-    ensures fits { result.0 ≤ LARGEST_NUMBER }
-{
-    let mut number = first;
-    let mut rest = bytes;
-    while let Some((byte, others)) = rest.split_first() {
-        if !byte.is_ascii_digit() {
-            return (number, rest);
-        }
-        number = next_number(Some(number), *byte);
-        rest = others;
-    }
-    (number, rest)
 }
 
 /// The first 256 tokens of a control sequence, as its bytes come.
@@ -173,46 +153,20 @@ impl Parameters {
         self.push_all(bytes)
     }
 
-    /// Reads the digits of a number from its first one on, where none is begun and no token was dropped, and answers what
-    // stands behind them.
-    #[inline(always)]
-    fn push_number<'a>(&mut self, first: u8, others: &'a [u8]) -> &'a [u8]
-        requires digit { IsAsciiDigit first }
-        requires begun { self.old.number ≡ None }
-        requires kept { self.old.truncated ≡ false }
-        ensures { IsPushed self.old (first ∷ others.now) result.now self.new }
-    {
-        let (number, behind) = number_run(u64::from(first - b'0'), others);
-        self.add(CsiParam::Integer(number as i64), Some(number));
-        behind
-    }
-
-    /// Reads a parameter byte, and with the first digit of a number the others; answers what stands behind.
-    #[inline(always)]
-    fn push_front<'a>(&mut self, byte: u8, others: &'a [u8]) -> &'a [u8]
-        requires { in_parameters byte ≡ true }
-        ensures { IsPushed self.old (byte ∷ others.now) result.now self.new }
-    {
-        if byte.is_ascii_digit() && self.number.is_none() && !self.truncated {
-            return self.push_number(byte, others);
-        }
-        self.push(byte);
-        others
-    }
-
     /// Reads the parameter bytes at the front, and answers how many there are.
     #[inline(always)]
     pub fn push_all(&mut self, bytes: &[u8]) -> usize
         ensures count { result ≡ prefix_len in_parameters bytes.now }
         ensures tokens { self.new ≡ fold with_byte self.old (take result bytes.now) }
     {
-        let mut rest = bytes;
-        while let Some((byte, others)) = rest.split_first() {
+        let mut count = 0;
+        for byte in bytes {
             if !is_parameter(*byte) {
-                return bytes.len() - rest.len();
+                return count;
             }
-            rest = self.push_front(*byte, others);
+            self.push(*byte);
+            count += 1;
         }
-        bytes.len()
+        count
     }
 }

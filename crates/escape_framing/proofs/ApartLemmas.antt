@@ -1,9 +1,8 @@
 -- Between two texts that stand side by side lies a segment that hands nothing out.
-use Rattle.std.proofs.Common.{◌≡◌, ◌≢◌, ℕ, ◌+◌, ◌-◌, ◌≤◌, ◌⊎◌, inl, inr, Bool, true, false, List, [], ◌∷◌, ◌++◌, length, map, refl, sym, ap, subst, ◌∙◌, arith, append_assoc, append-nil, length-append}
-use Rattle.std.specs.Prelude.{◌==◌, not, nat_le, ◌&&◌, ◌||◌, if◌then◌else◌, encode_utf8, filter, nat_lt, Contains}
+use Rattle.std.proofs.Common.{◌≡◌, ◌≢◌, ℕ, ◌+◌, ◌-◌, ◌≤◌, ◌⊎◌, inl, inr, true, false, List, [], ◌∷◌, ◌++◌, length, map, refl, sym, ap, subst, ◌∙◌, arith, append_assoc, append-nil, length-append, ⊎_elim}
+use Rattle.std.specs.Prelude.{◌==◌, not, nat_le, ◌||◌, encode_utf8, Contains}
 use Rattle.std.specs.Char.{IsScalar}
 use Rattle.std.specs.List.{flat_map}
-use Rattle.std.proofs.lemmas.Bool.Decides.{nat_tests}
 use Rattle.std.proofs.lemmas.List.{map-append}
 use Rattle.text_clusters.specs.Controls.{is_c1}
 use lib.Utf8.{encode}
@@ -11,7 +10,7 @@ use Rattle.escape_framing.specs.SevenBit.{seven_bit}
 use Rattle.escape_framing.specs.Bytes.{taken}
 use Rattle.escape_framing.specs.Segment.{Tail, Begun, OpenEscape, OpenControlSequence, OpenCommand, OpenHeader, OpenDevice, OpenString, Segment, Character, IllFormed, CutOff, bytes_of, IsPrintable}
 use Rattle.escape_framing.specs.Segment as segment
-use Rattle.escape_framing.specs.Dispatch.{Dispatch, Print, Control, Escape, ControlSequence, OperatingSystemCommand, Enter, Data, Exit, controls_in, escape_dispatch, control_sequence_dispatch, command_dispatch, settled, decided_of, dispatches_of}
+use Rattle.escape_framing.specs.Dispatch.{Dispatch, Print, Control, Enter, Data, Exit, controls_in, escape_dispatch, control_sequence_dispatch, command_dispatch, settled, decided_of, dispatches_of}
 use Rattle.escape_framing.specs.Cut.{the_cut, dispatches, newly_decided}
 use Rattle.escape_framing.specs.Placed.{placed_from}
 use Rattle.escape_framing.specs.PlacedSegments.{placed_segments, LiesBetween}
@@ -23,60 +22,41 @@ use Rattle.escape_framing.proofs.HeldLemmas.{decided, newly_handed, held_append,
 use Rattle.escape_framing.proofs.PlacedLemmas.{newly_join}
 use Rattle.escape_framing.proofs.IdleLemmas.{idle_is_whole}
 use Rattle.escape_framing.proofs.FramedLemmas.{never_lent}
-use Rattle.escape_framing.proofs.TextLemmas.{no_escape, lent_character}
-use Rattle.escape_framing.proofs.PrintLemmas.{PrintNone, none_append, escape_quiet, Ending, goes_on, prints, quiet, replaces, Printing, whole_one, breaks_one}
+use Rattle.escape_framing.proofs.TextLemmas.{lent_character}
+use Rattle.escape_framing.proofs.PrintLemmas.{PrintNone, none_append, escape_quiet, Ending, goes_on, prints, quiet, replaces, Printing, whole_one, breaks_one, controls_quiet}
 use Rattle.escape_framing.proofs.SoundLemmas.{stream_sound, held_prints, held_body}
 use Rattle.escape_framing.proofs.LoneLemmas.{IsAlone, none_alone, print_alone}
 use Rattle.escape_framing.proofs.SpellLemmas.{placed_same}
 use Rattle.escape_framing.proofs.SegmentPlaces.{whole_form, whole_length, stands_behind}
+use Rattle.std.proofs.lemmas.Bool.{cond_both, cases_Bool, leb-true, and_parts, eqb-true, eqb-false}
+use Rattle.escape_framing.proofs.CharacterReading.{no_escape}
 
 -- ---- segments that print
 
 none_last : (ds : List Dispatch) (c : ℕ) → PrintNone (ds ++ Print c ∷ []) → ⊥
 none_last [] c p = p
 none_last (Print d ∷ ds) c p = p
-none_last (Control b ∷ ds) c p = none_last ds c p
-none_last (Escape i f ∷ ds) c p = none_last ds c p
-none_last (ControlSequence t x f ∷ ds) c p = none_last ds c p
-none_last (OperatingSystemCommand body ∷ ds) c p = none_last ds c p
-none_last (Enter h f ∷ ds) c p = none_last ds c p
-none_last (Data b ∷ ds) c p = none_last ds c p
-none_last (Exit ∷ ds) c p = none_last ds c p
-
-controls_print_none : (bytes : List ℕ) → PrintNone (map Control bytes)
-controls_print_none [] = tt
-controls_print_none (b ∷ bytes) = controls_print_none bytes
+none_last (_ ∷ ds) c p = none_last ds c p
 
 data_print_none : (bytes : List ℕ) → PrintNone (map Data bytes)
 data_print_none [] = tt
 data_print_none (b ∷ bytes) = data_print_none bytes
 
-inside_print_none : (bytes : List ℕ) → PrintNone (controls_in bytes)
-inside_print_none bytes = controls_print_none (filter (λ b. nat_lt b 0x20) bytes)
-
-sequence_print_none : (parameters : List ℕ) (final : ℕ) → PrintNone (control_sequence_dispatch parameters final ∷ [])
-unfolding control_sequence_dispatch
-sequence_print_none parameters final = tt
-
 command_print_none : (body : List ℕ) (ender : ℕ) → PrintNone (command_dispatch body ender)
 unfolding command_dispatch
-command_print_none body ender = by_test (ender == 0x07 || ender == 0x1B)
-  where
-    by_test : (t : Bool) → PrintNone (if t then OperatingSystemCommand (taken body) ∷ [] else [])
-    by_test true = tt
-    by_test false = tt
+command_print_none body ender = cond_both (ender == 0x07 || ender == 0x1B) _ _ PrintNone (λ e. tt) (λ e. tt)
 
 device_print_none : (opening header : List ℕ) (final : ℕ) (bytes : List ℕ) → PrintNone (controls_in opening ++ Enter (taken header) final ∷ map Data bytes)
-device_print_none opening header final bytes = none_append (controls_in opening) (Enter (taken header) final ∷ map Data bytes) (inside_print_none opening) (data_print_none bytes)
+device_print_none opening header final bytes = none_append (controls_in opening) (Enter (taken header) final ∷ map Data bytes) (controls_quiet opening) (data_print_none bytes)
 
 tail_print_none : (t : Tail) → PrintNone (decided_of t)
 tail_print_none (Begun bytes) = tt
-tail_print_none (OpenEscape body) = inside_print_none body
-tail_print_none (OpenControlSequence o body) = none_append (controls_in o) (controls_in body) (inside_print_none o) (inside_print_none body)
-tail_print_none (OpenCommand o body) = inside_print_none o
-tail_print_none (OpenHeader o header) = inside_print_none o
+tail_print_none (OpenEscape body) = controls_quiet body
+tail_print_none (OpenControlSequence o body) = none_append (controls_in o) (controls_in body) (controls_quiet o) (controls_quiet body)
+tail_print_none (OpenCommand o body) = controls_quiet o
+tail_print_none (OpenHeader o header) = controls_quiet o
 tail_print_none (OpenDevice o header f body) = device_print_none o header f (settled body)
-tail_print_none (OpenString o x body) = inside_print_none o
+tail_print_none (OpenString o x body) = controls_quiet o
 
 -- a segment whose last dispatch prints a character to lend is that character
 prints_last : (s : Segment) (ds : List Dispatch) (c : ℕ) → c ≢ 0xFFFD → dispatches_of s ≡ ds ++ Print c ∷ [] → s ≡ Character c
@@ -95,17 +75,17 @@ prints_last s ds c n e = by_shape s e
     by_shape (IllFormed bytes) k = absurd (n (sym (alone 0xFFFD ds k)))
     by_shape (segment.Control b) k = absurd (no_print (Control b ∷ []) tt k)
     by_shape (segment.Escape body final) k =
-        absurd (no_print (controls_in body ++ escape_dispatch (taken body) final) (none_append (controls_in body) (escape_dispatch (taken body) final) (inside_print_none body) (escape_quiet (taken body) final)) k)
+        absurd (no_print (controls_in body ++ escape_dispatch (taken body) final) (none_append (controls_in body) (escape_dispatch (taken body) final) (controls_quiet body) (escape_quiet (taken body) final)) k)
     by_shape (segment.ControlSequence o body final) k =
         absurd (no_print ((controls_in o ++ controls_in body) ++ control_sequence_dispatch (taken body) final ∷ [])
         (none_append (controls_in o ++ controls_in body) (control_sequence_dispatch (taken body) final ∷ [])
-        (none_append (controls_in o) (controls_in body) (inside_print_none o) (inside_print_none body)) (sequence_print_none (taken body) final)) k)
+        (none_append (controls_in o) (controls_in body) (controls_quiet o) (controls_quiet body)) (unfold control_sequence_dispatch in tt)) k)
     by_shape (segment.OperatingSystemCommand o body ender) k =
-        absurd (no_print (controls_in o ++ command_dispatch body ender) (none_append (controls_in o) (command_dispatch body ender) (inside_print_none o) (command_print_none body ender)) k)
+        absurd (no_print (controls_in o ++ command_dispatch body ender) (none_append (controls_in o) (command_dispatch body ender) (controls_quiet o) (command_print_none body ender)) k)
     by_shape (segment.DeviceControl o header final body) k =
         absurd (no_print ((controls_in o ++ Enter (taken header) final ∷ map Data body) ++ Exit ∷ [])
         (none_append (controls_in o ++ Enter (taken header) final ∷ map Data body) (Exit ∷ []) (device_print_none o header final body) tt) k)
-    by_shape (segment.String o x body) k = absurd (no_print (controls_in o) (inside_print_none o) k)
+    by_shape (segment.String o x body) k = absurd (no_print (controls_in o) (controls_quiet o) k)
     by_shape (CutOff tail) k = absurd (no_print (decided_of tail) (tail_print_none tail) k)
 
 -- ---- where the last of two joined lists of dispatches falls
@@ -168,16 +148,13 @@ front_is : (p s l : List ℕ) → NoEscape p → seven_bit s ≡ p ++ l → (res
 front_is [] s l n e = (s, refl)
 front_is (a ∷ p) [] l n e = cc
 front_is (a ∷ p) (x ∷ []) l n e = (l, e)
-front_is (a ∷ p) (x ∷ y ∷ s) l n e = by_test (is_c1 x y) refl (front_is p (y ∷ s) l n.1)
-  where
-    by_test : (t : Bool) → is_c1 x y ≡ t → (seven_bit (y ∷ s) ≡ p ++ l → (rest : List ℕ) × (y ∷ s ≡ p ++ rest)) → (rest : List ℕ) × (x ∷ y ∷ s ≡ a ∷ p ++ rest)
-    by_test true f later =
-        let k : 0x1B ∷ (y - 0x40) ∷ seven_bit s ≡ a ∷ p ++ l = rw f at e in
-        let m : 0x1B ≡ a = cc in absurd (n.0 (sym m))
-    by_test false f later =
-        let k : x ∷ seven_bit (y ∷ s) ≡ a ∷ p ++ l = rw f at e in
-        let m : x ≡ a = cc in
-        let r = later (let g : seven_bit (y ∷ s) ≡ p ++ l = cc in g) in (r.0, (λ i. m i ∷ r.1 i))
+front_is (a ∷ p) (x ∷ y ∷ s) l n e = ⊎_elim
+    (λ f. let k : 0x1B ∷ (y - 0x40) ∷ seven_bit s ≡ a ∷ p ++ l = rw f at e in
+    let m : 0x1B ≡ a = cc in absurd (n.0 (sym m)))
+    (λ f. let k : x ∷ seven_bit (y ∷ s) ≡ a ∷ p ++ l = rw f at e in
+    let m : x ≡ a = cc in
+    let r = front_is p (y ∷ s) l n.1 (let g : seven_bit (y ∷ s) ≡ p ++ l = cc in g) in (r.0, (λ i. m i ∷ r.1 i)))
+    (cases_Bool (is_c1 x y))
 
 -- ---- one byte
 
@@ -190,22 +167,14 @@ lent_is_other : (start place c : ℕ) → is_lent start place c ≡ true → c �
 lent_is_other start place c h e = let k : true ≡ false = sym h ∙ never_lent start place c e in cc
 
 lent_within : (start place c : ℕ) → is_lent start place c ≡ true → start + length (encode_utf8 c) ≤ place
-lent_within start place c h = by_test (c == 0xFFFD) h
-  where
-    fits : (a b : ℕ) → nat_le a b ≡ true → a ≤ b
-    fits a b k = grind (arith, nat_tests)
-
-    by_test : (t : Bool) → (not t && nat_le (start + length (encode_utf8 c)) place) ≡ true → start + length (encode_utf8 c) ≤ place
-    by_test true k = cc
-    by_test false k = fits (start + length (encode_utf8 c)) place k
+lent_within start place c h = leb-true _ _ (and_parts (not (c == 0xFFFD)) (nat_le (start + length (encode_utf8 c)) place) h).1
 
 of_ending : (start place b : ℕ) (p : List ℕ) (ds : List Dispatch) (h : Held) → Ending p b ds h.kept h.waiting → HandsOut start place ds h
 of_ending start place b p ds h (goes_on e f) = each_alone (subst (IsAlone start place) (sym e) (λ placed. refl))
-of_ending start place b p ds h (prints c s q e f g w) = by_test (is_lent start place c) refl
-  where
-    by_test : (t : Bool) → is_lent start place c ≡ t → HandsOut start place ds h
-    by_test true k = last_lent [] c (s, q, lent_is_other start place c k) f (λ placed. refl) k (λ i. record { kept = g i; waiting = w i })
-    by_test false k = each_alone (subst (IsAlone start place) (sym f) (print_alone start place c [] k (λ placed. refl)))
+of_ending start place b p ds h (prints c s q e f g w) = ⊎_elim
+    (λ k. last_lent [] c (s, q, lent_is_other start place c k) f (λ placed. refl) k (λ i. record { kept = g i; waiting = w i }))
+    (λ k. each_alone (subst (IsAlone start place) (sym f) (print_alone start place c [] k (λ placed. refl))))
+    (cases_Bool (is_lent start place c))
 of_ending start place b p ds h (quiet q g w) = each_alone (none_alone start place ds q)
 of_ending start place b p ds h (replaces f g w) = each_alone (subst (IsAlone start place) (sym f) (print_alone start place 0xFFFD [] (never_lent start place 0xFFFD refl) (λ placed. refl)))
 
@@ -221,11 +190,10 @@ of_printing start place b p ds h (breaks_one others e t) = behind_broken (of_end
     behind_broken (last_lent front c l f a k n) = last_lent (Print 0xFFFD ∷ front) c l (e ∙ ap (λ (x : List Dispatch). Print 0xFFFD ∷ x) f) (print_alone start place 0xFFFD front never a) k n
 
 step_hands_out : (stream : List ℕ) (b start place : ℕ) → HandsOut start place (held_step (held_of stream) b).dispatches (held_step (held_of stream) b).held
-step_hands_out stream b start place = by_test (is_body (held_of stream).kept) refl
-  where
-    by_test : (t : Bool) → is_body (held_of stream).kept ≡ t → HandsOut start place (held_step (held_of stream) b).dispatches (held_step (held_of stream) b).held
-    by_test true e = each_alone (none_alone start place (held_step (held_of stream) b).dispatches (held_body (held_of stream) b (stream_sound stream) e).0)
-    by_test false e = of_printing start place b (begun_bytes (held_of stream)) (held_step (held_of stream) b).dispatches (held_step (held_of stream) b).held (held_prints (held_of stream) b (stream_sound stream) e)
+step_hands_out stream b start place = ⊎_elim
+    (λ e. each_alone (none_alone start place (held_step (held_of stream) b).dispatches (held_body (held_of stream) b (stream_sound stream) e).0))
+    (λ e. of_printing start place b (begun_bytes (held_of stream)) (held_step (held_of stream) b).dispatches (held_step (held_of stream) b).held (held_prints (held_of stream) b (stream_sound stream) e))
+    (cases_Bool (is_body (held_of stream).kept))
 
 byte_hands_out : (stream : List ℕ) (b start place : ℕ) → HandsOut start place (newly_decided stream (b ∷ [])) (held_of (stream ++ b ∷ []))
 byte_hands_out stream b start place =
@@ -280,11 +248,8 @@ record Begins (from : ℕ) (items : List Framed) : Type 0 where
 put_begins : (from : ℕ) (text : List ℕ) (rest : List Framed) → Begins from (put_text from text rest)
 put_begins from text [] = record { text = text; others = []; are = refl }
 put_begins from text (Lone d ∷ rest) = record { text = text; others = Lone d ∷ rest; are = refl }
-put_begins from text (Text next more ∷ rest) = by_test (next == from + length text) refl
-  where
-    by_test : (t : Bool) → (next == from + length text) ≡ t → Begins from (put_text from text (Text next more ∷ rest))
-    by_test true e = rw e (record { text = text ++ more; others = rest; are = refl })
-    by_test false e = rw e (record { text = text; others = Text next more ∷ rest; are = refl })
+put_begins from text (Text next more ∷ rest) =
+    cond_both (next == from + length text) _ _ (Begins from) (λ e. record { text = text ++ more; others = rest; are = refl }) (λ e. record { text = text; others = Text next more ∷ rest; are = refl })
 
 first_is : (from : ℕ) (text : List ℕ) (rest : List Framed) (ds : List Dispatch) (next : ℕ) (more : List ℕ) (others : List Framed) → put_text from text rest ≡ map Lone ds ++ Text next more ∷ others → (ds ≡ []) × (from ≡ next)
 first_is from text rest ds next more others e = by_dispatches ds (sym (put_begins from text rest).are ∙ e)
@@ -311,14 +276,9 @@ put_where first characters (Lone d ∷ rest) [] from text others e =
     let t : characters ≡ text = cc in
     is_put (sym k) (λ i. f i + length (t i)) (λ next more behind m. cc)
 put_where first characters (Lone d ∷ rest) (y ∷ before) from text others e = stood before from text (let k : Lone d ∷ rest ≡ before ++ Text from text ∷ others = cc in k) refl
-put_where first characters (Text next more ∷ rest) before from text others e = by_test (next == first + length characters) refl
+put_where first characters (Text next more ∷ rest) before from text others e =
+    ⊎_elim (λ k. joins before (eqb-true next (first + length characters) k) (rw k at e)) (λ k. apart before (eqb-false next (first + length characters) k) (rw k at e)) (cases_Bool (next == first + length characters))
   where
-    is : (a b : ℕ) → (a == b) ≡ true → a ≡ b
-    is a b k = grind (arith, nat_tests)
-
-    differs : (a b : ℕ) → (a == b) ≡ false → a ≢ b
-    differs a b k m = grind (arith, nat_tests)
-
     joins : (before : List Framed) → next ≡ first + length characters → Text first (characters ++ more) ∷ rest ≡ before ++ Text from text ∷ others → Put first characters (Text next more ∷ rest) from text others
     joins [] n k =
         let f : first ≡ from = cc in
@@ -336,10 +296,6 @@ put_where first characters (Text next more ∷ rest) before from text others e =
         let t : characters ≡ text = cc in
         is_put (sym r) (λ i. f i + length (t i)) (λ m l behind g. let same : next ≡ m = cc in subst (λ (a : ℕ). a ≢ first + length characters) same n)
     apart (y ∷ before) n k = stood before from text (let r : Text next more ∷ rest ≡ before ++ Text from text ∷ others = cc in r) refl
-
-    by_test : (t : Bool) → (next == first + length characters) ≡ t → Put first characters (Text next more ∷ rest) from text others
-    by_test true k = joins before (is next (first + length characters) k) (rw k at e)
-    by_test false k = apart before (differs next (first + length characters) k) (rw k at e)
 
 -- ---- up to the next text
 
@@ -359,12 +315,6 @@ reaches : (bytes front : List ℕ) (start : ℕ) (ds : List Dispatch) (next : �
 reaches [] front start ds next more others e = absurd (no_items (map Lone ds) (Text next more) others e)
 reaches (b ∷ bytes) front start ds next more others e = by_step (byte_hands_out front b start (length front + 1)) (λ left k. reaches bytes (front ++ b ∷ []) start left next more others k)
   where
-    new : List Dispatch
-    new = newly_decided front (b ∷ [])
-
-    rest : List (ℕ × Dispatch)
-    rest = placed_from (front ++ b ∷ []) bytes
-
     by_step : HandsOut start (length front + 1) (newly_decided front (b ∷ [])) (held_of (front ++ b ∷ []))
         → ((left : List Dispatch) → framed start (placed_from (front ++ b ∷ []) bytes) ≡ map Lone left ++ Text next more ∷ others → Reaches (front ++ b ∷ []) bytes left next)
         → Reaches front (b ∷ bytes) ds next
@@ -469,9 +419,6 @@ texts_between (b ∷ bytes) front start before from text ds next more others l e
     by_step (byte_hands_out front b start (length front + 1))
     (λ lead old shown k. texts_between bytes (front ++ b ∷ []) start lead old shown ds next more others (omega (arith, length-append front (b ∷ []))) k)
   where
-    rest : List Framed
-    rest = framed start (placed_from (front ++ b ∷ []) bytes)
-
     joined : (from : ℕ) → IsBetween ((front ++ b ∷ []) ++ bytes) from next ds → IsBetween (front ++ b ∷ bytes) from next ds
     joined from h = subst (λ (s : List ℕ). IsBetween s from next ds) (append_assoc front (b ∷ []) bytes) h
 

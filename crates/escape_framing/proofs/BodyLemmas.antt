@@ -1,7 +1,7 @@
 -- Where a body or a header is read behind some bytes.
-use Rattle.std.proofs.Common.{◌≡◌, ◌⊎◌, inl, inr, ℕ, zero, suc, ◌+◌, List, [], ◌∷◌, ◌++◌, take, drop, false, sym, ap, subst, ◌∙◌, arith}
+use Rattle.std.proofs.Common.{◌≡◌, ◌⊎◌, inl, inr, ℕ, zero, suc, ◌+◌, List, [], ◌∷◌, take, drop, false, sym, ap, subst, ◌∙◌, arith}
 use Rattle.std.proofs.Math.Seq.{take-add}
-use Rattle.escape_framing.specs.Held.{Kept, InCharacter, InDevice, Held, Handed, TakesMemory, hand_out}
+use Rattle.escape_framing.specs.Held.{InCharacter, InDevice, Held, Handed, TakesMemory, hand_out}
 use Rattle.escape_framing.specs.Read.{TakesMemoryAt}
 use Rattle.escape_framing.proofs.HeldLemmas.{hand_append}
 
@@ -13,22 +13,15 @@ opens_read old after bytes n e m t =
     ∙ ap (λ (x : Handed). x.held) (sym (hand_append old (take n bytes) (take m (drop n bytes))))
     ∙ ap (λ (x : List ℕ). (hand_out old x).held) (sym (take-add n m bytes))) t
 
-none_more : (held : Held) (bytes : List ℕ) (m : ℕ) → TakesMemoryAt held bytes m → TakesMemoryAt held bytes (0 + m)
+pub none_more : (held : Held) (bytes : List ℕ) (m : ℕ) → TakesMemoryAt held bytes m → TakesMemoryAt held bytes (0 + m)
 none_more held bytes m t = let e : m ≡ 0 + m = omega arith in subst (TakesMemoryAt held bytes) e t
 
 -- behind what was closed for a byte that is left unread
-same_left : (old new : Held) (b : ℕ) (rest : List ℕ) → ((xs : List ℕ) → (hand_out old (b ∷ xs)).held ≡ (hand_out new (b ∷ xs)).held) → (TakesMemory new.kept → ⊥) → (m : ℕ) → TakesMemoryAt new (b ∷ rest) m
-    → TakesMemoryAt old (b ∷ rest) m
-unfolding hand_out
-same_left old new b rest same none zero t = absurd (none t)
-same_left old new b rest same none (suc m) t = subst (λ (h : Held). TakesMemory h.kept) (sym (same (take m rest))) t
-
 pub opens_left : (old new : Held) (b : ℕ) (rest : List ℕ) → ((xs : List ℕ) → (hand_out old (b ∷ xs)).held ≡ (hand_out new (b ∷ xs)).held) → (TakesMemory new.kept → ⊥) → (m : ℕ) → TakesMemoryAt new (b ∷ rest) m
     → TakesMemoryAt old (b ∷ rest) (0 + m)
-opens_left old new b rest same none m t = none_more old (b ∷ rest) m (same_left old new b rest same none m t)
-
-pub opens_nothing : (held : Held) (m : ℕ) → TakesMemoryAt held [] m → TakesMemoryAt held [] (0 + m)
-opens_nothing held m t = none_more held [] m t
+unfolding hand_out
+opens_left old new b rest same none zero t = absurd (none t)
+opens_left old new b rest same none (suc m) t = none_more old (b ∷ rest) (suc m) (subst (λ (h : Held). TakesMemory h.kept) (sym (same (take m rest))) t)
 
 -- what was closed is no body
 pub closed_takes_none : (new : Held) → (new.kept ≡ InCharacter []) ⊎ (new ≡ record { kept = InDevice; waiting = false }) → TakesMemory new.kept → ⊥

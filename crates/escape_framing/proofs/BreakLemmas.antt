@@ -1,23 +1,23 @@
 -- A text that begins where something is open: what it cuts off or breaks.
-use Rattle.std.proofs.Common.{◌≡◌, ◌≢◌, ℕ, ◌+◌, ◌/◌, ◌%◌, ◌<◌, ◌≤◌, inl, inr, Bool, true, false, List, [], ◌∷◌, ◌++◌, refl, sym, ap, subst, ◌∙◌, arith, append-nil}
-use Rattle.std.specs.Prelude.{◌==◌, ◌||◌, nat_le}
+use Rattle.std.proofs.Common.{◌≡◌, ◌≢◌, ℕ, ◌+◌, ◌/◌, ◌%◌, ◌<◌, ◌≤◌, inl, inr, Bool, true, false, List, [], ◌∷◌, ◌++◌, refl, sym, ap, subst, ◌∙◌, arith, ⊎_elim}
+use Rattle.std.specs.Prelude.{nat_le}
 use Rattle.std.proofs.lemmas.Bool.Decides.{nat_tests}
 use Rattle.text_clusters.specs.Controls.{is_c1}
 use lib.Utf8.{encode}
 use Rattle.escape_framing.specs.Bytes.{is_cut, is_stop}
-use Rattle.escape_framing.specs.Segment.{Begun, IsBegun, IsUnfinished}
+use Rattle.escape_framing.specs.Segment.{IsBegun}
 use Rattle.escape_framing.specs.Dispatch.{Print}
-use Rattle.escape_framing.specs.Held.{Kept, InCharacter, InEscape, InControlSequence, InCommand, InHeader, InDevice, InString, Step, steps, character_step, kept_step, Held, Handed, handed, interrupted, fresh_step, waiting_step, held_step, nothing_held, hand_out, held_of}
-use Rattle.escape_framing.specs.Framed.{Framed, Lone, framed, at_place, placed_behind, framed_behind, begun_bytes, bytes_begun, IsLendable}
+use Rattle.escape_framing.specs.Held.{Kept, InCharacter, InEscape, InControlSequence, InHeader, Step, steps, character_step, kept_step, Held, Handed, handed, interrupted, fresh_step, waiting_step, held_step, nothing_held, hand_out}
+use Rattle.escape_framing.specs.Framed.{Framed, Lone, framed, at_place, placed_behind, framed_behind, begun_bytes, bytes_begun, IsLendable, IsReached}
 use Rattle.escape_framing.proofs.Begun.{is_body}
 use Rattle.escape_framing.specs.Segment.{IsPrintable}
 use Rattle.escape_framing.proofs.Existence.Utf8Lemmas.{Spelled, in_one, in_two, in_three, in_four, spelled}
-use Rattle.escape_framing.proofs.Existence.OutcomeLemmas.{some_bytes}
-use Rattle.escape_framing.proofs.WaitingLemmas.{escape_cut, control_sequence_cut}
+use Rattle.escape_framing.proofs.WaitingLemmas.{escape_cut, control_sequence_cut, header_cut}
 use Rattle.escape_framing.proofs.HeldLemmas.{Inner, interrupted_character, c2_begins}
 use Rattle.escape_framing.proofs.FramedLemmas.{never_lent}
 use Rattle.escape_framing.proofs.TextLemmas.{first_bytes, other_step}
-use Rattle.escape_framing.proofs.SoundLemmas.{IsSoundIn, stream_sound, header_cut, other_waiting}
+use Rattle.escape_framing.proofs.SoundLemmas.{IsSoundIn, other_waiting, reached_sound}
+use Rattle.std.proofs.lemmas.Bool.{cases_eq, false_from_ne_true, or_right, le-leb, ne_eqb}
 
 -- ---- the first byte of a character
 
@@ -58,61 +58,29 @@ lead_of c b rest more l e = by_kind (spelled c l.0)
 abbrev pub broken_step : Handed → Handed
 broken_step h = record { dispatches = Print 0xFFFD ∷ h.dispatches; held = h.held }
 
-is_it : (a b : ℕ) → (a == b) ≡ true → a ≡ b
-is_it a b h = grind (arith, nat_tests)
-
-differs : (a b : ℕ) → (a == b) ≡ false → a ≢ b
-differs a b h n = grind (arith, nat_tests)
-
 pub bytes_break : (x : ℕ) (p : List ℕ) (b : ℕ) → IsBegun (x ∷ p) → (Inner b → ⊥) → held_step (first_bytes (x ∷ p)) b ≡ broken_step (held_step nothing_held b)
-bytes_break x p b g n = by_test (b == 0xC2) refl
-  where
-    lead : held_step (first_bytes (x ∷ p)) 0xC2 ≡ broken_step (held_step nothing_held 0xC2)
-    lead = unfold held_step fresh_step in refl
-
-    by_test : (t : Bool) → (b == 0xC2) ≡ t → held_step (first_bytes (x ∷ p)) b ≡ broken_step (held_step nothing_held b)
-    by_test true e = subst (λ (y : ℕ). held_step (first_bytes (x ∷ p)) y ≡ broken_step (held_step nothing_held y)) (sym (is_it b 0xC2 e)) lead
-    by_test false e =
-        other_step (x ∷ p) b (differs b 0xC2 e)
-        ∙ ap (λ (s : Step). handed s false) (sym (interrupted_character x b p g n))
-        ∙ ap broken_step (sym (other_step [] b (differs b 0xC2 e)))
+bytes_break x p b g n =
+    let lead : held_step (first_bytes (x ∷ p)) 0xC2 ≡ broken_step (held_step nothing_held 0xC2) = unfold held_step fresh_step in refl in
+    ⊎_elim (λ e. subst (λ (y : ℕ). held_step (first_bytes (x ∷ p)) y ≡ broken_step (held_step nothing_held y)) (sym e) lead)
+    (λ m. other_step (x ∷ p) b m
+    ∙ ap (λ (s : Step). handed s false) (sym (interrupted_character x b p g n))
+    ∙ ap broken_step (sym (other_step [] b m)))
+    (cases_eq b 0xC2)
 
 outer_c1 : (b : ℕ) → (Inner b → ⊥) → is_c1 0xC2 b ≡ false
-outer_c1 b n = by_test (is_c1 0xC2 b) refl
+outer_c1 b n = false_from_ne_true (is_c1 0xC2 b) (λ h. n (low b h))
   where
     low : (b : ℕ) → is_c1 0xC2 b ≡ true → Inner b
     low b h = record { least = grind (arith, nat_tests); most = grind (arith, nat_tests) }
 
-    by_test : (t : Bool) → is_c1 0xC2 b ≡ t → is_c1 0xC2 b ≡ false
-    by_test true e = absurd (n (low b e))
-    by_test false e = e
-
-waiting_at : (k : Kept) (b : ℕ) → held_step (record { kept = k; waiting = true }) b ≡ waiting_step k b
-unfolding held_step
-waiting_at k b = refl
-
-fresh_at : (k : Kept) (b : ℕ) → held_step (record { kept = k; waiting = false }) b ≡ fresh_step k b
-unfolding held_step
-fresh_at k b = refl
-
 pub lead_breaks : (k : Kept) (b : ℕ) → IsSoundIn k true → is_body k ≡ false → (Inner b → ⊥) → held_step (record { kept = k; waiting = true }) b ≡ broken_step (held_step nothing_held b)
-lead_breaks k b s h n =
-    waiting_at k b ∙ other_waiting k b s h (outer_c1 b n) ∙ sym (fresh_at (InCharacter (0xC2 ∷ [])) b) ∙ bytes_break 0xC2 [] b c2_begins n
-
-begun_breaks : (p : List ℕ) (b : ℕ) → p ≢ [] → IsUnfinished (Begun p) → (Inner b → ⊥) → held_step (first_bytes p) b ≡ broken_step (held_step nothing_held b)
-begun_breaks [] b z g n = absurd (z refl)
-begun_breaks (x ∷ p) b z (inl e) n = absurd (z e)
-begun_breaks (x ∷ p) b z (inr g) n = bytes_break x p b g n
+unfolding held_step
+lead_breaks k b s h n = other_waiting k b s h (outer_c1 b n) ∙ bytes_break 0xC2 [] b c2_begins n
 
 kept_breaks : (k : Kept) (w : Bool) (b : ℕ) → IsSoundIn k w → is_body k ≡ false → bytes_begun k w ≢ [] → (Inner b → ⊥) → held_step (record { kept = k; waiting = w }) b ≡ broken_step (held_step nothing_held b)
 kept_breaks k true b s h z n = lead_breaks k b s h n
-kept_breaks (InCharacter p) false b s h z n = begun_breaks p b (λ e. z (append-nil p ∙ e)) s.0 n
-kept_breaks (InEscape xs) false b s h z n = absurd (z refl)
-kept_breaks (InControlSequence p) false b s h z n = absurd (z refl)
-kept_breaks (InCommand body) false b s h z n = absurd (z refl)
-kept_breaks (InHeader header) false b s h z n = absurd (z refl)
-kept_breaks InDevice false b s h z n = absurd (z refl)
-kept_breaks InString false b s h z n = absurd (z refl)
+kept_breaks (InCharacter (x ∷ p)) false b s h z n = ⊎_elim (λ e. cc) (λ g. bytes_break x p b g n) s.0
+kept_breaks _ false b s h z n = absurd (z refl)
 
 -- the same dispatches, and the same is held
 pub record GoesOn (h : Held) (bytes : List ℕ) (ds : List Framed) (h' : Held) : Type 0 where
@@ -127,17 +95,9 @@ broken_goes h b rest e = record {
 }
 
 -- a text breaks a character that has begun
-pub text_breaks_at : (stream : List ℕ) (b : ℕ) (rest : List ℕ) (c : ℕ) (more : List ℕ) → is_body (held_of stream).kept ≡ false → begun_bytes (held_of stream) ≢ [] → IsLendable c → b ∷ rest ≡ encode c ++ more
-    → held_step (held_of stream) b ≡ broken_step (held_step nothing_held b)
-text_breaks_at stream b rest c more h z l e = kept_breaks (held_of stream).kept (held_of stream).waiting b (stream_sound stream) h z (lead_of c b rest more l e).outer
-
-pub text_breaks : (stream bytes : List ℕ) (c : ℕ) (more : List ℕ) → is_body (held_of stream).kept ≡ false → begun_bytes (held_of stream) ≢ [] → IsLendable c → bytes ≡ encode c ++ more
-    → GoesOn (held_of stream) bytes (Lone (Print 0xFFFD) ∷ []) nothing_held
-text_breaks stream [] c more h z l e = absurd (none c more e)
-  where
-    none : (c : ℕ) (more : List ℕ) → [] ≡ encode c ++ more → ⊥
-    none c more e = some_bytes c more (sym e)
-text_breaks stream (b ∷ rest) c more h z l e = broken_goes (held_of stream) b rest (text_breaks_at stream b rest c more h z l e)
+pub text_breaks_at : (h : Held) (b : ℕ) (rest : List ℕ) (c : ℕ) (more : List ℕ) → IsReached h → is_body h.kept ≡ false → begun_bytes h ≢ [] → IsLendable c → b ∷ rest ≡ encode c ++ more
+    → held_step h b ≡ broken_step (held_step nothing_held b)
+text_breaks_at h b rest c more r o z l e = kept_breaks h.kept h.waiting b (reached_sound h r) o z (lead_of c b rest more l e).outer
 
 -- ---- what is open before its final byte is cut off
 
@@ -158,27 +118,17 @@ lead_goes k y rest i e = record {
 
 high : (b : ℕ) → 128 ≤ b → is_cut b ≡ true
 unfolding is_cut
-high b l = by_test (is_stop b) refl (up b l)
-  where
-    up : (b : ℕ) → 128 ≤ b → nat_le 0x80 b ≡ true
-    up b l = grind (arith, nat_tests)
-
-    by_test : (t : Bool) → is_stop b ≡ t → nat_le 0x80 b ≡ true → (is_stop b || nat_le 0x80 b) ≡ true
-    by_test true e f = rw e refl
-    by_test false e f = rw (e, f) refl
+high b l = or_right (is_stop b) (nat_le 0x80 b) (le-leb 0x80 b l)
 
 cut_goes : (k : Kept) (b : ℕ) (rest : List ℕ) → is_body k ≡ false → 128 ≤ b → interrupted k ≡ steps [] k → ((x : ℕ) → is_cut x ≡ true → kept_step k x ≡ character_step [] x) → IsSoundIn k true → Lead b rest
     → GoesOn (record { kept = k; waiting = false }) (b ∷ rest) [] nothing_held
-cut_goes k b rest h l i cuts s lead = by_test (b == 0xC2) refl
+cut_goes k b rest h l i cuts s lead = ⊎_elim twice (λ n. same_goes (record { kept = k; waiting = false }) b rest (once n)) (cases_eq b 0xC2)
   where
     once : b ≢ 0xC2 → held_step (record { kept = k; waiting = false }) b ≡ held_step nothing_held b
     once n = other_kept k b n ∙ ap (λ (x : Step). handed x false) (cuts b (high b l)) ∙ sym (other_step [] b n)
       where
-        no : (b : ℕ) → b ≢ 0xC2 → (b == 0xC2) ≡ false
-        no b n = grind (arith, nat_tests)
-
         other_kept : (k : Kept) (b : ℕ) → b ≢ 0xC2 → held_step (record { kept = k; waiting = false }) b ≡ handed (kept_step k b) false
-        other_kept k b n = unfold held_step fresh_step in rw (no b n) refl
+        other_kept k b n = unfold held_step fresh_step in rw (ne_eqb b 0xC2 n) refl
 
     twice : b ≡ 0xC2 → GoesOn (record { kept = k; waiting = false }) (b ∷ rest) [] nothing_held
     twice e =
@@ -190,39 +140,19 @@ cut_goes k b rest h l i cuts s lead = by_test (b == 0xC2) refl
         above : (y : ℕ) → 0x9F < y → is_c1 0xC2 y ≡ false
         above y l = grind (arith, nat_tests)
 
-    by_test : (t : Bool) → (b == 0xC2) ≡ t → GoesOn (record { kept = k; waiting = false }) (b ∷ rest) [] nothing_held
-    by_test true e = twice (is_it b 0xC2 e)
-    by_test false e = same_goes (record { kept = k; waiting = false }) b rest (once (differs b 0xC2 e))
-
-nothing_goes : (bytes : List ℕ) → GoesOn nothing_held bytes [] nothing_held
-nothing_goes bytes = record { lends = λ start count. refl; keeps = refl }
-
 -- a sequence whose final byte hasn't come, or nothing
 abbrev pub is_character : Kept → Bool
 is_character (InCharacter p) = true
-is_character (InEscape xs) = false
-is_character (InControlSequence p) = false
-is_character (InCommand body) = false
-is_character (InHeader header) = false
-is_character InDevice = false
-is_character InString = false
+is_character _ = false
 
 kept_cut : (k : Kept) (w : Bool) (b : ℕ) (rest : List ℕ) → IsSoundIn k w → is_body k ≡ false → bytes_begun k w ≡ [] → (is_character k ≡ false → 128 ≤ b) → Lead b rest → GoesOn (record { kept = k; waiting = w }) (b ∷ rest) [] nothing_held
-kept_cut (InCharacter []) false b rest s h z l lead = nothing_goes (b ∷ rest)
-kept_cut (InCharacter (x ∷ p)) false b rest s h z l lead = cc
-kept_cut (InCharacter []) true b rest s h z l lead = cc
-kept_cut (InCharacter (x ∷ p)) true b rest s h z l lead = cc
+kept_cut (InCharacter []) false b rest s h z l lead = record { lends = λ start count. refl; keeps = refl }
 kept_cut (InEscape xs) false b rest s h z l lead = cut_goes (InEscape xs) b rest refl (l refl) refl (λ x e. escape_cut xs x e) tt lead
-kept_cut (InEscape xs) true b rest s h z l lead = cc
 kept_cut (InControlSequence p) false b rest s h z l lead = cut_goes (InControlSequence p) b rest refl (l refl) refl (λ x e. control_sequence_cut p x e) tt lead
-kept_cut (InControlSequence p) true b rest s h z l lead = cc
-kept_cut (InCommand body) w b rest s h z l lead = cc
 kept_cut (InHeader header) false b rest s h z l lead = cut_goes (InHeader header) b rest refl (l refl) refl (λ x e. header_cut header x e) tt lead
-kept_cut (InHeader header) true b rest s h z l lead = cc
-kept_cut InDevice w b rest s h z l lead = cc
-kept_cut InString w b rest s h z l lead = cc
+kept_cut _ w b rest s h z l lead = cc
 
 -- a text cuts what is open before its final byte off
-pub text_cuts : (stream : List ℕ) (b : ℕ) (rest : List ℕ) (c : ℕ) (more : List ℕ) → is_body (held_of stream).kept ≡ false → begun_bytes (held_of stream) ≡ [] → (is_character (held_of stream).kept ≡ false → 128 ≤ b) → IsLendable c → b ∷ rest ≡ encode c ++ more
-    → GoesOn (held_of stream) (b ∷ rest) [] nothing_held
-text_cuts stream b rest c more h z l t e = kept_cut (held_of stream).kept (held_of stream).waiting b rest (stream_sound stream) h z l (lead_of c b rest more t e)
+pub text_cuts : (h : Held) (b : ℕ) (rest : List ℕ) (c : ℕ) (more : List ℕ) → IsReached h → is_body h.kept ≡ false → begun_bytes h ≡ [] → (is_character h.kept ≡ false → 128 ≤ b) → IsLendable c → b ∷ rest ≡ encode c ++ more
+    → GoesOn h (b ∷ rest) [] nothing_held
+text_cuts h b rest c more r o z l t e = kept_cut h.kept h.waiting b rest (reached_sound h r) o z l (lead_of c b rest more t e)

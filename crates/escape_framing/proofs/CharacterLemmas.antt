@@ -1,11 +1,11 @@
 -- What the characters keep and hand out, over plain lists.
-use Rattle.std.proofs.Common.{◌≡◌, ◌≢◌, ℕ, zero, suc, ◌+◌, ◌<◌, ◌≤◌, inl, inr, true, List, [], ◌∷◌, ◌++◌, length, take, set, refl, sym, ap, subst, ◌∙◌, arith}
-use Rattle.std.specs.Prelude.{is_none, slice_index}
-use Rattle.std.specs.Str.{is_utf8, chars}
+use Rattle.std.proofs.Common.{◌≡◌, ◌≢◌, ℕ, zero, suc, ◌+◌, ◌<◌, ◌≤◌, inl, inr, List, [], ◌∷◌, ◌++◌, length, take, set, refl, sym, ap, subst, ◌∙◌, arith}
+use Rattle.std.specs.Prelude.{is_none}
+use Rattle.std.specs.Str.{is_utf8}
 use Rattle.std.specs.Str.Lossy.{utf8_error_len}
 use Rattle.std.proofs.lemmas.Grind.{common_steps}
 use Rattle.std.proofs.lemmas.List.{append-nil}
-use Rattle.escape_framing.specs.Segment.{Tail, Begun, OpenEscape, OpenControlSequence, OpenCommand, OpenHeader, OpenDevice, OpenString, IsBegun, IsUnfinished}
+use Rattle.escape_framing.specs.Segment.{Tail, Begun, IsBegun, IsUnfinished}
 use Rattle.escape_framing.specs.Decode.{in_character}
 use Rattle.escape_framing.specs.Dispatch as dispatch
 use Rattle.escape_framing.specs.Held.{InCharacter, kept_of, Step, steps, before, character_step}
@@ -36,12 +36,7 @@ filled (x ∷ xs) (suc n) h l e = cc
 -- what waits is the beginning of a character
 kept_begun : (t : Tail) (x : List ℕ) → kept_of t ≡ InCharacter x → IsUnfinished t → IsUnfinished (Begun x)
 kept_begun (Begun bytes) x e g = subst (λ l. IsUnfinished (Begun l)) (let k : bytes ≡ x = cc in k) g
-kept_begun (OpenEscape body) x e g = cc
-kept_begun (OpenControlSequence o body) x e g = cc
-kept_begun (OpenCommand o body) x e g = cc
-kept_begun (OpenHeader o header) x e g = cc
-kept_begun (OpenDevice o header f body) x e g = cc
-kept_begun (OpenString o y body) x e g = cc
+kept_begun _ x e g = cc
 
 pub waits_unfinished : (b : ℕ) → steps [] (InCharacter (b ∷ [])) ≡ character_step [] b → IsUnfinished (Begun (b ∷ []))
 unfolding character_step
@@ -61,31 +56,22 @@ pub waits_goes : (o : Own) (l v : List ℕ) (b : ℕ) → o ≡ own.Waits → l 
 waits_goes o l v b is front none e =
     ap (λ (x : Own). step_of x l) is ∙ ap (λ (m : List ℕ). steps [] (InCharacter m)) front ∙ e ∙ ap (λ m. character_step m b) (sym none)
 
-whole_step : (x : ℕ) (t : List ℕ) (b c : ℕ) → is_utf8 (x ∷ t ++ b ∷ []) ≡ true → slice_index (chars (x ∷ t ++ b ∷ [])) 0 ≡ c → segment_step (x ∷ t ++ b ∷ []) c ≡ character_step (x ∷ t) b
-unfolding character_step in_character
-whole_step x t b c u e = rw (u, e) (ap (λ ds. steps ds (InCharacter [])) (sym (append-nil _)))
-
-begun_step : (x : ℕ) (t : List ℕ) (b : ℕ) → IsKind (x ∷ t ++ b ∷ []) kind.Begun → steps [] (InCharacter (x ∷ t ++ b ∷ [])) ≡ character_step (x ∷ t) b
-unfolding character_step in_character
-begun_step x t b k = rw (k.0, k.1) refl
-
 pub broken_step : (x : ℕ) (t : List ℕ) (b : ℕ) → IsKind (x ∷ t ++ b ∷ []) kind.Broken → before (dispatch.Print 0xFFFD ∷ []) (character_step [] b) ≡ character_step (x ∷ t) b
 unfolding character_step in_character
 broken_step x t b k = rw (k.0, k.1) refl
 
 plain : (o : Own) → step_of o [] ≡ own_step o []
 plain own.Waits = refl
-plain own.Escape = refl
-plain (own.Print c) = refl
-plain (own.Control b) = refl
-plain own.Stray = refl
+plain _ = refl
 
 pub whole_goes : (l bytes : List ℕ) (b c : ℕ) (o : Own) → l ≢ [] → bytes ≡ l ++ b ∷ [] → IsKind bytes (kind.Whole c) → ((x : List ℕ) → own_step o [] ≡ segment_step x c) → step_of o [] ≡ character_step l b
+unfolding character_step in_character
 whole_goes [] bytes b c o n e k h = absurd (n refl)
 whole_goes (x ∷ t) bytes b c o n e k h =
     let u = subst (λ m. IsKind m (kind.Whole c)) e k in
-    plain o ∙ h (x ∷ t ++ b ∷ []) ∙ whole_step x t b c u.0 u.1
+    plain o ∙ h (x ∷ t ++ b ∷ []) ∙ rw (u.0, u.1) (ap (λ ds. steps ds (InCharacter [])) (sym (append-nil _)))
 
 pub begun_goes : (l bytes : List ℕ) (b : ℕ) → l ≢ [] → bytes ≡ l ++ b ∷ [] → IsKind bytes kind.Begun → step_of own.Waits bytes ≡ character_step l b
+unfolding character_step in_character
 begun_goes [] bytes b n e k = absurd (n refl)
-begun_goes (x ∷ t) bytes b n e k = ap (λ m. steps [] (InCharacter m)) e ∙ begun_step x t b (subst (λ m. IsKind m kind.Begun) e k)
+begun_goes (x ∷ t) bytes b n e k = let u = subst (λ m. IsKind m kind.Begun) e k in ap (λ m. steps [] (InCharacter m)) e ∙ rw (u.0, u.1) refl

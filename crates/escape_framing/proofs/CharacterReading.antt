@@ -1,5 +1,5 @@
 -- The plain reading of characters, ill-formed pieces and controls.
-use Rattle.std.proofs.Common.{◌≡◌, ◌≢◌, ℕ, ◌+◌, ◌/◌, ◌<◌, ◌≤◌, inl, inr, Bool, true, false, List, [], ◌∷◌, ◌++◌, refl, sym, ap, subst, ◌∙◌, arith, append_assoc}
+use Rattle.std.proofs.Common.{◌≡◌, ◌≢◌, ℕ, ◌<◌, inl, inr, true, false, List, [], ◌∷◌, ◌++◌, refl, sym, ap, subst, ◌∙◌, arith, append_assoc, ⊎_elim}
 use Rattle.std.specs.Prelude.{◌==◌, is_none}
 use Rattle.std.specs.Char.{IsScalar, is_ascii_control}
 use Rattle.std.specs.Str.{is_utf8}
@@ -10,37 +10,26 @@ use Rattle.text_clusters.specs.Controls.{in_c1}
 use lib.Utf8.{encode, low_scalar}
 use Rattle.escape_framing.specs.Segment.{Begun, Segment, Character, IllFormed, Control, IsPrintable, IsControl, BeginsCharacter, IsBegun, IsUnfinished, IsSegment}
 use Rattle.escape_framing.specs.Decode.{waits, ends, ends_before, segment_of, first_byte, in_character, next_byte, read_on}
-use Rattle.escape_framing.proofs.Existence.Utf8Lemmas.{Spelled, in_one, in_two, in_three, in_four, spelled, append_nil, not_shorter}
+use Rattle.escape_framing.proofs.Existence.Utf8Lemmas.{append_nil, not_shorter, some_last}
 use Rattle.escape_framing.proofs.Existence.OutcomeLemmas.{Outcome, whole, begun, broken, outcome, some_bytes}
-use Rattle.escape_framing.proofs.Existence.StepLemmas.{ascii_bytes, char_of}
+use Rattle.escape_framing.proofs.Existence.StepLemmas.{char_of}
 use Rattle.escape_framing.proofs.ReadLemmas.{after, step_waits, step_ends, step_ends_before}
+use Rattle.std.proofs.lemmas.Bool.{cases_Bool, eqb-true, cond_both}
 
 same_char : (c d : ℕ) → encode c ≡ encode d → c ≡ d
 same_char c d e = (encode_same c d [] [] (ap (λ l. l ++ []) e)).0
 
 -- ---- one byte behind the first ones of a character
 
--- one byte that is no front of a character is not ESC, and ESC is no front of a longer one
-one_is_all : (c : ℕ) (more : List ℕ) → IsScalar c → encode c ≡ 0x1B ∷ more → more ≢ [] → ⊥
-one_is_all c more s e n = by_kind (spelled c s)
-  where
-    by_kind : Spelled c → ⊥
-    by_kind (in_one l h) = n (let k : c ∷ [] ≡ 0x1B ∷ more = sym h ∙ e in let m : [] ≡ more = cc in sym m)
-    by_kind (in_two g l h) = let k = sym h ∙ e in let m : 192 + c / 64 ≡ 0x1B = cc in omega arith
-    by_kind (in_three g l t h) = let k = sym h ∙ e in let m : 224 + c / 4096 ≡ 0x1B = cc in omega arith
-    by_kind (in_four g l h) = let k = sym h ∙ e in let m : 240 + c / 262144 ≡ 0x1B = cc in omega arith
-
-is_byte : (b x : ℕ) → (b == x) ≡ true → x ≡ b
-is_byte b x h = grind (arith, nat_tests)
+-- ESC is no front of a longer character
+one_is_all : (c : ℕ) (more : List ℕ) → encode c ≡ 0x1B ∷ more → more ≡ []
+one_is_all c more e = sym (encode_same c 0x1B [] more (append_nil (encode c) ∙ e ∙ ap (λ l. l ++ more) (sym (encode_ascii 0x1B (omega arith))))).1
 
 -- a byte that leaves a character begun waits
 waits_first : (b : ℕ) → IsBegun (b ∷ []) → is_utf8 (b ∷ []) ≡ false → is_none (utf8_error_len (b ∷ [])) ≡ true → first_byte b ≡ waits (Begun (b ∷ []))
 unfolding first_byte
-waits_first b (c, more, s, e, n, m) u v = by_test (b == 0x1B) refl
-  where
-    by_test : (t : Bool) → (b == 0x1B) ≡ t → first_byte b ≡ waits (Begun (b ∷ []))
-    by_test true h = absurd (one_is_all c more s (e ∙ ap (λ (x : ℕ). x ∷ more) (sym (is_byte b 0x1B h))) m)
-    by_test false h = rw (h, u, v) refl
+waits_first b (c, more, s, e, n, m) u v =
+    cond_both (b == 0x1B) _ _ (λ r. r ≡ waits (Begun (b ∷ []))) (λ h. absurd (m (one_is_all c more (e ∙ ap (λ (x : ℕ). x ∷ more) (eqb-true b 0x1B h))))) (λ h. rw (u, v) refl)
 
 pub waits_begun : (p : List ℕ) (b : ℕ) → IsUnfinished (Begun p) → IsBegun (p ++ b ∷ []) → next_byte (Begun p) b ≡ waits (Begun (p ++ b ∷ []))
 unfolding next_byte in_character
@@ -52,16 +41,12 @@ waits_begun p b g (c, more, s, e, n, m) = by_outcome p (c, more, s, e, n, m) (ou
     by_outcome [] h (begun k u v) = waits_first b h u v
     by_outcome (x ∷ p) h (begun k u v) = rw (u, v) refl
 
-not_nil : (p : List ℕ) (b : ℕ) → p ++ b ∷ [] ≢ []
-not_nil [] b h = cc
-not_nil (x ∷ p) b h = cc
-
 -- the first bytes of a character are read as they stand
 reads_front : (p q rest : List ℕ) → IsUnfinished (Begun p) → (c : ℕ) (more : List ℕ) → IsScalar c → encode c ≡ (p ++ q) ++ more → more ≢ [] → read_on (Begun p) (q ++ rest) ≡ read_on (Begun (p ++ q)) rest
 reads_front p [] rest g c more s e m = ap (λ l. read_on (Begun l) rest) (sym (append_nil p))
 reads_front p (b ∷ q) rest g c more s e m =
     let split : (p ++ b ∷ []) ++ q ≡ p ++ b ∷ q = append_assoc p (b ∷ []) q in
-    let h : IsBegun (p ++ b ∷ []) = (c, q ++ more, s, e ∙ ap (λ l. l ++ more) (sym split) ∙ append_assoc (p ++ b ∷ []) q more, not_nil p b, some q) in
+    let h : IsBegun (p ++ b ∷ []) = (c, q ++ more, s, e ∙ ap (λ l. l ++ more) (sym split) ∙ append_assoc (p ++ b ∷ []) q more, some_last p b, some q) in
     step_waits (Begun p) (Begun (p ++ b ∷ [])) b (q ++ rest) (waits_begun p b g h)
     ∙ reads_front (p ++ b ∷ []) q rest (inr h) c more s (e ∙ ap (λ l. l ++ more) (sym split)) m
     ∙ ap (λ l. read_on (Begun l) rest) split
@@ -93,46 +78,24 @@ last_byte c = by_list (encode c) refl
     by_list [] e = absurd (some_bytes c [] (append_nil (encode c) ∙ e))
     by_list (x ∷ xs) e = subst Last (sym e) (last_of x xs)
 
+plain_tests : (c : ℕ) → IsPrintable c → (in_c1 c ≡ false) × (is_ascii_control c ≡ false)
+plain_tests c p = (grind (arith, nat_tests), grind (arith, nat_tests))
+
 pub plain_segment : (bytes : List ℕ) (c : ℕ) → IsPrintable c → segment_of bytes c ≡ Character c
-plain_segment bytes c (inl p) =
-    let e : in_c1 c ≡ false = low c p.1 in
-    let f : is_ascii_control c ≡ false = plain c p.0 p.1 in rw (e, f) refl
-  where
-    low : (c : ℕ) → c ≤ 0x7E → in_c1 c ≡ false
-    low c h = grind (arith, nat_tests)
+plain_segment bytes c p = let k = plain_tests c p in rw (k.0, k.1) refl
 
-    plain : (c : ℕ) → 0x20 ≤ c → c ≤ 0x7E → is_ascii_control c ≡ false
-    plain c h k = grind (arith, nat_tests)
-plain_segment bytes c (inr p) =
-    let e : in_c1 c ≡ false = high c p in
-    let f : is_ascii_control c ≡ false = plain c p in rw (e, f) refl
-  where
-    high : (c : ℕ) → 0x9F < c → in_c1 c ≡ false
-    high c h = grind (arith, nat_tests)
-
-    plain : (c : ℕ) → 0x9F < c → is_ascii_control c ≡ false
-    plain c h = grind (arith, nat_tests)
+control_tests : (c : ℕ) → IsControl c → (in_c1 c ≡ false) × (is_ascii_control c ≡ true)
+control_tests c p = (grind (arith, nat_tests), grind (arith, nat_tests))
 
 pub control_segment : (bytes : List ℕ) (c : ℕ) → IsControl c → segment_of bytes c ≡ Control c
-control_segment bytes c (inl p) =
-    let e : in_c1 c ≡ false = low c p.0 in
-    let f : is_ascii_control c ≡ true = control c p.0 in rw (e, f) refl
-  where
-    low : (c : ℕ) → c < 0x20 → in_c1 c ≡ false
-    low c h = grind (arith, nat_tests)
-
-    control : (c : ℕ) → c < 0x20 → is_ascii_control c ≡ true
-    control c h = grind (arith, nat_tests)
-control_segment bytes c (inr p) = ap (λ (x : ℕ). segment_of bytes x) p ∙ ap Control (sym p)
+control_segment bytes c p = let k = control_tests c p in rw (k.0, k.1) refl
 
 -- the last byte of a character ends it
 pub ends_first : (c b : ℕ) → IsScalar c → encode c ≡ b ∷ [] → c ≢ 0x1B → is_utf8 (b ∷ []) ≡ true → first_byte b ≡ ends (segment_of (b ∷ []) c)
 unfolding first_byte
-ends_first c b s e n u = by_test (b == 0x1B) refl
-  where
-    by_test : (t : Bool) → (b == 0x1B) ≡ t → first_byte b ≡ ends (segment_of (b ∷ []) c)
-    by_test true h = absurd (n (same_char c 0x1B (e ∙ ap (λ (x : ℕ). x ∷ []) (sym (is_byte b 0x1B h)) ∙ sym (encode_ascii 0x1B (omega arith)))))
-    by_test false h = rw (h, u, char_of c (b ∷ []) s e) refl
+ends_first c b s e n u =
+    cond_both (b == 0x1B) _ _ (λ r. r ≡ ends (segment_of (b ∷ []) c)) (λ h. absurd (n (same_char c 0x1B (e ∙ ap (λ (x : ℕ). x ∷ []) (eqb-true b 0x1B h) ∙ sym (encode_ascii 0x1B (omega arith))))))
+    (λ h. rw (u, char_of c (b ∷ []) s e) refl)
 
 pub ends_character : (c b : ℕ) (p : List ℕ) → IsScalar c → encode c ≡ p ++ b ∷ [] → c ≢ 0x1B → IsUnfinished (Begun p) → next_byte (Begun p) b ≡ ends (segment_of (p ++ b ∷ []) c)
 unfolding next_byte in_character
@@ -157,45 +120,31 @@ reads_scalar c f s n =
     front [] b e = inl refl
     front (x ∷ p) b e = inr (c, b ∷ [], s, e, λ h. cc, λ h. cc)
 
+pub no_escape : (c : ℕ) → IsPrintable c → c ≢ 0x1B
+no_escape c (inl p) e = omega arith
+no_escape c (inr p) e = omega arith
+
 pub reads_character : (c : ℕ) (f : List ℕ) → IsSegment (Character c) f → read_on (Begun []) (encode c ++ f) ≡ after (Character c) (read_on (Begun []) f)
-reads_character c f h = reads_scalar c f h.0 (no_escape h.1) ∙ ap (λ (s : Segment). after s (read_on (Begun []) f)) (plain_segment (encode c) c h.1)
-  where
-    no_escape : IsPrintable c → c ≢ 0x1B
-    no_escape (inl p) e = omega arith
-    no_escape (inr p) e = omega arith
+reads_character c f h = reads_scalar c f h.0 (no_escape c h.1) ∙ ap (λ (s : Segment). after s (read_on (Begun []) f)) (plain_segment (encode c) c h.1)
 
 pub reads_control : (b : ℕ) (f : List ℕ) → IsSegment (Control b) f → read_on (Begun []) (b ∷ f) ≡ after (Control b) (read_on (Begun []) f)
 reads_control b f h =
-    let l = small h in
+    let l : b < 128 = ⊎_elim (λ k. let m = k.0 in omega arith) (λ k. omega arith) h in
+    let n : b ≢ 0x1B = ⊎_elim (λ k. k.1) (λ k e. omega arith) h in
     let s : IsScalar b = low_scalar b (omega arith) in
-    ap (λ m. read_on (Begun []) (m ++ f)) (sym (ascii_bytes b s l)) ∙ reads_scalar b f s (no_escape h) ∙ ap (λ (s : Segment). after s (read_on (Begun []) f)) (control_segment (encode b) b h)
-  where
-    small : IsControl b → b < 128
-    small (inl k) = let l = k.0 in omega arith
-    small (inr e) = omega arith
-
-    no_escape : IsControl b → b ≢ 0x1B
-    no_escape (inl k) e = k.1 e
-    no_escape (inr k) e = omega arith
+    ap (λ m. read_on (Begun []) (m ++ f)) (sym (encode_ascii b l)) ∙ reads_scalar b f s n ∙ ap (λ (s : Segment). after s (read_on (Begun []) f)) (control_segment (encode b) b h)
 
 -- ---- an ill-formed piece
 
 pub breaks_first : (b : ℕ) → (BeginsCharacter (b ∷ []) → ⊥) → first_byte b ≡ ends (IllFormed (b ∷ []))
 unfolding first_byte
-breaks_first b n = by_test (b == 0x1B) refl
+breaks_first b n =
+    ⊎_elim (λ h. let k = eqb-true b 0x1B h in absurd (n (b, [], low_scalar b (omega arith), encode_ascii b (omega arith)))) (λ h. by_outcome h (outcome [] b (inl refl))) (cases_Bool (b == 0x1B))
   where
     by_outcome : (b == 0x1B) ≡ false → Outcome [] b → first_byte b ≡ ends (IllFormed (b ∷ []))
     by_outcome h (whole c s e u) = absurd (n (c, [], s, e))
     by_outcome h (begun (c, more, s, e, k, m) u v) = absurd (n (c, more, s, e))
     by_outcome h (broken f u v) = rw (h, u, v) refl
-
-    by_test : (t : Bool) → (b == 0x1B) ≡ t → first_byte b ≡ ends (IllFormed (b ∷ []))
-    by_test true h = absurd (n (b, [], low_scalar b (let k = is_byte b 0x1B h in omega arith), encode_ascii b (let k = is_byte b 0x1B h in omega arith)))
-    by_test false h = by_outcome h (outcome [] b (inl refl))
-
-stray : (b : ℕ) (f : List ℕ) → (BeginsCharacter (b ∷ []) → ⊥) → read_on (Begun []) (b ∷ f) ≡ after (IllFormed (b ∷ [])) (read_on (Begun []) f)
-unfolding next_byte in_character
-stray b f n = step_ends (Begun []) (IllFormed (b ∷ [])) b f (breaks_first b n)
 
 pub breaks : (p : List ℕ) (b : ℕ) → IsBegun p → (BeginsCharacter (p ++ b ∷ []) → ⊥) → next_byte (Begun p) b ≡ ends_before (IllFormed p) (first_byte b)
 unfolding next_byte in_character
@@ -208,8 +157,9 @@ breaks (x ∷ p) b g f = by_outcome (outcome (x ∷ p) b (inr g))
     by_outcome (broken h u v) = rw (u, v) refl
 
 pub reads_ill_formed : (p f : List ℕ) → IsSegment (IllFormed p) f → read_on (Begun []) (p ++ f) ≡ after (IllFormed p) (read_on (Begun []) f)
+unfolding next_byte in_character
 reads_ill_formed p f (inl (b, e, n)) =
-    ap (λ l. read_on (Begun []) (l ++ f)) e ∙ stray b f (subst (λ l. BeginsCharacter l → ⊥) e n) ∙ ap (λ l. after (IllFormed l) (read_on (Begun []) f)) (sym e)
+    ap (λ l. read_on (Begun []) (l ++ f)) e ∙ step_ends (Begun []) (IllFormed (b ∷ [])) b f (breaks_first b (subst (λ l. BeginsCharacter l → ⊥) e n)) ∙ ap (λ l. after (IllFormed l) (read_on (Begun []) f)) (sym e)
 reads_ill_formed p f (inr (g, (next, others, e, n))) =
     reads_begun p f (inr g)
     ∙ ap (read_on (Begun p)) e

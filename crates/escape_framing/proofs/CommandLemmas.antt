@@ -6,8 +6,7 @@ use Rattle.std.specs.List.{prefix_len, list_all}
 use Rattle.std.proofs.lemmas.List.Folds.{length-prefix_len}
 use Rattle.std.proofs.lemmas.List.Sums.{prefix_len-le-length}
 use Rattle.escape_framing.specs.Bytes.{is_stop, is_embedded, is_intermediate, is_cut, is_opener}
-use Rattle.escape_framing.specs.Dispatch.{OperatingSystemCommand}
-use Rattle.escape_framing.specs.Held.{InEscape, InCommand, Held, command_step, escape_step, opened, fresh_step, held_step, nothing_held, hand_out}
+use Rattle.escape_framing.specs.Held.{InEscape, Held, command_step, escape_step, opened, fresh_step, held_step, nothing_held, hand_out}
 use Rattle.escape_framing.specs.Framed.{Lone, framed_behind, no_text, IsReached, IsCarried, Frames}
 use Rattle.escape_framing.specs.Fronts.{is_body_byte, IsSilent}
 use Rattle.escape_framing.specs.Lending.{Lending}
@@ -16,7 +15,7 @@ use Rattle.escape_framing.specs.Read.{whole_command, ReadsEvent, TakesMemoryAt}
 use Rattle.escape_framing.specs.declared.event.Event.{Event}
 use Rattle.escape_framing.specs.declared.event.Event.TheVariants as event
 use Rattle.escape_framing.specs.declared.event.Read.TheVariants as read
-use Rattle.escape_framing.proofs.FrontLemmas.{escape_handed, reads_run}
+use Rattle.escape_framing.proofs.FrontLemmas.{reads_run, opening_handed}
 use Rattle.escape_framing.proofs.ReadEventLemmas.{reads_one, reads_left}
 use Rattle.escape_framing.proofs.RunLemmas.{all_pass, quiet_front, body_handed, in_command}
 
@@ -54,10 +53,6 @@ bracket_handed : held_step (record { kept = InEscape []; waiting = false }) 0x5D
 unfolding held_step fresh_step escape_step opened is_embedded is_stop is_intermediate is_cut is_opener
 bracket_handed = refl
 
-opening_handed : (xs : List ℕ) → hand_out nothing_held (0x1B ∷ 0x5D ∷ xs) ≡ hand_out (in_command []) xs
-unfolding hand_out
-opening_handed xs = rw escape_handed (rw bracket_handed refl)
-
 two_more : (n : ℕ) → n + 2 ≡ suc (suc n)
 two_more n = omega arith
 
@@ -67,31 +62,21 @@ body_silent others body k =
     let t : take (length body + 2) (0x1B ∷ 0x5D ∷ others) ≡ 0x1B ∷ 0x5D ∷ body =
     ap (λ (n : ℕ). take n (0x1B ∷ 0x5D ∷ others)) (two_more (length body)) ∙ ap (λ (x : List ℕ). 0x1B ∷ 0x5D ∷ x) (ap (λ (n : ℕ). take n others) l ∙ sym k) in
     quiet_front nothing_held (in_command body) (0x1B ∷ 0x5D ∷ others) (length body + 2) (let m = prefix_len-le-length is_body_byte others in omega (arith, l))
-    (ap (hand_out nothing_held) t ∙ opening_handed body ∙ body_handed [] body (subst (λ (x : List ℕ). list_all is_body_byte x ≡ true) (sym k) (all_pass is_body_byte others)))
+    (ap (hand_out nothing_held) t ∙ opening_handed 0x5D (in_command []) body bracket_handed ∙ body_handed [] body (subst (λ (x : List ℕ). list_all is_body_byte x ≡ true) (sym k) (all_pass is_body_byte others)))
     refl
 
-begun_reached : (others body : List ℕ) → body ≡ take (prefix_len is_body_byte others) others → IsReached (in_command body)
-begun_reached others body k = (take (length body + 2) (0x1B ∷ 0x5D ∷ others), sym (body_silent others body k).keeps)
-
 -- ---- its end
-
-bell_handed : (body : List ℕ) → held_step (in_command body) 0x07 ≡ record { dispatches = OperatingSystemCommand body ∷ []; held = nothing_held }
-unfolding held_step fresh_step command_step
-bell_handed body = refl
-
-escape_ends : (body : List ℕ) → held_step (in_command body) 0x1B ≡ (let rest = held_step nothing_held 0x1B in record { dispatches = OperatingSystemCommand body ∷ rest.dispatches; held = rest.held })
-unfolding held_step fresh_step command_step is_stop
-escape_ends body = refl
 
 abbrev shown : Parameters → List ℕ → Lending
 shown p body = record { held = nothing_held; parameters = p; body = body }
 
 reads_end : (p : Parameters) (body rest : List ℕ) (b m : ℕ) → (b ≡ 0x07) × (m ≡ 1) ⊎ (b ≡ 0x1B) × (m ≡ 0) → ReadsEvent (in_command body) (b ∷ rest) (whole_command m) (shown p body)
+unfolding held_step fresh_step command_step is_stop
 reads_end p body rest b m (inl (e, k)) = subst (λ (n : ℕ). ReadsEvent (in_command body) (b ∷ rest) (whole_command n) (shown p body)) (sym k) (
-    reads_one (in_command body) b rest (b ∷ rest) (shown p body) (Some event.OperatingSystemCommand) refl (ap (held_step (in_command body)) e ∙ bell_handed body) (λ t. cc))
+    reads_one (in_command body) b rest (b ∷ rest) (shown p body) (Some event.OperatingSystemCommand) refl (ap (held_step (in_command body)) e) (λ t. cc))
 reads_end p body rest b m (inr (e, k)) = subst (λ (n : ℕ). ReadsEvent (in_command body) (b ∷ rest) (whole_command n) (shown p body)) (sym k) (
     subst (λ (c : ℕ). ReadsEvent (in_command body) (c ∷ rest) (whole_command 0) (shown p body)) (sym e) (
-    reads_left (in_command body) 0x1B rest (0x1B ∷ rest) (shown p body) (Some event.OperatingSystemCommand) refl (escape_ends body)
+    reads_left (in_command body) 0x1B rest (0x1B ∷ rest) (shown p body) (Some event.OperatingSystemCommand) refl refl
     (record { falls = omega arith; closed = inl refl; waits = λ w. cc; alone = tt })))
 
 pub reads_command : (l : Lending) (bytes others body rest : List ℕ) (b m n : ℕ) → l.held ≡ nothing_held → bytes ≡ 0x1B ∷ 0x5D ∷ others → body ≡ take (prefix_len is_body_byte others) others → drop (length body) others ≡ b ∷ rest
@@ -100,7 +85,7 @@ reads_command l bytes others body rest b m n h is k d e s =
     let begun : Lending = record { held = in_command body; parameters = l.parameters; body = body } in
     let left : drop (length body + 2) (0x1B ∷ 0x5D ∷ others) ≡ b ∷ rest = ap (λ (x : ℕ). drop x (0x1B ∷ 0x5D ∷ others)) (two_more (length body)) ∙ d in
     let read_it : ReadsEvent nothing_held (0x1B ∷ 0x5D ∷ others) (whole_command (length body + 2 + m)) (shown l.parameters body) =
-    reads_behind nothing_held (0x1B ∷ 0x5D ∷ others) (length body + 2) m (Some event.OperatingSystemCommand) begun (shown l.parameters body) (begun_reached others body k) (omega arith)
+    reads_behind nothing_held (0x1B ∷ 0x5D ∷ others) (length body + 2) m (Some event.OperatingSystemCommand) begun (shown l.parameters body) (take (length body + 2) (0x1B ∷ 0x5D ∷ others), sym (body_silent others body k).keeps) (omega arith)
     (reads_run nothing_held (0x1B ∷ 0x5D ∷ others) (length body + 2) begun (omega arith) (body_silent others body k))
     (subst (λ (x : List ℕ). ReadsEvent (in_command body) x (whole_command m) (shown l.parameters body)) (sym left) (reads_end l.parameters body rest b m e)) in
     subst (λ (x : Held). ReadsEvent x bytes (whole_command n) (record l { held = x; body = body })) (sym h)

@@ -1,76 +1,47 @@
 -- What a byte of the stream does that is read or left, over plain variables.
 use Rattle.std.proofs.Common.{◌≡◌, ℕ, ◌-◌, ◌<◌, ◌≤◌, ◌⊎◌, inl, inr, Bool, true, false, List, [], ◌∷◌, ◌++◌, Option, Some, None, refl, sym, ap, subst, ◌∙◌, arith, append_assoc, Result, Ok, Err}
 use Rattle.std.specs.Prelude.{◌==◌, not, OnErr}
-use Rattle.std.proofs.lemmas.Bool.Decides.{nat_tests}
 use Rattle.text_clusters.specs.Controls.{is_c1}
 use Rattle.escape_framing.specs.Bytes.{is_stop, is_cut}
 use Rattle.escape_framing.specs.Dispatch.{Dispatch, Data}
 use Rattle.escape_framing.specs.Framed.{kept_takes, takes_text}
-use Rattle.escape_framing.specs.Held.{Kept, InCharacter, InEscape, InControlSequence, InCommand, InHeader, InDevice, InString, Step, steps, before, character_step, escape_step, command_step, device_step, string_step, kept_step, Held, Handed, handed, handed_behind, fresh_step, waiting_step, held_step}
+use Rattle.escape_framing.specs.Held.{Kept, InCharacter, InEscape, InCommand, InDevice, InString, Step, steps, before, character_step, escape_step, command_step, device_step, string_step, kept_step, Held, Handed, handed, handed_behind, fresh_step, waiting_step, held_step}
 use Rattle.escape_framing.specs.Lending.{Lending}
 use Rattle.escape_framing.specs.Event.{dispatch_in, handed_out, resumed, held_resumed, IsAlone, kept_rank, rank, IsLeft, GoesOn, IsHeldLeft}
 use Rattle.escape_framing.specs.declared.event.Event.{Event}
 use Rattle.escape_framing.specs.declared.event.Event.TheVariants as event
 use Rattle.escape_framing.specs.declared.states.Stepped.{Stepped}
-use Rattle.escape_framing.proofs.FirstLemmas.{first_escape, first_waits}
-use Rattle.escape_framing.proofs.WaitingLemmas.{escape_cuts, lead_cuts, never}
+use Rattle.escape_framing.proofs.FirstLemmas.{first_escape}
+use Rattle.escape_framing.proofs.WaitingLemmas.{escape_cuts, lead_cuts, never, c1_not_cut}
+use Rattle.escape_framing.proofs.TextLemmas.{lead_kept}
 
 -- ---- ranks
 
 small_rank : (k : Kept) → kept_rank k ≤ 1
 small_rank (InCharacter []) = omega arith
-small_rank (InCharacter (x ∷ xs)) = omega arith
-small_rank (InEscape xs) = omega arith
-small_rank (InControlSequence p) = omega arith
-small_rank (InCommand body) = omega arith
-small_rank (InHeader header) = omega arith
-small_rank InDevice = omega arith
-small_rank InString = omega arith
+small_rank _ = omega arith
 
 rest_rank : (w : Bool) (k old : Kept) → k ≡ InCharacter [] → kept_rank old ≡ 1 → rank (record { kept = k; waiting = w }) < rank (record { kept = old; waiting = w })
 rest_rank true k old e f = rw e (omega (arith, f))
 rest_rank false k old e f = rw e (omega (arith, f))
 
-settled_rank : (k old : Kept) → rank (record { kept = k; waiting = false }) < rank (record { kept = old; waiting = true })
-settled_rank k old = omega (arith, small_rank k)
-
 -- ---- ESC and C2 that are read
-
-stop_cuts : is_stop 0x1B ≡ true
-unfolding is_stop
-stop_cuts = refl
 
 -- ESC is read where nothing is open
 escape_read : (k : Kept) → GoesOn k 0x1B → k ≡ InCharacter []
+unfolding is_stop
 escape_read (InCharacter bytes) (inl e) = ap InCharacter e
 escape_read (InCharacter bytes) (inr g) = absurd (let l = g.0 in omega arith)
-escape_read (InEscape xs) g = never 0x1B escape_cuts g
-escape_read (InControlSequence p) g = never 0x1B escape_cuts g
-escape_read (InCommand body) g = let s = stop_cuts in cc
-escape_read (InHeader header) g = never 0x1B escape_cuts g
-escape_read InDevice g = let s = stop_cuts in cc
-escape_read InString g = let s = stop_cuts in cc
+escape_read (InCommand body) g = cc
+escape_read InDevice g = cc
+escape_read InString g = cc
+escape_read _ g = never 0x1B escape_cuts g
 
 escape_opens : (k : Kept) → GoesOn k 0x1B → kept_step k 0x1B ≡ steps [] (InEscape [])
 escape_opens k g = ap (λ (x : Kept). kept_step x 0x1B) (escape_read k g) ∙ first_escape
 
 pub escape_kept : (k new : Kept) (ds : List Dispatch) (r : Bool) → GoesOn k 0x1B → r ≡ true → kept_step k 0x1B ≡ resumed ds new r 0x1B → new ≡ InEscape []
 escape_kept k new ds r g z e = ap (λ (s : Step). s.kept) (sym (e ∙ ap (λ (x : Bool). resumed ds new x 0x1B) z) ∙ escape_opens k g)
-
-lead_waits : character_step [] 0xC2 ≡ steps [] (InCharacter (0xC2 ∷ []))
-lead_waits = first_waits 0xC2 (omega arith) (omega arith)
-
-command_lead : (body : List ℕ) → command_step body 0xC2 ≡ steps [] (InCommand (body ++ 0xC2 ∷ []))
-unfolding command_step is_stop
-command_lead body = refl
-
-device_lead : device_step 0xC2 ≡ steps (Data 0xC2 ∷ []) InDevice
-unfolding device_step is_stop
-device_lead = refl
-
-string_lead : string_step 0xC2 ≡ steps [] InString
-unfolding string_step is_stop
-string_lead = refl
 
 -- what a C2 that is read hands out is itself, as a byte of data
 abbrev IsData : Dispatch → Kept → Type 0
@@ -85,43 +56,36 @@ hands_data d new s e f =
     (cc, sym (ap (λ (x : Step). x.kept) (sym e ∙ f)))
 
 lead_read : (k new : Kept) (d : Dispatch) → GoesOn k 0xC2 → kept_step k 0xC2 ≡ steps (d ∷ []) new → IsData d new
-lead_read (InCharacter bytes) new d (inl z) e = hands_none d _ new (character_step [] 0xC2) lead_waits (ap (λ l. character_step l 0xC2) (sym z) ∙ e)
+unfolding command_step device_step string_step is_stop
+lead_read (InCharacter bytes) new d (inl z) e = hands_none d _ new (character_step [] 0xC2) lead_kept (ap (λ l. character_step l 0xC2) (sym z) ∙ e)
 lead_read (InCharacter bytes) new d (inr g) e = absurd (let l = g.1 in omega arith)
-lead_read (InEscape xs) new d g e = never 0xC2 lead_cuts g
-lead_read (InControlSequence p) new d g e = never 0xC2 lead_cuts g
-lead_read (InCommand body) new d g e = hands_none d _ new (command_step body 0xC2) (command_lead body) e
-lead_read (InHeader header) new d g e = never 0xC2 lead_cuts g
-lead_read InDevice new d g e = hands_data d new (device_step 0xC2) device_lead e
-lead_read InString new d g e = hands_none d _ new (string_step 0xC2) string_lead e
+lead_read (InCommand body) new d g e = hands_none d (InCommand (body ++ 0xC2 ∷ [])) new (command_step body 0xC2) refl e
+lead_read InDevice new d g e = hands_data d new (device_step 0xC2) refl e
+lead_read InString new d g e = hands_none d InString new (string_step 0xC2) refl e
+lead_read _ new d g e = never 0xC2 lead_cuts g
 
 -- one that is left belongs to no body
 not_begun : (k : Kept) (ds : List Dispatch) (s : Step) (A : Type 0) → s.kept ≡ k → (k ≡ InCharacter (0xC2 ∷ []) → ⊥) → s ≡ before ds (character_step [] 0xC2) → A
-not_begun k ds s A e n f = absurd (n (sym e ∙ ap (λ (x : Step). x.kept) (f ∙ ap (before ds) lead_waits)))
+not_begun k ds s A e n f = absurd (n (sym e ∙ ap (λ (x : Step). x.kept) (f ∙ ap (before ds) lead_kept)))
 
 lead_left : (k : Kept) (b : ℕ) (ds : List Dispatch) → kept_step k 0xC2 ≡ before ds (character_step [] 0xC2) → kept_takes k true b ≡ true
-lead_left (InCharacter bytes) b ds e = refl
-lead_left (InEscape xs) b ds e = refl
-lead_left (InControlSequence p) b ds e = refl
-lead_left (InCommand body) b ds e = not_begun (InCommand (body ++ 0xC2 ∷ [])) ds (command_step body 0xC2) _ (ap (λ (s : Step). s.kept) (command_lead body)) (λ f. cc) e
-lead_left (InHeader header) b ds e = refl
-lead_left InDevice b ds e = not_begun InDevice ds (device_step 0xC2) _ (ap (λ (s : Step). s.kept) device_lead) (λ f. cc) e
-lead_left InString b ds e = not_begun InString ds (string_step 0xC2) _ (ap (λ (s : Step). s.kept) string_lead) (λ f. cc) e
+unfolding command_step device_step string_step is_stop
+lead_left (InCommand body) b ds e = not_begun (InCommand (body ++ 0xC2 ∷ [])) ds (command_step body 0xC2) _ refl (λ f. cc) e
+lead_left InDevice b ds e = not_begun InDevice ds (device_step 0xC2) _ refl (λ f. cc) e
+lead_left InString b ds e = not_begun InString ds (string_step 0xC2) _ refl (λ f. cc) e
+lead_left _ b ds e = refl
 
 -- ---- a byte where no C2 waits
 
-fresh_at : (h : Held) (b : ℕ) → h.waiting ≡ false → held_step h b ≡ fresh_step h.kept b
-unfolding held_step
-fresh_at h b w = rw w refl
-
-fresh_other : (k : Kept) (b : ℕ) → (b == 0xC2) ≡ false → fresh_step k b ≡ handed (kept_step k b) false
-unfolding fresh_step
-fresh_other k b e = rw e refl
+fresh_plain : (h : Held) (b : ℕ) → h.waiting ≡ false → (b == 0xC2) ≡ false → held_step h b ≡ handed (kept_step h.kept b) false
+unfolding held_step fresh_step
+fresh_plain h b w e = rw (w, e) refl
 
 pub fresh_goes : (k : Kept) (new : Held) (b : ℕ) (ds : List Dispatch) (r : Bool) → (b == 0xC2) ≡ false → new.waiting ≡ false → kept_step k b ≡ resumed ds new.kept r b → fresh_step k b ≡ held_resumed ds new r b
-fresh_goes k new b ds true n w e = fresh_other k b n ∙ ap (λ (s : Step). handed s false) e ∙ ap (λ (x : Bool). record { dispatches = ds; held = record { kept = new.kept; waiting = x } }) (sym w)
+unfolding fresh_step
+fresh_goes k new b ds true n w e = rw n (ap (λ (s : Step). handed s false) e ∙ ap (λ (x : Bool). record { dispatches = ds; held = record { kept = new.kept; waiting = x } }) (sym w))
 fresh_goes k new b ds false n w e =
-    fresh_other k b n ∙ ap (λ (s : Step). handed s false) e
-    ∙ ap (λ (h : Handed). record { dispatches = ds ++ h.dispatches; held = h.held }) (sym (fresh_at new b w ∙ fresh_other new.kept b n))
+    rw n (ap (λ (s : Step). handed s false) e ∙ ap (λ (h : Handed). record { dispatches = ds ++ h.dispatches; held = h.held }) (sym (fresh_plain new b w n)))
 
 pub fresh_left : (old new : Held) (b : ℕ) (e : Option Event) → old.waiting ≡ false → new.waiting ≡ old.waiting → IsLeft old.kept e new.kept → IsHeldLeft old b e new
 fresh_left old new b e w v l = record {
@@ -153,15 +117,10 @@ c1_left old new b ds r w v c z e =
     ∙ ap (λ (h : Handed). record { dispatches = ds ++ h.dispatches; held = h.held }) (sym (c1_at new b (v ∙ w) c))
     ∙ ap (λ (x : Bool). held_resumed ds new x b) (sym z)
 
--- such a second byte ends an escape sequence
-c1_final : (b : ℕ) → is_c1 0xC2 b ≡ true → is_cut (b - 0x40) ≡ false
-unfolding is_cut is_stop
-c1_final b h = grind (arith, nat_tests)
-
 -- then it is read
 pub c1_read : (old new : Held) (b : ℕ) (ds : List Dispatch) (r : Bool) → old.waiting ≡ true → new.waiting ≡ false → is_c1 0xC2 b ≡ true → GoesOn old.kept 0x1B → r ≡ not (is_cut (b - 0x40)) → escape_step [] (b - 0x40) ≡ resumed ds new.kept r (b - 0x40) → held_step old b ≡ held_resumed ds new r b
 c1_read old new b ds r w v c g z e =
-    let t : r ≡ true = z ∙ ap not (c1_final b c) in
+    let t : r ≡ true = z ∙ ap not (c1_not_cut b c) in
     c1_at old b w c
     ∙ ap (λ (escape : Step). handed_behind escape (handed (kept_step escape.kept (b - 0x40)) false)) (escape_opens old.kept g)
     ∙ ap (λ (s : Step). handed s false) (e ∙ ap (λ (x : Bool). resumed ds new.kept x (b - 0x40)) t)
@@ -179,10 +138,8 @@ other_left old new b ds r w v c z e =
 
 -- then it is read, and the byte may be left
 other_read : (old new : Held) (b : ℕ) (ds : List Dispatch) → old.waiting ≡ true → new.waiting ≡ false → is_c1 0xC2 b ≡ false → kept_step old.kept 0xC2 ≡ steps ds new.kept → held_step old b ≡ held_resumed ds new false b
-other_read old new b ds w v c e =
-    other_at old b w c
-    ∙ ap (λ (plain : Step). handed_behind plain (fresh_step plain.kept b)) e
-    ∙ ap (λ (h : Handed). record { dispatches = ds ++ h.dispatches; held = h.held }) (sym (fresh_at new b v))
+unfolding held_step
+other_read old new b ds w v c e = rw v (other_at old b w c ∙ ap (λ (plain : Step). handed_behind plain (fresh_step plain.kept b)) e)
 
 -- or it hands nothing out, and the byte does what it does behind that
 pub other_goes : (old : Held) (middle : Kept) (b : ℕ) (l : Lending) (e : Option Event) (r : Bool) (h : Handed) → old.waiting ≡ true → is_c1 0xC2 b ≡ false → e ≡ None → r ≡ true → l.held.kept ≡ middle → kept_step old.kept 0xC2 ≡ resumed (handed_out l e) l.held.kept r 0xC2 → fresh_step middle b ≡ h
@@ -203,16 +160,13 @@ waiting_left old new b e w v t l = record {
   alone = l.alone;
 }
 
-takes_lead : (old : Held) (b : ℕ) → old.waiting ≡ true → kept_takes old.kept true b ≡ true → takes_text old b ≡ true
-takes_lead old b w h = rw w h
-
 pub lead_is_left : (old new : Held) (b : ℕ) (ds : List Dispatch) (e : Option Event) (r : Bool) → old.waiting ≡ true → new.waiting ≡ old.waiting → r ≡ false → kept_step old.kept 0xC2 ≡ resumed ds new.kept r 0xC2 → IsLeft old.kept e new.kept → IsHeldLeft old b e new
 lead_is_left old new b ds e r w v z s l =
-    waiting_left old new b e w v (inr (takes_lead old b w (lead_left old.kept b ds (s ∙ (λ i. resumed ds (l.closed i) (z i) 0xC2))))) l
+    waiting_left old new b e w v (inr (rw w (lead_left old.kept b ds (s ∙ (λ i. resumed ds (l.closed i) (z i) 0xC2))))) l
 
 data_left : (old new : Held) (b : ℕ) (e : Option Event) → old.waiting ≡ true → new.waiting ≡ false → new.kept ≡ InDevice → IsAlone e → IsHeldLeft old b e new
 data_left old new b e w v k a = record {
-  falls = rw (v, w) (settled_rank new.kept old.kept);
+  falls = rw (v, w) (omega (arith, small_rank new.kept));
   closed = inr (λ i. record { kept = k i; waiting = v i });
   waits = λ f. let m : true ≡ false = sym f ∙ v in cc;
   alone = a;
@@ -226,23 +180,11 @@ unwaiting l = record l { held = record l.held { waiting = false } }
 
 lent_likewise : (l : Lending) (e : Event) → dispatch_in (unwaiting l) e ≡ dispatch_in l e
 lent_likewise l (event.Print c) = refl
-lent_likewise l (event.Control b) = refl
-lent_likewise l (event.Escape i f) = refl
-lent_likewise l (event.ControlSequence f) = refl
-lent_likewise l event.OperatingSystemCommand = refl
-lent_likewise l (event.Enter f) = refl
-lent_likewise l (event.Data b) = refl
-lent_likewise l event.Exit = refl
+lent_likewise l _ = refl
 
 data_alone : (l : Lending) (e : Event) → dispatch_in l e ≡ Data 0xC2 → IsAlone (Some e)
 data_alone l (event.Print c) h = cc
-data_alone l (event.Control b) h = tt
-data_alone l (event.Escape i f) h = tt
-data_alone l (event.ControlSequence f) h = tt
-data_alone l event.OperatingSystemCommand h = tt
-data_alone l (event.Enter f) h = tt
-data_alone l (event.Data b) h = tt
-data_alone l event.Exit h = tt
+data_alone l _ h = tt
 
 -- the C2 was read with this event, and now no C2 waits
 module _ (old : Held) (b : ℕ) (l x : Lending) (first behind : Stepped) (e : Event) (w : old.waiting ≡ true) (view : x ≡ l) (r : first.is_read ≡ true) (some : first.event ≡ Some e) (is : behind ≡ record { event = Some e; is_read = false })

@@ -1,11 +1,11 @@
 -- What one byte is that nothing waits for, by its range.
-use Rattle.std.proofs.Common.{◌≡◌, ◌≢◌, ℕ, ◌+◌, ◌/◌, ◌<◌, ◌≤◌, ◌⊎◌, inl, inr, List, [], ◌∷◌, refl, sym, ap, ◌∙◌, arith}
+use Rattle.std.proofs.Common.{◌≡◌, ◌≢◌, ℕ, ◌+◌, ◌/◌, ◌<◌, ◌≤◌, ◌⊎◌, inl, inr, List, [], ◌∷◌, refl, sym, ap, ◌∙◌, arith, ⊎_elim}
 use Rattle.std.specs.Char.{IsScalar}
 use Rattle.std.specs.List.{flat_map}
 use Rattle.std.proofs.lemmas.Str.{encode_ascii}
 use lib.Utf8.{encode, low_scalar}
-use Rattle.escape_framing.specs.Segment.{Begun, Segment, Character, Control, BeginsCharacter, IsControl}
-use Rattle.escape_framing.specs.Decode.{Reading, waits, ends, segment_of, first_byte, in_character, next_byte}
+use Rattle.escape_framing.specs.Segment.{Segment, Character, Control, BeginsCharacter, IsControl}
+use Rattle.escape_framing.specs.Decode.{Reading, ends, segment_of, first_byte, in_character, next_byte}
 use Rattle.escape_framing.specs.Dispatch.{dispatches_of}
 use Rattle.escape_framing.specs.Dispatch as dispatch
 use Rattle.escape_framing.specs.Held.{InCharacter, InEscape, kept_of, steps, character_step}
@@ -31,22 +31,14 @@ pub first_print : (b : ℕ) → 0x20 ≤ b → b ≤ 0x7E → character_step [] 
 first_print b l h = of_reading b _ (low b (omega arith) (λ e. omega arith) (Character b) (λ bytes. plain_segment bytes b (inl (l, h))))
 
 pub first_control : (b : ℕ) → (b < 0x20) ⊎ (b ≡ 0x7F) → b ≢ 0x1B → character_step [] b ≡ steps (dispatch.Control b ∷ []) (InCharacter [])
-first_control b k n = of_reading b _ (low b (small k) n (Control b) (λ bytes. control_segment bytes b (control k)))
-  where
-    small : (b < 0x20) ⊎ (b ≡ 0x7F) → b < 128
-    small (inl l) = omega arith
-    small (inr e) = omega arith
-
-    control : (b < 0x20) ⊎ (b ≡ 0x7F) → IsControl b
-    control (inl l) = inl (l, n)
-    control (inr e) = inr e
-
-begun_first : (b : ℕ) → 0xC2 ≤ b → b ≤ 0xF4 → first_byte b ≡ waits (Begun (b ∷ []))
-unfolding next_byte in_character
-begun_first b l h = waits_begun [] b (inl refl) (begins_one b (lead_wants b l h))
+first_control b k n =
+    let l : b < 128 = ⊎_elim (λ m. omega arith) (λ e. omega arith) k in
+    let c : IsControl b = ⊎_elim (λ m. inl (m, n)) inr k in
+    of_reading b _ (low b l n (Control b) (λ bytes. control_segment bytes b c))
 
 pub first_waits : (b : ℕ) → 0xC2 ≤ b → b ≤ 0xF4 → character_step [] b ≡ steps [] (InCharacter (b ∷ []))
-first_waits b l h = of_reading b _ (begun_first b l h)
+unfolding next_byte in_character
+first_waits b l h = of_reading b _ (waits_begun [] b (inl refl) (begins_one b (lead_wants b l h)))
 
 no_lead : (b : ℕ) → 128 ≤ b → (b < 0xC2) ⊎ (0xF4 < b) → BeginsCharacter (b ∷ []) → ⊥
 no_lead b l k (c, more, s, e) = by_kind k (spelled c s)

@@ -3,11 +3,11 @@ use Rattle.std.proofs.Common.{◌≡◌, ℕ, ◌+◌, ◌<◌, ◌≤◌, true,
 use Rattle.std.specs.Prelude.{◌==◌}
 use Rattle.std.specs.List.{prefix_len, list_all}
 use Rattle.std.proofs.lemmas.Bool.Decides.{nat_tests}
-use Rattle.std.proofs.lemmas.List.{map-append, take-append-drop, length-take-le}
+use Rattle.std.proofs.lemmas.List.{map-append, take-append-drop, length-take-le, take_at, drop_at}
 use Rattle.std.proofs.lemmas.List.Sums.{prefix_len-le-length}
 use Rattle.csi_codec.specs.Tokens.{is_parameter, Parameters, no_parameters, with_byte}
 use Rattle.escape_framing.specs.Bytes.{is_stop, is_embedded, is_intermediate, is_final, is_opener, is_cut}
-use Rattle.escape_framing.specs.Dispatch.{Dispatch, Print, Control, Escape, ControlSequence, OperatingSystemCommand, Enter, Data, Exit}
+use Rattle.escape_framing.specs.Dispatch.{Dispatch, Print, ControlSequence}
 use Rattle.escape_framing.specs.Held.{InEscape, Step, Held, Handed, handed, escape_step, opened, control_sequence_step, fresh_step, held_step, nothing_held, hand_out}
 use Rattle.escape_framing.specs.Framed.{Framed, Lone, placed_behind, framed_behind, begun_bytes, no_text, IsReached, Frames}
 use Rattle.escape_framing.specs.Fronts.{IsSilent}
@@ -29,13 +29,7 @@ use Rattle.escape_framing.proofs.BodyLemmas.{opens_read}
 both_none : (xs ys : List Dispatch) → PrintNone (xs ++ ys) → PrintNone xs × PrintNone ys
 both_none [] ys p = (tt, p)
 both_none (Print c ∷ xs) ys p = absurd p
-both_none (Control b ∷ xs) ys p = both_none xs ys p
-both_none (Escape i f ∷ xs) ys p = both_none xs ys p
-both_none (ControlSequence t x f ∷ xs) ys p = both_none xs ys p
-both_none (OperatingSystemCommand body ∷ xs) ys p = both_none xs ys p
-both_none (Enter h f ∷ xs) ys p = both_none xs ys p
-both_none (Data b ∷ xs) ys p = both_none xs ys p
-both_none (Exit ∷ xs) ys p = both_none xs ys p
+both_none (_ ∷ xs) ys p = both_none xs ys p
 
 front_alone : (start count : ℕ) (h : Held) (front rest : List ℕ) → PrintNone (hand_out h front).dispatches
     → framed_behind start count h (front ++ rest) ≡ map Lone (hand_out h front).dispatches ++ framed_behind start (count + length front) (hand_out h front).held rest
@@ -52,14 +46,6 @@ front_alone start count h (b ∷ front) rest p =
     ∙ sym (append_assoc (map Lone first.dispatches) (map Lone more.dispatches) (framed_behind start (count + length (b ∷ front)) more.held rest))
     ∙ ap (λ (l : List Framed). l ++ framed_behind start (count + length (b ∷ front)) more.held rest) (sym (map-append Lone first.dispatches more.dispatches))
 
-drop_front : (front rest : List ℕ) → drop (length front) (front ++ rest) ≡ rest
-drop_front [] rest = refl
-drop_front (b ∷ front) rest = drop_front front rest
-
-take_front : (front rest : List ℕ) → take (length front) (front ++ rest) ≡ front
-take_front [] rest = refl
-take_front (b ∷ front) rest = ap (λ (l : List ℕ). b ∷ l) (take_front front rest)
-
 frames_front : (h after : Held) (front rest : List ℕ) (ds : List Dispatch) (count : ℕ) → hand_out h front ≡ record { dispatches = ds; held = after } → PrintNone ds → begun_bytes after ≡ [] → IsReached h
     → Frames count h (front ++ rest) (λ from. map Lone ds) (length front) after
 frames_front h after front rest ds count e q z r =
@@ -69,8 +55,8 @@ frames_front h after front rest ds count e q z r =
       within = omega (arith, length-append front rest);
       lends = λ start.
           front_alone start (start + count) h front rest (subst PrintNone (sym d) q)
-          ∙ (λ i. map Lone (d i) ++ framed_behind start (start + count + length front) (a i) (sym (drop_front front rest) i));
-      keeps = ap (λ (x : Handed). x.held) (hand_append h front rest) ∙ (λ i. (hand_out (a i) (sym (drop_front front rest) i)).held);
+          ∙ (λ i. map Lone (d i) ++ framed_behind start (start + count + length front) (a i) (sym (drop_at front rest (length front) refl) i));
+      keeps = ap (λ (x : Handed). x.held) (hand_append h front rest) ∙ (λ i. (hand_out (a i) (sym (drop_at front rest (length front) refl) i)).held);
       reached = (r.0 ++ front, sym a ∙ ap (λ (x : Held). (hand_out x front).held) r.1 ∙ sym (held_append r.0 front));
       carried = carried_none 0 (count + length front) after (drop (length front) (front ++ rest)) z;
     }
@@ -84,7 +70,7 @@ reads_front old bytes front rest n e l is len z h q none =
       within = omega (arith, length-append front rest);
       text = no_text;
       moves = λ x y. absurd (omega (arith, len));
-      opens = λ r. opens_read old l.held (front ++ rest) (length front) (ap (λ (x : List ℕ). (hand_out old x).held) (take_front front rest) ∙ ap (λ (x : Handed). x.held) h);
+      opens = λ r. opens_read old l.held (front ++ rest) (length front) (ap (λ (x : List ℕ). (hand_out old x).held) (take_at front rest (length front) refl) ∙ ap (λ (x : Handed). x.held) h);
     }))
 
 pub reads_run : (old : Held) (bytes : List ℕ) (n : ℕ) (l : Lending) → 0 < n → IsSilent old bytes n l.held → ReadsEvent old bytes (read.Bytes None n) l
@@ -102,9 +88,9 @@ bracket_handed : held_step (record { kept = InEscape []; waiting = false }) 0x5B
 unfolding held_step fresh_step escape_step opened is_embedded is_stop is_intermediate is_cut is_opener
 bracket_handed = refl
 
-opening_handed : (xs : List ℕ) → hand_out nothing_held (0x1B ∷ 0x5B ∷ xs) ≡ hand_out (in_sequence no_parameters) xs
+pub opening_handed : (b : ℕ) (h : Held) (xs : List ℕ) → held_step (record { kept = InEscape []; waiting = false }) b ≡ record { dispatches = []; held = h } → hand_out nothing_held (0x1B ∷ b ∷ xs) ≡ hand_out h xs
 unfolding hand_out
-opening_handed xs = rw escape_handed (rw bracket_handed refl)
+opening_handed b h xs e = rw escape_handed (rw e refl)
 
 final_not : (b : ℕ) → is_final b ≡ true → (is_embedded b ≡ false) × (is_parameter b ≡ false) × (is_cut b ≡ false) × ((b == 0xC2) ≡ false)
 unfolding is_final is_embedded is_parameter is_cut is_stop
@@ -142,7 +128,7 @@ reads_sequence old bytes others n b rest l o g is k p f d =
 
     opened_front : hand_out nothing_held front ≡ record { dispatches = []; held = in_sequence q }
     opened_front =
-        opening_handed (take n others)
+        opening_handed 0x5B (in_sequence no_parameters) (take n others) bracket_handed
         ∙ parameters_handed no_parameters (take n others) (subst (λ (m : ℕ). list_all is_parameter (take m others) ≡ true) (sym k) (all_pass is_parameter others))
 
     sequence_handed : hand_out nothing_held (front ++ b ∷ []) ≡ record { dispatches = ControlSequence q.tokens q.truncated b ∷ []; held = nothing_held }

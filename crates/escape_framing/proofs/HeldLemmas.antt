@@ -1,18 +1,18 @@
 -- What is handed out byte by byte is what the cut of the stream decides.
-use Rattle.std.proofs.Common.{◌≡◌, ℕ, ◌-◌, ◌≤◌, inl, inr, Bool, true, false, cond, List, [], ◌∷◌, ◌++◌, length, drop, map, refl, sym, ap, subst, ◌∙◌, arith, append_assoc}
+use Rattle.std.proofs.Common.{◌≡◌, ℕ, ◌-◌, ◌≤◌, inl, inr, Bool, true, false, cond, List, [], ◌∷◌, ◌++◌, length, drop, map, refl, sym, ap, subst, ◌∙◌, arith, append_assoc, ⊎_elim, ◌≢◌, ◌%◌, ◌/◌, ◌+◌}
 use Rattle.std.specs.Prelude.{◌==◌, ◌&&◌, not}
 use Rattle.std.specs.Char.{IsScalar}
-use Rattle.std.specs.List.{flat_map}
+use Rattle.std.specs.List.{flat_map, AllByRecursion}
 use Rattle.std.proofs.lemmas.Bool.Decides.{nat_tests}
-use Rattle.std.proofs.lemmas.List.{append-nil, drop_at}
+use Rattle.std.proofs.lemmas.List.{append-nil, drop_at, same_from_push}
 use Rattle.std.proofs.lemmas.Grind.{flat_map-append}
 use Rattle.text_clusters.specs.Controls.{is_c1}
 use lib.Utf8.{encode}
 use Rattle.escape_framing.specs.SevenBit.{seven_bit}
-use Rattle.escape_framing.specs.Segment.{Tail, Begun, OpenEscape, OpenControlSequence, OpenCommand, OpenHeader, OpenDevice, OpenString, bytes_of_tail, IllFormed, CutOff, bytes_of, BeginsCharacter, IsBegun, IsUnfinished, is_before_final}
+use Rattle.escape_framing.specs.Segment.{Tail, Begun, OpenCommand, OpenDevice, OpenString, bytes_of_tail, IllFormed, CutOff, bytes_of, BeginsCharacter, IsBegun, IsUnfinished, is_before_final}
 use Rattle.escape_framing.specs.Decode.{Reading, waits, ends_before, first_byte, in_character, next_byte, read_on}
 use Rattle.escape_framing.specs.Dispatch.{Dispatch, Data, Enter, controls_in, settled, decided_of, dispatches_of}
-use Rattle.escape_framing.specs.Bytes.{is_stop, is_cut, ends_command, taken}
+use Rattle.escape_framing.specs.Bytes.{is_stop, ends_command, taken}
 use Rattle.escape_framing.specs.Cut.{the_cut, dispatches, newly_decided}
 use Rattle.escape_framing.specs.Held.{Kept, InCharacter, kept_of, Step, steps, before, character_step, kept_step, Held, Handed, handed, handed_behind, interrupted, fresh_step, waiting_step, held_step, nothing_held, hand_out, held_of}
 use Rattle.escape_framing.proofs.Existence.Utf8Lemmas.{Spelled, in_one, in_two, in_three, in_four, spelled, lead_wants, begins_one}
@@ -22,6 +22,8 @@ use Rattle.escape_framing.proofs.ReadLemmas.{read_nil, read_step, read_append}
 use Rattle.escape_framing.proofs.CharacterReading.{breaks, waits_begun}
 use Rattle.escape_framing.proofs.SequenceReading.{cut_off, stays_command, stays_device, stays_string}
 use Rattle.escape_framing.proofs.KeptLemmas.{given, goes}
+use Rattle.std.proofs.lemmas.Bool.{cond_both, cases_Bool, eqb-true}
+use Rattle.escape_framing.proofs.WaitingLemmas.{lead_cuts}
 
 -- ---- a C2 or ESC goes on with no character
 
@@ -30,31 +32,29 @@ pub record Inner (b : ℕ) : Type 0 where
   pub least : 128 ≤ b
   pub most : b ≤ 191
 
-inner_two : (a d x b : ℕ) (t more : List ℕ) → Inner d → a ∷ d ∷ [] ≡ x ∷ (t ++ b ∷ more) → Inner b
-inner_two a d x b [] more i e = subst Inner (let k : d ≡ b = cc in k) i
-inner_two a d x b (y ∷ []) more i e = cc
-inner_two a d x b (y ∷ z ∷ t) more i e = cc
-
-inner_three : (a d f x b : ℕ) (t more : List ℕ) → Inner d → Inner f → a ∷ d ∷ f ∷ [] ≡ x ∷ (t ++ b ∷ more) → Inner b
-inner_three a d f x b [] more i j e = subst Inner (let k : d ≡ b = cc in k) i
-inner_three a d f x b (y ∷ t) more i j e = inner_two d f y b t more j (let k : d ∷ f ∷ [] ≡ y ∷ (t ++ b ∷ more) = cc in k)
-
-inner_four : (a d f g x b : ℕ) (t more : List ℕ) → Inner d → Inner f → Inner g → a ∷ d ∷ f ∷ g ∷ [] ≡ x ∷ (t ++ b ∷ more) → Inner b
-inner_four a d f g x b [] more i j k e = subst Inner (let h : d ≡ b = cc in h) i
-inner_four a d f g x b (y ∷ t) more i j k e = inner_three d f g y b t more j k (let h : d ∷ f ∷ g ∷ [] ≡ y ∷ (t ++ b ∷ more) = cc in h)
+inner_at : (xs t more : List ℕ) (b : ℕ) → AllByRecursion Inner xs → xs ≡ t ++ b ∷ more → Inner b
+inner_at [] [] more b i e = cc
+inner_at [] (y ∷ t) more b i e = cc
+inner_at (d ∷ xs) [] more b i e = subst Inner (let k : d ≡ b = cc in k) i.0
+inner_at (d ∷ xs) (y ∷ t) more b i e = inner_at xs t more b i.1 (let k : xs ≡ t ++ b ∷ more = cc in k)
 
 pub inner : (c x b : ℕ) (t more : List ℕ) → IsScalar c → encode c ≡ x ∷ (t ++ b ∷ more) → Inner b
 inner c x b t more s e = by_kind (spelled c s)
   where
+    within : (d : ℕ) → 128 ≤ d → d ≤ 191 → Inner d
+    within d l m = record { least = l; most = m }
+
     by_kind : Spelled c → Inner b
-    by_kind (in_one l h) = absurd (one_only t (sym h ∙ e))
-      where
-        one_only : (u : List ℕ) → c ∷ [] ≡ x ∷ (u ++ b ∷ more) → ⊥
-        one_only [] k = cc
-        one_only (y ∷ u) k = cc
-    by_kind (in_two g l h) = inner_two _ _ x b t more (record { least = omega arith; most = omega arith }) (sym h ∙ e)
-    by_kind (in_three g l t' h) = inner_three _ _ _ x b t more (record { least = omega arith; most = omega arith }) (record { least = omega arith; most = omega arith }) (sym h ∙ e)
-    by_kind (in_four g l h) = inner_four _ _ _ _ x b t more (record { least = omega arith; most = omega arith }) (record { least = omega arith; most = omega arith }) (record { least = omega arith; most = omega arith }) (sym h ∙ e)
+    by_kind (in_one l h) = let k = sym h ∙ e in inner_at [] t more b tt (let r : [] ≡ t ++ b ∷ more = cc in r)
+    by_kind (in_two g l h) = let k = sym h ∙ e in inner_at (_ ∷ []) t more b (within _ (omega arith) (omega arith), tt) (let r : (128 + c % 64) ∷ [] ≡ t ++ b ∷ more = cc in r)
+    by_kind (in_three g l u h) =
+        let k = sym h ∙ e in
+        let r : (128 + (c / 64) % 64) ∷ (128 + c % 64) ∷ [] ≡ t ++ b ∷ more = cc in
+        inner_at _ t more b (within _ (omega arith) (omega arith), (within _ (omega arith) (omega arith), tt)) r
+    by_kind (in_four g l h) =
+        let k = sym h ∙ e in
+        let r : (128 + (c / 4096) % 64) ∷ (128 + (c / 64) % 64) ∷ (128 + c % 64) ∷ [] ≡ t ++ b ∷ more = cc in
+        inner_at _ t more b (within _ (omega arith) (omega arith), (within _ (omega arith) (omega arith), (within _ (omega arith) (omega arith), tt))) r
 
 -- no byte but those from 80 to BF goes on with a character that has begun
 pub no_inner : (x b : ℕ) (p : List ℕ) → (Inner b → ⊥) → BeginsCharacter (x ∷ p ++ b ∷ []) → ⊥
@@ -73,12 +73,7 @@ interrupts : (t : Tail) (b : ℕ) → IsUnfinished t → (Inner b → ⊥) → b
 interrupts (Begun []) b g n = refl
 interrupts (Begun (x ∷ p)) b (inl e) n = cc
 interrupts (Begun (x ∷ p)) b (inr g) n = interrupted_character x b p g n
-interrupts (OpenEscape body) b g n = refl
-interrupts (OpenControlSequence o body) b g n = refl
-interrupts (OpenCommand o body) b g n = refl
-interrupts (OpenHeader o header) b g n = refl
-interrupts (OpenDevice o header f body) b g n = refl
-interrupts (OpenString o x body) b g n = refl
+interrupts _ b g n = refl
 
 -- ---- the seven-bit form
 
@@ -122,6 +117,9 @@ reads_interrupted v b ds kept r n = subst (λ (k : Kept). before (interrupted k)
 pub no_c2 : Inner 0xC2 → ⊥
 no_c2 i = let m = i.most in omega arith
 
+pub not_lead : (b : ℕ) → Inner b → b ≢ 0xC2
+not_lead b i k = no_c2 (subst Inner k i)
+
 no_escape : Inner 0x1B → ⊥
 no_escape i = let l = i.least in omega arith
 
@@ -137,42 +135,15 @@ pub data At (s : List ℕ) (h : Handed) : Type 0 where
 abbrev pub then_handed : List Dispatch → Handed → Handed
 then_handed ds h = record { dispatches = ds ++ h.dispatches; held = h.held }
 
-fresh_c2 : (kept : Kept) (b : ℕ) → (b == 0xC2) ≡ true → fresh_step kept b ≡ handed (interrupted kept) true
-unfolding fresh_step
-fresh_c2 kept b e = rw e refl
-
-fresh_other : (kept : Kept) (b : ℕ) → (b == 0xC2) ≡ false → fresh_step kept b ≡ handed (kept_step kept b) false
-unfolding fresh_step
-fresh_other kept b e = rw e refl
-
 fresh_at : (s : List ℕ) (b : ℕ) (ds : List Dispatch) (kept : Kept) → pairs s b ≡ false → ReadsTo (seven_bit s) ds kept → At (s ++ b ∷ []) (then_handed ds (fresh_step kept b))
-fresh_at s b ds kept n r = by_test (b == 0xC2) refl
+unfolding fresh_step
+fresh_at s b ds kept n r =
+    cond_both (b == 0xC2) _ _ (λ (h : Handed). At (s ++ b ∷ []) (then_handed ds h))
+    (λ e. at_c2 (seven_bit s) ds kept (seven_bit_plain s b n ∙ ap (λ (x : ℕ). seven_bit s ++ x ∷ []) (eqb-true b 0xC2 e)) (opened ∙ e) r refl)
+    (λ e. at_rest (opened ∙ e) (subst (λ l. ReadsTo l (ds ++ (kept_step kept b).dispatches) (kept_step kept b).kept) (sym (seven_bit_plain s b n)) (reads_one (seven_bit s) b ds kept r)) refl)
   where
     opened : opens (s ++ b ∷ []) ≡ (b == 0xC2)
     opened = opens_more s b ∙ ap (λ (t : Bool). cond t false (b == 0xC2)) n
-
-    by_test : (t : Bool) → (b == 0xC2) ≡ t → At (s ++ b ∷ []) (then_handed ds (fresh_step kept b))
-    by_test true e =
-        at_c2 (seven_bit s) ds kept (seven_bit_plain s b n ∙ ap (λ (x : ℕ). seven_bit s ++ x ∷ []) (let k : b ≡ 0xC2 = grind (arith, nat_tests) in k)) (opened ∙ e) r (ap (then_handed ds) (fresh_c2 kept b e))
-    by_test false e =
-        subst (λ (h : Handed). At (s ++ b ∷ []) (then_handed ds h)) (sym (fresh_other kept b e))
-        (at_rest (opened ∙ e) (subst (λ l. ReadsTo l (ds ++ (kept_step kept b).dispatches) (kept_step kept b).kept) (sym (seven_bit_plain s b n)) (reads_one (seven_bit s) b ds kept r)) refl)
-
-drop_last : (xs ys : List ℕ) (a b : ℕ) → xs ++ a ∷ [] ≡ ys ++ b ∷ [] → xs ≡ ys
-drop_last [] [] a b h = refl
-drop_last [] (y ∷ []) a b h = cc
-drop_last [] (y ∷ z ∷ ys) a b h = cc
-drop_last (x ∷ []) [] a b h = cc
-drop_last (x ∷ z ∷ xs) [] a b h = cc
-drop_last (x ∷ xs) (y ∷ ys) a b h = let k = drop_last xs ys a b (let l : xs ++ a ∷ [] ≡ ys ++ b ∷ [] = cc in l) in cc
-
-waiting_pair : (kept : Kept) (b : ℕ) → is_c1 0xC2 b ≡ true → waiting_step kept b ≡ handed_behind (kept_step kept 0x1B) (handed (kept_step (kept_step kept 0x1B).kept (b - 0x40)) false)
-unfolding waiting_step
-waiting_pair kept b e = rw e refl
-
-waiting_other : (kept : Kept) (b : ℕ) → is_c1 0xC2 b ≡ false → waiting_step kept b ≡ handed_behind (kept_step kept 0xC2) (fresh_step (kept_step kept 0xC2).kept b)
-unfolding waiting_step
-waiting_other kept b e = rw e refl
 
 -- what an interrupted step hands out with the step behind it
 joined : (ds : List Dispatch) (kept : Kept) (b : ℕ) (rest : Kept → Handed) → before (interrupted kept).dispatches (kept_step (interrupted kept).kept b) ≡ kept_step kept b
@@ -187,40 +158,28 @@ joined ds kept b rest e =
 
 waiting_at : (s : List ℕ) (b : ℕ) (v : List ℕ) (ds : List Dispatch) (kept : Kept) → seven_bit s ≡ v ++ 0xC2 ∷ [] → opens s ≡ true → ReadsTo v ds kept
     → At (s ++ b ∷ []) (then_handed (ds ++ (interrupted kept).dispatches) (waiting_step (interrupted kept).kept b))
-waiting_at s b v ds kept form last r = by_test (is_c1 0xC2 b) refl
-  where
-    by_test : (t : Bool) → is_c1 0xC2 b ≡ t → At (s ++ b ∷ []) (then_handed (ds ++ (interrupted kept).dispatches) (waiting_step (interrupted kept).kept b))
-    by_test true e =
-        let pair : pairs s b ≡ true = rw (last, e) refl in
-        let p = seven_bit_pair s b pair in
-        let front : p.front ≡ v = drop_last p.front v 0xC2 0xC2 (sym p.before ∙ form) in
-        let one = reads_one v 0x1B ds kept r in
-        let two = reads_one (v ++ 0x1B ∷ []) (b - 0x40) (ds ++ (kept_step kept 0x1B).dispatches) (kept_step kept 0x1B).kept one in
-        let bytes : (v ++ 0x1B ∷ []) ++ (b - 0x40) ∷ [] ≡ seven_bit (s ++ b ∷ []) = append_assoc v (0x1B ∷ []) ((b - 0x40) ∷ []) ∙ ap (λ l. l ++ 0x1B ∷ (b - 0x40) ∷ []) (sym front) ∙ sym p.after in
-        subst (At (s ++ b ∷ []))
-        (sym (ap (then_handed (ds ++ (interrupted kept).dispatches)) (waiting_pair (interrupted kept).kept b e) ∙ joined ds kept 0x1B (λ k. handed (kept_step k (b - 0x40)) false) (reads_interrupted v 0x1B ds kept r no_escape)))
-        (at_rest (opens_more s b ∙ ap (λ (t : Bool). cond t false (b == 0xC2)) pair) (subst (λ l. ReadsTo l ((ds ++ (kept_step kept 0x1B).dispatches) ++ (kept_step (kept_step kept 0x1B).kept (b - 0x40)).dispatches) (kept_step (kept_step kept 0x1B).kept (b - 0x40)).kept) bytes two) refl)
-    by_test false e =
-        let no_pair : pairs s b ≡ false = rw (last, e) refl in
-        let one = reads_one v 0xC2 ds kept r in
-        subst (At (s ++ b ∷ []))
-        (sym (ap (then_handed (ds ++ (interrupted kept).dispatches)) (waiting_other (interrupted kept).kept b e) ∙ joined ds kept 0xC2 (λ k. fresh_step k b) (reads_interrupted v 0xC2 ds kept r no_c2)))
-        (fresh_at s b (ds ++ (kept_step kept 0xC2).dispatches) (kept_step kept 0xC2).kept no_pair (subst (λ l. ReadsTo l (ds ++ (kept_step kept 0xC2).dispatches) (kept_step kept 0xC2).kept) (sym form) one))
-
-step_fresh : (held : Held) (b : ℕ) → held.waiting ≡ false → held_step held b ≡ fresh_step held.kept b
-unfolding held_step
-step_fresh held b e = rw e refl
-
-step_waiting : (kept : Kept) (b : ℕ) → held_step (record { kept = kept; waiting = true }) b ≡ waiting_step kept b
-unfolding held_step
-step_waiting kept b = refl
+unfolding waiting_step
+waiting_at s b v ds kept form last r = cond_both (is_c1 0xC2 b) _ _ (λ (h : Handed). At (s ++ b ∷ []) (then_handed (ds ++ (interrupted kept).dispatches) h))
+    (λ e.
+    let pair : pairs s b ≡ true = rw (last, e) refl in
+    let p = seven_bit_pair s b pair in
+    let front : p.front ≡ v = (same_from_push p.front v 0xC2 0xC2 (sym p.before ∙ form)).0 in
+    let one = reads_one v 0x1B ds kept r in
+    let two = reads_one (v ++ 0x1B ∷ []) (b - 0x40) (ds ++ (kept_step kept 0x1B).dispatches) (kept_step kept 0x1B).kept one in
+    let bytes : (v ++ 0x1B ∷ []) ++ (b - 0x40) ∷ [] ≡ seven_bit (s ++ b ∷ []) = append_assoc v (0x1B ∷ []) ((b - 0x40) ∷ []) ∙ ap (λ l. l ++ 0x1B ∷ (b - 0x40) ∷ []) (sym front) ∙ sym p.after in
+    subst (At (s ++ b ∷ [])) (sym (joined ds kept 0x1B (λ k. handed (kept_step k (b - 0x40)) false) (reads_interrupted v 0x1B ds kept r no_escape)))
+    (at_rest (opens_more s b ∙ ap (λ (t : Bool). cond t false (b == 0xC2)) pair) (subst (λ l. ReadsTo l ((ds ++ (kept_step kept 0x1B).dispatches) ++ (kept_step (kept_step kept 0x1B).kept (b - 0x40)).dispatches) (kept_step (kept_step kept 0x1B).kept (b - 0x40)).kept) bytes two) refl))
+    (λ e.
+    let no_pair : pairs s b ≡ false = rw (last, e) refl in
+    let one = reads_one v 0xC2 ds kept r in
+    subst (At (s ++ b ∷ [])) (sym (joined ds kept 0xC2 (λ k. fresh_step k b) (reads_interrupted v 0xC2 ds kept r no_c2)))
+    (fresh_at s b (ds ++ (kept_step kept 0xC2).dispatches) (kept_step kept 0xC2).kept no_pair (subst (λ l. ReadsTo l (ds ++ (kept_step kept 0xC2).dispatches) (kept_step kept 0xC2).kept) (sym form) one)))
 
 at_next : (s : List ℕ) (b : ℕ) (h : Handed) → At s h → At (s ++ b ∷ []) (then_handed h.dispatches (held_step h.held b))
-at_next s b h (at_rest o r w) =
-    subst (λ (n : Handed). At (s ++ b ∷ []) (then_handed h.dispatches n)) (sym (step_fresh h.held b w)) (fresh_at s b h.dispatches h.held.kept (ap (λ (t : Bool). t && is_c1 0xC2 b) o) r)
+unfolding held_step
+at_next s b h (at_rest o r w) = rw w (fresh_at s b h.dispatches h.held.kept (ap (λ (t : Bool). t && is_c1 0xC2 b) o) r)
 at_next s b h (at_c2 v ds kept form o r e) =
-    subst (λ (n : Handed). At (s ++ b ∷ []) (then_handed n.dispatches (held_step n.held b))) (sym e)
-    (subst (λ (n : Handed). At (s ++ b ∷ []) (then_handed (ds ++ (interrupted kept).dispatches) n)) (sym (step_waiting (interrupted kept).kept b)) (waiting_at s b v ds kept form o r))
+    subst (λ (n : Handed). At (s ++ b ∷ []) (then_handed n.dispatches (held_step n.held b))) (sym e) (waiting_at s b v ds kept form o r)
 
 at_on : (bytes s : List ℕ) (h : Handed) → At s h → At (s ++ bytes) (then_handed h.dispatches (hand_out h.held bytes))
 unfolding hand_out
@@ -231,12 +190,9 @@ at_on (b ∷ bytes) s h a =
     subst (λ l. At l (then_handed h.dispatches (hand_out h.held (b ∷ bytes)))) (append_assoc s (b ∷ []) bytes)
     (subst (λ l. At ((s ++ b ∷ []) ++ bytes) (record { dispatches = l; held = (hand_out n.held bytes).held })) (append_assoc h.dispatches n.dispatches _) k)
 
-at_start : At [] (record { dispatches = []; held = nothing_held })
-unfolding read_on
-at_start = at_rest refl (record { gives = refl; keeps = refl }) refl
-
 pub at_all : (s : List ℕ) → At s (hand_out nothing_held s)
-at_all s = at_on s [] (record { dispatches = []; held = nothing_held }) at_start
+unfolding read_on
+at_all s = at_on s [] (record { dispatches = []; held = nothing_held }) (at_rest refl (record { gives = refl; keeps = refl }) refl)
 
 -- ---- what the cut decides
 
@@ -264,7 +220,7 @@ settled_all (x ∷ y ∷ xs) h = ap (λ l. x ∷ l) (settled_all (y ∷ xs) h)
 opens_last : (s : List ℕ) → last_is_c2 (seven_bit s) ≡ opens s
 opens_last [] = refl
 opens_last (x ∷ []) = refl
-opens_last (x ∷ y ∷ s) = by_test (is_c1 x y) refl (opens_last s) (opens_last (y ∷ s))
+opens_last (x ∷ y ∷ s) = ⊎_elim (λ e. rw e (behind_escape (seven_bit s) e ∙ opens_last s)) (λ e. rw e (behind_byte y s ∙ opens_last (y ∷ s))) (cases_Bool (is_c1 x y))
   where
     small : is_c1 x y ≡ true → ((y - 0x40) == 0xC2) ≡ false
     small h = grind (arith, nat_tests)
@@ -275,23 +231,10 @@ opens_last (x ∷ y ∷ s) = by_test (is_c1 x y) refl (opens_last s) (opens_last
 
     behind_byte : (z : ℕ) (s : List ℕ) → last_is_c2 (x ∷ seven_bit (z ∷ s)) ≡ last_is_c2 (seven_bit (z ∷ s))
     behind_byte z [] = refl
-    behind_byte z (w ∷ s) = by_pair (is_c1 z w) refl
-      where
-        by_pair : (t : Bool) → is_c1 z w ≡ t → last_is_c2 (x ∷ seven_bit (z ∷ w ∷ s)) ≡ last_is_c2 (seven_bit (z ∷ w ∷ s))
-        by_pair true e = rw e refl
-        by_pair false e = rw e refl
-
-    by_test : (t : Bool) → is_c1 x y ≡ t → last_is_c2 (seven_bit s) ≡ opens s → last_is_c2 (seven_bit (y ∷ s)) ≡ opens (y ∷ s) → last_is_c2 (seven_bit (x ∷ y ∷ s)) ≡ opens (x ∷ y ∷ s)
-    by_test true e p q = rw e (behind_escape (seven_bit s) e ∙ p)
-    by_test false e p q = rw e (behind_byte y s ∙ q)
+    behind_byte z (w ∷ s) = cond_both (is_c1 z w) _ _ (λ l. last_is_c2 (x ∷ l) ≡ last_is_c2 l) (λ e. refl) (λ e. refl)
 
 -- where no C2 stands last, what is open has decided all that it was given
 decided_all : (t : Tail) (front : List ℕ) → last_is_c2 (front ++ bytes_of_tail t) ≡ false → decided_of t ≡ given t
-decided_all (Begun bytes) front h = refl
-decided_all (OpenEscape body) front h = refl
-decided_all (OpenControlSequence o body) front h = refl
-decided_all (OpenCommand o body) front h = refl
-decided_all (OpenHeader o header) front h = refl
 decided_all (OpenDevice o header f body) front h =
     let e : last_is_c2 (f ∷ body) ≡ false = sym (last_behind (front ++ (0x1B ∷ o ++ 0x50 ∷ header)) f body) ∙ ap last_is_c2 (append_assoc front (0x1B ∷ o ++ 0x50 ∷ header) (f ∷ body)) ∙ h in
     ap (λ l. controls_in o ++ Enter (taken header) f ∷ map Data l) (settled_all body (last_data body e))
@@ -299,7 +242,7 @@ decided_all (OpenDevice o header f body) front h =
     last_data : (xs : List ℕ) → last_is_c2 (f ∷ xs) ≡ false → last_is_c2 xs ≡ false
     last_data [] k = refl
     last_data (x ∷ xs) k = k
-decided_all (OpenString o x body) front h = refl
+decided_all _ front h = refl
 
 pub rest_decides : (s : List ℕ) → opens s ≡ false → dispatches s ≡ flat_map dispatches_of (read_on (Begun []) (seven_bit s)).segments ++ given (read_on (Begun []) (seven_bit s)).tail
 unfolding the_cut
@@ -318,10 +261,6 @@ pub first_c2 : first_byte 0xC2 ≡ waits (Begun (0xC2 ∷ []))
 unfolding next_byte in_character
 first_c2 = c2_waits
 
-pub c2_cuts : is_cut 0xC2 ≡ true
-unfolding is_cut is_stop
-c2_cuts = refl
-
 pub c2_is_command : not (ends_command 0xC2) ≡ true
 unfolding is_stop
 c2_is_command = refl
@@ -335,20 +274,18 @@ abbrev decides : Reading → List Dispatch
 decides r = flat_map dispatches_of r.segments ++ decided_of r.tail
 
 c2_cuts_off : (t : Tail) → is_before_final t ≡ true → decides (next_byte t 0xC2) ≡ decided_of t ++ []
-c2_cuts_off t h = ap decides (cut_off t 0xC2 h c2_cuts) ∙ ap (λ (r : Reading). decides (ends_before (CutOff t) r)) first_c2 ∙ append-nil _
+c2_cuts_off t h = ap decides (cut_off t 0xC2 h lead_cuts) ∙ ap (λ (r : Reading). decides (ends_before (CutOff t) r)) first_c2 ∙ append-nil _
 
 -- a C2 that waits decides what an interruption does
 c2_decides : (t : Tail) → IsUnfinished t → decides (next_byte t 0xC2) ≡ given t ++ (interrupted (kept_of t)).dispatches
 c2_decides (Begun []) g = ap decides c2_waits
 c2_decides (Begun (x ∷ p)) (inl e) = cc
 c2_decides (Begun (x ∷ p)) (inr g) = ap decides (breaks (x ∷ p) 0xC2 g (no_inner x 0xC2 p no_c2)) ∙ ap (λ (r : Reading). decides (ends_before (IllFormed (x ∷ p)) r)) first_c2
-c2_decides (OpenEscape body) g = c2_cuts_off (OpenEscape body) refl
-c2_decides (OpenControlSequence o body) g = c2_cuts_off (OpenControlSequence o body) refl
 c2_decides (OpenCommand o body) g = ap decides (stays_command o body 0xC2 c2_is_command) ∙ sym (append-nil _)
-c2_decides (OpenHeader o header) g = c2_cuts_off (OpenHeader o header) refl
 c2_decides (OpenDevice o header f body) g =
     ap decides (stays_device o header f body 0xC2 c2_is_data) ∙ ap (λ l. controls_in o ++ Enter (taken header) f ∷ map Data l) (settled_push body) ∙ sym (append-nil _)
 c2_decides (OpenString o x body) g = ap decides (stays_string o x body 0xC2 c2_is_data) ∙ sym (append-nil _)
+c2_decides t g = c2_cuts_off t refl
 
 c2_rests : (s v : List ℕ) (ds : List Dispatch) (kept : Kept) → seven_bit s ≡ v ++ 0xC2 ∷ [] → ReadsTo v ds kept → dispatches s ≡ ds ++ (interrupted kept).dispatches
 unfolding the_cut
@@ -393,12 +330,7 @@ decided_append s x =
 pub newly_handed : (s x : List ℕ) → newly_decided s x ≡ (hand_out (held_of s) x).dispatches
 newly_handed s x = ap (λ l. drop (length (dispatches s)) l) (decided_append s x) ∙ drop_at (dispatches s) (hand_out (held_of s) x).dispatches _ refl
 
-hand_one : (h : Held) (b : ℕ) → hand_out h (b ∷ []) ≡ record { dispatches = (held_step h b).dispatches ++ []; held = (held_step h b).held }
-unfolding hand_out
-hand_one h b = refl
-
 -- what one byte more decides is what its step hands out
 pub step_decides : (s : List ℕ) (b : ℕ) → (newly_decided s (b ∷ []) ≡ (held_step (held_of s) b).dispatches) × (held_of (s ++ b ∷ []) ≡ (held_step (held_of s) b).held)
-step_decides s b =
-    let e = hand_one (held_of s) b in
-    (newly_handed s (b ∷ []) ∙ ap (λ (h : Handed). h.dispatches) e ∙ append-nil _, held_append s (b ∷ []) ∙ ap (λ (h : Handed). h.held) e)
+unfolding hand_out
+step_decides s b = (newly_handed s (b ∷ []) ∙ append-nil _, held_append s (b ∷ []))

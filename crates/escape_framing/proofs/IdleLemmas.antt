@@ -1,23 +1,19 @@
 -- Nothing is held of a stream exactly where nothing is open.
 use Rattle.std.proofs.Common.{◌≡◌, ◌≢◌, ℕ, inl, inr, true, false, List, [], ◌∷◌, refl, sym, ap, ◌∙◌}
 use Rattle.escape_framing.specs.SevenBit.{seven_bit}
-use Rattle.escape_framing.specs.Segment.{Tail, Begun, OpenEscape, OpenControlSequence, OpenCommand, OpenHeader, OpenDevice, OpenString, IsUnfinished}
+use Rattle.escape_framing.specs.Segment.{Tail, Begun, OpenCommand, OpenDevice, OpenString, IsUnfinished}
 use Rattle.escape_framing.specs.Decode.{Reading, next_byte, read_on}
 use Rattle.escape_framing.specs.Cut.{the_cut, tail_of}
 use Rattle.escape_framing.specs.Held.{InCharacter, kept_of, Held, Handed, nothing_held, hand_out, held_of}
 use Rattle.escape_framing.proofs.CharacterReading.{breaks}
 use Rattle.escape_framing.proofs.SequenceReading.{cut_off, stays_command, stays_device, stays_string}
-use Rattle.escape_framing.proofs.HeldLemmas.{At, at_rest, at_c2, unfinished, at_all, read_push, c2_waits, first_c2, c2_cuts, c2_is_command, c2_is_data, no_inner, no_c2}
+use Rattle.escape_framing.proofs.HeldLemmas.{At, at_rest, at_c2, unfinished, at_all, read_push, c2_waits, first_c2, c2_is_command, c2_is_data, no_inner, no_c2}
+use Rattle.escape_framing.proofs.WaitingLemmas.{lead_cuts}
 
 -- only a tail of nothing keeps nothing
 kept_nothing : (t : Tail) → kept_of t ≡ InCharacter [] → t ≡ Begun []
 kept_nothing (Begun bytes) e = ap Begun (let k : bytes ≡ [] = cc in k)
-kept_nothing (OpenEscape body) e = cc
-kept_nothing (OpenControlSequence o body) e = cc
-kept_nothing (OpenCommand o body) e = cc
-kept_nothing (OpenHeader o header) e = cc
-kept_nothing (OpenDevice o header f body) e = cc
-kept_nothing (OpenString o x body) e = cc
+kept_nothing _ e = cc
 
 pub tail_is : (s : List ℕ) → tail_of s ≡ (read_on (Begun []) (seven_bit s)).tail
 unfolding the_cut
@@ -29,12 +25,10 @@ c2_open (Begun []) g e = let k = sym (ap (λ (r : Reading). r.tail) c2_waits) �
 c2_open (Begun (x ∷ p)) (inl h) e = cc
 c2_open (Begun (x ∷ p)) (inr h) e =
     let k = sym (ap (λ (r : Reading). r.tail) (breaks (x ∷ p) 0xC2 h (no_inner x 0xC2 p no_c2)) ∙ ap (λ (r : Reading). r.tail) first_c2) ∙ e in cc
-c2_open (OpenEscape body) g e = let k = sym (ap (λ (r : Reading). r.tail) (cut_off (OpenEscape body) 0xC2 refl c2_cuts) ∙ ap (λ (r : Reading). r.tail) first_c2) ∙ e in cc
-c2_open (OpenControlSequence o body) g e = let k = sym (ap (λ (r : Reading). r.tail) (cut_off (OpenControlSequence o body) 0xC2 refl c2_cuts) ∙ ap (λ (r : Reading). r.tail) first_c2) ∙ e in cc
 c2_open (OpenCommand o body) g e = let k = sym (ap (λ (r : Reading). r.tail) (stays_command o body 0xC2 c2_is_command)) ∙ e in cc
-c2_open (OpenHeader o header) g e = let k = sym (ap (λ (r : Reading). r.tail) (cut_off (OpenHeader o header) 0xC2 refl c2_cuts) ∙ ap (λ (r : Reading). r.tail) first_c2) ∙ e in cc
 c2_open (OpenDevice o header f body) g e = let k = sym (ap (λ (r : Reading). r.tail) (stays_device o header f body 0xC2 c2_is_data)) ∙ e in cc
 c2_open (OpenString o x body) g e = let k = sym (ap (λ (r : Reading). r.tail) (stays_string o x body 0xC2 c2_is_data)) ∙ e in cc
+c2_open t g e = let k = sym (ap (λ (r : Reading). r.tail) (cut_off t 0xC2 refl lead_cuts) ∙ ap (λ (r : Reading). r.tail) first_c2) ∙ e in cc
 
 idle_at : (s : List ℕ) (h : Handed) → At s h → h.held ≡ nothing_held → tail_of s ≡ Begun []
 idle_at s h (at_rest o r w) e = tail_is s ∙ kept_nothing _ (r.keeps ∙ ap (λ (x : Held). x.kept) e)

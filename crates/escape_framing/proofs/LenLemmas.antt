@@ -5,8 +5,7 @@ use Rattle.std.proofs.lemmas.List.{take_at, drop-drop}
 use Rattle.std.proofs.lemmas.Str.{IsUtf8-encode, IsUtf8-append, IsUtf8-nil}
 use Rattle.std.proofs.Math.Seq.{take-add}
 use lib.Utf8.{encode}
-use Rattle.escape_framing.specs.Framed.{IsLendable, IsText, no_text, text_of, IsCharacterLen}
-use Rattle.escape_framing.specs.Wide.{IsRunLen}
+use Rattle.escape_framing.specs.Framed.{IsText, no_text, text_of, IsCharacterLen, IsRunLen}
 
 -- ---- characters, one after the other
 
@@ -18,11 +17,10 @@ pub text_is_utf8 : (xs : List ℕ) → IsText xs → IsUtf8 xs
 text_is_utf8 xs no_text = IsUtf8-nil
 text_is_utf8 xs (text_of c more l t) = IsUtf8-append (encode c) more (IsUtf8-encode c l.0) (text_is_utf8 more t)
 
-one_text : (bytes : List ℕ) (c n : ℕ) (more : List ℕ) → IsLendable c → bytes ≡ encode c ++ more → length (encode c) ≡ n → IsText (take n bytes)
-one_text bytes c n more l e h = subst IsText (append-nil (encode c) ∙ sym (ap (take n) e ∙ take_at (encode c) more n h)) (text_of c [] l no_text)
-
 pub some_text : (bytes : List ℕ) (n : ℕ) → IsCharacterLen bytes n → 0 < n → IsText (take n bytes) × (n ≤ length bytes)
-some_text bytes n k l = let s = k.some l in (one_text bytes s.0 n s.1 s.2 s.3 s.4, omega (arith, s.4, ap length s.3, length-append (encode s.0) s.1))
+some_text bytes n k l =
+    let s = k.some l in
+    (subst IsText (append-nil (encode s.0) ∙ sym (ap (take n) s.3 ∙ take_at (encode s.0) s.1 n s.4)) (text_of s.0 [] s.2 no_text), omega (arith, s.4, ap length s.3, length-append (encode s.0) s.1))
 
 -- a character, or none
 pub character_run : (bytes : List ℕ) (n : ℕ) → IsCharacterLen bytes n → IsRunLen bytes n

@@ -3,7 +3,7 @@ use Rattle.std.proofs.Common.{◌≡◌, ◌≢◌, ℕ, ◌+◌, ◌/◌, ◌<�
 use Rattle.std.specs.Prelude.{◌||◌, not}
 use Rattle.std.specs.List.{flat_map, list_any}
 use Rattle.std.proofs.lemmas.Bool.{or_right}
-use lib.Utf8.{encode, low_scalar}
+use lib.Utf8.{low_scalar}
 use Rattle.escape_framing.specs.Bytes.{is_stop, is_intermediate, is_final, is_escape_final, is_string_opener, is_opener}
 use Rattle.escape_framing.specs.Segment.{Tail, Begun, OpenEscape, OpenControlSequence, OpenCommand, OpenHeader, OpenDevice, OpenString, bytes_of_tail, Segment, Character, Escape, ControlSequence, OperatingSystemCommand, DeviceControl, String, bytes_of, IsBegun, IsUnfinished}
 use Rattle.escape_framing.specs.Decode.{Reading, read_on}
@@ -13,12 +13,9 @@ use Rattle.escape_framing.proofs.Existence.SequenceLemmas.{all_push}
 use Rattle.escape_framing.proofs.Existence.CutLemmas.{cuts_on}
 use Rattle.escape_framing.proofs.ReadLemmas.{after, behind, read_append}
 use Rattle.escape_framing.proofs.UniqueLemmas.{reads_segment}
+use Rattle.std.proofs.lemmas.List.{nil_from_length}
 
 -- ---- what is lengthened is open
-
-none_left : (more : List ℕ) → length more ≤ 0 → more ≡ []
-none_left [] l = refl
-none_left (x ∷ more) l = absurd (omega arith)
 
 pub lengthened_is_open : (bytes : List ℕ) → IsLengthened bytes → IsOpen bytes
 lengthened_is_open bytes g = by_segments (read_on (Begun []) bytes).segments refl
@@ -38,15 +35,9 @@ lengthened_is_open bytes g = by_segments (read_on (Begun []) bytes).segments ref
         let whole : (bytes_of s ++ flat_map bytes_of ss) ++ bytes_of_tail t ≡ bytes = sym (ap (λ l. flat_map bytes_of l ++ bytes_of_tail t) e) ∙ c.joined in
         let count = ap length whole in
         let longer = ap length (ap bytes_of same ∙ g.is) in
-        absurd (g.longer (none_left g.more (omega (arith, count, longer, length-append (bytes_of s ++ flat_map bytes_of ss) (bytes_of_tail t), length-append (bytes_of s) (flat_map bytes_of ss), length-append bytes g.more))))
+        absurd (g.longer (nil_from_length g.more (omega (arith, count, longer, length-append (bytes_of s ++ flat_map bytes_of ss) (bytes_of_tail t), length-append (bytes_of s) (flat_map bytes_of ss), length-append bytes g.more))))
 
 -- ---- what is open is lengthened
-
-some : (b : ℕ) (xs : List ℕ) → b ∷ xs ≢ []
-some b xs h = cc
-
-lead_pair : encode 0xA9 ≡ 0xC2 ∷ 0xA9 ∷ []
-lead_pair = two 0xA9 (omega arith) (omega arith)
 
 longer_character : (bytes : List ℕ) → IsBegun bytes → IsLengthened bytes
 longer_character bytes (c, more, s, e, n, m) = by_size (order 0x9F c)
@@ -61,8 +52,8 @@ longer_character bytes (c, more, s, e, n, m) = by_size (order 0x9F c)
           more = 0xA9 ∷ [];
           following = [];
           stands = (low_scalar 0xA9 (omega arith), inr (omega arith));
-          is = lead_pair ∙ ap (λ (b : ℕ). b ∷ 0xA9 ∷ []) (sym lead) ∙ ap (λ l. l ++ 0xA9 ∷ []) (sym is);
-          longer = some 0xA9 [];
+          is = two 0xA9 (omega arith) (omega arith) ∙ ap (λ (b : ℕ). b ∷ 0xA9 ∷ []) (sym lead) ∙ ap (λ l. l ++ 0xA9 ∷ []) (sym is);
+          longer = λ h. cc;
         }
     by_kind l (in_three g k t h) = absurd (omega arith)
     by_kind l (in_four g k h) = absurd (omega arith)
@@ -88,18 +79,18 @@ longer_tail (OpenEscape body) g n = record {
   following = [];
   stands = (g, letter_is_final.0, ap (λ (b : Bool). list_any is_intermediate body || not b) letter_is_final.1 ∙ or_right (list_any is_intermediate body) true refl);
   is = refl;
-  longer = some 0x63 [];
+  longer = λ h. cc;
 }
-longer_tail (OpenControlSequence o body) g n = record { segment = ControlSequence o body 0x6D; more = 0x6D ∷ []; following = []; stands = (g.0, g.1, mark_is_final.0); is = refl; longer = some 0x6D [] }
-longer_tail (OpenCommand o body) g n = record { segment = OperatingSystemCommand o body 0x07; more = 0x07 ∷ []; following = []; stands = (g.0, g.1, refl, refl); is = refl; longer = some 0x07 [] }
-longer_tail (OpenHeader o header) g n = record { segment = DeviceControl o header 0x6D []; more = 0x6D ∷ []; following = 0x1B ∷ []; stands = (g.0, g.1, mark_is_final.0, refl, mark_is_final.2); is = refl; longer = some 0x6D [] }
+longer_tail (OpenControlSequence o body) g n = record { segment = ControlSequence o body 0x6D; more = 0x6D ∷ []; following = []; stands = (g.0, g.1, mark_is_final.0); is = refl; longer = λ h. cc }
+longer_tail (OpenCommand o body) g n = record { segment = OperatingSystemCommand o body 0x07; more = 0x07 ∷ []; following = []; stands = (g.0, g.1, refl, refl); is = refl; longer = λ h. cc }
+longer_tail (OpenHeader o header) g n = record { segment = DeviceControl o header 0x6D []; more = 0x6D ∷ []; following = 0x1B ∷ []; stands = (g.0, g.1, mark_is_final.0, refl, mark_is_final.2); is = refl; longer = λ h. cc }
 longer_tail (OpenDevice o header f body) g n = record {
   segment = DeviceControl o header f (body ++ 0x61 ∷ []);
   more = 0x61 ∷ [];
   following = 0x1B ∷ [];
   stands = (g.0, g.1, g.2, all_push (λ b. not (is_stop b)) body 0x61 g.3 mark_is_final.1, mark_is_final.2);
   is = sym (append_assoc (0x1B ∷ o ++ 0x50 ∷ header) (f ∷ body) (0x61 ∷ []));
-  longer = some 0x61 [];
+  longer = λ h. cc;
 }
 longer_tail (OpenString o x body) g n = record {
   segment = String o x (body ++ 0x61 ∷ []);
@@ -107,7 +98,7 @@ longer_tail (OpenString o x body) g n = record {
   following = 0x1B ∷ [];
   stands = (g.0, g.1, all_push (λ b. not (is_stop b)) body 0x61 g.2 mark_is_final.1, mark_is_final.2);
   is = sym (append_assoc (0x1B ∷ o) (x ∷ body) (0x61 ∷ []));
-  longer = some 0x61 [];
+  longer = λ h. cc;
 }
 
 pub open_is_lengthened : (bytes : List ℕ) → bytes ≢ [] → IsOpen bytes → IsLengthened bytes

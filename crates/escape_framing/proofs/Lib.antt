@@ -15,7 +15,6 @@ pub mod WaitingLemmas
 pub mod LengthenedLemmas
 pub mod UndecidedLemmas
 pub mod IdleLemmas
-pub mod BoundLemmas
 pub mod FramedLemmas
 pub mod TextLemmas
 pub mod PrintLemmas
@@ -27,7 +26,7 @@ pub mod StepLemmas
 pub mod SpellLemmas
 pub mod SegmentPlaces
 pub mod ApartLemmas
-mod WideLemmas
+mod DecodedLemmas
 pub mod BreaksLemmas
 pub mod StateLemmas
 pub mod EventLemmas

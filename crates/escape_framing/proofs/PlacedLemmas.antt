@@ -1,7 +1,7 @@
 -- More bytes take no dispatch back, and each dispatch stands behind the byte that decides it.
 use Rattle.std.proofs.Common.{◌≡◌, ℕ, zero, suc, ◌+◌, ◌≤◌, Some, List, [], ◌∷◌, ◌++◌, length, take, drop, map, refl, sym, ap, subst, ◌∙◌, arith, append_assoc, length-append}
 use Rattle.std.specs.List.{slice_get}
-use Rattle.std.proofs.lemmas.List.{append-nil, map-append, take_at, take-append-le, take-append-drop, drop_at}
+use Rattle.std.proofs.lemmas.List.{append-nil, map-append, take_at, take-append-le, take-append-drop, drop_at, length-map}
 use Rattle.std.proofs.lemmas.Option.{slice_get_past}
 use Rattle.escape_framing.specs.Dispatch.{Dispatch}
 use Rattle.escape_framing.specs.Decode.{read_on}
@@ -57,10 +57,6 @@ of_one (y ∷ xs) ys (suc i) x h = one_on (of_one xs ys i x h)
 abbrev put_at : ℕ → List Dispatch → List (ℕ × Dispatch)
 put_at n xs = map (λ a. (n, a)) xs
 
-length-put : (n : ℕ) (xs : List Dispatch) → length (put_at n xs) ≡ length xs
-length-put n [] = refl
-length-put n (x ∷ xs) = ap suc (length-put n xs)
-
 at_place : (n : ℕ) (xs : List Dispatch) (i place : ℕ) (dispatch : Dispatch) → slice_get (put_at n xs) i ≡ Some (place, dispatch) → (n ≡ place) × (slice_get xs i ≡ Some dispatch)
 at_place n [] i place dispatch h = cc
 at_place n (x ∷ xs) zero place dispatch h =
@@ -112,7 +108,7 @@ placing (b ∷ bytes) front i place dispatch h =
         subst (λ (n : ℕ). IsPlaced (front ++ b ∷ bytes) (length (dispatches front) + i) n dispatch) p.0 (placed_here front bytes b i dispatch p.1)
     by_part later (there j e k) =
         let index : length (dispatches (front ++ b ∷ [])) + j ≡ length (dispatches front) + i
-        = omega (arith, ap length (dispatches_grow front (b ∷ [])), length-append (dispatches front) (newly_decided front (b ∷ [])), length-put (length front + 1) (newly_decided front (b ∷ []))) in
+        = omega (arith, ap length (dispatches_grow front (b ∷ [])), length-append (dispatches front) (newly_decided front (b ∷ [])), length-map {B = ℕ × Dispatch} (newly_decided front (b ∷ [])) (λ d. (length front + 1, d))) in
         subst (λ (n : ℕ). IsPlaced (front ++ b ∷ bytes) n place dispatch) index
         (subst (λ l. IsPlaced l (length (dispatches (front ++ b ∷ [])) + j) place dispatch) (append_assoc front (b ∷ []) bytes) (later j k))
 

@@ -1,5 +1,5 @@
 -- What a framer reads of the bytes of a call, over plain variables.
-use Rattle.std.proofs.Common.{◌≡◌, ◌≢◌, ℕ, ◌+◌, ◌<◌, ◌≤◌, ◌⊎◌, inl, inr, Bool, true, false, List, [], ◌∷◌, ◌++◌, length, map, fold, take, Option, Some, None, refl, sym, ap, subst, ◌∙◌, arith}
+use Rattle.std.proofs.Common.{◌≡◌, ◌≢◌, ℕ, ◌+◌, ◌<◌, ◌≤◌, ◌⊎◌, inl, inr, Bool, true, false, List, [], ◌∷◌, ◌++◌, length, map, fold, take, Option, Some, None, refl, sym, ap, subst, ◌∙◌, arith, ⊎_elim, append_assoc}
 use Rattle.std.proofs.lemmas.Bool.Decides.{nat_tests}
 use Rattle.text_clusters.specs.Controls.{is_c1}
 use Rattle.std.specs.List.{prefix_len}
@@ -8,7 +8,7 @@ use Rattle.escape_framing.specs.Bytes.{is_stop, is_embedded, is_intermediate, is
 use Rattle.escape_framing.specs.Dispatch.{Dispatch}
 use Rattle.escape_framing.specs.Dispatch as stream
 use Rattle.escape_framing.specs.Decode.{in_character, first_byte}
-use Rattle.escape_framing.specs.Held.{Kept, InCharacter, InEscape, InControlSequence, InCommand, InHeader, InDevice, InString, character_step, opened, escape_step, header_step, Held, Handed, fresh_step, held_step, nothing_held, hand_out}
+use Rattle.escape_framing.specs.Held.{Kept, InCharacter, InCommand, InDevice, InString, character_step, opened, escape_step, header_step, Held, Handed, fresh_step, held_step, nothing_held, hand_out}
 use Rattle.escape_framing.specs.Framed.{Text, Lone, framed, at_place, placed_behind, framed_behind, begun_bytes, bytes_begun, kept_takes, takes_text, no_text, BeginsNoText, IsReached, IsCarried, Frames, IsTextLen}
 use Rattle.escape_framing.specs.Fronts.{IsLastAt}
 use Rattle.escape_framing.specs.Lending.{Lending}
@@ -22,35 +22,26 @@ use Rattle.escape_framing.specs.declared.event.Event.TheVariants as event
 use Rattle.escape_framing.specs.declared.event.Read.{Read}
 use Rattle.escape_framing.specs.declared.event.Read.TheVariants as read
 use Rattle.escape_framing.proofs.FramedLemmas.{never_lent}
-use Rattle.escape_framing.proofs.SoundLemmas.{stream_sound, IsSoundIn}
-use Rattle.escape_framing.proofs.LoneLemmas.{carried_none}
+use Rattle.escape_framing.proofs.SoundLemmas.{IsSoundIn, reached_sound}
+use Rattle.escape_framing.proofs.LoneLemmas.{carried_none, some_or_none}
 use Rattle.escape_framing.proofs.BreakLemmas.{lead_of}
-use Rattle.escape_framing.proofs.StepLemmas.{frames_text, text_ends, frames_broken, broken_same, frames_alone}
-use Rattle.escape_framing.proofs.BodyLemmas.{opens_read, opens_left, opens_nothing, closed_takes_none}
+use Rattle.escape_framing.proofs.StepLemmas.{frames_text, text_ends, frames_broken, broken_same, frames_alone, nothing_reached}
+use Rattle.escape_framing.proofs.BodyLemmas.{opens_read, opens_left, closed_takes_none, none_more}
 use Rattle.escape_framing.proofs.FrontLemmas.{reads_sequence}
+use Rattle.std.proofs.lemmas.Bool.{cases_Bool}
+use Rattle.std.proofs.lemmas.List.{map-append}
 
 -- ---- an event that is left a byte stands alone
 
 event_alone : (l : Lending) (e : Option Event) (start place : ℕ) (placed : List (ℕ × Dispatch)) → IsAlone e → framed start (at_place place (handed_out l e) ++ placed) ≡ map Lone (handed_out l e) ++ framed start placed
 event_alone l None start place placed a = refl
 event_alone l (Some (event.Print c)) start place placed a = rw (never_lent start place c a) refl
-event_alone l (Some (event.Control b)) start place placed a = refl
-event_alone l (Some (event.Escape i f)) start place placed a = refl
-event_alone l (Some (event.ControlSequence f)) start place placed a = refl
-event_alone l (Some event.OperatingSystemCommand) start place placed a = refl
-event_alone l (Some (event.Enter f)) start place placed a = refl
-event_alone l (Some (event.Data b)) start place placed a = refl
-event_alone l (Some event.Exit) start place placed a = refl
+event_alone l (Some _) start place placed a = refl
 
 at_both : (place : ℕ) (xs ys : List Dispatch) (placed : List (ℕ × Dispatch)) → at_place place (xs ++ ys) ++ placed ≡ at_place place xs ++ (at_place place ys ++ placed)
-at_both place [] ys placed = refl
-at_both place (x ∷ xs) ys placed = ap (λ l. (place, x) ∷ l) (at_both place xs ys placed)
+at_both place xs ys placed = ap (λ l. l ++ placed) (map-append (λ (d : Dispatch). (place, d)) xs ys) ∙ append_assoc (at_place place xs) (at_place place ys) placed
 
 -- ---- what is held where a byte is left
-
-rest_reached : IsReached nothing_held
-unfolding hand_out
-rest_reached = ([], refl)
 
 lead_reached : IsReached (record { kept = InCharacter []; waiting = true })
 unfolding hand_out held_step fresh_step
@@ -63,11 +54,10 @@ device_reached = (0x1B ∷ 0x50 ∷ 0x71 ∷ [], refl)
 
 left_reached : (h : Held) → (h.kept ≡ InCharacter []) ⊎ (h ≡ record { kept = InDevice; waiting = false }) → IsReached h
 left_reached h (inr e) = subst IsReached (sym e) device_reached
-left_reached h (inl e) = by_wait h.waiting refl
-  where
-    by_wait : (w : Bool) → h.waiting ≡ w → IsReached h
-    by_wait true w = subst IsReached (λ i. record { kept = sym e i; waiting = sym w i }) lead_reached
-    by_wait false w = subst IsReached (λ i. record { kept = sym e i; waiting = sym w i }) rest_reached
+left_reached h (inl e) = ⊎_elim
+    (λ w. subst IsReached (λ i. record { kept = sym e i; waiting = sym w i }) lead_reached)
+    (λ w. subst IsReached (λ i. record { kept = sym e i; waiting = sym w i }) nothing_reached)
+    (cases_Bool h.waiting)
 
 -- ---- what has begun where a byte is left
 
@@ -88,12 +78,10 @@ c1_carried count h b rest e c = record {
 -- a sequence that is broken off had the C2 begun already
 lead_begun : (k : Kept) (b : ℕ) → IsSoundIn k true → kept_takes k true b ≡ true → bytes_begun k true ≡ 0xC2 ∷ []
 lead_begun (InCharacter p) b s t = ap (λ (l : List ℕ). l ++ 0xC2 ∷ []) (s.1 refl)
-lead_begun (InEscape xs) b s t = refl
-lead_begun (InControlSequence p) b s t = refl
 lead_begun (InCommand body) b s t = cc
-lead_begun (InHeader header) b s t = refl
 lead_begun InDevice b s t = cc
 lead_begun InString b s t = cc
+lead_begun _ b s t = refl
 
 carried_on : (count : ℕ) (h h' : Held) (bytes : List ℕ) → begun_bytes h' ≡ begun_bytes h → IsCarried 0 count h bytes → IsCarried 0 count h' bytes
 carried_on count h h' bytes e k = record { carried = λ c more l q n. subst (λ (p : List ℕ). count < 0 + length p) (sym e) (k.carried c more l (ap (λ (p : List ℕ). p ++ bytes) (sym e) ∙ q) (λ z. n (e ∙ z))) }
@@ -101,11 +89,8 @@ carried_on count h h' bytes e k = record { carried = λ c more l q n. subst (λ 
 left_carried : (count b : ℕ) (rest : List ℕ) (old new : Held) (e : Option Event) → IsReached old → IsCarried 0 count old (b ∷ rest) → IsHeldLeft old b e new → IsCarried 0 count new (b ∷ rest)
 left_carried count b rest old new e r k l = by_closed l.closed
   where
-    sound : IsSoundIn old.kept old.waiting
-    sound = subst (λ (h : Held). IsSoundIn h.kept h.waiting) (sym r.1) (stream_sound r.0)
-
     began : old.waiting ≡ true → takes_text old b ≡ true → begun_bytes old ≡ 0xC2 ∷ []
-    began w t = ap (bytes_begun old.kept) w ∙ lead_begun old.kept b (subst (IsSoundIn old.kept) w sound) (subst (λ (x : Bool). kept_takes old.kept x b ≡ true) w t)
+    began w t = ap (bytes_begun old.kept) w ∙ lead_begun old.kept b (subst (IsSoundIn old.kept) w (reached_sound old r)) (subst (λ (x : Bool). kept_takes old.kept x b ≡ true) w t)
 
     by_half : begun_bytes new ≡ 0xC2 ∷ [] → (old.waiting ≡ true) × ((is_c1 0xC2 b ≡ true) ⊎ (takes_text old b ≡ true)) → IsCarried 0 count new (b ∷ rest)
     by_half n (w, inl c) = c1_carried count new b rest n c
@@ -136,52 +121,43 @@ frames_left count old b rest l e r k s f = record {
   carried = left_carried (count + 0) b rest old l.held e r (subst (λ (m : ℕ). IsCarried 0 m old (b ∷ rest)) (let q : count ≡ count + 0 = omega arith in q) k) f;
 }
 
-left_same : (old : Held) (b : ℕ) (l : Lending) (e : Option Event) → held_step old b ≡ held_resumed (handed_out l e) l.held false b → (xs : List ℕ) → (hand_out old (b ∷ xs)).held ≡ (hand_out l.held (b ∷ xs)).held
-unfolding hand_out
-left_same old b l e s xs = ap (λ (x : Handed). (hand_out x.held xs).held) s
-
-one_read : (old : Held) (b : ℕ) (rest : List ℕ) → (hand_out old (take 1 (b ∷ rest))).held ≡ (held_step old b).held
-unfolding hand_out
-one_read old b rest = refl
-
 pub reads_left : (old : Held) (b : ℕ) (rest bytes : List ℕ) (l : Lending) (e : Option Event) → bytes ≡ b ∷ rest → held_step old b ≡ held_resumed (handed_out l e) l.held false b → IsHeldLeft old b e l.held → ReadsEvent old bytes (read.Bytes e 0) l
+unfolding hand_out
 reads_left old b rest bytes l e is s f = subst (λ (m : List ℕ). ReadsEvent old m (read.Bytes e 0) l) (sym is) (record {
   frames = λ count r k. frames_left count old b rest l e r k s f;
   within = omega arith;
   text = no_text;
   moves = λ x y. f.falls;
-  opens = λ r. opens_left old l.held b rest (left_same old b l e s) (closed_takes_none l.held f.closed);
+  opens = λ r. opens_left old l.held b rest (λ xs. ap (λ (x : Handed). (hand_out x.held xs).held) s) (closed_takes_none l.held f.closed);
 })
 
 pub reads_one : (old : Held) (b : ℕ) (rest bytes : List ℕ) (l : Lending) (e : Option Event) → bytes ≡ b ∷ rest → held_step old b ≡ held_resumed (handed_out l e) l.held true b → (takes_text old b ≡ true → BeginsNoText bytes) → ReadsEvent old bytes (read.Bytes e 1) l
+unfolding hand_out
 reads_one old b rest bytes l e is s none = subst (λ (m : List ℕ). ReadsEvent old m (read.Bytes e 1) l) (sym is) (record {
   frames = λ count r k. subst (λ (x : Handed). Frames count old (b ∷ rest) (λ from. map Lone x.dispatches) 1 x.held) s (frames_alone count old b rest r (λ y. subst BeginsNoText is (none y)) k);
   within = omega arith;
   text = no_text;
   moves = λ x y. absurd (let z : 1 ≡ 0 = x in omega arith);
-  opens = λ r. opens_read old l.held (b ∷ rest) 1 (one_read old b rest ∙ ap (λ (x : Handed). x.held) s);
+  opens = λ r. opens_read old l.held (b ∷ rest) 1 (ap (λ (x : Handed). x.held) s);
 })
 
 -- ---- nothing, a run, a text
 
-no_bytes : (count : ℕ) (h : Held) → IsReached h → IsCarried 0 count h [] → Frames count h [] (λ from. []) 0 h
-unfolding placed_behind hand_out
-no_bytes count h r c = record { within = omega arith; lends = λ start. refl; keeps = refl; reached = r; carried = subst (λ (m : ℕ). IsCarried 0 m h []) (let k : count ≡ count + 0 = omega arith in k) c }
-
 pub reads_none : (l : Lending) (bytes : List ℕ) → length bytes ≡ 0 → ReadsEvent l.held bytes (read.Bytes None 0) l
-reads_none l [] e = record { frames = λ count r c. no_bytes count l.held r c; within = omega arith; text = no_text; moves = λ x y. absurd (omega arith); opens = λ r. opens_nothing l.held }
+unfolding placed_behind hand_out
+reads_none l [] e = record {
+  frames = λ count r c. record { within = omega arith; lends = λ start. refl; keeps = refl; reached = r; carried = subst (λ (m : ℕ). IsCarried 0 m l.held []) (let k : count ≡ count + 0 = omega arith in k) c };
+  within = omega arith;
+  text = no_text;
+  moves = λ x y. absurd (omega arith);
+  opens = λ r. none_more l.held [];
+}
 reads_none l (x ∷ bytes) e = absurd (omega arith)
 
 begun_rank : (k : Kept) (w : Bool) → bytes_begun k w ≢ [] → 0 < rank (record { kept = k; waiting = w })
 begun_rank k true n = omega arith
-begun_rank (InCharacter []) false n = absurd (n refl)
 begun_rank (InCharacter (x ∷ p)) false n = omega arith
-begun_rank (InEscape xs) false n = absurd (n refl)
-begun_rank (InControlSequence p) false n = absurd (n refl)
-begun_rank (InCommand body) false n = absurd (n refl)
-begun_rank (InHeader header) false n = absurd (n refl)
-begun_rank InDevice false n = absurd (n refl)
-begun_rank InString false n = absurd (n refl)
+begun_rank _ false n = absurd (n refl)
 
 pub reads_broken_event : (old : Held) (b n : ℕ) (rest bytes : List ℕ) (l : Lending) → bytes ≡ b ∷ rest → takes_text old b ≡ true → begun_bytes old ≢ [] → IsTextLen bytes n → 0 < n → l.held ≡ nothing_held
     → ReadsEvent old bytes (read.Bytes (Some (event.Print 0xFFFD)) 0) l
@@ -204,28 +180,18 @@ reads_text_event old b n rest bytes l is t begun k z e = record {
   opens = λ r. opens_read old l.held bytes n (subst (λ (m : List ℕ). (hand_out old (take n m)).held ≡ nothing_held) (sym is) (text_ends n old b rest r t begun (subst (λ (m : List ℕ). IsTextLen m n) is k) z) ∙ sym e);
 }
 
-no_bytes_or_some : (p : List ℕ) → (p ≡ []) ⊎ (p ≢ [])
-no_bytes_or_some [] = inl refl
-no_bytes_or_some (x ∷ p) = inr (λ e. cc)
-
 pub reads_at_text : (old : Held) (b n : ℕ) (rest bytes : List ℕ) (r : Read) (l : Lending) → (begun_bytes old ≢ [] → r ≡ read.Bytes (Some (event.Print 0xFFFD)) 0) → (begun_bytes old ≡ [] → r ≡ read.Text n)
     → bytes ≡ b ∷ rest → takes_text old b ≡ true → IsTextLen bytes n → 0 < n → l.held ≡ nothing_held → ReadsEvent old bytes r l
-reads_at_text old b n rest bytes r l broken whole is t k z e = by_begun (no_bytes_or_some (begun_bytes old))
-  where
-    by_begun : (begun_bytes old ≡ []) ⊎ (begun_bytes old ≢ []) → ReadsEvent old bytes r l
-    by_begun (inl g) = subst (λ (x : Read). ReadsEvent old bytes x l) (sym (whole g)) (reads_text_event old b n rest bytes l is t g k z e)
-    by_begun (inr g) = subst (λ (x : Read). ReadsEvent old bytes x l) (sym (broken g)) (reads_broken_event old b n rest bytes l is t g k z e)
+reads_at_text old b n rest bytes r l broken whole is t k z e = ⊎_elim
+    (λ g. subst (λ (x : Read). ReadsEvent old bytes x l) (sym (whole g)) (reads_text_event old b n rest bytes l is t g k z e))
+    (λ g. subst (λ (x : Read). ReadsEvent old bytes x l) (sym (broken g)) (reads_broken_event old b n rest bytes l is t g k z e))
+    (some_or_none (begun_bytes old))
 
 -- ---- fields
 
 kept_rest : (s : State) (xs : List ℕ) (p q : Parameters) (body : List ℕ) → kept_as s xs p body ≡ InCharacter [] → kept_as s xs q body ≡ InCharacter []
 kept_rest state.Characters xs p q body e = e
-kept_rest (state.Escape i) xs p q body e = cc
-kept_rest state.ControlSequence xs p q body e = cc
-kept_rest state.Command xs p q body e = cc
-kept_rest state.Header xs p q body e = cc
-kept_rest state.Device xs p q body e = cc
-kept_rest state.String xs p q body e = cc
+kept_rest _ xs p q body e = cc
 
 abbrev shown : State → Bool → List ℕ → Parameters → List ℕ → Lending
 shown s w xs p body = record { held = record { kept = kept_as s xs p body; waiting = w }; parameters = p; body = body }

@@ -22,10 +22,6 @@ pub read_step : (t : Tail) (b : ℕ) (bytes : List ℕ) → read_on t (b ∷ byt
 unfolding read_on
 read_step t b bytes = refl
 
-pub read_first : (b : ℕ) (bytes : List ℕ) → read_on (Begun []) (b ∷ bytes) ≡ behind (first_byte b) bytes
-unfolding next_byte in_character
-read_first b bytes = read_step (Begun []) b bytes
-
 pub step_waits : (t u : Tail) (b : ℕ) (bytes : List ℕ) → next_byte t b ≡ waits u → read_on t (b ∷ bytes) ≡ read_on u bytes
 step_waits t u b bytes e = read_step t b bytes ∙ ap (λ (r : Reading). behind r bytes) e
 
@@ -33,7 +29,8 @@ pub step_ends : (t : Tail) (s : Segment) (b : ℕ) (bytes : List ℕ) → next_b
 step_ends t s b bytes e = read_step t b bytes ∙ ap (λ (r : Reading). behind r bytes) e
 
 pub step_ends_before : (t : Tail) (s : Segment) (b : ℕ) (bytes : List ℕ) → next_byte t b ≡ ends_before s (first_byte b) → read_on t (b ∷ bytes) ≡ after s (read_on (Begun []) (b ∷ bytes))
-step_ends_before t s b bytes e = read_step t b bytes ∙ ap (λ (r : Reading). behind r bytes) e ∙ sym (ap (after s) (read_first b bytes))
+unfolding next_byte in_character
+step_ends_before t s b bytes e = read_step t b bytes ∙ ap (λ (r : Reading). behind r bytes) e ∙ sym (ap (after s) (read_step (Begun []) b bytes))
 
 -- bytes that pass a test stay open
 pub spans : (test : ℕ → Bool) (open_with : List ℕ → Tail) → ((xs : List ℕ) (b : ℕ) → test b ≡ true → next_byte (open_with xs) b ≡ waits (open_with (xs ++ b ∷ [])))

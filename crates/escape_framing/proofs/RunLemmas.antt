@@ -1,9 +1,9 @@
 -- Runs of bytes that hand nothing out: parameter bytes, those of a body, and those of a string that does nothing.
-use Rattle.std.proofs.Common.{◌≡◌, ℕ, suc, ◌+◌, ◌≤◌, Bool, true, false, List, [], ◌∷◌, ◌++◌, length, fold, take, drop, refl, sym, ap, subst, ◌∙◌, arith, append_assoc, append-nil}
+use Rattle.std.proofs.Common.{◌≡◌, ℕ, suc, ◌+◌, ◌≤◌, Bool, true, false, List, [], ◌∷◌, ◌++◌, length, fold, take, drop, refl, sym, ap, subst, ◌∙◌, arith, append_assoc, append-nil, ⊎_elim}
 use Rattle.std.specs.Prelude.{◌==◌}
 use Rattle.std.specs.List.{prefix_len, list_all}
 use Rattle.std.specs.Char.{is_ascii_control}
-use Rattle.std.proofs.lemmas.Bool.{and_parts}
+use Rattle.std.proofs.lemmas.Bool.{and_parts, cond_both, cases_Bool}
 use Rattle.std.proofs.lemmas.Bool.Decides.{nat_tests}
 use Rattle.std.proofs.lemmas.List.Folds.{length-prefix_len}
 use Rattle.std.proofs.lemmas.List.Sums.{prefix_len-le-length}
@@ -16,11 +16,8 @@ use Rattle.escape_framing.specs.Fronts.{is_body_byte, is_string_byte, IsSilent}
 
 pub all_pass : (test : ℕ → Bool) (xs : List ℕ) → list_all test (take (prefix_len test xs) xs) ≡ true
 all_pass test [] = refl
-all_pass test (b ∷ xs) = by_test (test b) refl (all_pass test xs)
-  where
-    by_test : (t : Bool) → test b ≡ t → list_all test (take (prefix_len test xs) xs) ≡ true → list_all test (take (prefix_len test (b ∷ xs)) (b ∷ xs)) ≡ true
-    by_test true e h = let k : 1 + prefix_len test xs ≡ suc (prefix_len test xs) = omega arith in rw e (rw k (rw e h))
-    by_test false e h = rw e refl
+all_pass test (b ∷ xs) = cond_both (test b) _ _ (λ n. list_all test (take n (b ∷ xs)) ≡ true)
+    (λ e. let k : 1 + prefix_len test xs ≡ suc (prefix_len test xs) = omega arith in rw k (rw e (all_pass test xs))) (λ e. refl)
 
 pub quiet_front : (held after : Held) (bytes : List ℕ) (n : ℕ) → n ≤ length bytes → hand_out held (take n bytes) ≡ record { dispatches = []; held = after } → begun_bytes after ≡ [] → IsSilent held bytes n after
 quiet_front held after bytes n l q b = record { within = l; silent = ap (λ (x : Handed). x.dispatches) q; keeps = ap (λ (x : Handed). x.held) q; none = b }
@@ -98,12 +95,10 @@ plain_body b h = grind (arith, nat_tests)
 -- how many stand at the front: plain ones, and then others
 pub body_run : (xs : List ℕ) → prefix_len is_printable xs + prefix_len is_body_byte (drop (prefix_len is_printable xs) xs) ≡ prefix_len is_body_byte xs
 body_run [] = refl
-body_run (b ∷ xs) = by_test (is_printable b) refl (body_run xs)
-  where
-    by_test : (t : Bool) → is_printable b ≡ t → prefix_len is_printable xs + prefix_len is_body_byte (drop (prefix_len is_printable xs) xs) ≡ prefix_len is_body_byte xs
-        → prefix_len is_printable (b ∷ xs) + prefix_len is_body_byte (drop (prefix_len is_printable (b ∷ xs)) (b ∷ xs)) ≡ prefix_len is_body_byte (b ∷ xs)
-    by_test true e h = let k : 1 + prefix_len is_printable xs ≡ suc (prefix_len is_printable xs) = omega arith in rw (e, plain_body b e, k) (omega (arith, h))
-    by_test false e h = let k : 0 + prefix_len is_body_byte (b ∷ xs) ≡ prefix_len is_body_byte (b ∷ xs) = omega arith in rw e k
+body_run (b ∷ xs) = ⊎_elim
+    (λ (e : is_printable b ≡ true). let h = body_run xs in let k : 1 + prefix_len is_printable xs ≡ suc (prefix_len is_printable xs) = omega arith in rw (e, plain_body b e, k) (omega (arith, h)))
+    (λ (e : is_printable b ≡ false). let k : 0 + prefix_len is_body_byte (b ∷ xs) ≡ prefix_len is_body_byte (b ∷ xs) = omega arith in rw e k)
+    (cases_Bool (is_printable b))
 
 -- ---- a string that does nothing
 

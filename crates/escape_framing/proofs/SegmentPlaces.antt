@@ -1,5 +1,5 @@
 -- Where the segments of a stream stand.
-use Rattle.std.proofs.Common.{◌≡◌, ℕ, zero, suc, ◌+◌, ◌-◌, Bool, true, false, Some, List, [], ◌∷◌, ◌++◌, length, take, drop, map, refl, sym, ap, subst, ◌∙◌, arith, zero-add, append_assoc, append-nil, length-append}
+use Rattle.std.proofs.Common.{◌≡◌, ℕ, zero, suc, ◌+◌, ◌-◌, true, false, Some, List, [], ◌∷◌, ◌++◌, length, take, drop, map, refl, sym, ap, subst, ◌∙◌, arith, zero-add, append_assoc, append-nil, length-append, ⊎_elim}
 use Rattle.std.specs.Prelude.{Contains}
 use Rattle.std.specs.List.{flat_map, slice_get}
 use Rattle.std.proofs.lemmas.List.{get_or_at, take_at, drop_at}
@@ -15,6 +15,7 @@ use Rattle.escape_framing.proofs.Existence.CutLemmas.{is_the_cut}
 use Rattle.escape_framing.proofs.ReadLemmas.{read_append}
 use Rattle.escape_framing.proofs.HeldLemmas.{At, at_rest, at_c2, at_all}
 use Rattle.escape_framing.proofs.IdleLemmas.{tail_is, idle_is_whole}
+use Rattle.std.proofs.lemmas.Bool.{cond_both, cases_Bool}
 
 -- ---- the seven-bit form
 
@@ -22,24 +23,16 @@ use Rattle.escape_framing.proofs.IdleLemmas.{tail_is, idle_is_whole}
 pub length-seven_bit : (s : List ℕ) → length (seven_bit s) ≡ length s
 length-seven_bit [] = refl
 length-seven_bit (b ∷ []) = refl
-length-seven_bit (b ∷ c ∷ s) = by_test (is_c1 b c) refl (length-seven_bit s) (length-seven_bit (c ∷ s))
-  where
-    by_test : (t : Bool) → is_c1 b c ≡ t → length (seven_bit s) ≡ length s → length (seven_bit (c ∷ s)) ≡ length (c ∷ s) → length (seven_bit (b ∷ c ∷ s)) ≡ length (b ∷ c ∷ s)
-    by_test true e p q = rw e (ap (λ (n : ℕ). suc (suc n)) p)
-    by_test false e p q = rw e (ap suc q)
+length-seven_bit (b ∷ c ∷ s) =
+    cond_both (is_c1 b c) _ _ (λ l. length l ≡ length (b ∷ c ∷ s)) (λ e. ap (λ (n : ℕ). suc (suc n)) (length-seven_bit s)) (λ e. ap suc (length-seven_bit (c ∷ s)))
 
 -- two streams join where no C2 waits between them
 seven_bit_join : (s x : List ℕ) → opens s ≡ false → seven_bit (s ++ x) ≡ seven_bit s ++ seven_bit x
 seven_bit_join [] x h = refl
 seven_bit_join (b ∷ []) [] h = refl
 seven_bit_join (b ∷ []) (c ∷ x) h = rw h refl
-seven_bit_join (b ∷ c ∷ s) x h = by_test (is_c1 b c) refl (seven_bit_join s x) (seven_bit_join (c ∷ s) x)
-  where
-    by_test : (t : Bool) → is_c1 b c ≡ t → (opens s ≡ false → seven_bit (s ++ x) ≡ seven_bit s ++ seven_bit x)
-        → (opens (c ∷ s) ≡ false → seven_bit (c ∷ s ++ x) ≡ seven_bit (c ∷ s) ++ seven_bit x)
-        → seven_bit (b ∷ c ∷ s ++ x) ≡ seven_bit (b ∷ c ∷ s) ++ seven_bit x
-    by_test true e p q = rw e (ap (λ l. 0x1B ∷ (c - 0x40) ∷ l) (p (rw e at h)))
-    by_test false e p q = rw e (ap (λ l. b ∷ l) (q (rw e at h)))
+seven_bit_join (b ∷ c ∷ s) x h =
+    ⊎_elim (λ e. rw e (ap (λ l. 0x1B ∷ (c - 0x40) ∷ l) (seven_bit_join s x (rw e at h)))) (λ e. rw e (ap (λ l. b ∷ l) (seven_bit_join (c ∷ s) x (rw e at h)))) (cases_Bool (is_c1 b c))
 
 -- ---- streams of which nothing is held
 

@@ -1,13 +1,13 @@
 -- Texts are their characters, and stand apart.
-use Rattle.std.proofs.Common.{◌≡◌, ◌≢◌, ℕ, ◌+◌, Bool, true, false, List, [], ◌∷◌, ◌++◌, length, map, refl, sym, ap, ◌∙◌, arith, append-nil, length-append}
+use Rattle.std.proofs.Common.{◌≡◌, ℕ, ◌+◌, List, [], ◌∷◌, ◌++◌, length, map, refl, sym, ap, ◌∙◌, arith, append-nil, length-append, ◌-◌}
 use Rattle.std.specs.Prelude.{◌==◌, encode_utf8}
-use Rattle.std.proofs.lemmas.Bool.Decides.{nat_tests}
-use Rattle.escape_framing.specs.Dispatch.{Dispatch, Print, Control, Escape, ControlSequence, OperatingSystemCommand, Enter, Data, Exit}
+use Rattle.escape_framing.specs.Dispatch.{Dispatch, Print}
 use Rattle.escape_framing.specs.Cut.{newly_decided}
 use Rattle.escape_framing.specs.Held.{held_of}
 use Rattle.escape_framing.specs.Placed.{placed_from}
 use Rattle.escape_framing.specs.Framed.{Framed, Text, Lone, is_lent, put_text, put_character, framed, at_place, placed_behind, Spells, nothing, alone, in_text, AreApart}
 use Rattle.escape_framing.proofs.HeldLemmas.{step_decides}
+use Rattle.std.proofs.lemmas.Bool.{cond_both, eqb-true, eqb-false}
 
 -- ---- characters
 
@@ -21,29 +21,17 @@ more_spells from next c more items ds (in_text n d cs text i es all e f k) =
 put_spells : (from c : ℕ) (items : List Framed) (ds : List Dispatch) → Spells items ds → Spells (put_text from (encode_utf8 c) items) (Print c ∷ ds)
 put_spells from c [] ds h = one_spells from c [] ds h
 put_spells from c (Lone d ∷ items) ds h = one_spells from c (Lone d ∷ items) ds h
-put_spells from c (Text next more ∷ items) ds h = by_test (next == from + length (encode_utf8 c)) refl
-  where
-    by_test : (t : Bool) → (next == from + length (encode_utf8 c)) ≡ t → Spells (put_text from (encode_utf8 c) (Text next more ∷ items)) (Print c ∷ ds)
-    by_test true e = rw e (more_spells from next c more items ds h)
-    by_test false e = rw e (one_spells from c (Text next more ∷ items) ds h)
+put_spells from c (Text next more ∷ items) ds h =
+    cond_both (next == from + length (encode_utf8 c)) _ _ (λ l. Spells l (Print c ∷ ds)) (λ e. more_spells from next c more items ds h) (λ e. one_spells from c (Text next more ∷ items) ds h)
 
 character_spells : (start place c : ℕ) (items : List Framed) (ds : List Dispatch) → Spells items ds → Spells (put_character start place c items) (Print c ∷ ds)
-character_spells start place c items ds h = by_test (is_lent start place c) refl
-  where
-    by_test : (t : Bool) → is_lent start place c ≡ t → Spells (put_character start place c items) (Print c ∷ ds)
-    by_test true e = rw e (put_spells _ c items ds h)
-    by_test false e = rw e (alone (Print c) items ds h)
+character_spells start place c items ds h =
+    cond_both (is_lent start place c) _ _ (λ l. Spells l (Print c ∷ ds)) (λ e. put_spells (place - length (encode_utf8 c)) c items ds h) (λ e. alone (Print c) items ds h)
 
 pub framed_spells : (start : ℕ) (placed : List (ℕ × Dispatch)) → Spells (framed start placed) (map (λ (p : ℕ × Dispatch). p.1) placed)
 framed_spells start [] = nothing
 framed_spells start ((n, Print c) ∷ placed) = character_spells start n c (framed start placed) (map (λ (p : ℕ × Dispatch). p.1) placed) (framed_spells start placed)
-framed_spells start ((n, Control b) ∷ placed) = alone (Control b) (framed start placed) (map (λ (p : ℕ × Dispatch). p.1) placed) (framed_spells start placed)
-framed_spells start ((n, Escape i f) ∷ placed) = alone (Escape i f) (framed start placed) (map (λ (p : ℕ × Dispatch). p.1) placed) (framed_spells start placed)
-framed_spells start ((n, ControlSequence t x f) ∷ placed) = alone (ControlSequence t x f) (framed start placed) (map (λ (p : ℕ × Dispatch). p.1) placed) (framed_spells start placed)
-framed_spells start ((n, OperatingSystemCommand body) ∷ placed) = alone (OperatingSystemCommand body) (framed start placed) (map (λ (p : ℕ × Dispatch). p.1) placed) (framed_spells start placed)
-framed_spells start ((n, Enter h f) ∷ placed) = alone (Enter h f) (framed start placed) (map (λ (p : ℕ × Dispatch). p.1) placed) (framed_spells start placed)
-framed_spells start ((n, Data b) ∷ placed) = alone (Data b) (framed start placed) (map (λ (p : ℕ × Dispatch). p.1) placed) (framed_spells start placed)
-framed_spells start ((n, Exit) ∷ placed) = alone Exit (framed start placed) (map (λ (p : ℕ × Dispatch). p.1) placed) (framed_spells start placed)
+framed_spells start ((n, d) ∷ placed) = alone d (framed start placed) (map (λ (p : ℕ × Dispatch). p.1) placed) (framed_spells start placed)
 
 -- ---- side by side
 
@@ -55,35 +43,17 @@ behind_text from text more next (Text other rest ∷ items) h e = (λ k. h.0 (le
 put_stands_apart : (from : ℕ) (text : List ℕ) (items : List Framed) → AreApart items → AreApart (put_text from text items)
 put_stands_apart from text [] h = tt
 put_stands_apart from text (Lone d ∷ items) h = h
-put_stands_apart from text (Text next more ∷ items) h = by_test (next == from + length text) refl
-  where
-    is : (a b : ℕ) → (a == b) ≡ true → a ≡ b
-    is a b k = grind (arith, nat_tests)
-
-    differs : (a b : ℕ) → (a == b) ≡ false → a ≢ b
-    differs a b k n = grind (arith, nat_tests)
-
-    by_test : (t : Bool) → (next == from + length text) ≡ t → AreApart (put_text from text (Text next more ∷ items))
-    by_test true e = rw e (behind_text from text more next items h (is next (from + length text) e))
-    by_test false e = rw e (differs next (from + length text) e, h)
+put_stands_apart from text (Text next more ∷ items) h =
+    cond_both (next == from + length text) _ _ AreApart (λ e. behind_text from text more next items h (eqb-true next (from + length text) e)) (λ e. (eqb-false next (from + length text) e, h))
 
 character_apart : (start place c : ℕ) (items : List Framed) → AreApart items → AreApart (put_character start place c items)
-character_apart start place c items h = by_test (is_lent start place c) refl
-  where
-    by_test : (t : Bool) → is_lent start place c ≡ t → AreApart (put_character start place c items)
-    by_test true e = rw e (put_stands_apart _ (encode_utf8 c) items h)
-    by_test false e = rw e h
+character_apart start place c items h =
+    cond_both (is_lent start place c) _ _ AreApart (λ e. put_stands_apart (place - length (encode_utf8 c)) (encode_utf8 c) items h) (λ e. h)
 
 pub framed_apart : (start : ℕ) (placed : List (ℕ × Dispatch)) → AreApart (framed start placed)
 framed_apart start [] = tt
 framed_apart start ((n, Print c) ∷ placed) = character_apart start n c (framed start placed) (framed_apart start placed)
-framed_apart start ((n, Control b) ∷ placed) = framed_apart start placed
-framed_apart start ((n, Escape i f) ∷ placed) = framed_apart start placed
-framed_apart start ((n, ControlSequence t x f) ∷ placed) = framed_apart start placed
-framed_apart start ((n, OperatingSystemCommand body) ∷ placed) = framed_apart start placed
-framed_apart start ((n, Enter h f) ∷ placed) = framed_apart start placed
-framed_apart start ((n, Data b) ∷ placed) = framed_apart start placed
-framed_apart start ((n, Exit) ∷ placed) = framed_apart start placed
+framed_apart start ((n, _) ∷ placed) = framed_apart start placed
 
 -- ---- what is held is enough for the places too
 

@@ -1,12 +1,11 @@
 -- What a framer does at once, over plain variables.
-use Rattle.std.proofs.Common.{◌≡◌, ◌≢◌, ℕ, zero, suc, ◌+◌, ◌<◌, ◌≤◌, Bool, true, false, List, [], ◌∷◌, ◌++◌, length, map, take, drop, refl, sym, ap, subst, ◌∙◌, arith, append_assoc, append-nil}
-use Rattle.std.specs.Prelude.{◌==◌, ◌||◌, nat_le}
-use Rattle.std.proofs.lemmas.Bool.Decides.{nat_tests}
+use Rattle.std.proofs.Common.{◌≡◌, ◌≢◌, ℕ, zero, suc, ◌+◌, ◌<◌, ◌≤◌, Bool, true, false, List, [], ◌∷◌, ◌++◌, length, map, take, drop, refl, sym, ap, subst, ◌∙◌, arith, append_assoc, append-nil, inr, ⊎_elim}
+use Rattle.std.specs.Prelude.{nat_le}
 use Rattle.std.proofs.lemmas.List.{take-append-drop, length-take-le}
 use lib.Utf8.{encode}
 use Rattle.escape_framing.specs.Bytes.{is_stop, is_cut}
 use Rattle.escape_framing.specs.Dispatch.{Print}
-use Rattle.escape_framing.specs.Held.{Kept, InCharacter, InEscape, InControlSequence, InCommand, InHeader, InDevice, InString, Step, kept_step, Held, Handed, fresh_step, held_step, nothing_held, hand_out, held_of}
+use Rattle.escape_framing.specs.Held.{Kept, InEscape, InControlSequence, InCommand, InHeader, InDevice, InString, Step, kept_step, Held, Handed, fresh_step, held_step, nothing_held, hand_out, held_of}
 use Rattle.escape_framing.specs.Framed.{Text, Lone, placed_behind, framed_behind, begun_bytes, bytes_begun, kept_takes, takes_text, IsLendable, IsText, no_text, text_of, BeginsNoText, IsCarried, IsReached, Frames, IsTextLen}
 use Rattle.escape_framing.proofs.Begun.{is_body}
 use Rattle.escape_framing.proofs.HeldLemmas.{step_decides}
@@ -14,14 +13,15 @@ use Rattle.escape_framing.proofs.FramedLemmas.{BeginsFrom}
 use Rattle.escape_framing.proofs.TextLemmas.{reads_text, text_kept}
 use Rattle.escape_framing.proofs.PrintLemmas.{PrintNone, IsQuiet, Before, is_quiet, cuts, escape_before, control_sequence_before, header_before, stop_quiet}
 use Rattle.escape_framing.proofs.SoundLemmas.{begun_none}
-use Rattle.escape_framing.proofs.LoneLemmas.{StandAlone, carried_none, byte_alone, body_alone, quiet_alone, begun_apart}
-use Rattle.escape_framing.proofs.BreakLemmas.{GoesOn, text_breaks_at, text_breaks, text_cuts, is_character}
+use Rattle.escape_framing.proofs.LoneLemmas.{StandAlone, carried_none, byte_alone, body_alone, quiet_alone, IsLate, begins_late}
+use Rattle.escape_framing.proofs.BreakLemmas.{GoesOn, text_breaks_at, text_cuts, is_character, broken_goes}
+use Rattle.std.proofs.lemmas.Bool.{leb-true, or_cases, cases_Bool, ne_eqb, leb-false}
 
 start_held : held_of [] ≡ nothing_held
 unfolding hand_out
 start_held = refl
 
-nothing_reached : IsReached nothing_held
+pub nothing_reached : IsReached nothing_held
 nothing_reached = ([], sym start_held)
 
 pub in_call : (start count : ℕ) (h : Held) (rest : List ℕ) → IsCarried 0 count h rest → IsCarried start (start + count) h rest
@@ -47,27 +47,22 @@ first_in : (bytes : List ℕ) (n : ℕ) → IsTextLen bytes n → 0 < n → Firs
 first_in bytes n t p = subst First (take-append-drop n bytes) (first_of (take n bytes) (drop n bytes) t.text (some_taken bytes n t.within p))
 
 takes_outside : (k : Kept) (w : Bool) (b : ℕ) → kept_takes k w b ≡ true → is_body k ≡ false
-takes_outside (InCharacter p) w b h = refl
-takes_outside (InEscape xs) w b h = refl
-takes_outside (InControlSequence p) w b h = refl
 takes_outside (InCommand body) w b h = cc
-takes_outside (InHeader header) w b h = refl
 takes_outside InDevice w b h = cc
 takes_outside InString w b h = cc
+takes_outside _ w b h = refl
 
 -- ---- a text breaks a character
 
 pub frames_broken : (count n : ℕ) (h : Held) (b : ℕ) (rest : List ℕ) → IsReached h → takes_text h b ≡ true → begun_bytes h ≢ [] → IsTextLen (b ∷ rest) n → 0 < n
     → Frames count h (b ∷ rest) (λ from. Lone (Print 0xFFFD) ∷ []) 0 nothing_held
-frames_broken count n h b rest (stream, e) t z k p =
+frames_broken count n h b rest r t z k p =
     let f = first_in (b ∷ rest) n k p in
-    let out : is_body (held_of stream).kept ≡ false = subst (λ (x : Held). is_body x.kept ≡ false) e (takes_outside h.kept h.waiting b t) in
-    let g = text_breaks stream (b ∷ rest) f.c f.more out (λ y. z (ap begun_bytes e ∙ y)) f.lendable f.is in
-    let g' : GoesOn h (b ∷ rest) (Lone (Print 0xFFFD) ∷ []) nothing_held = subst (λ (x : Held). GoesOn x (b ∷ rest) (Lone (Print 0xFFFD) ∷ []) nothing_held) (sym e) g in
+    let g = broken_goes h b rest (text_breaks_at h b rest f.c f.more r (takes_outside h.kept h.waiting b t) z f.lendable f.is) in
     record {
       within = omega arith;
-      lends = λ start. g'.lends start (start + count) ∙ (let q : start + count ≡ start + count + 0 = omega arith in ap (λ (m : ℕ). Lone (Print 0xFFFD) ∷ framed_behind start m nothing_held (b ∷ rest)) q);
-      keeps = g'.keeps;
+      lends = λ start. g.lends start (start + count) ∙ (let q : start + count ≡ start + count + 0 = omega arith in ap (λ (m : ℕ). Lone (Print 0xFFFD) ∷ framed_behind start m nothing_held (b ∷ rest)) q);
+      keeps = g.keeps;
       reached = nothing_reached;
       carried = carried_none 0 (count + 0) nothing_held (b ∷ rest) refl;
     }
@@ -75,29 +70,18 @@ frames_broken count n h b rest (stream, e) t z k p =
 -- whatever stands behind its first byte
 pub broken_same : (n : ℕ) (h : Held) (b : ℕ) (rest : List ℕ) → IsReached h → takes_text h b ≡ true → begun_bytes h ≢ [] → IsTextLen (b ∷ rest) n → 0 < n → (xs : List ℕ) → (hand_out h (b ∷ xs)).held ≡ (hand_out nothing_held (b ∷ xs)).held
 unfolding hand_out
-broken_same n h b rest (stream, e) t z k p xs =
+broken_same n h b rest r t z k p xs =
     let f = first_in (b ∷ rest) n k p in
-    let out : is_body (held_of stream).kept ≡ false = subst (λ (x : Held). is_body x.kept ≡ false) e (takes_outside h.kept h.waiting b t) in
-    let g = text_breaks_at stream b rest f.c f.more out (λ y. z (ap begun_bytes e ∙ y)) f.lendable f.is in
-    ap (λ (x : Held). (hand_out (held_step x b).held xs).held) e ∙ ap (λ (x : Handed). (hand_out x.held xs).held) g
+    ap (λ (x : Handed). (hand_out x.held xs).held) (text_breaks_at h b rest f.c f.more r (takes_outside h.kept h.waiting b t) z f.lendable f.is)
 
 -- ---- a text
 
-above : (b : ℕ) → nat_le 0x80 b ≡ true → 128 ≤ b
-above b h = grind (arith, nat_tests)
-
 -- where no C2 waits the first byte is high, or nothing is open
 high : (k : Kept) (w : Bool) (b : ℕ) → kept_takes k w b ≡ true → bytes_begun k w ≡ [] → is_character k ≡ false → 128 ≤ b
-high (InCharacter p) w b h z i = cc
-high (InEscape xs) true b h z i = cc
-high (InEscape xs) false b h z i = above b h
-high (InControlSequence p) true b h z i = cc
-high (InControlSequence p) false b h z i = above b h
-high (InCommand body) w b h z i = cc
-high (InHeader header) true b h z i = cc
-high (InHeader header) false b h z i = above b h
-high InDevice w b h z i = cc
-high InString w b h z i = cc
+high (InEscape xs) false b h z i = leb-true 0x80 b h
+high (InControlSequence p) false b h z i = leb-true 0x80 b h
+high (InHeader header) false b h z i = leb-true 0x80 b h
+high _ w b h z i = cc
 
 text_behind : (count n : ℕ) (h : Held) (bytes : List ℕ) → IsTextLen bytes n → 0 < n → GoesOn h bytes [] nothing_held → Frames count h bytes (λ from. Text from (take n bytes) ∷ []) n nothing_held
 text_behind count n h bytes k p g =
@@ -116,29 +100,23 @@ text_behind count n h bytes k p g =
     }
   where
     apart : (start : ℕ) → BeginsFrom (start + count + n + 1) (framed_behind start (start + count + n) nothing_held (drop n bytes))
-    apart start = subst (λ (h' : Held). BeginsFrom (start + count + n + 1) (framed_behind start (start + count + n) h' (drop n bytes))) start_held
-        (begun_apart (drop n bytes) [] start (start + count + n) (start + count + n + 1) (subst (λ (h' : Held). is_body h'.kept ≡ false) (sym start_held) refl) (omega arith)
-        (subst (λ (h' : Held). BeginsNoText (begun_bytes h' ++ drop n bytes)) (sym start_held) k.rest))
+    apart start = subst (λ (h' : Held). IsLate (start + count + n + 1) (start + count + n) (begun_bytes h') (drop n bytes) → BeginsFrom (start + count + n + 1) (framed_behind start (start + count + n) h' (drop n bytes))) start_held
+        (begins_late (drop n bytes) [] start (start + count + n) (start + count + n + 1)) (inr (omega arith, k.rest))
 
 pub frames_text : (count n : ℕ) (h : Held) (b : ℕ) (rest : List ℕ) → IsReached h → takes_text h b ≡ true → begun_bytes h ≡ [] → IsTextLen (b ∷ rest) n → 0 < n
     → Frames count h (b ∷ rest) (λ from. Text from (take n (b ∷ rest)) ∷ []) n nothing_held
-frames_text count n h b rest (stream, e) t z k p =
+frames_text count n h b rest r t z k p =
     let f = first_in (b ∷ rest) n k p in
-    let out : is_body (held_of stream).kept ≡ false = subst (λ (x : Held). is_body x.kept ≡ false) e (takes_outside h.kept h.waiting b t) in
-    let up : is_character (held_of stream).kept ≡ false → 128 ≤ b = subst (λ (x : Held). is_character x.kept ≡ false → 128 ≤ b) e (high h.kept h.waiting b t z) in
-    let g = text_cuts stream b rest f.c f.more out (ap begun_bytes (sym e) ∙ z) up f.lendable f.is in
-    text_behind count n h (b ∷ rest) k p (subst (λ (x : Held). GoesOn x (b ∷ rest) [] nothing_held) (sym e) g)
+    text_behind count n h (b ∷ rest) k p (text_cuts h b rest f.c f.more r (takes_outside h.kept h.waiting b t) z (high h.kept h.waiting b t z) f.lendable f.is)
 
 -- nothing is held behind it
 pub text_ends : (n : ℕ) (h : Held) (b : ℕ) (rest : List ℕ) → IsReached h → takes_text h b ≡ true → begun_bytes h ≡ [] → IsTextLen (b ∷ rest) n → 0 < n → (hand_out h (take n (b ∷ rest))).held ≡ nothing_held
 text_ends zero h b rest r t z k p = absurd (omega arith)
-text_ends (suc n) h b rest (stream, e) t z k p =
+text_ends (suc n) h b rest r t z k p =
     let text = b ∷ take n rest in
     let f : First text = subst First (append-nil text) (first_of text [] k.text (λ y. cc)) in
-    let out : is_body (held_of stream).kept ≡ false = subst (λ (x : Held). is_body x.kept ≡ false) e (takes_outside h.kept h.waiting b t) in
-    let up : is_character (held_of stream).kept ≡ false → 128 ≤ b = subst (λ (x : Held). is_character x.kept ≡ false → 128 ≤ b) e (high h.kept h.waiting b t z) in
-    let g = text_cuts stream b (take n rest) f.c f.more out (ap begun_bytes (sym e) ∙ z) up f.lendable f.is in
-    ap (λ (x : Held). (hand_out x text).held) e ∙ g.keeps ∙ ap (λ (l : List ℕ). (hand_out nothing_held l).held) (sym (append-nil text)) ∙ text_kept text [] k.text ∙ start_held
+    let g = text_cuts h b (take n rest) f.c f.more r (takes_outside h.kept h.waiting b t) z (high h.kept h.waiting b t z) f.lendable f.is in
+    g.keeps ∙ ap (λ (l : List ℕ). (hand_out nothing_held l).held) (sym (append-nil text)) ∙ text_kept text [] k.text ∙ start_held
 
 -- ---- one byte
 
@@ -157,56 +135,38 @@ stands count h b rest (stream, e) a = record {
     short b rest = omega arith
 
 -- a low byte within a sequence prints nothing
-low_stop : (b : ℕ) → is_cut b ≡ true → nat_le 0x80 b ≡ false → is_stop b ≡ true
-unfolding is_cut
-low_stop b h l = by_test (is_stop b) refl
-  where
-    by_test : (t : Bool) → is_stop b ≡ t → is_stop b ≡ true
-    by_test true e = e
-    by_test false e = let k : (is_stop b || nat_le 0x80 b) ≡ true = h in let m : nat_le 0x80 b ≡ true = rw e at k in cc
-
 before_low : (b : ℕ) (s : Step) → nat_le 0x80 b ≡ false → Before b s → IsQuiet s
+unfolding is_cut
 before_low b s l (is_quiet q) = q
-before_low b s l (cuts c e) = subst IsQuiet (sym e) (stop_quiet b (low_stop b c l))
-
-low_lead : (b : ℕ) → nat_le 0x80 b ≡ false → (b == 0xC2) ≡ false
-low_lead b h = grind (arith, nat_tests)
+before_low b s l (cuts c e) = subst IsQuiet (sym e) (stop_quiet b (⊎_elim (λ k. k) (λ k. cc) (or_cases (is_stop b) (nat_le 0x80 b) c)))
 
 low_step : (k : Kept) (b : ℕ) → nat_le 0x80 b ≡ false → Before b (kept_step k b) → PrintNone (held_step (record { kept = k; waiting = false }) b).dispatches × (begun_bytes (held_step (record { kept = k; waiting = false }) b).held ≡ [])
 unfolding held_step fresh_step
-low_step k b l q = let r = before_low b (kept_step k b) l q in rw (low_lead b l) (r.0, begun_none (kept_step k b).kept r.1)
+low_step k b l q = let r = before_low b (kept_step k b) l q in rw (ne_eqb b 0xC2 (λ e. let m = leb-false 0x80 b l in absurd (omega arith))) (r.0, begun_none (kept_step k b).kept r.1)
 
 -- a byte at which no text can begin, or none does
-alone_at : (k : Kept) (w : Bool) (b : ℕ) (rest : List ℕ) (stream : List ℕ) (start count : ℕ) → record { kept = k; waiting = w } ≡ held_of stream → (kept_takes k w b ≡ true → BeginsNoText (b ∷ rest)) → IsCarried start count (held_of stream) (b ∷ rest)
-    → StandAlone start (count + 1) (held_step (record { kept = k; waiting = w }) b).held rest (held_step (record { kept = k; waiting = w }) b).dispatches
-alone_at k w b rest stream start count e n c = by_test (kept_takes k w b) refl
+alone_at : (h : Held) (b : ℕ) (rest : List ℕ) (start count : ℕ) → IsReached h → (takes_text h b ≡ true → BeginsNoText (b ∷ rest)) → IsCarried start count h (b ∷ rest)
+    → StandAlone start (count + 1) (held_step h b).held rest (held_step h b).dispatches
+alone_at h b rest start count r n c = ⊎_elim
+    (λ t. byte_alone h b rest start count r (takes_outside h.kept h.waiting b t) (n t) c)
+    (λ t. shut h.kept h.waiting t (body_alone h b rest start count r))
+    (cases_Bool (takes_text h b))
   where
     Goal : Held → Type 0
     Goal h = StandAlone start (count + 1) (held_step h b).held rest (held_step h b).dispatches
-
-    body : is_body (held_of stream).kept ≡ true → Goal (record { kept = k; waiting = w })
-    body h = subst Goal (sym e) (body_alone stream b rest start count h)
 
     low : (k : Kept) → Before b (kept_step k b) → nat_le 0x80 b ≡ false → Goal (record { kept = k; waiting = false })
     low k q l = let r = low_step k b l q in quiet_alone start count (held_step (record { kept = k; waiting = false }) b) rest r.0 r.1
 
     shut : (k : Kept) (w : Bool) → kept_takes k w b ≡ false → (is_body k ≡ true → Goal (record { kept = k; waiting = w })) → Goal (record { kept = k; waiting = w })
-    shut (InCharacter p) w h f = cc
-    shut (InEscape xs) true h f = cc
     shut (InEscape xs) false h f = low (InEscape xs) (escape_before xs b) h
-    shut (InControlSequence p) true h f = cc
     shut (InControlSequence p) false h f = low (InControlSequence p) (control_sequence_before p b) h
-    shut (InCommand x) w h f = f refl
-    shut (InHeader header) true h f = cc
     shut (InHeader header) false h f = low (InHeader header) (header_before header b) h
+    shut (InCommand x) w h f = f refl
     shut InDevice w h f = f refl
     shut InString w h f = f refl
-
-    by_test : (t : Bool) → kept_takes k w b ≡ t → Goal (record { kept = k; waiting = w })
-    by_test true h = subst Goal (sym e) (byte_alone stream b rest start count (subst (λ (x : Held). is_body x.kept ≡ false) e (takes_outside k w b h)) (n h) c)
-    by_test false h = shut k w h (λ i. body (subst (λ (x : Held). is_body x.kept ≡ true) e i))
+    shut _ w h f = cc
 
 pub frames_alone : (count : ℕ) (h : Held) (b : ℕ) (rest : List ℕ) → IsReached h → (takes_text h b ≡ true → BeginsNoText (b ∷ rest)) → IsCarried 0 count h (b ∷ rest)
     → Frames count h (b ∷ rest) (λ from. map Lone (held_step h b).dispatches) 1 (held_step h b).held
-frames_alone count h b rest r n c = stands count h b rest r (λ start.
-    alone_at h.kept h.waiting b rest r.0 start (start + count) r.1 n (subst (λ (x : Held). IsCarried start (start + count) x (b ∷ rest)) r.1 (in_call start count h (b ∷ rest) c)))
+frames_alone count h b rest r n c = stands count h b rest r (λ start. alone_at h b rest start (start + count) r n (in_call start count h (b ∷ rest) c))

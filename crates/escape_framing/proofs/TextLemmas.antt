@@ -1,6 +1,5 @@
 -- How the characters of a text are read, byte by byte, where nothing is held.
-use Rattle.std.proofs.Common.{◌≡◌, ◌≢◌, ℕ, ◌+◌, ◌-◌, ◌<◌, ◌≤◌, inl, inr, Bool, true, false, List, [], ◌∷◌, ◌++◌, length, refl, sym, ap, subst, ◌∙◌, arith, append_assoc, append-nil, length-append}
-use Rattle.std.specs.Prelude.{◌==◌}
+use Rattle.std.proofs.Common.{◌≡◌, ◌≢◌, ℕ, ◌+◌, ◌-◌, ◌<◌, ◌≤◌, inl, inr, true, false, List, [], ◌∷◌, ◌++◌, length, refl, sym, ap, subst, ◌∙◌, arith, append_assoc, append-nil, length-append, ⊎_elim}
 use Rattle.std.specs.List.{flat_map}
 use Rattle.std.specs.Char.{IsScalar}
 use Rattle.std.proofs.lemmas.Bool.Decides.{nat_tests}
@@ -12,9 +11,10 @@ use Rattle.escape_framing.specs.Dispatch.{Dispatch, Print, dispatches_of}
 use Rattle.escape_framing.specs.Held.{InCharacter, Step, steps, kept_of, character_step, Held, Handed, handed, fresh_step, waiting_step, held_step, nothing_held, hand_out}
 use Rattle.escape_framing.specs.Framed.{Text, is_lent, put_text, framed, at_place, placed_behind, framed_behind, IsLendable, IsText, no_text, text_of}
 use Rattle.escape_framing.proofs.Existence.Utf8Lemmas.{Spelled, in_one, in_two, in_three, in_four, spelled}
-use Rattle.escape_framing.proofs.CharacterReading.{waits_begun, ends_character, plain_segment}
+use Rattle.escape_framing.proofs.CharacterReading.{waits_begun, ends_character, plain_segment, no_escape}
 use Rattle.escape_framing.proofs.FramedLemmas.{BeginsFrom, lends, put_apart, put_joined}
-use Rattle.escape_framing.proofs.HeldLemmas.{Inner, inner, no_c2, first_c2}
+use Rattle.escape_framing.proofs.HeldLemmas.{Inner, inner, no_c2, first_c2, not_lead}
+use Rattle.std.proofs.lemmas.Bool.{ne_eqb, cases_eq}
 
 -- the first bytes of a character are held
 abbrev pub first_bytes : List ℕ → Held
@@ -24,16 +24,9 @@ first_bytes p = record { kept = InCharacter p; waiting = false }
 abbrev pub lead_waits : Held
 lead_waits = record { kept = InCharacter []; waiting = true }
 
-is_lead : (b : ℕ) → b ≢ 0xC2 → (b == 0xC2) ≡ false
-is_lead b n = grind (arith, nat_tests)
-
 pub other_step : (p : List ℕ) (b : ℕ) → b ≢ 0xC2 → held_step (first_bytes p) b ≡ handed (character_step p b) false
 unfolding held_step fresh_step
-other_step p b n = rw (is_lead b n) refl
-
-pub lead_step : held_step nothing_held 0xC2 ≡ record { dispatches = []; held = lead_waits }
-unfolding held_step fresh_step
-lead_step = refl
+other_step p b n = rw (ne_eqb b 0xC2 n) refl
 
 not_c1 : (b : ℕ) → 0x9F < b → is_c1 0xC2 b ≡ false
 not_c1 b l = grind (arith, nat_tests)
@@ -45,15 +38,11 @@ lead_kept = ap (λ (r : Reading). steps (flat_map dispatches_of r.segments) (kep
 -- a byte behind a C2 that is no half of a C1 control
 pub behind_lead : (b : ℕ) → is_c1 0xC2 b ≡ false → b ≢ 0xC2 → held_step lead_waits b ≡ handed (character_step (0xC2 ∷ []) b) false
 unfolding held_step waiting_step fresh_step
-behind_lead b h n = rw (h, lead_kept) (rw (is_lead b n) refl)
+behind_lead b h n = rw (h, lead_kept) (rw (ne_eqb b 0xC2 n) refl)
 
 pub begun_step : (p : List ℕ) (b : ℕ) → IsUnfinished (Begun p) → IsBegun (p ++ b ∷ []) → character_step p b ≡ steps [] (InCharacter (p ++ b ∷ []))
 unfolding character_step next_byte
 begun_step p b g h = ap (λ (r : Reading). steps (flat_map dispatches_of r.segments) (kept_of r.tail)) (waits_begun p b g h)
-
-pub no_escape : (c : ℕ) → IsPrintable c → c ≢ 0x1B
-no_escape c (inl p) e = omega arith
-no_escape c (inr p) e = omega arith
 
 pub whole_step : (c b : ℕ) (p : List ℕ) → IsScalar c → IsPrintable c → encode c ≡ p ++ b ∷ [] → IsUnfinished (Begun p) → character_step p b ≡ steps (Print c ∷ []) (InCharacter [])
 unfolding character_step next_byte
@@ -86,9 +75,6 @@ reads_on count c x p (b ∷ []) more s h e n =
     let g : IsUnfinished (Begun (x ∷ p)) = inr (c, b ∷ [], s, e, λ k. cc, λ k. cc) in
     step_of count (first_bytes (x ∷ p)) b more (handed (steps (Print c ∷ []) (InCharacter [])) false)
     (other_step (x ∷ p) b (not_lead b i) ∙ ap (λ (t : Step). handed t false) (whole_step c b (x ∷ p) s h e g))
-  where
-    not_lead : (b : ℕ) → Inner b → b ≢ 0xC2
-    not_lead b i k = no_c2 (subst Inner k i)
 reads_on count c x p (b ∷ d ∷ q) more s h e n =
     let split : x ∷ p ++ b ∷ (d ∷ q) ≡ (x ∷ p ++ b ∷ []) ++ (d ∷ q) = sym (append_assoc (x ∷ p) (b ∷ []) (d ∷ q)) in
     let i = inner c x b p (d ∷ q) s e in
@@ -98,9 +84,6 @@ reads_on count c x p (b ∷ d ∷ q) more s h e n =
     (other_step (x ∷ p) b (not_lead b i) ∙ ap (λ (t : Step). handed t false) (begun_step (x ∷ p) b g w))
     ∙ reads_on (count + 1) c x (p ++ b ∷ []) (d ∷ q) more s h (e ∙ split) (λ k. cc)
     ∙ ap (λ (m : ℕ). printed m c more) (let k : count + 1 + length (d ∷ q) ≡ count + length (b ∷ d ∷ q) = omega arith in k)
-  where
-    not_lead : (b : ℕ) → Inner b → b ≢ 0xC2
-    not_lead b i k = no_c2 (subst Inner k i)
 
 -- a character of one byte
 reads_one : (count c : ℕ) (more : List ℕ) → IsScalar c → IsPrintable c → encode c ≡ c ∷ [] → c < 128 → both count nothing_held (c ∷ more) ≡ printed (count + 1) c more
@@ -111,14 +94,8 @@ reads_one count c more s h e l =
 -- a character of more bytes
 reads_more : (count c x y : ℕ) (q more : List ℕ) → IsScalar c → IsPrintable c → encode c ≡ x ∷ y ∷ q → (x ≡ 0xC2 → (q ≡ []) × (0x9F < y))
     → both count nothing_held (x ∷ y ∷ q ++ more) ≡ printed (count + length (x ∷ y ∷ q)) c more
-reads_more count c x y q more s h e two = by_test (x == 0xC2) refl
+reads_more count c x y q more s h e two = ⊎_elim lead other (cases_eq x 0xC2)
   where
-    is : (a b : ℕ) → (a == b) ≡ true → a ≡ b
-    is a b k = grind (arith, nat_tests)
-
-    differs : (a b : ℕ) → (a == b) ≡ false → a ≢ b
-    differs a b k n = grind (arith, nat_tests)
-
     lead : x ≡ 0xC2 → both count nothing_held (x ∷ y ∷ q ++ more) ≡ printed (count + length (x ∷ y ∷ q)) c more
     lead k =
         let t = two k in
@@ -126,7 +103,7 @@ reads_more count c x y q more s h e two = by_test (x == 0xC2) refl
         let f : encode c ≡ (0xC2 ∷ []) ++ y ∷ [] = e ∙ ap (λ (z : ℕ). z ∷ y ∷ q) k ∙ ap (λ (z : List ℕ). 0xC2 ∷ y ∷ z) t.0 in
         let g : IsUnfinished (Begun (0xC2 ∷ [])) = inr (c, y ∷ [], s, f, λ k. cc, λ k. cc) in
         ap (λ (z : ℕ). both count nothing_held (z ∷ y ∷ q ++ more)) k
-        ∙ step_of count nothing_held 0xC2 (y ∷ q ++ more) (record { dispatches = []; held = lead_waits }) lead_step
+        ∙ step_of count nothing_held 0xC2 (y ∷ q ++ more) (record { dispatches = []; held = lead_waits }) (unfold held_step fresh_step in refl)
         ∙ ap (λ (z : List ℕ). both (count + 1) lead_waits (y ∷ z ++ more)) t.0
         ∙ step_of (count + 1) lead_waits y more (handed (steps (Print c ∷ []) (InCharacter [])) false)
         (behind_lead y (not_c1 y l) (λ k. no_c2 (subst Inner k (inner c 0xC2 y [] [] s f))) ∙ ap (λ (u : Step). handed u false) (whole_step c y (0xC2 ∷ []) s h f g))
@@ -139,10 +116,6 @@ reads_more count c x y q more s h e two = by_test (x == 0xC2) refl
         (other_step [] x n ∙ ap (λ (u : Step). handed u false) (begun_step [] x (inl refl) w))
         ∙ reads_on (count + 1) c x [] (y ∷ q) more s h e (λ k. cc)
         ∙ ap (λ (m : ℕ). printed m c more) (let k : count + 1 + length (y ∷ q) ≡ count + length (x ∷ y ∷ q) = omega arith in k)
-
-    by_test : (t : Bool) → (x == 0xC2) ≡ t → both count nothing_held (x ∷ y ∷ q ++ more) ≡ printed (count + length (x ∷ y ∷ q)) c more
-    by_test true k = lead (is x 0xC2 k)
-    by_test false k = other (differs x 0xC2 k)
 
 -- a printable character is printed once its last byte has come
 reads_both : (count c : ℕ) (more : List ℕ) → IsScalar c → IsPrintable c

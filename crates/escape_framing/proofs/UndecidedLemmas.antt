@@ -2,25 +2,21 @@
 use Rattle.std.proofs.Common.{◌≡◌, ◌≢◌, ℕ, ◌-◌, ◌+◌, ◌/◌, ◌<◌, ◌≤◌, ◌⊎◌, inl, inr, ⊎_elim, Bool, true, false, List, [], ◌∷◌, ◌++◌, refl, sym, ap, subst, ◌∙◌, arith, append_assoc}
 use Rattle.std.specs.Prelude.{◌==◌}
 use Rattle.std.specs.Char.{IsScalar}
-use Rattle.std.specs.List.{flat_map}
-use Rattle.std.proofs.lemmas.Bool.{or_parts}
-use Rattle.std.proofs.lemmas.Bool.Decides.{nat_tests}
 use Rattle.text_clusters.specs.Controls.{is_c1}
 use lib.Utf8.{encode, low_scalar}
 use Rattle.escape_framing.specs.SevenBit.{seven_bit}
-use Rattle.escape_framing.specs.Bytes.{is_stop, is_embedded, is_cut}
-use Rattle.csi_codec.specs.Tokens.{is_parameter}
+use Rattle.escape_framing.specs.Bytes.{is_stop, is_cut, taken}
 use Rattle.escape_framing.specs.Segment.{Tail, Begun, OpenEscape, OpenControlSequence, OpenCommand, OpenHeader, OpenDevice, OpenString, IsBegun, IsUnfinished}
-use Rattle.escape_framing.specs.Decode.{Reading, next_byte, ends, read_on}
-use Rattle.escape_framing.specs.Dispatch.{Dispatch, Print, Control, Data, Exit, dispatches_of}
-use Rattle.escape_framing.specs.Held.{Kept, InCharacter, InCommand, InDevice, InString, kept_of, Step, steps, before, character_step, command_step, header_step, device_step, string_step, kept_step, Held, Handed, interrupted, fresh_step, waiting_step, held_step, nothing_held, hand_out, held_of}
+use Rattle.escape_framing.specs.Decode.{read_on}
+use Rattle.escape_framing.specs.Dispatch.{Dispatch, Print, Control, Data, Exit}
+use Rattle.escape_framing.specs.Held.{Kept, InCharacter, InCommand, InDevice, InString, kept_of, Step, steps, before, character_step, command_step, device_step, string_step, kept_step, Held, Handed, interrupted, fresh_step, waiting_step, held_step, nothing_held, hand_out, held_of}
 use Rattle.escape_framing.specs.Undecided.{IsUndecided}
-use Rattle.escape_framing.proofs.Existence.Utf8Lemmas.{order, Spelled, in_one, in_two, in_three, in_four, spelled, front_of_one, front_of_two, front_of_three, two, three, scalar_high}
-use Rattle.escape_framing.proofs.CharacterReading.{plain_segment, waits_begun, ends_character}
-use Rattle.escape_framing.proofs.FirstLemmas.{first_control, first_waits}
-use Rattle.escape_framing.proofs.HeldLemmas.{Inner, inner, interrupted_character, c2_begins, At, at_rest, at_c2, unfinished, at_all, newly_handed}
-use Rattle.escape_framing.proofs.SequenceReading.{cut_is_no_parameter}
-use Rattle.escape_framing.proofs.WaitingLemmas.{escape_cut, control_sequence_cut}
+use Rattle.escape_framing.proofs.Existence.Utf8Lemmas.{order, Spelled, in_one, in_two, in_three, in_four, spelled, front_of_one, front_of_two, front_of_three, two, three, scalar_high, some_last}
+use Rattle.escape_framing.proofs.FirstLemmas.{first_control}
+use Rattle.escape_framing.proofs.HeldLemmas.{Inner, inner, interrupted_character, c2_begins, At, at_rest, at_c2, unfinished, at_all, newly_handed, not_lead}
+use Rattle.escape_framing.proofs.WaitingLemmas.{escape_cut, control_sequence_cut, header_cut}
+use Rattle.std.proofs.lemmas.Bool.{ne_eqb}
+use Rattle.escape_framing.proofs.TextLemmas.{whole_step, begun_step, lead_kept}
 
 -- how two dispatches differ: CAN and SUB, two characters, two bytes of data, or the end of data and a byte of it
 pub data AreApart (first second : Dispatch) : Type 0 where
@@ -85,26 +81,25 @@ differ first second (prints a b e f n) h = n (let k : a ≡ b = cc in k)
 differ first second (data_bytes a b e f n) h = n (let k : a ≡ b = cc in k)
 differ first second (goes_on b e f) h = cc
 
-by_cancel : (kept : Kept) → Cancels kept → Differs (at_rest_with kept)
-by_cancel kept c = record {
+stops_apart : (h : Held) (xs ys : List Dispatch) → (hand_out h (0x18 ∷ [])).dispatches ≡ Control 0x18 ∷ xs → (hand_out h (0x1A ∷ [])).dispatches ≡ Control 0x1A ∷ ys → Differs h
+stops_apart h xs ys e f = record {
   one = 0x18 ∷ [];
   other = 0x1A ∷ [];
   first = Control 0x18;
   second = Control 0x1A;
-  behind_first = _;
-  behind_second = _;
-  gives_first = hand_rest kept 0x18 [] _ refl (c.at_cancel ∙ cancel);
-  gives_second = hand_rest kept 0x1A [] _ refl (c.at_substitute ∙ substitute);
+  behind_first = xs;
+  behind_second = ys;
+  gives_first = e;
+  gives_second = f;
   apart = stops refl refl;
 }
+
+by_cancel : (kept : Kept) → Cancels kept → Differs (at_rest_with kept)
+by_cancel kept c = stops_apart _ _ _ (hand_rest kept 0x18 [] _ refl (c.at_cancel ∙ cancel)) (hand_rest kept 0x1A [] _ refl (c.at_substitute ∙ substitute))
 
 cut_by_cancel : (is_cut 0x18 ≡ true) × (is_cut 0x1A ≡ true) × (is_cut 0xC2 ≡ true)
 unfolding is_cut is_stop
 cut_by_cancel = (refl, refl, refl)
-
-header_cut : (h : List ℕ) (b : ℕ) → is_cut b ≡ true → header_step h b ≡ character_step [] b
-unfolding header_step
-header_cut h b k = let n = or_parts (is_embedded b) (is_parameter b) (cut_is_no_parameter b k) in rw (n.0, n.1, k) refl
 
 command_cancel : (body : List ℕ) → Cancels (InCommand body)
 unfolding command_step is_stop
@@ -113,14 +108,6 @@ command_cancel body = record { at_cancel = refl; at_substitute = refl }
 string_cancel : Cancels InString
 unfolding string_step is_stop
 string_cancel = record { at_cancel = refl; at_substitute = refl }
-
-command_c2 : (body : List ℕ) → kept_step (InCommand body) 0xC2 ≡ steps [] (InCommand (body ++ 0xC2 ∷ []))
-unfolding command_step is_stop
-command_c2 body = refl
-
-string_c2 : kept_step InString 0xC2 ≡ steps [] InString
-unfolding string_step is_stop
-string_c2 = refl
 
 device_data : (b : ℕ) → is_stop b ≡ false → kept_step InDevice b ≡ steps (Data b ∷ []) InDevice
 unfolding device_step
@@ -136,42 +123,23 @@ device_escape = refl
 
 -- ---- a character that has begun
 
-hand_nil : (h : Held) → (hand_out h []).dispatches ≡ []
-unfolding hand_out
-hand_nil h = refl
-
-character_of : (p : List ℕ) (b : ℕ) (r : Reading) → next_byte (Begun p) b ≡ r → character_step p b ≡ steps (flat_map dispatches_of r.segments) (kept_of r.tail)
-unfolding character_step next_byte
-character_of p b r e = ap (λ (x : Reading). steps (flat_map dispatches_of x.segments) (kept_of x.tail)) e
-
-whole_step : (p : List ℕ) (b c : ℕ) → IsUnfinished (Begun p) → IsScalar c → 0x9F < c → encode c ≡ p ++ b ∷ [] → character_step p b ≡ steps (Print c ∷ []) (InCharacter [])
-whole_step p b c g s l e = character_of p b _ (ends_character c b p s e (λ k. absurd (omega arith)) g ∙ ap ends (plain_segment (p ++ b ∷ []) c (inr l)))
-
-not_nil : (p : List ℕ) (b : ℕ) → p ++ b ∷ [] ≢ []
-not_nil [] b h = cc
-not_nil (x ∷ p) b h = cc
-
 begun_by : (p : List ℕ) (b d : ℕ) (q : List ℕ) (c : ℕ) → IsScalar c → encode c ≡ p ++ b ∷ d ∷ q → IsBegun (p ++ b ∷ [])
-begun_by p b d q c s e = (c, d ∷ q, s, e ∙ sym (append_assoc p (b ∷ []) (d ∷ q)), not_nil p b, λ h. cc)
-
-more_step : (p : List ℕ) (b d : ℕ) (q : List ℕ) (c : ℕ) → IsUnfinished (Begun p) → IsScalar c → encode c ≡ p ++ b ∷ d ∷ q → character_step p b ≡ steps [] (InCharacter (p ++ b ∷ []))
-more_step p b d q c g s e = character_of p b _ (waits_begun p b g (begun_by p b d q c s e))
+begun_by p b d q c s e = (c, d ∷ q, s, e ∙ sym (append_assoc p (b ∷ []) (d ∷ q)), some_last p b, λ h. cc)
 
 inner_of : (p : List ℕ) (b : ℕ) (q : List ℕ) (c : ℕ) → p ≢ [] → IsScalar c → encode c ≡ p ++ b ∷ q → Inner b
 inner_of [] b q c n s e = absurd (n refl)
 inner_of (x ∷ p) b q c n s e = inner c x b p q s e
 
-no_lead : (b : ℕ) → Inner b → (b == 0xC2) ≡ false
-no_lead b i = let h = i.most in grind (arith, nat_tests)
-
 -- the rest of a character hands it out
 completes : (q p : List ℕ) (c : ℕ) → IsUnfinished (Begun p) → p ≢ [] → q ≢ [] → IsScalar c → 0x9F < c → encode c ≡ p ++ q → (hand_out (at_rest_with (InCharacter p)) q).dispatches ≡ Print c ∷ []
+unfolding hand_out
 completes [] p c g n m s l e = absurd (m refl)
 completes (b ∷ []) p c g n m s l e =
-    hand_rest (InCharacter p) b [] (steps (Print c ∷ []) (InCharacter [])) (no_lead b (inner_of p b [] c n s e)) (whole_step p b c g s l e) ∙ ap (λ ds. Print c ∷ ds) (hand_nil _)
+    hand_rest (InCharacter p) b [] (steps (Print c ∷ []) (InCharacter [])) (ne_eqb b 0xC2 (not_lead b (inner_of p b [] c n s e))) (whole_step c b p s (inr l) e g)
 completes (b ∷ d ∷ q) p c g n m s l e =
-    hand_rest (InCharacter p) b (d ∷ q) (steps [] (InCharacter (p ++ b ∷ []))) (no_lead b (inner_of p b (d ∷ q) c n s e)) (more_step p b d q c g s e)
-    ∙ completes (d ∷ q) (p ++ b ∷ []) c (inr (begun_by p b d q c s e)) (not_nil p b) (λ h. cc) s l (e ∙ sym (append_assoc p (b ∷ []) (d ∷ q)))
+    let more : IsBegun (p ++ b ∷ []) = begun_by p b d q c s e in
+    hand_rest (InCharacter p) b (d ∷ q) (steps [] (InCharacter (p ++ b ∷ []))) (ne_eqb b 0xC2 (not_lead b (inner_of p b (d ∷ q) c n s e))) (begun_step p b g more)
+    ∙ completes (d ∷ q) (p ++ b ∷ []) c (inr more) (some_last p b) (λ h. cc) s l (e ∙ sym (append_assoc p (b ∷ []) (d ∷ q)))
 
 -- a character that has begun can become one other than U+FFFD
 record Becomes (p : List ℕ) : Type 0 where
@@ -276,34 +244,21 @@ lead_differs kept e = record {
   second = Print 0xFFFD;
   behind_first = _;
   behind_second = _;
-  gives_first = hand_c2 kept 0xA9 _ _ refl refl e (whole_step (0xC2 ∷ []) 0xA9 0xA9 (inr c2_begins) (low_scalar 0xA9 (omega arith)) (omega arith) (two 0xA9 (omega arith) (omega arith)));
+  gives_first = hand_c2 kept 0xA9 _ _ refl refl e (whole_step 0xA9 0xA9 (0xC2 ∷ []) (low_scalar 0xA9 (omega arith)) (inr (omega arith)) (two 0xA9 (omega arith) (omega arith)) (inr c2_begins));
   gives_second = hand_c2 kept 0x18 _ _ refl refl e (broken_by 0xC2 [] 0x18 c2_begins low ∙ ap (before (Print 0xFFFD ∷ [])) cancel);
   apart = prints 0xA9 0xFFFD refl refl (λ k. absurd (omega arith));
 }
 
 cancelled_c2 : (kept behind_c2 : Kept) → kept_step kept 0xC2 ≡ steps [] behind_c2 → Cancels behind_c2 → Differs (at_c2_with kept)
-cancelled_c2 kept behind_c2 e c = record {
-  one = 0x18 ∷ [];
-  other = 0x1A ∷ [];
-  first = Control 0x18;
-  second = Control 0x1A;
-  behind_first = _;
-  behind_second = _;
-  gives_first = hand_c2 kept 0x18 _ _ refl refl e (c.at_cancel ∙ cancel);
-  gives_second = hand_c2 kept 0x1A _ _ refl refl e (c.at_substitute ∙ substitute);
-  apart = stops refl refl;
-}
-
-c2_first : character_step [] 0xC2 ≡ steps [] (InCharacter (0xC2 ∷ []))
-c2_first = first_waits 0xC2 (omega arith) (omega arith)
+cancelled_c2 kept behind_c2 e c = stops_apart _ _ _ (hand_c2 kept 0x18 _ _ refl refl e (c.at_cancel ∙ cancel)) (hand_c2 kept 0x1A _ _ refl refl e (c.at_substitute ∙ substitute))
 
 c2_differs : (t : Tail) → IsUnfinished t → Differs (at_c2_with (interrupted (kept_of t)).kept)
-c2_differs (Begun []) g = lead_differs (InCharacter []) c2_first
-c2_differs (Begun (x ∷ p)) g = lead_differs (InCharacter []) c2_first
-c2_differs (OpenEscape body) g = lead_differs _ (escape_cut _ 0xC2 cut_by_cancel.2 ∙ c2_first)
-c2_differs (OpenControlSequence o body) g = lead_differs _ (control_sequence_cut _ 0xC2 cut_by_cancel.2 ∙ c2_first)
-c2_differs (OpenCommand o body) g = cancelled_c2 _ _ (command_c2 _) (command_cancel _)
-c2_differs (OpenHeader o header) g = lead_differs _ (header_cut _ 0xC2 cut_by_cancel.2 ∙ c2_first)
+c2_differs (Begun []) g = lead_differs (InCharacter []) lead_kept
+c2_differs (Begun (x ∷ p)) g = lead_differs (InCharacter []) lead_kept
+c2_differs (OpenEscape body) g = lead_differs _ (escape_cut _ 0xC2 cut_by_cancel.2 ∙ lead_kept)
+c2_differs (OpenControlSequence o body) g = lead_differs _ (control_sequence_cut _ 0xC2 cut_by_cancel.2 ∙ lead_kept)
+c2_differs (OpenCommand o body) g = cancelled_c2 _ (InCommand (taken body ++ 0xC2 ∷ [])) (unfold command_step is_stop in refl) (command_cancel _)
+c2_differs (OpenHeader o header) g = lead_differs _ (header_cut _ 0xC2 cut_by_cancel.2 ∙ lead_kept)
 c2_differs (OpenDevice o header f body) g = record {
   one = 0x9C ∷ [];
   other = 0x61 ∷ [];
@@ -315,7 +270,7 @@ c2_differs (OpenDevice o header f body) g = record {
   gives_second = hand_c2 InDevice 0x61 _ _ refl refl (device_data 0xC2 no_stops.2) (device_data 0x61 no_stops.0);
   apart = goes_on 0xC2 refl refl;
 }
-c2_differs (OpenString o x body) g = cancelled_c2 _ _ string_c2 string_cancel
+c2_differs (OpenString o x body) g = cancelled_c2 _ InString (unfold string_step is_stop in refl) string_cancel
 
 held_differs : (s : List ℕ) (h : Handed) → At s h → Differs h.held
 held_differs s h (at_rest o r w) =

@@ -7,17 +7,21 @@ use Rattle.escape_framing.specs.Cut.{the_cut, tail_of}
 use Rattle.escape_framing.proofs.Existence.Utf8Lemmas.{append_nil}
 use Rattle.escape_framing.proofs.ReadLemmas.{after, read_nil}
 use Rattle.escape_framing.proofs.CharacterReading.{reads_begun, reads_character, reads_control, reads_ill_formed}
-use Rattle.escape_framing.proofs.SequenceReading.{reads_sequence, reads_whole_escape, reads_whole_control_sequence, reads_whole_command, reads_whole_device, reads_whole_string, reads_cut_off}
+use Rattle.escape_framing.proofs.SequenceReading.{reads_whole_escape, reads_whole_control_sequence, reads_whole_command, reads_whole_device, reads_whole_string, reads_escape, reads_control_sequence, reads_command, reads_header, reads_device, reads_string, cut_off, ends_at}
+use Rattle.escape_framing.specs.Bytes.{is_cut}
 
 -- what is unfinished is read as it stands
 pub reads_tail : (t : Tail) (rest : List ℕ) → IsUnfinished t → read_on (Begun []) (bytes_of_tail t ++ rest) ≡ read_on t rest
 reads_tail (Begun bytes) rest g = reads_begun bytes rest g
-reads_tail (OpenEscape body) rest g = reads_sequence (OpenEscape body) rest g (λ bytes e. cc)
-reads_tail (OpenControlSequence o body) rest g = reads_sequence (OpenControlSequence o body) rest g (λ bytes e. cc)
-reads_tail (OpenCommand o body) rest g = reads_sequence (OpenCommand o body) rest g (λ bytes e. cc)
-reads_tail (OpenHeader o header) rest g = reads_sequence (OpenHeader o header) rest g (λ bytes e. cc)
-reads_tail (OpenDevice o header f body) rest g = reads_sequence (OpenDevice o header f body) rest g (λ bytes e. cc)
-reads_tail (OpenString o x body) rest g = reads_sequence (OpenString o x body) rest g (λ bytes e. cc)
+reads_tail (OpenEscape body) rest g = reads_escape body rest g
+reads_tail (OpenControlSequence o body) rest g = reads_control_sequence o body rest g
+reads_tail (OpenCommand o body) rest g = reads_command o body rest g
+reads_tail (OpenHeader o header) rest g = reads_header o header rest g
+reads_tail (OpenDevice o header f body) rest g = reads_device o header f body rest g
+reads_tail (OpenString o x body) rest g = reads_string o x body rest g
+
+reads_cut_off : (t : Tail) (f : List ℕ) → IsSegment (CutOff t) f → read_on (Begun []) (bytes_of (CutOff t) ++ f) ≡ after (CutOff t) (read_on (Begun []) f)
+reads_cut_off t f g = reads_tail t f g.0 ∙ ends_at t (CutOff t) is_cut f g.2 (λ b k. cut_off t b g.1 k)
 
 -- a segment is read as it stands, before whatever it may stand before
 pub reads_segment : (s : Segment) (f : List ℕ) → IsSegment s f → read_on (Begun []) (bytes_of s ++ f) ≡ after s (read_on (Begun []) f)

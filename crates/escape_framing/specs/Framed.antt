@@ -119,6 +119,12 @@ pub record IsCharacterLen (bytes : List ℕ) (n : ℕ) : Type 0 where
   pub none : n ≡ 0 → BeginsNoText bytes
   pub some : 0 < n → (c : ℕ) × (more : List ℕ) × IsLendable c × (bytes ≡ encode_utf8 c ++ more) × (length (encode_utf8 c) ≡ n)
 
+-- so many bytes are a text at the front; 0 only where none can stand there
+pub record IsRunLen (bytes : List ℕ) (n : ℕ) : Type 0 where
+  pub none : n ≡ 0 → BeginsNoText bytes
+  pub text : IsText (take n bytes)
+  pub within : n ≤ length bytes
+
 -- so many bytes are a text, and no text stands behind them
 pub record IsTextLen (bytes : List ℕ) (n : ℕ) : Type 0 where
   pub within : n ≤ length bytes

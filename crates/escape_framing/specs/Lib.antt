@@ -12,7 +12,6 @@ pub mod Characters
 pub mod Undecided
 pub mod FramerView
 pub mod Framed
-pub mod Wide
 pub mod Fronts
 pub mod Lending
 pub mod Event

@@ -1,9 +1,6 @@
 //! Classes of bytes (ECMA-48, 5).
-ghost use Rattle.std.specs.Prelude.{◌≡◌, ◌≤◌, ◌∷◌, length, IfSome};
-ghost use Rattle.escape_framing.specs.Bytes.{is_stop as in_stops, is_embedded as in_embedded, is_intermediate as in_intermediates, is_opener as in_openers, is_cut as in_cuts, is_final as in_finals};
-ghost use Rattle.escape_framing.specs.Fronts.{IsLastAt};
-
-use crate::texts::behind;
+ghost use Rattle.std.specs.Prelude.{◌≡◌};
+ghost use Rattle.escape_framing.specs.Bytes.{is_stop as in_stops, is_embedded as in_embedded, is_intermediate as in_intermediates, is_opener as in_openers, is_cut as in_cuts};
 
 pub(crate) const BEL: u8 = 0x07;
 
@@ -49,34 +46,4 @@ pub(crate) fn is_opener(byte: u8) -> bool
     ensures { result ≡ in_openers byte }
 {
     byte == b'[' || byte == b']' || byte == b'P' || byte == b'X' || byte == b'^' || byte == b'_'
-}
-
-// The final byte of a control sequence.
-#[inline(always)]
-#[tactic(auto, unfolding(crate::specs::Bytes::is_final))]
-fn is_final(byte: u8) -> bool
-    ensures { result ≡ in_finals byte }
-{
-    matches!(byte, 0x40..=0x7e)
-}
-
-/// The final byte of a control sequence behind so many bytes, if it stands there.
-#[inline(always)]
-pub(crate) fn last_at(bytes: &[u8], count: usize) -> Option<u8>
-    requires { count ≤ length bytes.now }
-    ensures { IsLastAt bytes.now count result }
-{
-    let (byte, _) = behind(bytes, count).split_first()?;
-    if is_final(*byte) { Some(*byte) } else { None }
-}
-
-/// What stands behind ESC [.
-#[inline(always)]
-pub(crate) fn behind_introducer(bytes: &[u8]) -> Option<&[u8]>
-    ensures { IfSome result (λ others. bytes.now ≡ 0x1B ∷ 0x5B ∷ others.now) }
-{
-    match bytes {
-        [0x1b, b'[', others @ ..] => Some(others),
-        _ => None,
-    }
 }

@@ -4,16 +4,14 @@ ghost use Rattle.text_clusters.specs.Controls.{is_c1 as in_c1s};
 ghost use Rattle.csi_codec.specs.Tokens.{no_parameters};
 ghost use Rattle.escape_framing.specs.Held.{TakesMemory, interrupted, fresh_step, held_step, nothing_held, steps};
 ghost use Rattle.escape_framing.specs.Framed.{takes_text, begun_bytes, IsTextLen, BeginsNoText};
-ghost use Rattle.escape_framing.specs.Fronts.{IsSilent};
 ghost use Rattle.escape_framing.specs.Lending.{Lending};
 ghost use Rattle.escape_framing.specs.Event.{handed_out};
 ghost use Rattle.escape_framing.specs.Stepping.{as_advanced, Leaves};
-ghost use Rattle.escape_framing.specs.Read.{whole_sequence, ReadsEvent};
+ghost use Rattle.escape_framing.specs.Read.{ReadsEvent};
 ghost use Rattle.escape_framing.specs.declared.event.Event.TheVariants as event;
 ghost use Rattle.escape_framing.specs.declared.event.Read.TheVariants as read_as;
 
-use crate::bodies::{body_of, string_len};
-use crate::bytes::{C1_LEAD, ESCAPE, behind_introducer, last_at};
+use crate::bytes::{C1_LEAD, ESCAPE};
 use crate::characters::Characters;
 use crate::event::{Event, Read};
 use crate::states::{Intermediates, State, Stepped, left, read};
@@ -28,7 +26,7 @@ use text_clusters::is_c1;
 #[derive(Drop)]
 pub struct Framer {
     pub(crate) state: State,
-    waiting: bool,
+    pub(crate) waiting: bool,
     pub(crate) characters: Characters,
     pub(crate) parameters: Parameters,
     pub(crate) body: Vec<u8>,
@@ -232,40 +230,6 @@ impl Framer {
     {
         self.waiting = false;
         self.close();
-    }
-
-    // Reads the bytes at the front that hand nothing out and leave no character begun: parameter bytes, and those of a
-    // body or of a string that does nothing, up to one that may end it or stand for no byte of it.
-    fn read_run(&mut self, bytes: &[u8]) -> Result<usize, AllocError>
-        ensures reads { IfOk result (λ n. 0 < n → IsSilent self.old.held bytes.now n self.new.held) }
-        ensures none { IfOk result (λ n. n ≡ 0 → self.new.held ≡ self.old.held) }
-        ensures memory { OnErr result (TakesMemory self.old.held.kept) }
-    {
-        match self.state {
-            State::ControlSequence if !self.waiting => Ok(self.parameters.push_all(bytes)),
-            State::Command if !self.waiting => {
-                let run = body_of(bytes);
-                self.body.extend_from_slice(run)?;
-                Ok(run.len())
-            }
-            State::String if !self.waiting => Ok(string_len(bytes)),
-            _ => Ok(0),
-        }
-    }
-
-    // Reads the control sequence at the front, where nothing is unfinished and all its bytes stand there: its final
-    // byte, and how many bytes it has. `None`: take the general way.
-    fn read_sequence(&mut self, bytes: &[u8]) -> Option<(u8, usize)>
-        ensures some { IfSome result (λ s. ReadsEvent self.old.held bytes.now (whole_sequence s.0 s.1) self.new) }
-        ensures held { self.new.held ≡ self.old.held }
-    {
-        let others = behind_introducer(bytes)?;
-        if !self.is_idle() {
-            return None;
-        }
-        let count = self.parameters.read(others);
-        let control = last_at(others, count)?;
-        Some((control, count + 3))
     }
 
     // Reads a text, before which U+FFFD stands for a character that it breaks: then the text isn't read yet.

@@ -1,6 +1,6 @@
 -- How an iterator of pieces goes on.
-use Rattle.std.proofs.Common.{◌≡◌, ◌≢◌, ◌<◌, ◌≤◌, inl, inr, ℕ, ◌+◌, ◌-◌, true, Bool, List, [], ◌∷◌, ◌++◌, length, map, take, drop, Option, Some, None, refl, ap, subst, sym, ◌∙◌, arith, Bor}
-use Rattle.std.specs.Prelude.{Result, Ok, Err, IfOk, OnErr, is_some}
+use Rattle.std.proofs.Common.{◌≡◌, ◌≢◌, ◌<◌, ◌≤◌, inl, inr, ℕ, ◌+◌, ◌-◌, true, List, [], ◌∷◌, ◌++◌, length, map, take, drop, Option, Some, None, refl, ap, subst, sym, ◌∙◌, arith, Bor, false}
+use Rattle.std.specs.Prelude.{Result, Ok, Err, IfOk, OnErr, is_some, is_none}
 use Rattle.std.specs.declared.alloc.AllocError.{AllocError}
 use Rattle.std.specs.Iterator.{MakesProgress, at_most}
 use Rattle.std.proofs.Math.ListN.{drop_of_length-le}
@@ -178,18 +178,6 @@ gives_text old new n l t h q k =
       bodies = bodies_read old new (read.Text n) l h;
     }
 
-pub goes_past : (old new : Pieces) (n : ℕ) (l : Lending) → HasRead old (read.Bytes None n) l new → new.sequence ≡ None → GoesOn old new
-goes_past old new n l h q =
-    let w = read_ready old new (read.Bytes None n) l h in
-    record {
-      same = λ start.
-          rw (q, h.held, h.count, h.bytes) (sym (read_pieces old.count old.parser.now.held old.bytes.now (read.Bytes None n) l h.reads start h.under.reached h.under.carried))
-          ∙ read_whole old new (read.Bytes None n) l h start;
-      ready = w.0;
-      ends = w.1;
-      bodies = bodies_read old new (read.Bytes None n) l h;
-    }
-
 -- an event, whose first action is handed out, if there is one
 module _ (old new : Pieces) (n : ℕ) (l : Lending) (e : Event) (h : HasRead old (read.Bytes (Some e) n) l new) where
   event_whole : (start : ℕ) (left : List StreamAction) → event_actions l e ≡ left → open_pieces start old ≡ map Lone left ++ pieces_of (framed_behind start (start + new.count) new.parser.now.held (drop new.count new.bytes.now))
@@ -222,7 +210,7 @@ module _ (old new : Pieces) (n : ℕ) (l : Lending) (e : Event) (h : HasRead old
       }
 
 -- the first action of a control sequence
-pub begins_sequence : (old new : Pieces) (e : Event) (s : Sequence) (answer : Result (Option Action) AllocError) → HandsOutOf old (Some s) answer new → actions_left old.parser.now.parameters (Some s) ≡ event_actions (lending_in old.parser.now) e → BeginsEvent old e answer new
+pub begins_sequence : (old new : Pieces) (e : Event) (s : Sequence) (answer : Result (Option Action) AllocError) → HandsOutOf (record old { sequence = Some s }) (Some s) answer new → actions_left old.parser.now.parameters (Some s) ≡ event_actions (lending_in old.parser.now) e → BeginsEvent old e answer new
 begins_sequence old new e s answer h is = record {
   same = h.others.same;
   parser = h.others.parser ∙ ap (λ (b : List ℕ). record old.parser.now { body = b }) (sym (ap (λ (p : Parsing). p.body) h.others.parser));
@@ -249,22 +237,11 @@ pub found_behind : (old mid new : Pieces) (piece : Option PieceCode) → GoesOn 
 found_behind old mid new None g h e = cc
 found_behind old mid new (Some piece) g h e = given_behind old mid new (Some piece) g h
 
-pub goes_behind : (old mid new : Pieces) → GoesOn old mid → GoesOn mid new → GoesOn old new
-goes_behind old mid new g h = record { same = λ start. h.same start ∙ g.same start; ready = h.ready; ends = h.ends ∙ g.ends; bodies = λ place b. g.bodies place (h.bodies place b) }
-
 -- ---- where memory is taken
-
-pub asks_behind : (old mid : Pieces) → GoesOn old mid → AsksMemory mid → AsksMemory old
-asks_behind old mid g (inl (place, b)) = inl (place, g.bodies place b)
-asks_behind old mid g (inr f) = inr (λ start. subst FirstTakesMemory (g.same start) (f start))
 
 first_takes : (xs : List StreamAction) (ps : List Piece) → FirstTakes xs → FirstTakesMemory (map Lone xs ++ ps)
 first_takes [] ps t = absurd t
 first_takes (x ∷ xs) ps t = t
-
--- for the next action of a control sequence
-pub asks_next : (it : Pieces) → FirstTakes (actions_left it.parser.now.parameters it.sequence) → AsksMemory it
-asks_next it t = inr (λ start. first_takes (actions_left it.parser.now.parameters it.sequence) _ t)
 
 pub on_refusal : {A : Type 0} (answer : Result A AllocError) (it : Pieces) → AsksMemory it → OnErr answer (AsksMemory it)
 on_refusal (Ok value) it asks = tt
@@ -314,15 +291,6 @@ finds_command old n body answer going over some reads is = record {
     found (Err error) is = tt
 
 -- ---- what the parser says of itself
-
-pub given_too : (old mid new : Pieces) (piece : Option PieceCode) (failed : Bool) → HasGiven old piece mid → new.parser.now ≡ record mid.parser.now { failed = failed } → new.bytes ≡ mid.bytes → new.count ≡ mid.count → new.sequence ≡ mid.sequence → HasGiven old piece new
-given_too old mid new piece failed g e b n q = record {
-  gives = λ start. rw (e, b, n, q) (g.gives start);
-  ready = record { within = rw (n, b) g.ready.within; reached = rw e g.ready.reached; carried = rw (e, n, b) g.ready.carried };
-  ends = rw (e, n, b) g.ends;
-  done = λ z. rw e (g.done z);
-  bodies = λ place r. g.bodies place (bodies_at mid new (ap (λ (p : Parsing). p.held) e) b n place r);
-}
 
 -- ---- where pieces begin
 
@@ -383,3 +351,8 @@ progress old new (Some (Ok piece)) o g = let k = goes_nearer old new piece o g.i
 progress old new (Some (Err refusal.Memory)) o g = let k = goes_over old new o g.items.1 in record { on = λ _. (k.0, tt, k.1); keeps = k.0; rests = λ _. tt }
 progress old new (Some (Err refusal.Failed)) o g = let e : stage.Open ≡ stage.Failed = sym o ∙ g.items.0 in cc
 progress old new None o g = record { on = λ _. tt; keeps = tt; rests = λ _. tt }
+
+-- what is handed out, where the same is left behind it
+pub gives_left : (before after other : List StreamAction) (action : Option Action) → Gives before action after → (is_none action ≡ false → after ≡ other) → Gives before action other
+gives_left before after other None g h = g
+gives_left before after other (Some a) g h = g ∙ ap (λ (xs : List StreamAction). value_of a ∷ xs) (h refl)

@@ -53,10 +53,6 @@ appended_text u text h n m = by_chars (chars text) refl
     by_chars (c ∷ []) e = absurd (m c e)
     by_chars (c ∷ d ∷ cs) e = ap (λ (l : List ℕ). fold appended u (map print l)) e ∙ two_or_more u c d cs ∙ ap (λ (l : List ℕ). appended u (print_string (encode_utf8_all l))) (sym e) ∙ ap (λ (l : List ℕ). appended u (print_string l)) (encodes-chars text h)
 
--- one character
-pub appended_one : (u : List StreamAction) (text : List ℕ) (c : ℕ) → chars text ≡ c ∷ [] → fold appended u (map print (chars text)) ≡ appended u (print c)
-appended_one u text c e = ap (λ (l : List ℕ). fold appended u (map print l)) e
-
 -- ---- the characters of a text, one by one
 
 none_left : (xs : List ℕ) → length xs ≡ 0 → xs ≡ []

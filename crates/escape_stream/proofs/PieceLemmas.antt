@@ -1,5 +1,5 @@
 -- Steps of an iterator of pieces, over plain variables.
-use Rattle.std.proofs.Common.{◌≡◌, ◌≢◌, ◌<◌, ◌≤◌, ℕ, zero, suc, ◌+◌, ◌-◌, ◌*◌, Bool, true, false, List, [], ◌∷◌, ◌++◌, length, map, drop, refl, ap, subst, sym, ◌∙◌, arith, add_assoc, append-nil, append_assoc, length-drop}
+use Rattle.std.proofs.Common.{◌≡◌, ◌≢◌, ◌<◌, ◌≤◌, ℕ, zero, suc, ◌+◌, ◌-◌, ◌*◌, Bool, true, false, List, [], ◌∷◌, ◌++◌, length, map, drop, refl, ap, subst, sym, ◌∙◌, arith, add_assoc, append-nil, length-drop}
 use Rattle.std.specs.Prelude.{Some, if◌then◌else◌}
 use Rattle.std.proofs.lemmas.Grind.{flat_map-append}
 use Rattle.std.proofs.lemmas.List.{drop-drop}
@@ -11,25 +11,14 @@ use Rattle.escape_framing.specs.Lending.{Lending}
 use Rattle.escape_framing.specs.Read.{ReadsEvent, count_of}
 use Rattle.escape_framing.specs.Read as reading
 use Rattle.escape_framing.specs.declared.event.Event.{Event}
-use Rattle.escape_framing.specs.declared.event.Event.TheVariants as event
 use Rattle.escape_framing.specs.declared.event.Read.{Read}
 use Rattle.escape_stream.specs.Pieces.{Piece, Lone, pieces_of_framed, pieces_of}
-use Rattle.escape_stream.specs.Sequences.{event_actions, own_actions}
+use Rattle.escape_stream.specs.Sequences.{event_actions}
 
 -- ---- the actions of an event
 
 pub event_pieces : (l : Lending) (e : Event) (rest : List Piece) → pieces_of (map framing.Lone (handed_out l (Some e))) ++ rest ≡ map Lone (event_actions l e) ++ rest
 event_pieces l e rest = ap (λ (x : List Piece). x ++ rest) (append-nil (map Lone (event_actions l e)))
-
-pub own_is : (l : Lending) (e : Event) → ((control : ℕ) → e ≡ event.ControlSequence control → ⊥) → own_actions l e ≡ event_actions l e
-own_is l (event.Print c) n = refl
-own_is l (event.Control b) n = refl
-own_is l (event.Escape i f) n = refl
-own_is l (event.ControlSequence f) n = absurd (n f refl)
-own_is l event.OperatingSystemCommand n = refl
-own_is l (event.Enter f) n = refl
-own_is l (event.Data b) n = refl
-own_is l event.Exit n = refl
 
 -- ---- what was read
 

@@ -115,9 +115,6 @@ lone_behind actions items = flat_map-append actions_of_piece (map Lone actions) 
 lone_framed : (d : Dispatch) (rest : List Framed) → actions_of_pieces (pieces_of (framing.Lone d ∷ rest)) ≡ actions_of_dispatch d ++ actions_of_pieces (pieces_of rest)
 lone_framed d rest = lone_behind (actions_of_dispatch d) (pieces_of rest)
 
-text_framed : (from : ℕ) (text : List ℕ) (rest : List Framed) → actions_of_pieces (pieces_of (framing.Text from text ∷ rest)) ≡ map print (chars text) ++ actions_of_pieces (pieces_of rest)
-text_framed from text rest = refl
-
 put_actions : (from : ℕ) (text : List ℕ) (rest : List Framed) → IsUtf8 text → actions_of_pieces (pieces_of (put_text from text rest)) ≡ map print (chars text) ++ actions_of_pieces (pieces_of rest)
 put_actions from text [] u = refl
 put_actions from text (framing.Lone d ∷ rest) u = refl

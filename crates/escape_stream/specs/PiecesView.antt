@@ -2,7 +2,6 @@
 use Rattle.std.specs.Prelude.{◌≡◌, ◌≤◌, ◌⊎◌, ℕ, ◌+◌, ◌-◌, ◌*◌, true, false, List, [], ◌∷◌, ◌++◌, length, take, drop, map, Option, Some, None, Result, Ok, Err, IfOk, OnErr}
 use base.Fml.{GName}
 use Rattle.std.specs.declared.alloc.AllocError.{AllocError}
-use Rattle.csi_codec.specs.Tokens.{Parameters}
 use Rattle.escape_framing.specs.Event.{rank}
 use Rattle.escape_framing.specs.Read.{TakesMemoryAt}
 use Rattle.escape_framing.specs.Framed.{framed_behind, IsReached, IsCarried}

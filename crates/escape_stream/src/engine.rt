@@ -31,25 +31,12 @@ fn perform<'a, P: Perform<'a>>(
 }
 
 impl<'p, 'a> Reading<'p, 'a> {
-    // The next action of a control sequence, which goes on behind it.
-    #[inline(always)]
-    fn next_of(&mut self, sequence: Sequence) -> Result<Option<Action>, AllocError>
-        ensures { HandsOutOf self.old (Some sequence) result self.new }
-    {
-        let (next, left) = self.parser.next_of(sequence)?;
-        self.sequence = left;
-        Ok(next)
-    }
-
     // The next action of the control sequence that was read last, if there is one.
     #[inline(always)]
     fn next_of_sequence(&mut self) -> Result<Option<Action>, AllocError>
         ensures { HandsOutOf self.old self.old.sequence result self.new }
     {
-        match self.sequence {
-            Some(sequence) => self.next_of(sequence),
-            None => Ok(None),
-        }
+        self.parser.next_of(&mut self.sequence)
     }
 
     // The first action of an event that was read last, if there is one.
@@ -59,7 +46,10 @@ impl<'p, 'a> Reading<'p, 'a> {
         ensures { Begins self.old event result self.new }
     {
         match event {
-            Event::ControlSequence(control) => self.next_of(Sequence::start(control)),
+            Event::ControlSequence(control) => {
+                self.sequence = Some(Sequence::start(control));
+                self.next_of_sequence()
+            }
             _ => self.parser.action_of(event),
         }
     }

@@ -124,23 +124,26 @@ impl Parser {
         Ok(action)
     }
 
-    // The next action of the control sequence that was read last, and what is left of it.
+    // The next action of the control sequence that was read last, if one is left.
     #[inline(always)]
     pub(crate) fn next_of(
         &self,
-        sequence: Sequence,
-    ) -> Result<(Option<Action>, Option<Sequence>), AllocError>
-        ensures gives { IfOk result (λ next. Gives (actions_left self.now.parameters (Some sequence)) next.0 (actions_left self.now.parameters next.1)) }
-        ensures over { IfOk result (λ next. next.0 ≡ None → next.1 ≡ None) }
-        ensures memory { OnErr result (FirstTakes (actions_left self.now.parameters (Some sequence))) }
+        sequence: &mut Option<Sequence>,
+    ) -> Result<Option<Action>, AllocError>
+        ensures gives { IfOk result (λ next. Gives (actions_left self.now.parameters sequence.old) next (actions_left self.now.parameters sequence.new)) }
+        ensures over { IfOk result (λ next. next ≡ None → sequence.new ≡ None) }
+        ensures memory { OnErr result (FirstTakes (actions_left self.now.parameters sequence.old)) }
     {
+        let Some(left) = sequence else {
+            return Ok(None);
+        };
         let parameters = self.framer.parameters();
         let truncated = self.framer.parameters_truncated();
-        let mut left = sequence;
-        match left.next(self.alloc, parameters, truncated)? {
-            Some(action) => Ok((Some(action), left.unless_over(parameters))),
-            None => Ok((None, None)),
+        let action = left.next(self.alloc, parameters, truncated)?;
+        if action.is_none() || left.is_over(parameters) {
+            *sequence = None;
         }
+        Ok(action)
     }
 
     // The pieces of a call were taken to their end.

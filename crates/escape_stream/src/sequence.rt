@@ -1,5 +1,5 @@
 //! The actions of a control sequence, one by one.
-ghost use Rattle.std.specs.Prelude.{◌≡◌, IfOk, OnErr, Some};
+ghost use Rattle.std.specs.Prelude.{◌≡◌, IsTrue, IfOk, OnErr, Some, []};
 ghost use Rattle.csi_codec.specs.Tokens.{Parameters};
 ghost use Rattle.escape_framing.specs.Lending.{Lending};
 ghost use Rattle.escape_framing.specs.declared.event.Event.TheVariants as event;
@@ -47,15 +47,11 @@ impl Sequence {
         }
     }
 
-    /// The sequence, unless all its actions were read.
+    /// Whether all its actions were read.
     #[inline(always)]
-    pub(crate) fn unless_over(self, parameters: &[CsiParam]) -> Option<Sequence>
-        ensures { (p : Parameters) → p.tokens ≡ parameters.now → actions_left p result ≡ actions_left p (Some self) }
+    pub(crate) fn is_over(&self, parameters: &[CsiParam]) -> bool
+        ensures { (p : Parameters) → p.tokens ≡ parameters.now → IsTrue result → actions_left p (Some self.now) ≡ [] }
     {
-        if self.place.is_end(parameters) {
-            None
-        } else {
-            Some(self)
-        }
+        self.place.is_end(parameters)
     }
 }

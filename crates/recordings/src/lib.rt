@@ -10,8 +10,6 @@ mod numerals;
 mod reading;
 mod recording;
 mod size;
-#[cfg(test)]
-mod tests;
 
 pub use event::{Act, Event};
 pub use fault::{BadLine, Fault};

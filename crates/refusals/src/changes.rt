@@ -124,10 +124,31 @@ fn moved(alloc: Global) -> Outcome {
     Ok(sequence.current_cursor_position() == (3, 2) && sequence.render_height() == 2)
 }
 
-// A list that is added, and a copy.
+/// Whether both lists have the same changes.
+pub fn are_equal(changes: &[Change], others: &[Change]) -> bool {
+    changes == others
+}
+
+// Whether a sequence is that of the text and of the first changes of the list.
+fn has_first(alloc: Global, sequence: Plain) -> Outcome {
+    let place = sequence.current_cursor_position();
+    let height = sequence.render_height();
+    let changes = sequence.consume();
+    let mut other = sequence_of(alloc)?;
+    for kind in 0..changes.len().saturating_sub(1) {
+        other.add(change_of(alloc, kind)?)?;
+    }
+    let is_there = other.current_cursor_position() == place && other.render_height() == height;
+    let others = other.consume();
+    Ok(is_there && changes.len() <= CHANGES && are_equal(&changes, &others))
+}
+
+// A list that is added, and a copy; where it is refused, the changes before are added.
 fn lists(alloc: Global) -> Outcome {
     let mut sequence = sequence_of(alloc)?;
-    sequence.add_changes(all_changes(alloc)?)?;
+    if sequence.add_changes(all_changes(alloc)?).is_err() {
+        return refused(Stop::Memory, has_first(alloc, sequence)?);
+    }
     let copy = sequence.try_clone()?;
     let place = sequence.current_cursor_position();
     Ok(copy.current_cursor_position() == place && copy.consume().len() == 1 + CHANGES)

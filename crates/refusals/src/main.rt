@@ -1,11 +1,17 @@
 //! Makes calls that take memory, and prints `ok` where each did what it must: either it answered rightly, or it was refused
 //! memory, said so under its own name, and left what stands behind a refusal. To be run with each request for memory refused
 //! in turn.
+//!
+//! With the word `calls` it makes only values and then those calls that need no memory, and with `values` these values alone.
+//! What the calls request is what the first run requests more than the second: two requests of `flush_changes_older_than`,
+//! which keeps the memory of dropped texts and goes on where its list can't grow. To be run with the word `calls` and every
+//! request refused after those of `values`.
 #![tactic(auto)]
 
 mod cells;
 mod changes;
 mod commands;
+mod copies;
 mod edits;
 mod lines;
 mod outcome;
@@ -17,23 +23,44 @@ mod streams;
 mod surfaces;
 mod tally;
 mod terminals;
+mod unrefused;
+mod unrefused_screens;
+mod unrefused_values;
 
+use std::alloc::Global;
+use std::env;
+use std::io::Write;
 use std::process::ExitCode;
 use tally::Tally;
+
+// Makes all calls that take memory, and then those that take none.
+fn check_all<W: Write>(alloc: Global, tally: &mut Tally<W>) {
+    cells::check(alloc, tally);
+    copies::check(alloc, tally);
+    lines::check(alloc, tally);
+    edits::check(alloc, tally);
+    changes::check(alloc, tally);
+    surfaces::check(alloc, tally);
+    sequences::check(alloc, tally);
+    commands::check(alloc, tally);
+    streams::check(alloc, tally);
+    terminals::check(alloc, tally);
+    runs::check(alloc, tally);
+    script::check(alloc, tally);
+    unrefused::check(alloc, tally);
+}
 
 fn main(rt: HostRuntime) -> ExitCode {
     let alloc = rt.alloc();
     let mut tally = Tally::new(rt.stdout());
-    cells::check(alloc, &mut tally);
-    lines::check(alloc, &mut tally);
-    edits::check(alloc, &mut tally);
-    changes::check(alloc, &mut tally);
-    surfaces::check(alloc, &mut tally);
-    sequences::check(alloc, &mut tally);
-    commands::check(alloc, &mut tally);
-    streams::check(alloc, &mut tally);
-    terminals::check(alloc, &mut tally);
-    runs::check(alloc, &mut tally);
-    script::check(alloc, &mut tally);
+    let word = match env::args(&rt) {
+        Ok(mut words) => words.nth(1),
+        Err(_) => None,
+    };
+    match word.as_deref() {
+        Some("calls") => unrefused::check(alloc, &mut tally),
+        Some("values") => unrefused::make(alloc, &mut tally),
+        _ => check_all(alloc, &mut tally),
+    }
     ExitCode::from(tally.end())
 }

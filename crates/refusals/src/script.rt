@@ -1,7 +1,7 @@
 //! Whole scripts: each answer before a refusal is that of the run without one.
 use crate::outcome::{Outcome, Stop, refused};
 use crate::tally::Tally;
-use crate::terminals::{Answer, Plain, ask, ended, patched};
+use crate::terminals::{Plain, ask, ended, shows};
 use std::alloc::Global;
 use std::io::Write;
 use terminal::{ProgramWidth, SequenceNo, Terminal, TerminalError};
@@ -13,47 +13,94 @@ const UPDATE: &[u8] =
 const PATCH: &[u8] =
     b"\x1b]2;\x1b\\\x1b[1;1H\x1b[0m\x1b]8;;\x1b\\a\0\x1b[0m\x1b]8;id=1;u\x1b\\b\0\x1b[0m\x1b[1m\x1b]8;id=1;u\x1b\\c\0\x1b[1;3H\x1b[0m\x1b[1m\x1b]8;id=1;u\x1b\\c\0\x1b[0m\x1b[1m\x1b]8;id=1;u\x1b\\\x1b[?25h";
 
-// What came of an answer: that it is as it should be, or what stands behind its refusal.
-fn answered(
-    alloc: Global,
-    answer: Answer,
+// What the terminal is asked by the first feed.
+const REPLY: &[u8] = b"\x1b[1;3R";
+
+// An answer of the short script: what is asked for, and what must come, behind what is shown.
+#[derive(Clone, Copy)]
+struct Wanted {
+    since: SequenceNo,
+    is_patch: bool,
     number: SequenceNo,
-    bytes: &[u8],
-    terminal: &mut Plain,
-) -> Outcome {
-    match answer {
-        Ok((now, sent)) => Ok(now == number && sent.as_slice() == bytes),
+    bytes: &'static [u8],
+    rows: &'static str,
+    replies: &'static [u8],
+}
+
+// What stands behind an answer of which the bytes were refused: the terminal is as it is behind a look, and gives the answer
+// if it is asked again.
+fn again(terminal: &mut Plain, shown: &Plain, wanted: &Wanted) -> Outcome {
+    let stands = shows(terminal, wanted.rows)? && terminal.current_number() == wanted.number;
+    let (number, bytes) = ask(terminal, shown, wanted.since, wanted.is_patch)?;
+    let is_whole = number == wanted.number && bytes.as_slice() == wanted.bytes;
+    let replies = terminal.take_replies();
+    Ok(stands && is_whole && replies.as_slice() == wanted.replies)
+}
+
+// An answer is as it should be, or was refused, and then stands what must stand.
+fn answered(alloc: Global, terminal: &mut Plain, shown: &Plain, wanted: &Wanted) -> Outcome {
+    match ask(terminal, shown, wanted.since, wanted.is_patch) {
+        Ok((number, sent)) => Ok(number == wanted.number && sent.as_slice() == wanted.bytes),
         Err(error) if terminal.is_failed() => ended(alloc, error, terminal),
-        Err(error) => refused(Stop::from(error), terminal.settle().is_ok()),
+        Err(error) => refused(Stop::from(error), again(terminal, shown, wanted)?),
     }
 }
 
-// Two feeds, a look and another size.
-fn begin(terminal: &mut Plain) -> Result<(), TerminalError> {
-    terminal.feed(b"a\x1b]8;id=1;u\x1b\\b\x1b[6n")?;
+// A feed, a look and another size.
+fn go_on(terminal: &mut Plain) -> Result<(), TerminalError> {
     terminal.feed(b"\xe3\x81\x8b")?;
     terminal.settle()?;
     terminal.resize(3, 2)
 }
 
-// The short script.
-fn short(alloc: Global) -> Outcome {
-    let mut terminal = Terminal::new(alloc, 4, 2, ProgramWidth)?;
-    if let Err(error) = begin(&mut terminal) {
-        return ended(alloc, error, &mut terminal);
-    }
-    let update = terminal.update(0);
-    if !answered(alloc, update, 5, UPDATE, &mut terminal)? {
+// The replies that are left, which are all, or none where they were taken before.
+fn replies_left(is_early: bool) -> &'static [u8] {
+    if is_early { b"" } else { REPLY }
+}
+
+// The end of the short script: an update, a feed, and a patch from a new terminal.
+fn end(alloc: Global, terminal: &mut Plain, shown: &Plain, is_early: bool) -> Outcome {
+    let update = Wanted {
+        since: 0,
+        is_patch: false,
+        number: 5,
+        bytes: UPDATE,
+        rows: "ab \n   \n",
+        replies: replies_left(is_early),
+    };
+    if !answered(alloc, terminal, shown, &update)? {
         return Ok(false);
     }
     if let Err(error) = terminal.feed(b"\x1b[1mc") {
+        return ended(alloc, error, terminal);
+    }
+    let patch = Wanted {
+        since: 0,
+        is_patch: true,
+        number: 7,
+        bytes: PATCH,
+        rows: "abc\n   \n",
+        replies: replies_left(is_early),
+    };
+    let is_right = answered(alloc, terminal, shown, &patch)?;
+    let replies = terminal.take_replies();
+    Ok(is_right && replies.as_slice() == replies_left(is_early))
+}
+
+// The short script. The replies are taken behind the first feed, or at the end.
+fn short(alloc: Global, is_early: bool) -> Outcome {
+    let mut terminal = Terminal::new(alloc, 4, 2, ProgramWidth)?;
+    if let Err(error) = terminal.feed(b"a\x1b]8;id=1;u\x1b\\b\x1b[6n") {
+        return ended(alloc, error, &mut terminal);
+    }
+    if is_early && terminal.take_replies().as_slice() != REPLY {
+        return Ok(false);
+    }
+    if let Err(error) = go_on(&mut terminal) {
         return ended(alloc, error, &mut terminal);
     }
     let shown = Terminal::new(alloc, 3, 2, ProgramWidth)?;
-    let patch = patched(&mut terminal, &shown);
-    let is_right = answered(alloc, patch, 7, PATCH, &mut terminal)?;
-    let replies = terminal.take_replies();
-    Ok(is_right && replies.as_slice() == b"\x1b[1;3R".as_slice())
+    end(alloc, &mut terminal, &shown, is_early)
 }
 
 // How many pieces the long script has.
@@ -65,11 +112,20 @@ fn piece(index: usize) -> &'static [u8] {
         0 => b"\x1b]2;first\x1b\\one\r\ntwo",
         1 => b"\x1b[1;38;5;9mred\x1b[m\x1b]8;;http://example.com\x1b\\link",
         2 => b"\xe3\x81\x8b\xe3\x81\x8be\xcc\x81\x1b[2;3H\x1b[K",
-        3 => b"\x1b[48:2::1:2:3m\x1b[J\x1b]8;;\x1b\\x",
+        3 => b"\x1b[48:2::1:2:3m\x1b[J\x1b]8;;\x1b\\x\x1b[5n",
         4 => b"\r\n\n\n\nlast\x1b[?25l\x1b7",
         5 => b"\x1b[H\x1bM\x1bMtop\x1b8\x1b[4:3mend of it",
-        6 => b"\x1b]0;second\x07\x1b[?25h\x1b[2J\x1b[3;8Hab",
+        6 => b"\x1b]0;second\x07\x1b[5n\x1b[?25h\x1b[2J\x1b[5n\x1b[3;8Hab",
         _ => b"\x1bc\x1b[1;8Hy\xe3\x81\x8b",
+    }
+}
+
+// What it asks for.
+fn replies_to(index: usize) -> &'static [u8] {
+    match index {
+        3 => b"\x1b[0n",
+        6 => b"\x1b[0n\x1b[0n",
+        _ => b"",
     }
 }
 
@@ -162,6 +218,7 @@ fn step(
 ) -> Result<SequenceNo, Stop> {
     read(alloc, terminal, piece(index))?;
     let number = answer(alloc, terminal, viewer, number, matches!(index, 1 | 4 | 7))?;
+    told(Ok(terminal.take_replies().as_slice() == replies_to(index)))?;
     if index == 4 {
         resize(alloc, terminal)?;
         resize(alloc, viewer)?;
@@ -183,6 +240,7 @@ fn long(alloc: Global) -> Outcome {
 
 /// Checks whole scripts.
 pub fn check<W: Write>(alloc: Global, tally: &mut Tally<W>) {
-    tally.take("the short script", short(alloc));
+    tally.take("the short script", short(alloc, false));
+    tally.take("the short script, replies taken early", short(alloc, true));
     tally.take("the long script", long(alloc));
 }

@@ -1,6 +1,8 @@
 //! A filter that keeps the screen of an application from the bytes on its standard input.
 #![tactic(auto)]
 
+#[cfg(test)]
+mod flushes;
 mod laws;
 mod lent;
 mod options;
@@ -8,7 +10,7 @@ mod service;
 #[cfg(test)]
 mod tests;
 
-use service::{refuse, serve, tell};
+use service::{refuse_ill_formed, serve, tell};
 use std::env;
 use std::io::ErrorKind;
 use std::process::ExitCode;
@@ -26,12 +28,7 @@ fn main(rt: HostRuntime) -> ExitCode {
         Err(error) if error.kind() == ErrorKind::OutOfMemory => {
             return ExitCode::from(tell(&mut faults, "out of memory"));
         }
-        Err(_) => {
-            return ExitCode::from(refuse(
-                &mut faults,
-                "error: invalid UTF-8 was detected in one or more arguments\n",
-            ));
-        }
+        Err(_) => return ExitCode::from(refuse_ill_formed(&mut faults)),
     };
     ExitCode::from(serve(
         alloc,

@@ -36,8 +36,23 @@ fn write_line<F: Write>(faults: &mut F, fault: &str) -> io::Result<()> {
     faults.flush()
 }
 
-/// Writes why the words are no command line. That it can't be written is dropped.
-pub fn refuse<F: Write>(faults: &mut F, text: &str) -> u8
+const ILL_FORMED: &str = "\
+error: invalid UTF-8 was detected in one or more arguments
+
+Usage: relay [OPTIONS]
+
+For more information, try '--help'.
+";
+
+/// Says that a word of the command line is not UTF-8. That it can't be written is dropped.
+pub fn refuse_ill_formed<F: Write>(faults: &mut F) -> u8
+    ensures { result ≡ BAD_WORDS }
+{
+    refuse(faults, ILL_FORMED)
+}
+
+// Writes why the words are no command line. That it can't be written is dropped.
+fn refuse<F: Write>(faults: &mut F, text: &str) -> u8
     ensures { result ≡ BAD_WORDS }
 {
     let _ = faults.write_all(text.as_bytes());

@@ -301,7 +301,7 @@ fn refuses_bad_command_lines(rt: HostRuntime) {
     assert_refused(&rt, &["relay", "--show", "--show"], TWICE);
 }
 
-const HELP: &str = "\
+pub(crate) const HELP: &str = "\
 Keeps the screen of an application, and writes what a viewer needs to show it
 
 Usage: relay [OPTIONS]

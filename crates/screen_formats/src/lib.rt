@@ -12,8 +12,6 @@ mod looks;
 pub mod pieces;
 mod runs;
 mod svg;
-#[cfg(test)]
-mod tests;
 mod text;
 
 pub use ansi::write_ansi;

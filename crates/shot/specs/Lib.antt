@@ -1,4 +1,5 @@
 pub mod Pictures
 pub mod Play
 pub mod Shots
+pub mod Words
 pub mod Writing

@@ -8,8 +8,6 @@ mod options;
 mod play;
 mod service;
 mod shots;
-#[cfg(test)]
-mod tests;
 
 use options::{Options, read};
 use service::{explain_words, refuse, refuse_input, serve, tell};

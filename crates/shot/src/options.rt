@@ -1,4 +1,8 @@
 //! What the words of a command line give.
+ghost use Rattle.std.specs.Prelude.{◌≡◌, codes};
+ghost use Rattle.clap.specs.Words.{first_value, found_of};
+ghost use Rattle.shot.specs.Words.{asked_by, format_of, reading_of, seconds_of};
+
 use crate::format::Format;
 use crate::shots::Shots;
 use clap::{Arg, ArgAction, ArgMatches, Command, Error, value_parser};
@@ -70,6 +74,20 @@ fn named_command<'a>(alloc: Global) -> Result<Command<'a>, AllocError> {
     command.arg(format_option(alloc))
 }
 
+fn sized_command<'a>(alloc: Global, command: Command<'a>) -> Result<Command<'a>, AllocError> {
+    let width = size_option(
+        alloc,
+        "width",
+        "Columns of the screen, 1 to 4096 [default: the recording's, or 80]",
+    );
+    let height = size_option(
+        alloc,
+        "height",
+        "Rows of the screen, 1 to 4096 [default: the recording's, or 24]",
+    );
+    command.arg(width)?.arg(height)
+}
+
 fn timed_command<'a>(alloc: Global, command: Command<'a>) -> Result<Command<'a>, AllocError> {
     let at = option(
         alloc,
@@ -87,23 +105,17 @@ fn timed_command<'a>(alloc: Global, command: Command<'a>) -> Result<Command<'a>,
 }
 
 fn command<'a>(alloc: Global) -> Result<Command<'a>, AllocError> {
-    let width = size_option(
-        alloc,
-        "width",
-        "Columns of the screen, 1 to 4096 [default: the recording's, or 80]",
-    );
-    let height = size_option(
-        alloc,
-        "height",
-        "Rows of the screen, 1 to 4096 [default: the recording's, or 24]",
-    );
-    let file = Arg::new(alloc, "FILE").help("The input [default: standard input]");
-    let command = named_command(alloc)?.arg(width)?.arg(height)?;
-    timed_command(alloc, command)?.arg(file)
+    let command = sized_command(alloc, named_command(alloc)?)?;
+    let command = timed_command(alloc, command)?;
+    command.arg(Arg::new(alloc, "FILE").help("The input [default: standard input]"))
 }
 
-fn format_of(name: Option<&str>) -> Format {
-    match name.unwrap_or("") {
+// The form of that name.
+#[tactic(auto, unfolding(crate::specs::Words::format_of))]
+fn format_of(name: &str) -> Format
+    ensures { result ≡ format_of name.now }
+{
+    match name {
         "ansi" => Format::Ansi,
         "html" => Format::Html,
         "svg" => Format::Svg,
@@ -113,7 +125,10 @@ fn format_of(name: Option<&str>) -> Format {
 }
 
 // A number of seconds in microseconds, where the option is given.
-fn seconds(matches: &ArgMatches<'_>, name: &'static str) -> Result<Option<u64>, BadWords> {
+#[tactic(auto, unfolding(crate::specs::Words::seconds_of))]
+fn seconds(matches: &ArgMatches<'_>, name: &'static str) -> Result<Option<u64>, BadWords>
+    ensures { reading_of result ≡ seconds_of name.entry.now (first_value (found_of matches.now) name.entry.now) }
+{
     let Some(text) = matches.get_str(name) else {
         return Ok(None);
     };
@@ -124,8 +139,12 @@ fn seconds(matches: &ArgMatches<'_>, name: &'static str) -> Result<Option<u64>, 
 }
 
 // What the matches ask for.
-fn asked(matches: &ArgMatches<'_>) -> Result<Shots, BadWords> {
-    let format = format_of(matches.get_str("format"));
+#[tactic(auto, unfolding(crate::specs::Words::asked_by))]
+fn asked(matches: &ArgMatches<'_>) -> Result<Shots, BadWords>
+    ensures { reading_of result ≡ asked_by (first_value (found_of matches.now) (codes "format"))
+        (first_value (found_of matches.now) (codes "at")) (first_value (found_of matches.now) (codes "step")) }
+{
+    let format = matches.get_str("format").map_or(Format::Text, format_of);
     let at = seconds(matches, "at")?;
     match seconds(matches, "step")? {
         Some(0) => Err(BadWords::Seconds("step")),

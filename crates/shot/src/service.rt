@@ -1,8 +1,10 @@
 //! The program on an input, and on its streams.
-ghost use Rattle.std.specs.Prelude.{◌≡◌, ◌<◌, ◌≤◌, None, IfOk, IfSome, OnOk};
+ghost use Rattle.std.specs.Prelude.{◌≡◌, ◌≢◌, ◌⊎◌, ◌<◌, ◌≤◌, None, Some, IfOk, IfSome, OnOk};
 ghost use Rattle.std.specs.Io.KnownBytes.{Appends, Keeps};
+ghost use Rattle.clap.specs.Words.{kind_of};
 ghost use Rattle.recordings.specs.Recordings.{recording_of};
 ghost use Rattle.shot.specs.Shots.{chosen, shots, with_size};
+ghost use Rattle.shot.specs.Words.{kind_in};
 
 use crate::error::ShotError;
 use crate::options::{BadWords, Options};
@@ -54,7 +56,13 @@ fn fault_of(error: ShotError) -> &'static str {
 
 // Help and the version go to the writer, and what is wrong with the words to faults.
 fn explain<T: Write, F: Write>(alloc: Global, error: &Error, writer: &mut T, faults: &mut F) -> u8
-    ensures { result ≤ 2 }
+    ensures status { result ≤ 2 }
+    ensures memory { kind_of error.now ≡ ErrorKind.OutOfMemory → result ≡ FAULT }
+    ensures asked { result ≡ 0 → (kind_of error.now ≡ ErrorKind.DisplayHelp) ⊎ (kind_of error.now ≡ ErrorKind.DisplayVersion) }
+    ensures shown { (kind_of error.now ≡ ErrorKind.DisplayHelp) ⊎ (kind_of error.now ≡ ErrorKind.DisplayVersion) → result ≢ BAD_WORDS }
+    ensures quiet { result ≡ 0 → Keeps (F.contents faults.old) (F.contents faults.new) }
+    ensures nothing { kind_of error.now ≡ ErrorKind.OutOfMemory → Keeps (T.contents writer.old) (T.contents writer.new) }
+    ensures refused { result ≡ BAD_WORDS → Keeps (T.contents writer.old) (T.contents writer.new) }
 {
     if error.kind() == ErrorKind::OutOfMemory {
         return tell(faults, "out of memory");
@@ -78,7 +86,17 @@ pub fn explain_words<T: Write, F: Write>(
     writer: &mut T,
     faults: &mut F,
 ) -> u8
-    ensures { result ≤ 2 }
+    ensures status { result ≤ 2 }
+    ensures memory { kind_in words.now ≡ Some ErrorKind.OutOfMemory → result ≡ FAULT }
+    // Status 0 is only for words that ask for help or for the version, and status 2 is not for these.
+    ensures asked { result ≡ 0
+        → (kind_in words.now ≡ Some ErrorKind.DisplayHelp) ⊎ (kind_in words.now ≡ Some ErrorKind.DisplayVersion) }
+    ensures shown { (kind_in words.now ≡ Some ErrorKind.DisplayHelp) ⊎ (kind_in words.now ≡ Some ErrorKind.DisplayVersion)
+        → result ≢ BAD_WORDS }
+    ensures seconds { kind_in words.now ≡ None → result ≡ BAD_WORDS }
+    ensures quiet { result ≡ 0 → Keeps (F.contents faults.old) (F.contents faults.new) }
+    ensures nothing { kind_in words.now ≡ Some ErrorKind.OutOfMemory → Keeps (T.contents writer.old) (T.contents writer.new) }
+    ensures refused { result ≡ BAD_WORDS → Keeps (T.contents writer.old) (T.contents writer.new) }
 {
     match words {
         BadWords::Command(error) => explain(alloc, error, writer, faults),

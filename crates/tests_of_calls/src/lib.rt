@@ -19,7 +19,17 @@ mod commands;
 #[cfg(test)]
 mod debugs;
 #[cfg(test)]
+mod formats;
+#[cfg(test)]
 mod fronts;
+#[cfg(test)]
+mod large;
+#[cfg(test)]
+mod large_screens;
+#[cfg(test)]
+mod large_streams;
+#[cfg(test)]
+mod left_early;
 #[cfg(test)]
 mod line_forms;
 #[cfg(test)]
@@ -31,6 +41,8 @@ mod pieces;
 #[cfg(test)]
 mod places;
 #[cfg(test)]
+mod recorded;
+#[cfg(test)]
 mod renderings;
 #[cfg(test)]
 mod scripts;
@@ -38,7 +50,6 @@ mod scripts;
 mod sequences;
 #[cfg(test)]
 mod service;
-#[cfg(test)]
 #[cfg(test)]
 mod streams;
 #[cfg(test)]

@@ -9,15 +9,12 @@ use Rattle.escape_framing.proofs.Existence.Utf8Lemmas.{append_nil}
 use Rattle.escape_framing.proofs.Existence.SevenBitLemmas.{no_pair, no_pair_front, no_pair_behind, no_pair_form}
 use Rattle.escape_framing.proofs.Existence.StepLemmas.{Adds}
 use Rattle.escape_framing.proofs.Existence.SequenceLemmas.{adds_next}
-
-pub flat_append : (ss ds : List Segment) → flat_map bytes_of (ss ++ ds) ≡ flat_map bytes_of ss ++ flat_map bytes_of ds
-flat_append [] ds = refl
-flat_append (s ∷ ss) ds = ap (λ l. bytes_of s ++ l) (flat_append ss ds) ∙ sym (append_assoc (bytes_of s) (flat_map bytes_of ss) (flat_map bytes_of ds))
+use Rattle.std.proofs.lemmas.Grind.{flat_map-append}
 
 row_append : (ss ds : List Segment) (t : List ℕ) → StandInRow ss (flat_map bytes_of ds ++ t) → StandInRow ds t → StandInRow (ss ++ ds) t
 row_append [] ds t h k = k
 row_append (s ∷ ss) ds t h k =
-    (subst (IsSegment s) (sym (ap (λ l. l ++ t) (flat_append ss ds) ∙ append_assoc (flat_map bytes_of ss) (flat_map bytes_of ds) t)) h.0, row_append ss ds t h.1 k)
+    (subst (IsSegment s) (sym (ap (λ l. l ++ t) (flat_map-append bytes_of ss ds) ∙ append_assoc (flat_map bytes_of ss) (flat_map bytes_of ds) t)) h.0, row_append ss ds t h.1 k)
 
 -- what a reading makes of bytes: they are joined, what is unfinished comes last, and the segments stand in a row
 pub record Cuts (bytes : List ℕ) (r : Reading) : Type 0 where
@@ -28,7 +25,7 @@ pub record Cuts (bytes : List ℕ) (r : Reading) : Type 0 where
 cuts_step : (t : Tail) (b : ℕ) (bytes : List ℕ) → Adds (bytes_of_tail t ++ b ∷ []) (next_byte t b) → Cuts (bytes_of_tail (next_byte t b).tail ++ bytes) (read_on (next_byte t b).tail bytes)
     → Cuts (bytes_of_tail t ++ b ∷ bytes) (record { segments = (next_byte t b).segments ++ (read_on (next_byte t b).tail bytes).segments; tail = (read_on (next_byte t b).tail bytes).tail })
 cuts_step t b bytes a c = record {
-  joined = ap (λ l. l ++ bytes_of_tail rest.tail) (flat_append step.segments rest.segments) ∙ append_assoc (flat_map bytes_of step.segments) (flat_map bytes_of rest.segments) (bytes_of_tail rest.tail)
+  joined = ap (λ l. l ++ bytes_of_tail rest.tail) (flat_map-append bytes_of step.segments rest.segments) ∙ append_assoc (flat_map bytes_of step.segments) (flat_map bytes_of rest.segments) (bytes_of_tail rest.tail)
       ∙ ap (λ l. flat_map bytes_of step.segments ++ l) c.joined ∙ whole;
   unfinished = c.unfinished;
   each = λ p. row_append step.segments rest.segments (bytes_of_tail rest.tail)

@@ -1,8 +1,8 @@
 -- What one byte adds to a sequence that is open.
-use Rattle.std.proofs.Common.{◌≡◌, ℕ, Bool, true, false, List, [], ◌∷◌, ◌++◌, refl, sym, ap, arith, append_assoc}
-use Rattle.std.specs.Prelude.{◌==◌, not}
+use Rattle.std.proofs.Common.{◌≡◌, ℕ, Bool, true, false, List, [], ◌∷◌, ◌++◌, refl, sym, ap, arith, append_assoc, ⊎_elim}
+use Rattle.std.specs.Prelude.{◌==◌, not, ◌||◌}
 use Rattle.std.specs.List.{list_all, list_any}
-use Rattle.std.proofs.lemmas.Bool.{and_parts}
+use Rattle.std.proofs.lemmas.Bool.{and_parts, cond_both, eqb-true, eq-eqb, or_parts, both_ways, or_cases, not-false}
 use Rattle.std.proofs.lemmas.Bool.Decides.{nat_tests}
 use Rattle.escape_framing.specs.Bytes.{is_stop, is_embedded, is_intermediate, is_final, is_escape_final, is_string_opener, is_opener, is_cut, in_escape, in_parameters, ends_command}
 use Rattle.csi_codec.specs.Tokens.{is_parameter}
@@ -19,12 +19,10 @@ all_push p (x ∷ xs) b h k = let f = and_parts (p x) (list_all p xs) h in rw (f
 
 pub embedded_only : (xs : List ℕ) → list_all in_escape xs ≡ true → list_any is_intermediate xs ≡ false → list_all is_embedded xs ≡ true
 embedded_only [] h k = refl
-embedded_only (x ∷ xs) h k = by_test (λ l m. embedded_only xs l m) (is_embedded x) (is_intermediate x) refl refl
-  where
-    by_test : (list_all in_escape xs ≡ true → list_any is_intermediate xs ≡ false → list_all is_embedded xs ≡ true) → (u v : Bool) → is_embedded x ≡ u → is_intermediate x ≡ v → list_all is_embedded (x ∷ xs) ≡ true
-    by_test others u true e f = let l : list_any is_intermediate (x ∷ xs) ≡ true = rw f refl in cc
-    by_test others true false e f = rw (e, others (rw e at h) (rw f at k)) refl
-    by_test others false false e f = let l : list_all in_escape (x ∷ xs) ≡ false = rw (e, f) refl in cc
+embedded_only (x ∷ xs) h k =
+    let f = and_parts (in_escape x) (list_all in_escape xs) h in
+    let n = or_parts (is_intermediate x) (list_any is_intermediate xs) k in
+    ⊎_elim (λ (e : is_embedded x ≡ true). rw (e, embedded_only xs f.1 n.1) refl) (λ e. absurd (both_ways (is_intermediate x) n.0 e)) (or_cases (is_embedded x) (is_intermediate x) f.0)
 
 -- ---- classes of bytes
 
@@ -40,94 +38,72 @@ pub string_opener : (b : ℕ) → is_opener b ≡ true → (b == 0x5B) ≡ false
 unfolding is_opener
 string_opener b h e f g = rw (e, f, g) at h
 
-pub same_byte : (b : ℕ) → (b == b) ≡ true
-same_byte b = grind (arith, nat_tests)
-
 -- ---- steps
 
 adds_opened : (body : List ℕ) (b : ℕ) → list_all is_embedded body ≡ true → is_opener b ≡ true → Adds (0x1B ∷ body ++ b ∷ []) (waits (opened_by body b))
 unfolding opened_by
-adds_opened body b g o = by_test (b == 0x5B) (b == 0x5D) (b == 0x50) refl refl refl
+adds_opened body b g o =
+    cond_both (b == 0x5B) _ _ Goal (λ e. adds_open _ (OpenControlSequence body []) (is 0x5B e) (g, refl)) (λ e.
+    cond_both (b == 0x5D) _ _ Goal (λ f. adds_open _ (OpenCommand body []) (is 0x5D f) (g, refl)) (λ f.
+    cond_both (b == 0x50) _ _ Goal (λ h. adds_open _ (OpenHeader body []) (is 0x50 h) (g, refl)) (λ h. adds_open _ (OpenString body b []) refl (g, string_opener b o e f h, refl))))
   where
-    is : (x : ℕ) → (b == x) ≡ true → x ≡ b
-    is x h = grind (arith, nat_tests)
+    Goal : Tail → Type 0
+    Goal t = Adds (0x1B ∷ body ++ b ∷ []) (waits t)
 
-    by_test : (u v w : Bool) → (b == 0x5B) ≡ u → (b == 0x5D) ≡ v → (b == 0x50) ≡ w → Adds (0x1B ∷ body ++ b ∷ []) (waits (opened_by body b))
-    by_test true v w e f h = rw e (adds_open _ (OpenControlSequence body []) (ap (λ (x : ℕ). 0x1B ∷ body ++ x ∷ []) (is 0x5B e)) (g, refl))
-    by_test false true w e f h = rw (e, f) (adds_open _ (OpenCommand body []) (ap (λ (x : ℕ). 0x1B ∷ body ++ x ∷ []) (is 0x5D f)) (g, refl))
-    by_test false false true e f h = rw (e, f, h) (adds_open _ (OpenHeader body []) (ap (λ (x : ℕ). 0x1B ∷ body ++ x ∷ []) (is 0x50 h)) (g, refl))
-    by_test false false false e f h = rw (e, f, h) (adds_open _ (OpenString body b []) refl (g, string_opener b o e f h, refl))
+    is : (x : ℕ) → (b == x) ≡ true → 0x1B ∷ body ++ x ∷ [] ≡ 0x1B ∷ body ++ b ∷ []
+    is x h = ap (λ (y : ℕ). 0x1B ∷ body ++ y ∷ []) (sym (eqb-true b x h))
 
 adds_behind_escape : (body : List ℕ) (b : ℕ) → list_all in_escape body ≡ true → in_escape b ≡ false → is_cut b ≡ false → Adds (0x1B ∷ body ++ b ∷ []) (behind_escape body b)
 unfolding behind_escape
-adds_behind_escape body b g e f = by_test (list_any is_intermediate body) (is_opener b) refl refl
-  where
-    by_test : (u v : Bool) → list_any is_intermediate body ≡ u → is_opener b ≡ v → Adds (0x1B ∷ body ++ b ∷ []) (behind_escape body b)
-    by_test true v h k = rw h (adds_end _ (Escape body b) refl (λ p l. (g, escape_final b e f, rw h refl)))
-    by_test false false h k = rw (h, k) (adds_end _ (Escape body b) refl (λ p l. (g, escape_final b e f, rw (h, k) refl)))
-    by_test false true h k = rw (h, k) (adds_opened body b (embedded_only body g h) k)
+adds_behind_escape body b g e f =
+    cond_both (list_any is_intermediate body || not (is_opener b)) _ _ (Adds _) (λ h. adds_end _ (Escape body b) refl (λ p l. (g, escape_final b e f, h)))
+    (λ h. let k = or_parts (list_any is_intermediate body) (not (is_opener b)) h in adds_opened body b (embedded_only body g k.0) (not-false (is_opener b) k.1))
 
 adds_escape : (body : List ℕ) (b : ℕ) → IsUnfinished (OpenEscape body) → Adds (0x1B ∷ body ++ b ∷ []) (next_byte (OpenEscape body) b)
 unfolding next_byte
-adds_escape body b g = by_test (in_escape b) (is_cut b) refl refl
-  where
-    by_test : (u v : Bool) → in_escape b ≡ u → is_cut b ≡ v → Adds (0x1B ∷ body ++ b ∷ []) (next_byte (OpenEscape body) b)
-    by_test true v e f = rw e (adds_open _ (OpenEscape (body ++ b ∷ [])) refl (all_push in_escape body b g e))
-    by_test false true e f = rw (e, f) (adds_before (0x1B ∷ body) (CutOff (OpenEscape body)) b refl (λ others. (g, refl, f)) (adds_first b))
-    by_test false false e f = rw (e, f) (adds_behind_escape body b g e f)
+adds_escape body b g =
+    cond_both (in_escape b) _ _ (Adds _) (λ e. adds_open _ (OpenEscape (body ++ b ∷ [])) refl (all_push in_escape body b g e)) (λ e.
+    cond_both (is_cut b) _ _ (Adds _) (λ f. adds_before (0x1B ∷ body) (CutOff (OpenEscape body)) b refl (λ others. (g, refl, f)) (adds_first b)) (λ f. adds_behind_escape body b g e f))
 
 adds_control_sequence : (opening body : List ℕ) (b : ℕ) → IsUnfinished (OpenControlSequence opening body) → Adds ((0x1B ∷ opening ++ 0x5B ∷ body) ++ b ∷ []) (next_byte (OpenControlSequence opening body) b)
 unfolding next_byte
-adds_control_sequence opening body b g = by_test (in_parameters b) (is_cut b) refl refl
-  where
-    by_test : (u v : Bool) → in_parameters b ≡ u → is_cut b ≡ v → Adds ((0x1B ∷ opening ++ 0x5B ∷ body) ++ b ∷ []) (next_byte (OpenControlSequence opening body) b)
-    by_test true v e f = rw e (adds_open _ (OpenControlSequence opening (body ++ b ∷ [])) (sym (append_assoc (0x1B ∷ opening) (0x5B ∷ body) (b ∷ []))) (g.0, all_push in_parameters body b g.1 e))
-    by_test false true e f = rw (e, f) (adds_before (0x1B ∷ opening ++ 0x5B ∷ body) (CutOff (OpenControlSequence opening body)) b refl (λ others. (g, refl, f)) (adds_first b))
-    by_test false false e f = rw (e, f) (adds_end _ (ControlSequence opening body b) refl (λ p l. (g.0, g.1, parameters_final b e f)))
+adds_control_sequence opening body b g =
+    cond_both (in_parameters b) _ _ (Adds _) (λ e. adds_open _ (OpenControlSequence opening (body ++ b ∷ [])) (sym (append_assoc (0x1B ∷ opening) (0x5B ∷ body) (b ∷ []))) (g.0, all_push in_parameters body b g.1 e)) (λ e.
+    cond_both (is_cut b) _ _ (Adds _) (λ f. adds_before (0x1B ∷ opening ++ 0x5B ∷ body) (CutOff (OpenControlSequence opening body)) b refl (λ others. (g, refl, f)) (adds_first b))
+    (λ f. adds_end _ (ControlSequence opening body b) refl (λ p l. (g.0, g.1, parameters_final b e f))))
 
 adds_command : (opening body : List ℕ) (b : ℕ) → IsUnfinished (OpenCommand opening body) → Adds ((0x1B ∷ opening ++ 0x5D ∷ body) ++ b ∷ []) (next_byte (OpenCommand opening body) b)
 unfolding next_byte
-adds_command opening body b g = by_test (b == 0x07) (is_stop b) refl refl
-  where
-    by_test : (u v : Bool) → (b == 0x07) ≡ u → is_stop b ≡ v → Adds ((0x1B ∷ opening ++ 0x5D ∷ body) ++ b ∷ []) (next_byte (OpenCommand opening body) b)
-    by_test true v e f = rw e (adds_end _ (OperatingSystemCommand opening body b) (rw e refl) (λ p l. (g.0, g.1, rw e refl, rw e refl)))
-    by_test false true e f = rw (e, f) (adds_before (0x1B ∷ opening ++ 0x5D ∷ body) (OperatingSystemCommand opening body b) b (rw e (append_nil _)) (λ others. (g.0, g.1, rw (e, f) refl, rw (e, same_byte b) refl)) (adds_first b))
-    by_test false false e f = rw (e, f) (adds_open _ (OpenCommand opening (body ++ b ∷ [])) (sym (append_assoc (0x1B ∷ opening) (0x5D ∷ body) (b ∷ []))) (g.0, all_push (λ x. not (ends_command x)) body b g.1 (rw (e, f) refl)))
+adds_command opening body b g =
+    cond_both (b == 0x07) _ _ (Adds _) (λ e. adds_end _ (OperatingSystemCommand opening body b) (rw e refl) (λ p l. (g.0, g.1, rw e refl, rw e refl))) (λ e.
+    cond_both (is_stop b) _ _ (Adds _) (λ f. adds_before (0x1B ∷ opening ++ 0x5D ∷ body) (OperatingSystemCommand opening body b) b (rw e (append_nil _)) (λ others. (g.0, g.1, rw (e, f) refl, rw (e, eq-eqb b b refl) refl)) (adds_first b))
+    (λ f. adds_open _ (OpenCommand opening (body ++ b ∷ [])) (sym (append_assoc (0x1B ∷ opening) (0x5D ∷ body) (b ∷ []))) (g.0, all_push (λ x. not (ends_command x)) body b g.1 (rw (e, f) refl))))
 
 adds_header : (opening header : List ℕ) (b : ℕ) → IsUnfinished (OpenHeader opening header) → Adds ((0x1B ∷ opening ++ 0x50 ∷ header) ++ b ∷ []) (next_byte (OpenHeader opening header) b)
 unfolding next_byte
-adds_header opening header b g = by_test (in_parameters b) (is_cut b) refl refl
-  where
-    by_test : (u v : Bool) → in_parameters b ≡ u → is_cut b ≡ v → Adds ((0x1B ∷ opening ++ 0x50 ∷ header) ++ b ∷ []) (next_byte (OpenHeader opening header) b)
-    by_test true v e f = rw e (adds_open _ (OpenHeader opening (header ++ b ∷ [])) (sym (append_assoc (0x1B ∷ opening) (0x50 ∷ header) (b ∷ []))) (g.0, all_push in_parameters header b g.1 e))
-    by_test false true e f = rw (e, f) (adds_before (0x1B ∷ opening ++ 0x50 ∷ header) (CutOff (OpenHeader opening header)) b refl (λ others. (g, refl, f)) (adds_first b))
-    by_test false false e f = rw (e, f) (adds_open _ (OpenDevice opening header b []) refl (g.0, g.1, parameters_final b e f, refl))
+adds_header opening header b g =
+    cond_both (in_parameters b) _ _ (Adds _) (λ e. adds_open _ (OpenHeader opening (header ++ b ∷ [])) (sym (append_assoc (0x1B ∷ opening) (0x50 ∷ header) (b ∷ []))) (g.0, all_push in_parameters header b g.1 e)) (λ e.
+    cond_both (is_cut b) _ _ (Adds _) (λ f. adds_before (0x1B ∷ opening ++ 0x50 ∷ header) (CutOff (OpenHeader opening header)) b refl (λ others. (g, refl, f)) (adds_first b))
+    (λ f. adds_open _ (OpenDevice opening header b []) refl (g.0, g.1, parameters_final b e f, refl)))
 
 adds_device : (opening header : List ℕ) (final : ℕ) (body : List ℕ) (b : ℕ) → IsUnfinished (OpenDevice opening header final body)
     → Adds (((0x1B ∷ opening ++ 0x50 ∷ header) ++ final ∷ body) ++ b ∷ []) (next_byte (OpenDevice opening header final body) b)
 unfolding next_byte
-adds_device opening header final body b g = by_test (is_stop b) refl
-  where
-    by_test : (u : Bool) → is_stop b ≡ u → Adds (((0x1B ∷ opening ++ 0x50 ∷ header) ++ final ∷ body) ++ b ∷ []) (next_byte (OpenDevice opening header final body) b)
-    by_test true f = rw f (adds_before ((0x1B ∷ opening ++ 0x50 ∷ header) ++ final ∷ body) (DeviceControl opening header final body) b refl (λ others. (g.0, g.1, g.2, g.3, f)) (adds_first b))
-    by_test false f = rw f (adds_open _ (OpenDevice opening header final (body ++ b ∷ [])) (sym (append_assoc (0x1B ∷ opening ++ 0x50 ∷ header) (final ∷ body) (b ∷ []))) (g.0, g.1, g.2, all_push (λ x. not (is_stop x)) body b g.3 (rw f refl)))
+adds_device opening header final body b g =
+    cond_both (is_stop b) _ _ (Adds _) (λ f. adds_before ((0x1B ∷ opening ++ 0x50 ∷ header) ++ final ∷ body) (DeviceControl opening header final body) b refl (λ others. (g.0, g.1, g.2, g.3, f)) (adds_first b))
+    (λ f. adds_open _ (OpenDevice opening header final (body ++ b ∷ [])) (sym (append_assoc (0x1B ∷ opening ++ 0x50 ∷ header) (final ∷ body) (b ∷ []))) (g.0, g.1, g.2, all_push (λ x. not (is_stop x)) body b g.3 (rw f refl)))
 
 adds_string : (opening : List ℕ) (opener : ℕ) (body : List ℕ) (b : ℕ) → IsUnfinished (OpenString opening opener body)
     → Adds ((0x1B ∷ opening ++ opener ∷ body) ++ b ∷ []) (next_byte (OpenString opening opener body) b)
 unfolding next_byte
-adds_string opening opener body b g = by_test (is_stop b) refl
-  where
-    by_test : (u : Bool) → is_stop b ≡ u → Adds ((0x1B ∷ opening ++ opener ∷ body) ++ b ∷ []) (next_byte (OpenString opening opener body) b)
-    by_test true f = rw f (adds_before (0x1B ∷ opening ++ opener ∷ body) (String opening opener body) b refl (λ others. (g.0, g.1, g.2, f)) (adds_first b))
-    by_test false f = rw f (adds_open _ (OpenString opening opener (body ++ b ∷ [])) (sym (append_assoc (0x1B ∷ opening) (opener ∷ body) (b ∷ []))) (g.0, g.1, all_push (λ x. not (is_stop x)) body b g.2 (rw f refl)))
-
-adds_begun : (t : List ℕ) (b : ℕ) → IsUnfinished (Begun t) → Adds (t ++ b ∷ []) (next_byte (Begun t) b)
-unfolding next_byte
-adds_begun t b g = adds_in_character t b g
+adds_string opening opener body b g =
+    cond_both (is_stop b) _ _ (Adds _) (λ f. adds_before (0x1B ∷ opening ++ opener ∷ body) (String opening opener body) b refl (λ others. (g.0, g.1, g.2, f)) (adds_first b))
+    (λ f. adds_open _ (OpenString opening opener (body ++ b ∷ [])) (sym (append_assoc (0x1B ∷ opening) (opener ∷ body) (b ∷ []))) (g.0, g.1, all_push (λ x. not (is_stop x)) body b g.2 (rw f refl)))
 
 -- a byte behind anything that is open
 pub adds_next : (t : Tail) (b : ℕ) → IsUnfinished t → Adds (bytes_of_tail t ++ b ∷ []) (next_byte t b)
-adds_next (Begun t) b g = adds_begun t b g
+unfolding next_byte
+adds_next (Begun t) b g = adds_in_character t b g
 adds_next (OpenEscape body) b g = adds_escape body b g
 adds_next (OpenControlSequence opening body) b g = adds_control_sequence opening body b g
 adds_next (OpenCommand opening body) b g = adds_command opening body b g

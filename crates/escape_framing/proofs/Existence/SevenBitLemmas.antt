@@ -1,7 +1,7 @@
 -- No C1 control stands in a seven-bit form, and what one byte more makes of it.
-use Rattle.std.proofs.Common.{◌≡◌, ℕ, ◌-◌, Bool, true, false, List, [], ◌∷◌, ◌++◌, refl, ap}
+use Rattle.std.proofs.Common.{◌≡◌, ℕ, ◌-◌, Bool, true, false, List, [], ◌∷◌, ◌++◌, refl, ap, ⊎_elim}
 use Rattle.std.proofs.Common.{arith}
-use Rattle.std.proofs.lemmas.Bool.{and_parts, and_right}
+use Rattle.std.proofs.lemmas.Bool.{and_parts, and_right, cond_both, cases_Bool}
 use Rattle.std.proofs.lemmas.Bool.Decides.{nat_tests}
 use Rattle.std.specs.Prelude.{◌==◌, ◌&&◌, not, if◌then◌else◌}
 use Rattle.text_clusters.specs.Controls.{is_c1}
@@ -25,36 +25,27 @@ no_pair_front (x ∷ []) ys h = refl
 no_pair_front (x ∷ z ∷ xs) ys h =
     let k = and_parts (not (is_c1 x z)) _ h in rw (k.0, no_pair_front (z ∷ xs) ys k.1) refl
 
-low_opens_none : (x y : ℕ) → (x == 0xC2) ≡ false → is_c1 x y ≡ false
-low_opens_none x y h = rw h refl
-
 stop_is_no_second : (x : ℕ) → is_c1 x 0x1B ≡ false
 stop_is_no_second x = and_right (x == 0xC2) false refl
 
 cons_low : (x : ℕ) (l : List ℕ) → (x == 0xC2) ≡ false → no_pair l ≡ true → no_pair (x ∷ l) ≡ true
 cons_low x [] e h = refl
-cons_low x (y ∷ l) e h = rw (low_opens_none x y e) h
+cons_low x (y ∷ l) e h = rw e h
 
 -- the first byte of a pair's form is ESC, and else the byte itself
 cons_form : (x y : ℕ) (l : List ℕ) → is_c1 x y ≡ false → no_pair (seven_bit (y ∷ l)) ≡ true → no_pair (x ∷ seven_bit (y ∷ l)) ≡ true
 cons_form x y [] e h = rw e refl
-cons_form x y (z ∷ l) e h = by_test (is_c1 y z) refl
-  where
-    by_test : (t : Bool) → is_c1 y z ≡ t → no_pair (x ∷ seven_bit (y ∷ z ∷ l)) ≡ true
-    by_test true k = rw (k, stop_is_no_second x) (rw k at h)
-    by_test false k = rw (k, e) (rw k at h)
+cons_form x y (z ∷ l) e h =
+    cond_both (is_c1 y z) _ _ (λ m. no_pair (x ∷ m) ≡ true) (λ k. rw (stop_is_no_second x) (rw k at h)) (λ k. rw e (rw k at h))
 
 pub no_pair_form : (s : List ℕ) → no_pair (seven_bit s) ≡ true
 no_pair_form [] = refl
 no_pair_form (b ∷ []) = refl
-no_pair_form (b ∷ c ∷ s) = by_test (is_c1 b c) refl (no_pair_form s) (no_pair_form (c ∷ s))
+no_pair_form (b ∷ c ∷ s) =
+    cond_both (is_c1 b c) _ _ (λ l. no_pair l ≡ true) (λ e. cons_low (c - 0x40) (seven_bit s) (small e) (no_pair_form s)) (λ e. cons_form b c s e (no_pair_form (c ∷ s)))
   where
     small : is_c1 b c ≡ true → ((c - 0x40) == 0xC2) ≡ false
     small h = grind (arith, nat_tests)
-
-    by_test : (t : Bool) → is_c1 b c ≡ t → no_pair (seven_bit s) ≡ true → no_pair (seven_bit (c ∷ s)) ≡ true → no_pair (seven_bit (b ∷ c ∷ s)) ≡ true
-    by_test true e p q = rw e (cons_low (c - 0x40) (seven_bit s) (small e) p)
-    by_test false e p q = rw e (cons_form b c s e q)
 
 -- the stream ends in a C2 that nothing has followed
 abbrev pub opens : List ℕ → Bool
@@ -69,13 +60,8 @@ pairs s b = opens s && is_c1 0xC2 b
 pub seven_bit_plain : (s : List ℕ) (b : ℕ) → pairs s b ≡ false → seven_bit (s ++ b ∷ []) ≡ seven_bit s ++ b ∷ []
 seven_bit_plain [] b h = refl
 seven_bit_plain (x ∷ []) b h = rw h refl
-seven_bit_plain (x ∷ y ∷ s) b h = by_test (is_c1 x y) refl (seven_bit_plain s b) (seven_bit_plain (y ∷ s) b)
-  where
-    by_test : (t : Bool) → is_c1 x y ≡ t → (pairs s b ≡ false → seven_bit (s ++ b ∷ []) ≡ seven_bit s ++ b ∷ [])
-        → (pairs (y ∷ s) b ≡ false → seven_bit (y ∷ s ++ b ∷ []) ≡ seven_bit (y ∷ s) ++ b ∷ [])
-        → seven_bit (x ∷ y ∷ s ++ b ∷ []) ≡ seven_bit (x ∷ y ∷ s) ++ b ∷ []
-    by_test true e p q = rw e (ap (λ l. 0x1B ∷ (y - 0x40) ∷ l) (p (rw e at h)))
-    by_test false e p q = rw e (ap (λ l. x ∷ l) (q (rw e at h)))
+seven_bit_plain (x ∷ y ∷ s) b h =
+    ⊎_elim (λ e. rw e (ap (λ l. 0x1B ∷ (y - 0x40) ∷ l) (seven_bit_plain s b (rw e at h)))) (λ e. rw e (ap (λ l. x ∷ l) (seven_bit_plain (y ∷ s) b (rw e at h)))) (cases_Bool (is_c1 x y))
 
 pub record Pairs (s : List ℕ) (b : ℕ) : Type 0 where
   pub front : List ℕ
@@ -88,23 +74,13 @@ is_c2 x b h = grind (arith, nat_tests)
 pub seven_bit_pair : (s : List ℕ) (b : ℕ) → pairs s b ≡ true → Pairs s b
 seven_bit_pair [] b h = cc
 seven_bit_pair (x ∷ []) b h = record { front = []; before = ap (λ y. y ∷ []) (is_c2 x b h); after = rw h refl }
-seven_bit_pair (x ∷ y ∷ s) b h = by_test (is_c1 x y) refl (seven_bit_pair s b) (seven_bit_pair (y ∷ s) b)
-  where
-    by_test : (t : Bool) → is_c1 x y ≡ t → (pairs s b ≡ true → Pairs s b) → (pairs (y ∷ s) b ≡ true → Pairs (y ∷ s) b) → Pairs (x ∷ y ∷ s) b
-    by_test true e m n =
-        let p = m (rw e at h) in
-        record { front = 0x1B ∷ (y - 0x40) ∷ p.front; before = rw e (ap (λ l. 0x1B ∷ (y - 0x40) ∷ l) p.before); after = rw e (ap (λ l. 0x1B ∷ (y - 0x40) ∷ l) p.after) }
-    by_test false e m n =
-        let p = n (rw e at h) in
-        record { front = x ∷ p.front; before = rw e (ap (λ l. x ∷ l) p.before); after = rw e (ap (λ l. x ∷ l) p.after) }
+seven_bit_pair (x ∷ y ∷ s) b h = ⊎_elim
+    (λ e. let p = seven_bit_pair s b (rw e at h) in
+    record { front = 0x1B ∷ (y - 0x40) ∷ p.front; before = rw e (ap (λ l. 0x1B ∷ (y - 0x40) ∷ l) p.before); after = rw e (ap (λ l. 0x1B ∷ (y - 0x40) ∷ l) p.after) })
+    (λ e. let p = seven_bit_pair (y ∷ s) b (rw e at h) in record { front = x ∷ p.front; before = rw e (ap (λ l. x ∷ l) p.before); after = rw e (ap (λ l. x ∷ l) p.after) })
+    (cases_Bool (is_c1 x y))
 
 pub opens_more : (s : List ℕ) (b : ℕ) → opens (s ++ b ∷ []) ≡ (if pairs s b then false else b == 0xC2)
 opens_more [] b = refl
 opens_more (x ∷ []) b = refl
-opens_more (x ∷ y ∷ s) b = by_test (is_c1 x y) refl (opens_more s b) (opens_more (y ∷ s) b)
-  where
-    by_test : (t : Bool) → is_c1 x y ≡ t → opens (s ++ b ∷ []) ≡ (if pairs s b then false else b == 0xC2)
-        → opens (y ∷ s ++ b ∷ []) ≡ (if pairs (y ∷ s) b then false else b == 0xC2)
-        → opens (x ∷ y ∷ s ++ b ∷ []) ≡ (if pairs (x ∷ y ∷ s) b then false else b == 0xC2)
-    by_test true e p q = rw e p
-    by_test false e p q = rw e q
+opens_more (x ∷ y ∷ s) b = ⊎_elim (λ e. rw e (opens_more s b)) (λ e. rw e (opens_more (y ∷ s) b)) (cases_Bool (is_c1 x y))

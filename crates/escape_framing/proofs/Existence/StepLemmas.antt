@@ -1,18 +1,19 @@
 -- What one byte adds behind what is open.
-use Rattle.std.proofs.Common.{◌≡◌, ◌≢◌, ℕ, ◌/◌, ◌%◌, ◌+◌, ◌<◌, ◌≤◌, inl, inr, ⊎_elim, Bool, true, false, List, [], ◌∷◌, ◌++◌, refl, sym, ap, subst, ◌∙◌, arith, append_assoc}
+use Rattle.std.proofs.Common.{◌≡◌, ◌≢◌, ℕ, ◌/◌, ◌+◌, ◌<◌, ◌≤◌, inl, inr, ⊎_elim, true, false, List, [], ◌∷◌, ◌++◌, refl, sym, ap, subst, ◌∙◌, arith, append_assoc}
 use Rattle.std.specs.Prelude.{◌==◌, slice_index}
 use Rattle.std.specs.Char.{IsScalar, is_ascii_control}
 use Rattle.std.specs.List.{flat_map}
 use Rattle.std.specs.Str.{chars}
 use Rattle.std.proofs.lemmas.Bool.Decides.{nat_tests}
-use Rattle.std.proofs.lemmas.Str.{chars-encodes}
-use lib.Utf8.{encode}
+use Rattle.std.proofs.lemmas.Str.{chars-encodes, encode_ascii}
+use lib.Utf8.{encode, next}
 use Rattle.text_clusters.specs.Controls.{in_c1}
-use Rattle.escape_framing.specs.Segment.{Tail, Begun, OpenEscape, bytes_of_tail, Segment, Character, IllFormed, Control, bytes_of, IsPrintable, IsControl, IsBegun, IsUnfinished, IsSegment, StandInRow}
-use Rattle.escape_framing.specs.Decode.{Reading, waits, ends, ends_before, segment_of, first_byte, in_character}
-use Rattle.escape_framing.proofs.Existence.Utf8Lemmas.{order, Spelled, in_one, in_two, in_three, in_four, spelled, append_nil}
+use Rattle.escape_framing.specs.Segment.{Tail, Begun, OpenEscape, bytes_of_tail, Segment, Character, IllFormed, Control, bytes_of, IsPrintable, IsControl, IsUnfinished, IsSegment, StandInRow}
+use Rattle.escape_framing.specs.Decode.{Reading, waits, ends, ends_before, segment_of, first_byte, in_character, reading_of}
+use Rattle.escape_framing.proofs.Existence.Utf8Lemmas.{order, append_nil, two}
 use Rattle.escape_framing.proofs.Existence.OutcomeLemmas.{Outcome, whole, begun, broken, outcome}
 use Rattle.escape_framing.proofs.Existence.SevenBitLemmas.{no_pair}
+use Rattle.std.proofs.lemmas.Bool.{cond_both, eqb-true}
 
 -- What a reading adds behind others: the bytes and no others, what is unfinished, and segments that may stand before it
 -- whatever follows.
@@ -36,37 +37,27 @@ adds_before front s b e h f = record {
 
 -- ---- a character
 
-c1_bounds : (c : ℕ) → in_c1 c ≡ true → (0x80 ≤ c) × (c ≤ 0x9F)
-c1_bounds c h = (grind (arith, nat_tests), grind (arith, nat_tests))
-
 -- a C1 control is C2 and its own code
-c1_bytes : (c : ℕ) → in_c1 c ≡ true → IsScalar c → encode c ≡ 0xC2 ∷ c ∷ []
-c1_bytes c h s = let k = c1_bounds c h in by_kind k (spelled c s)
-  where
-    by_kind : (0x80 ≤ c) × (c ≤ 0x9F) → Spelled c → encode c ≡ 0xC2 ∷ c ∷ []
-    by_kind k (in_one l e) = absurd (omega arith)
-    by_kind k (in_two g l e) =
-        let p : 192 + c / 64 ≡ 0xC2 = omega arith in
-        let q : 128 + c % 64 ≡ c = omega arith in
-        e ∙ (λ i. p i ∷ q i ∷ [])
-    by_kind k (in_three g l t e) = absurd (omega arith)
-    by_kind k (in_four g l e) = absurd (omega arith)
+c1_bytes : (c : ℕ) → in_c1 c ≡ true → encode c ≡ 0xC2 ∷ c ∷ []
+c1_bytes c h =
+    let low : 0x80 ≤ c = grind (arith, nat_tests) in
+    let high : c ≤ 0x9F = grind (arith, nat_tests) in
+    let p : 192 + c / 64 ≡ 0xC2 = omega arith in
+    let q : next c ≡ c = omega arith in
+    two c low (omega arith) ∙ (λ i. p i ∷ q i ∷ [])
 
-pub ascii_bytes : (c : ℕ) → IsScalar c → c < 128 → encode c ≡ c ∷ []
-ascii_bytes c s l = by_kind (spelled c s)
-  where
-    by_kind : Spelled c → encode c ≡ c ∷ []
-    by_kind (in_one l' e) = e
-    by_kind (in_two g l' e) = absurd (omega arith)
-    by_kind (in_three g l' t e) = absurd (omega arith)
-    by_kind (in_four g l' e) = absurd (omega arith)
+pub printable : (c : ℕ) → in_c1 c ≡ false → is_ascii_control c ≡ false → IsPrintable c
+printable c h k = ⊎_elim (λ l. inl (grind (arith, nat_tests), grind (arith, nat_tests))) (λ g. inr (grind (arith, nat_tests))) (order c 0x80)
 
 adds_character : (bytes : List ℕ) (c : ℕ) → IsScalar c → encode c ≡ bytes → c ≢ 0x1B → Adds bytes (ends (segment_of bytes c))
-adds_character bytes c s e n = by_test (in_c1 c) (is_ascii_control c) refl refl
+adds_character bytes c s e n =
+    cond_both (in_c1 c) _ _ (λ t. Adds bytes (ends t)) (λ h. adds_end bytes (IllFormed bytes) refl (λ p f. absurd (no_c1 h p))) (λ h.
+    cond_both (is_ascii_control c) _ _ (λ t. Adds bytes (ends t)) (λ k. adds_end bytes (Control c) (sym (encode_ascii c (small k)) ∙ e) (λ p f. control k))
+    (λ k. adds_end bytes (Character c) e (λ p f. (s, printable c h k))))
   where
     no_c1 : in_c1 c ≡ true → no_pair bytes ≡ true → ⊥
     no_c1 h p =
-        let k : no_pair (0xC2 ∷ c ∷ []) ≡ true = ap no_pair (sym (c1_bytes c h s) ∙ e) ∙ p in
+        let k : no_pair (0xC2 ∷ c ∷ []) ≡ true = ap no_pair (sym (c1_bytes c h) ∙ e) ∙ p in
         let l : no_pair (0xC2 ∷ c ∷ []) ≡ false = rw h refl in cc
 
     control : is_ascii_control c ≡ true → IsControl c
@@ -74,14 +65,6 @@ adds_character bytes c s e n = by_test (in_c1 c) (is_ascii_control c) refl refl
 
     small : is_ascii_control c ≡ true → c < 128
     small h = grind (arith, nat_tests)
-
-    printable : in_c1 c ≡ false → is_ascii_control c ≡ false → IsPrintable c
-    printable k h = ⊎_elim (λ l. inl (grind (arith, nat_tests), grind (arith, nat_tests))) (λ g. inr (grind (arith, nat_tests))) (order c 0x80)
-
-    by_test : (x y : Bool) → in_c1 c ≡ x → is_ascii_control c ≡ y → Adds bytes (ends (segment_of bytes c))
-    by_test true y h k = rw h (adds_end bytes (IllFormed bytes) refl (λ p f. absurd (no_c1 h p)))
-    by_test false true h k = rw (h, k) (adds_end bytes (Control c) (sym (ascii_bytes c s (small k)) ∙ e) (λ p f. control k))
-    by_test false false h k = rw (h, k) (adds_end bytes (Character c) e (λ p f. (s, printable h k)))
 
 pub char_of : (c : ℕ) (bytes : List ℕ) → IsScalar c → encode c ≡ bytes → slice_index (chars bytes) 0 ≡ c
 char_of c bytes s e =
@@ -91,38 +74,29 @@ char_of c bytes s e =
 -- a byte that nothing waits for
 pub adds_first : (b : ℕ) → Adds (b ∷ []) (first_byte b)
 unfolding first_byte
-adds_first b = by_test (b == 0x1B) refl
+adds_first b =
+    cond_both (b == 0x1B) _ _ (Adds (b ∷ [])) (λ h. adds_open (b ∷ []) (OpenEscape []) (ap (λ (x : ℕ). x ∷ []) (sym (eqb-true b 0x1B h))) refl) (λ h. by_outcome h (outcome [] b (inl refl)))
   where
-    no_escape : (c : ℕ) → IsScalar c → encode c ≡ b ∷ [] → (b == 0x1B) ≡ false → c ≢ 0x1B
-    no_escape c s e h k = let l : c ∷ [] ≡ b ∷ [] = sym (ascii_bytes c s (omega arith)) ∙ e in let m : c ≡ b = cc in grind (arith, nat_tests)
+    no_escape : (c : ℕ) → encode c ≡ b ∷ [] → (b == 0x1B) ≡ false → c ≢ 0x1B
+    no_escape c e h k = let l : c ∷ [] ≡ b ∷ [] = sym (encode_ascii c (omega arith)) ∙ e in let m : c ≡ b = cc in grind (arith, nat_tests)
 
-    by_outcome : (b == 0x1B) ≡ false → Outcome [] b → Adds (b ∷ []) (first_byte b)
-    by_outcome h (whole c s e u) = rw (h, u, char_of c (b ∷ []) s e) (adds_character (b ∷ []) c s e (no_escape c s e h))
-    by_outcome h (begun g u n) = rw (h, u, n) (adds_open (b ∷ []) (Begun (b ∷ [])) refl (inr g))
-    by_outcome h (broken f u n) = rw (h, u, n) (adds_end (b ∷ []) (IllFormed (b ∷ [])) refl (λ p l. inl (b, refl, f)))
-
-    by_test : (t : Bool) → (b == 0x1B) ≡ t → Adds (b ∷ []) (first_byte b)
-    by_test true h = rw h (adds_open (b ∷ []) (OpenEscape []) (let k : 0x1B ≡ b = grind (arith, nat_tests) in ap (λ (x : ℕ). x ∷ []) k) refl)
-    by_test false h = by_outcome h (outcome [] b (inl refl))
+    by_outcome : (b == 0x1B) ≡ false → Outcome [] b → Adds (b ∷ []) (reading_of (b ∷ []) (ends (IllFormed (b ∷ []))))
+    by_outcome h (whole c s e u) = rw (u, char_of c (b ∷ []) s e) (adds_character (b ∷ []) c s e (no_escape c e h))
+    by_outcome h (begun g u n) = rw (u, n) (adds_open (b ∷ []) (Begun (b ∷ [])) refl (inr g))
+    by_outcome h (broken f u n) = rw (u, n) (adds_end (b ∷ []) (IllFormed (b ∷ [])) refl (λ p l. inl (b, refl, f)))
 
 -- a byte behind the first ones of a character
 pub adds_in_character : (t : List ℕ) (b : ℕ) → IsUnfinished (Begun t) → Adds (t ++ b ∷ []) (in_character t b)
 unfolding in_character
-adds_in_character t b g = by_outcome t b g (outcome t b g)
+adds_in_character [] b g = adds_first b
+adds_in_character (x ∷ t) b g = by_outcome g (outcome (x ∷ t) b g)
   where
-    is_begun : (x : ℕ) (t : List ℕ) → IsUnfinished (Begun (x ∷ t)) → IsBegun (x ∷ t)
-    is_begun x t (inl h) = cc
-    is_begun x t (inr h) = h
+    one : (y : ℕ) (t : List ℕ) → y ∷ [] ≡ x ∷ t ++ b ∷ [] → ⊥
+    one y [] k = cc
+    one y (z ∷ t) k = cc
 
-    by_outcome : (t : List ℕ) (b : ℕ) → IsUnfinished (Begun t) → Outcome t b → Adds (t ++ b ∷ []) (in_character t b)
-    by_outcome [] b g o = adds_first b
-    by_outcome (x ∷ t) b g (whole c s e u) = rw (u, char_of c (x ∷ t ++ b ∷ []) s e) (adds_character (x ∷ t ++ b ∷ []) c s e (never c x t b s e))
-      where
-        one : (x y b : ℕ) (t : List ℕ) → y ∷ [] ≡ x ∷ t ++ b ∷ [] → ⊥
-        one x y b [] k = cc
-        one x y b (z ∷ t) k = cc
-
-        never : (c x : ℕ) (t : List ℕ) (b : ℕ) → IsScalar c → encode c ≡ x ∷ t ++ b ∷ [] → c ≢ 0x1B
-        never c x t b s e k = one x c b t (sym (ascii_bytes c s (omega arith)) ∙ e)
-    by_outcome (x ∷ t) b g (begun h u m) = rw (u, m) (adds_open (x ∷ t ++ b ∷ []) (Begun (x ∷ t ++ b ∷ [])) refl (inr h))
-    by_outcome (x ∷ t) b g (broken f u m) = rw (u, m) (adds_before (x ∷ t) (IllFormed (x ∷ t)) b refl (λ others. inr (is_begun x t g, (b, others, refl, f))) (adds_first b))
+    by_outcome : IsUnfinished (Begun (x ∷ t)) → Outcome (x ∷ t) b → Adds (x ∷ t ++ b ∷ []) (in_character (x ∷ t) b)
+    by_outcome g (whole c s e u) = rw (u, char_of c (x ∷ t ++ b ∷ []) s e) (adds_character (x ∷ t ++ b ∷ []) c s e (λ k. one c t (sym (encode_ascii c (omega arith)) ∙ e)))
+    by_outcome g (begun h u m) = rw (u, m) (adds_open (x ∷ t ++ b ∷ []) (Begun (x ∷ t ++ b ∷ [])) refl (inr h))
+    by_outcome (inl h) (broken f u m) = cc
+    by_outcome (inr h) (broken f u m) = rw (u, m) (adds_before (x ∷ t) (IllFormed (x ∷ t)) b refl (λ others. inr (h, (b, others, refl, f))) (adds_first b))

@@ -43,6 +43,10 @@ pub append_nil : (xs : List ℕ) → xs ++ [] ≡ xs
 append_nil [] = refl
 append_nil (x ∷ xs) = ap (λ ys. x ∷ ys) (append_nil xs)
 
+pub some_last : (xs : List ℕ) (b : ℕ) → xs ++ b ∷ [] ≢ []
+some_last [] b h = cc
+some_last (x ∷ xs) b h = cc
+
 in_range : (lo hi x : ℕ) → lo ≤ x → x ≤ hi → is_in_range lo hi x ≡ true
 in_range lo hi x l h = grind (arith, nat_tests)
 
@@ -132,9 +136,6 @@ second_bounds : (x y : ℕ) → is_in_range (second_byte_min x) (second_byte_max
     → (x ≡ 0xE0 → 0xA0 ≤ y) × (x ≡ 0xED → y ≤ 0x9F) × (x ≡ 0xF0 → 0x90 ≤ y) × (x ≡ 0xF4 → y ≤ 0x8F) × (0x80 ≤ y) × (y ≤ 0xBF)
 second_bounds x y h = (λ e. grind (arith, nat_tests), λ e. grind (arith, nat_tests), λ e. grind (arith, nat_tests), λ e. grind (arith, nat_tests), grind (arith, nat_tests), grind (arith, nat_tests))
 
-pub scalar_low : (c : ℕ) → c < 55296 → IsScalar c
-scalar_low c h = low_scalar c h
-
 pub scalar_high : (c : ℕ) → 57344 ≤ c → c < 1114112 → IsScalar c
 scalar_high c l h = grind (arith, nat_tests)
 
@@ -143,7 +144,7 @@ two_bytes x y l h m n =
     let c = (x - 192) * 64 + (y - 128) in
     let p : 192 + c / 64 ≡ x = omega arith in
     let q : next c ≡ y = omega arith in
-    (c, scalar_low c (omega arith), two c (omega arith) (omega arith) ∙ (λ k. p k ∷ q k ∷ []))
+    (c, low_scalar c (omega arith), two c (omega arith) (omega arith) ∙ (λ k. p k ∷ q k ∷ []))
 
 pub three_bytes : (x y z : ℕ) → 224 ≤ x → x < 240 → (x ≡ 0xE0 → 0xA0 ≤ y) → (x ≡ 0xED → y ≤ 0x9F) → 0x80 ≤ y → y ≤ 0xBF → 0x80 ≤ z → z ≤ 0xBF
     → (c : ℕ) × IsScalar c × (encode c ≡ x ∷ y ∷ z ∷ [])
@@ -152,7 +153,7 @@ three_bytes x y z l h e0 ed m n m' n' =
     let p : 224 + c / 4096 ≡ x = omega arith in
     let q : next (c / 64) ≡ y = omega arith in
     let r : next c ≡ z = omega arith in
-    let s : IsScalar c = ⊎_elim (λ u. scalar_low c (omega arith)) (λ u. ⊎_elim (λ v. let top : y ≤ 0x9F = ed (omega arith) in scalar_low c (omega arith)) (λ v. scalar_high c (omega arith) (omega arith)) (order x 238)) (order x 237) in
+    let s : IsScalar c = ⊎_elim (λ u. low_scalar c (omega arith)) (λ u. ⊎_elim (λ v. let top : y ≤ 0x9F = ed (omega arith) in low_scalar c (omega arith)) (λ v. scalar_high c (omega arith) (omega arith)) (order x 238)) (order x 237) in
     let least : 2048 ≤ c = ⊎_elim (λ u. let low : 0xA0 ≤ y = e0 (omega arith) in omega arith) (λ u. omega arith) (order x 225) in
     (c, s, three c least (omega arith) ∙ (λ k. p k ∷ q k ∷ r k ∷ []))
 

@@ -1,22 +1,12 @@
 //! Operating system commands that stand whole at the front, whose body is lent and not copied.
-ghost use Rattle.std.specs.Prelude.{◌≡◌, ◌∷◌, IfSome};
+ghost use Rattle.std.specs.Prelude.{IfSome};
 ghost use Rattle.escape_framing.specs.Read.{whole_command, ReadsEvent};
 
 use crate::bodies::body_of;
 use crate::bytes::{BEL, ESCAPE};
+use crate::fast::behind_introducer;
 use crate::framer::Framer;
 use crate::texts::behind;
-
-// What stands behind ESC ].
-#[inline(always)]
-fn behind_introducer(bytes: &[u8]) -> Option<&[u8]>
-    ensures { IfSome result (λ others. bytes.now ≡ 0x1B ∷ 0x5D ∷ others.now) }
-{
-    match bytes {
-        [0x1b, b']', others @ ..] => Some(others),
-        _ => None,
-    }
-}
 
 impl Framer {
     /// The operating system command at the front of some bytes of one call, where nothing is unfinished, the bytes decide it,
@@ -27,7 +17,7 @@ impl Framer {
     pub fn whole_command<'a>(&self, bytes: &'a [u8]) -> Option<(&'a [u8], usize)>
         ensures { IfSome result (λ c. ReadsEvent self.now.held bytes.now (whole_command c.1) (record self.now { body = c.0.now })) }
     {
-        let others = behind_introducer(bytes)?;
+        let others = behind_introducer(bytes, b']')?;
         if !self.is_idle() {
             return None;
         }

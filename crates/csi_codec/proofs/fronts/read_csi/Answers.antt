@@ -1,15 +1,32 @@
-use Rattle.std.proofs.Common.{refl, length, take}
-use Rattle.std.specs.Prelude.{nat_lt}
+use Rattle.std.proofs.Common.{rules, ◌≡◌, ◌∙◌, sym, true, false}
+use Rattle.std.proofs.lemmas.Bool.{false≢true}
 use Rattle.std.proofs.lemmas.Result.{err_from_is_err_and}
-use Rattle.csi_codec.specs.Fronts.{most_tokens}
-use Rattle.csi_codec.specs.Texts.{tokens_of}
+use Rattle.csi_codec.proofs.FrontLemmas.{no_final, other_final, read_front}
 use Rattle.csi_codec.proofs.fronts.read_csi.Goals as goal
+
+pub returns-in_default-split_first-clause-none : goal.returns-in_default-split_first-clause-none
+returns-in_default-split_first-clause-none c =
+    no_final c.args.bytes.now c.in-Some.behind.now c.push_all-len.result c.in-Some.ensures.some c.push_all-len.ensures.count c.in_default-split_first.ensures.cases
+
+pub returns-then-not-is_final-clause-none : goal.returns-then-not-is_final-clause-none
+returns-then-not-is_final-clause-none c =
+    let other : c.is_final.result ≡ false = search rules in
+    other_final c.args.bytes.now c.in-Some.behind.now c.push_all-len.result c.in-Some.ensures.some c.push_all-len.ensures.count c.in-Some-split_first.control.now c.in-Some-split_first.rest.now
+    c.in-Some-split_first.ensures.cases.0 (λ low high. absurd (false≢true (sym other ∙ c.is_final.ensures.1 (low, high))))
 
 pub returns-in_err-params-clause-refused : goal.returns-in_err-params-clause-refused
 returns-in_err-params-clause-refused c =
     let p = err_from_is_err_and c.from_residual.result c.from_residual.ensures.1 in
-    let tokens = tokens_of c.in-Some.body.now in
+    let final : c.is_final.result ≡ true = search rules in
     rw p.1 (
-      record { params = take most_tokens tokens; truncated = nat_lt most_tokens (length tokens); control = c.in-Some.control; rest = c.in-Some.rest.now },
-      record { body = c.in-Some.body.now; sequence = c.in-Some.ensures.some; kept = refl; dropped = refl },
+      _,
+      read_front c.args.bytes.now c.in-Some.behind.now c.push_all-len.result c.in-Some.ensures.some c.push_all-len.ensures.count c.push_all-len.new.self c.new-parameters.result
+          c.in-Some-split_first.control.now c.in-Some-split_first.rest.now c.in-Some-split_first.ensures.cases.0 (c.is_final.ensures.0 final) c.new-parameters.ensures c.push_all-len.ensures.tokens,
     )
+
+pub returns-clause-some : goal.returns-clause-some
+returns-clause-some c =
+    let final : c.is_final.result ≡ true = search rules in
+    rw (c.in_ok-params.ensures.items ∙ c.tokens.ensures, c.is_truncated.ensures, c.from.ensures)
+    (read_front c.args.bytes.now c.in-Some.behind.now c.push_all-len.result c.in-Some.ensures.some c.push_all-len.ensures.count c.push_all-len.new.self c.new-parameters.result
+    c.in-Some-split_first.control.now c.in-Some-split_first.rest.now c.in-Some-split_first.ensures.cases.0 (c.is_final.ensures.0 final) c.new-parameters.ensures c.push_all-len.ensures.tokens)

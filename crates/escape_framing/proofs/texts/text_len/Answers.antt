@@ -1,11 +1,13 @@
-use Rattle.std.proofs.Common.{rules, ◌≡◌, ◌∷◌}
-use Rattle.escape_framing.proofs.WideLemmas.{none_of_nothing, no_text_here, no_text_below}
+use Rattle.std.proofs.Common.{refl, arith, ◌∙◌}
+use Rattle.escape_framing.specs.Framed.{no_text}
+use Rattle.escape_framing.proofs.LenLemmas.{longer_text}
 use Rattle.escape_framing.proofs.texts.text_len.Goals as goal
 
-pub returns-in_default : goal.returns-in_default
-returns-in_default c = no_text_here c.args.bytes.now (none_of_nothing c.args.bytes.now (search rules))
+pub loop-rest-init : goal.loop-rest-init
+loop-rest-init c = record { within = omega arith; text = no_text; rest = refl }
 
-pub returns-then-byte-lt32 : goal.returns-then-byte-lt32
-returns-then-byte-lt32 c =
-    let s : c.args.bytes.now ≡ c.in-Some.byte.now ∷ c.in-Some.others.now = search rules in
-    no_text_below c.args.bytes.now c.in-Some.byte.now c.in-Some.others.now s c.if-byte-lt32.true
+pub loop-rest-preserved : goal.loop-rest-preserved
+loop-rest-preserved c =
+    let i = c.loop-rest.invariant in
+    let t = longer_text c.args.bytes.now c.loop-rest.rest.now c.loop-rest.len c.run_len-count.result i.within i.rest i.text c.run_len-count.ensures in
+    record { within = t.1; text = t.0; rest = c.behind-rest.ensures ∙ t.2 }

@@ -2,7 +2,8 @@
 use Rattle.std.proofs.Common.{◌<◌, ◌≤◌, max, List, length, sym, subst}
 use Rattle.csi_codec.specs.Actions.{Action}
 use Rattle.csi_codec.specs.Laws.{KeepsRests}
-use Rattle.csi_codec.proofs.ReadingLemmas.{csi_reading-counted, csi_reading-keeps}
+use Rattle.csi_codec.proofs.ReadingLemmas.{csi_reading-counted}
+use Rattle.csi_codec.proofs.RoundTrip.{csi_reading-keeps}
 use Rattle.csi_codec.proofs.sequences.CSI.parse.Goals as goal
 
 pub returns-clause-some : goal.returns-clause-some

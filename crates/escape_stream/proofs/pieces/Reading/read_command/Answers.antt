@@ -1,4 +1,4 @@
-use Rattle.std.proofs.Common.{◌≡◌, drop, subst}
+use Rattle.std.proofs.Common.{subst}
 use Rattle.std.specs.Prelude.{ℕ, List}
 use Rattle.escape_framing.specs.Read.{whole_command, ReadsEvent}
 use Rattle.escape_stream.specs.ParserShown.{lending_in}

@@ -1,12 +1,12 @@
-use Rattle.std.proofs.Common.{◌≡◌, refl, sym, ap, subst, ◌∙◌}
-use Rattle.std.specs.Prelude.{Option, Some, None}
+use Rattle.std.proofs.Common.{refl, sym, ap, subst, ◌∙◌}
+use Rattle.std.specs.Prelude.{Option, Some}
 use Rattle.escape_framing.specs.declared.event.Event.{Event}
 use Rattle.escape_framing.specs.declared.event.Read.TheVariants as read
 use Rattle.escape_stream.specs.declared.action.Action.{Action}
 use Rattle.escape_stream.specs.ParserShown.{Parsing, lending_in}
 use Rattle.csi_codec.specs.Tokens.{Parameters}
 use Rattle.escape_stream.specs.Sequences.{Gives, actions_left, event_actions}
-use Rattle.escape_stream.proofs.AdvanceLemmas.{has_read, gives_text, gives_event, goes_event, asks_body, asks_event, on_refusal}
+use Rattle.escape_stream.proofs.AdvanceLemmas.{has_read, gives_text, gives_event, goes_event, asks_body, on_refusal}
 use Rattle.escape_stream.proofs.pieces.Reading.read_event.Goals as goal
 
 pub returns-in-Text-clause-finds : goal.returns-in-Text-clause-finds
