@@ -1,7 +1,4 @@
-"""What the scripts share: the kit, how many checks run side by side, runs of the sources, recorded sessions."""
-import functools
-import importlib.machinery
-import importlib.util
+"""What the scripts share: the kit, the crates, how many checks run side by side, runs of sources, recorded sessions."""
 import os
 import re
 import shutil
@@ -20,18 +17,24 @@ def kit_command():
     return shutil.which("rt") or sys.exit("the Rattle kit's command rt is not on the path")
 
 
-def load_kit():
-    """Returns the kit's own module on crates, which knows how a crate is checked over the libraries below it."""
-    file = Path(kit_command()).resolve().parent / "rtlib.py"
-    loader = importlib.machinery.SourceFileLoader("rtlib", str(file))
-    kit = importlib.util.module_from_spec(importlib.util.spec_from_loader("rtlib", loader))
-    sys.modules["rtlib"] = kit
-    loader.exec_module(kit)
-    if any(not hasattr(kit, it) for it in ("Crate", "crates_below", "guarded", "lock")):
-        sys.exit("the scripts are made for another Rattle kit: README names it, rt version names the one in use")
-    # (a library's sum is asked for once for each way up to it, of which there are many, and sources stay as they are)
-    kit.Crate.stamp = functools.cache(kit.Crate.stamp)
-    return kit
+def kit_folder():
+    """Returns the kit's folder, whose bin/rattle is its prover."""
+    return Path(kit_command()).resolve().parent.parent
+
+
+def crates_of(root=ROOT):
+    """Returns for each crate of crates.txt, in its order, what it uses: crates and libraries of the kit."""
+    rows = [row.split("#")[0].partition(":") for row in (root / "crates.txt").read_text().splitlines()]
+    return {name.split()[0]: used.split() for name, colon, used in rows if colon}
+
+
+def crates_below(name, uses):
+    """Returns the crates that a crate stands on, lowest first, and the crate itself."""
+    found = {}
+    for below in uses[name]:
+        if below in uses:
+            found.update(dict.fromkeys(crates_below(below, uses)))
+    return [*found, name]
 
 
 def lanes():

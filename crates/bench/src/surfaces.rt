@@ -66,8 +66,8 @@ fn add_words(surface: &mut Plain, words: &[&str]) -> Option<()> {
     Some(())
 }
 
-/// Adds each word of the input with the space that ends it, and behind it an attribute, to a surface of 80 columns and 24 rows,
-/// so often.
+/// Adds each word of the input with the space that ends it, and behind it an attribute, to a surface of 80 columns and
+/// 24 rows, so often.
 pub fn words(alloc: Global, input: &[u8], count: u32) -> Option<u64> {
     let words = split_inclusive(alloc, input, " ")?;
     let mut surface = surface_of(alloc, 80, 24)?;
@@ -88,8 +88,8 @@ fn add_and_take(surface: &mut Plain, lines: &[&str]) -> Option<u64> {
     Some(sum)
 }
 
-/// Adds each line of the input, which ends in CR LF, to a surface of this size without the LF, so that nothing scrolls, and takes
-/// the changes behind each, so often.
+/// Adds each line of the input, which ends in CR LF, to a surface of this size without the LF, so that nothing scrolls,
+/// and takes the changes behind each, so often.
 pub fn due(alloc: Global, input: &[u8], width: usize, height: usize, count: u32) -> Option<u64> {
     let lines = split(alloc, input, "\n")?;
     let mut surface = surface_of(alloc, width, height)?;
@@ -114,8 +114,8 @@ pub fn large(alloc: Global, input: &[u8]) -> Option<u64> {
     Some(difference.len() as u64 + repaint.len() as u64)
 }
 
-/// Makes two surfaces of 80 columns and 24 rows that show the input, of which one has another letter at its end, and takes
-/// the changes that lead from the one to the other, so often.
+/// Makes two surfaces of 80 columns and 24 rows that show the input, of which one has another letter at its end, and
+/// takes the changes that lead from the one to the other, so often.
 pub fn patch(alloc: Global, input: &[u8], count: u32) -> Option<u64> {
     let lines = split_inclusive(alloc, input, "\n")?;
     let mut surface = surface_of(alloc, 80, 24)?;

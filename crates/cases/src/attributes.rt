@@ -1,5 +1,5 @@
-//! Attributes as rows write them: a word for each one that isn't plain, as `italic`, `underline=Curly`, `background=1` (a
-//! colour of the palette), `link=URI`, `found_link=URI` (one that was found in a text).
+//! Attributes as rows write them: a word for each one that isn't plain, as `italic`, `underline=Curly`, `background=1`
+//! (a colour of the palette), `link=URI`, `found_link=URI` (one that was found in a text).
 use crate::escapes;
 use crate::fault::Fault;
 use crate::sheet::Sheet;

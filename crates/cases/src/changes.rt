@@ -1,12 +1,12 @@
-//! Changes, as rows write them: a text in quotes, all attributes by their words, a place as `to X Y`, where `3` is counted from the
-//! start, `<1` from the end, and `+1` and `-1` from the cursor; a colour as `Default` or its number in the palette; a row's size and the
-//! cursor's shape by their names.
+//! Changes, as rows write them: a text in quotes, all attributes by their words, a place as `to X Y`, where `3` is
+//! counted from the start, `<1` from the end, and `+1` and `-1` from the cursor; a colour as `Default` or its number in
+//! the palette; a row's size and the cursor's shape by their names.
 use crate::attributes;
 use crate::fault::Fault;
 use crate::sheet::Sheet;
 use cell_base::{CellAttributes, ColorAttribute, CursorVisibility, Position};
-use cell_change::Change;
 use cell_line::Line;
+use screen_change::Change;
 
 fn say_color(name: &str, color: &ColorAttribute, sheet: &mut Sheet) {
     sheet.word(name);

@@ -44,8 +44,8 @@ fn say_written(
     Ok(())
 }
 
-/// `BODY => COMMAND | BODY | BODY`: what the parts of a body between `;` are read as, the body that is written for it as
-/// bytes, and as a text; each equal to its copy.
+/// `BODY => COMMAND | BODY | BODY`: what the parts of a body between `;` are read as, the body that is written for it
+/// as bytes, and as a text; each equal to its copy.
 pub fn osc(row: &Row<'_>, sheet: &mut Sheet) -> Result<(), Fault> {
     let body = row.bytes(0)?;
     let parts = parts_of(row.alloc(), &body)?;
@@ -53,7 +53,8 @@ pub fn osc(row: &Row<'_>, sheet: &mut Sheet) -> Result<(), Fault> {
     say_written(row.alloc(), &command, sheet)
 }
 
-/// `NAME => BITS`: the bits of a selection, which are also the selection of that name; `none` where no selection has it.
+/// `NAME => BITS`: the bits of a selection, which are also the selection of that name; `none` where no selection has
+/// it.
 pub fn selection(row: &Row<'_>, sheet: &mut Sheet) -> Result<(), Fault> {
     match Selection::from_name(row.column(0)) {
         Some(selection) => {

@@ -117,9 +117,9 @@ fn slant_lent(line: &mut Line, at: usize, sheet: &mut Sheet) -> Result<(), Fault
     Ok(())
 }
 
-/// Makes a call that edits the line, by its name: its arguments in order, the number last. `cells_mut PLACE CELL` writes a
-/// cell that is lent, `cells_mut_for_attr_changes_only PLACE` makes one italic; both say how many are lent. Whether it is
-/// such a call.
+/// Makes a call that edits the line, by its name: its arguments in order, the number last. `cells_mut PLACE CELL`
+/// writes a cell that is lent, `cells_mut_for_attr_changes_only PLACE` makes one italic; both say how many are lent.
+/// Whether it is such a call.
 pub fn edit(
     line: &mut Line,
     call: &Call<'_>,

@@ -1,5 +1,5 @@
-//! Bytes as a table writes them, both ways: `\x1b` is a byte, `\u{304b}` a character, `\n` and `\r` are LF and CR, `\s` is
-//! a space, `\\` is `\`, and `<<128 of 1;>>` is the text `1;` 128 times.
+//! Bytes as a table writes them, both ways: `\x1b` is a byte, `\u{304b}` a character, `\n` and `\r` are LF and CR, `\s`
+//! is a space, `\\` is `\`, and `<<128 of 1;>>` is the text `1;` 128 times.
 ghost use Rattle.std.specs.Prelude.{◌<◌, IfOk};
 
 use crate::fault::Fault;

@@ -9,7 +9,8 @@ use cell_base::{CellAttributes, ProgramWidth};
 use cell_line::Line;
 use std::alloc::{AllocError, Global};
 
-/// What calls work on: a line, the lines that were cut off it, and the attributes of the cells and texts that calls are given.
+/// What calls work on: a line, the lines that were cut off it, and the attributes of the cells and texts that calls are
+/// given.
 #[derive(Drop)]
 pub struct Page {
     pub line: Line,
@@ -56,7 +57,7 @@ fn page_of(alloc: Global, text: &str) -> Result<Page, Fault> {
 
 // The page behind the calls of a row, which have `; ` between them. The line is kept so before each of them and behind
 // the last.
-fn page_behind(row: &Row<'_>, keeping: Keeping, sheet: &mut Sheet) -> Result<Page, Fault> {
+fn page_after(row: &Row<'_>, keeping: Keeping, sheet: &mut Sheet) -> Result<Page, Fault> {
     let text = row.text(0)?;
     let mut page = page_of(row.alloc(), text.as_str())?;
     for words in row.column(1).split(';') {
@@ -99,13 +100,13 @@ fn say_line(line: &Line, sheet: &mut Sheet) -> Result<(), Fault> {
 }
 
 // What the calls of a row answer where the line is kept so, and if asked for what the line is behind them.
-fn say_behind(
+fn say_after(
     row: &Row<'_>,
     keeping: Keeping,
     is_shown: bool,
     sheet: &mut Sheet,
 ) -> Result<Page, Fault> {
-    let page = page_behind(row, keeping, sheet)?;
+    let page = page_after(row, keeping, sheet)?;
     if is_shown {
         say_line(&page.line, sheet)?;
     }
@@ -116,7 +117,7 @@ fn say_behind(
 fn is_kept_alike(row: &Row<'_>, is_shown: bool, page: &Page, sheet: &Sheet) -> Result<bool, Fault> {
     for keeping in &[Keeping::Clustered, Keeping::Opened] {
         let mut answers = Sheet::new(row.alloc());
-        let other = say_behind(row, *keeping, is_shown, &mut answers)?;
+        let other = say_after(row, *keeping, is_shown, &mut answers)?;
         if other.line != page.line || !answers.is_as(sheet) {
             return Ok(false);
         }
@@ -126,14 +127,14 @@ fn is_kept_alike(row: &Row<'_>, is_shown: bool, page: &Page, sheet: &Sheet) -> R
 
 // Says a row's answers, which are the same however the line is kept.
 fn say_each_way(row: &Row<'_>, is_shown: bool, sheet: &mut Sheet) -> Result<(), Fault> {
-    let page = say_behind(row, Keeping::AsMade, is_shown, sheet)?;
+    let page = say_after(row, Keeping::AsMade, is_shown, sheet)?;
     let is_alike = is_kept_alike(row, is_shown, &page, sheet)?;
     sheet.word_if(!is_alike, "(kept otherwise another)");
     Ok(())
 }
 
-/// `TEXT | CALLS => TEXT | COLUMNS | NUMBER | SIZE`: the line of a text with number 0 behind these calls; the same where
-/// it is made clustered before each of them, and where it is opened to cells again.
+/// `TEXT | CALLS => TEXT | COLUMNS | NUMBER | SIZE`: the line of a text with number 0 behind these calls; the same
+/// where it is made clustered before each of them, and where it is opened to cells again.
 pub fn edited(row: &Row<'_>, sheet: &mut Sheet) -> Result<(), Fault> {
     say_each_way(row, true, sheet)
 }
@@ -146,6 +147,6 @@ pub fn asked(row: &Row<'_>, sheet: &mut Sheet) -> Result<(), Fault> {
 
 /// `TEXT | CALLS => ANSWERS`: what these calls answer of the line of a text, which is kept as they leave it.
 pub fn kept(row: &Row<'_>, sheet: &mut Sheet) -> Result<(), Fault> {
-    page_behind(row, Keeping::AsMade, sheet)?;
+    page_after(row, Keeping::AsMade, sheet)?;
     Ok(())
 }

@@ -88,8 +88,9 @@ fn split_off(page: &mut Page, call: &Call<'_>, sheet: &mut Sheet) -> Result<(), 
 }
 
 /// Makes a call that gives another line or other attributes: the makers of lines by their names; `pen WORDS` for the
-/// attributes of cells and texts that later calls are given; `columns_as_line START END`; `wrap WIDTH NUMBER`, which says
-/// the rows, and `split_off COLUMN NUMBER`, of whose lines `row PLACE` then makes one the line. Whether it is such a call.
+/// attributes of cells and texts that later calls are given; `columns_as_line START END`; `wrap WIDTH NUMBER`, which
+/// says the rows, and `split_off COLUMN NUMBER`, of whose lines `row PLACE` then makes one the line. Whether it is such
+/// a call.
 pub fn make(page: &mut Page, call: &Call<'_>, sheet: &mut Sheet) -> Result<bool, Fault> {
     match call.word(0) {
         "pen" => page.pen = pen_of(call)?,

@@ -53,8 +53,8 @@ fn say_zones(line: &Line, sheet: &mut Sheet) -> Result<(), Fault> {
     Ok(())
 }
 
-// A cluster: its text, width, first column and attributes; and for each byte of its text the first column and the width of
-// its cell.
+// A cluster: its text, width, first column and attributes; and for each byte of its text the first column and the width
+// of its cell.
 fn say_cluster(cluster: &CellCluster, sheet: &mut Sheet) {
     sheet.quoted(cluster.text.as_str());
     sheet.show(&cluster.width);
@@ -108,9 +108,9 @@ fn say_clicked(line: &Line, column: usize, sheet: &mut Sheet) {
     sheet.debug(&range);
 }
 
-/// Asks a question by the name of its call, with its arguments in order. `attrs COLUMN` asks for the attributes of the cell that
-/// begins there, `cluster` for the texts of all clusters, `cluster PLACE` for one with the places of its bytes, and
-/// `compute_double_click_range COLUMN` takes every text but one space for a word.
+/// Asks a question by the name of its call, with its arguments in order. `attrs COLUMN` asks for the attributes of the
+/// cell that begins there, `cluster` for the texts of all clusters, `cluster PLACE` for one with the places of its
+/// bytes, and `compute_double_click_range COLUMN` takes every text but one space for a word.
 pub fn ask(line: &Line, call: &Call<'_>, sheet: &mut Sheet) -> Result<(), Fault> {
     match call.word(0) {
         "as_str" | "columns_as_str" => say_text(line, call, sheet)?,

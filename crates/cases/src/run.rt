@@ -119,8 +119,8 @@ fn heading_of(line: &str) -> Option<&str> {
     line.strip_prefix('[')?.strip_suffix(']')
 }
 
-/// Runs the cases of a text: lines `ARGUMENTS => ANSWER` below a heading `[KIND]`. Empty lines and those that begin with
-/// `//` say nothing. Each line that can't be read and each case that differs is written to `out`.
+/// Runs the cases of a text: lines `ARGUMENTS => ANSWER` below a heading `[KIND]`. Empty lines and those that begin
+/// with `//` say nothing. Each line that can't be read and each case that differs is written to `out`.
 pub fn run<W: Write>(
     alloc: Global,
     file: &str,

@@ -8,6 +8,7 @@ use crate::questions::say_cell;
 use crate::sheet::Sheet;
 use cell_base::{CellAttributes, ProgramWidth};
 use cell_line::Line;
+use cell_line::row_writing::{set_blanks, set_plain, set_text};
 use std::ops::Range;
 use text_clusters::split_plain;
 
@@ -24,8 +25,8 @@ fn columns_of(line: &Line, call: &Call<'_>, sheet: &mut Sheet) -> Result<Range<u
     Ok(start..end)
 }
 
-/// `set_blanks START END` sets blanks with the pen's attributes; `set_text START END TEXT` sets a text with them, `set_plain START END
-/// TEXT` the printable ASCII characters at its front, and both say the text that is left.
+/// `set_blanks START END` sets blanks with the pen's attributes; `set_text START END TEXT` sets a text with them,
+/// `set_plain START END TEXT` the printable ASCII characters at its front, and both say the text that is left.
 pub fn set(
     line: &mut Line,
     call: &Call<'_>,
@@ -34,17 +35,17 @@ pub fn set(
 ) -> Result<(), Fault> {
     let columns = columns_of(line, call, sheet)?;
     if call.word(0) == "set_blanks" {
-        told(line.set_blanks(columns, pen), sheet);
+        told(set_blanks(line, columns, pen), sheet);
         return Ok(());
     }
     let text = call.text(3)?;
     if call.word(0) == "set_plain" {
         let (front, left) = split_plain(text.as_str(), columns.end - columns.start);
-        line.set_plain(columns.start, front, pen)?;
+        set_plain(line, columns.start, front, pen)?;
         sheet.quoted(left);
         return Ok(());
     }
-    let (_, left) = line.set_text(columns, text.as_str(), pen, &ProgramWidth)?;
+    let (_, left) = set_text(line, columns, text.as_str(), pen, &ProgramWidth)?;
     sheet.quoted(left);
     Ok(())
 }

@@ -73,8 +73,8 @@ fn say_list(
     Ok(())
 }
 
-/// `TOKENS | FINAL => ACTIONS | TEXT`: the actions of a list of tokens under a final character, each equal to its copy, and
-/// their joined texts. The text of each is one sequence that has this text again.
+/// `TOKENS | FINAL => ACTIONS | TEXT`: the actions of a list of tokens under a final character, each equal to its copy,
+/// and their joined texts. The text of each is one sequence that has this text again.
 pub fn csi(row: &Row<'_>, sheet: &mut Sheet) -> Result<(), Fault> {
     let tokens = tokens_of(row.alloc(), &row.bytes(0)?)?;
     let control = row.character(1)?;
@@ -99,8 +99,8 @@ fn token_of(alloc: Global, word: &str) -> Result<CsiParam, Fault> {
     }
 }
 
-/// `TOKENS | truncated or whole | FINAL => ACTIONS | TEXT`: the same of tokens with spaces between them, each a number, also
-/// below 0, or a byte, with the flag that tokens were dropped or without.
+/// `TOKENS | truncated or whole | FINAL => ACTIONS | TEXT`: the same of tokens with spaces between them, each a number,
+/// also below 0, or a byte, with the flag that tokens were dropped or without.
 pub fn csi_tokens(row: &Row<'_>, sheet: &mut Sheet) -> Result<(), Fault> {
     let alloc = row.alloc();
     let written = row.text(0)?;
@@ -148,8 +148,8 @@ fn say_front(alloc: Global, front: &CsiFront<'_>, sheet: &mut Sheet) -> Result<(
     Ok(())
 }
 
-/// `BYTES => TOKENS | FINAL | REST | whole or truncated`: the control sequence at the front of some bytes, its tokens side by
-/// side; `none` where there is none.
+/// `BYTES => TOKENS | FINAL | REST | whole or truncated`: the control sequence at the front of some bytes, its tokens
+/// side by side; `none` where there is none.
 pub fn front(row: &Row<'_>, sheet: &mut Sheet) -> Result<(), Fault> {
     let bytes = row.bytes(0)?;
     match read_csi(row.alloc(), &bytes)? {
@@ -215,8 +215,8 @@ fn say_place(read: Result<OneBased, CrackError>, sheet: &mut Sheet) {
     }
 }
 
-/// `TOKEN => PLACE | PLACE | PLACE`: a line or column as a parameter has it, with 1 and with the greatest one for 0, and as
-/// one that may be absent (an empty column).
+/// `TOKEN => PLACE | PLACE | PLACE`: a line or column as a parameter has it, with 1 and with the greatest one for 0,
+/// and as one that may be absent (an empty column).
 pub fn place(row: &Row<'_>, sheet: &mut Sheet) -> Result<(), Fault> {
     if row.column(0).is_empty() {
         say_place(OneBased::from_optional_esc_param(None), sheet);

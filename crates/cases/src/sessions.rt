@@ -103,8 +103,8 @@ impl Chain {
         Ok(true)
     }
 
-    // A viewer is answered, the first or the second; whether it shows the same screen then. The second has to take on the sizes of
-    // the first.
+    // A viewer is answered, the first or the second; whether it shows the same screen then. The second has to take on
+    // the sizes of the first.
     fn answer(&mut self, call: &Call<'_>) -> Result<bool, Fault> {
         match call.word(1) {
             "1" => {

@@ -3,8 +3,8 @@ use crate::fault::Fault;
 use std::alloc::Global;
 use std::fmt::{Debug, Display};
 
-/// The columns of an answer, with ` | ` between them, and the words of each with a space between them. What goes wrong while it
-/// is written is kept, and told at its end.
+/// The columns of an answer, with ` | ` between them, and the words of each with a space between them. What goes wrong
+/// while it is written is kept, and told at its end.
 #[derive(Drop)]
 pub struct Sheet {
     alloc: Global,

@@ -7,7 +7,7 @@ use cell_base::{
     AttributeChange, CellAttributes, ColorAttribute, CursorShape, CursorVisibility, Intensity,
     LineAttribute, Position,
 };
-use cell_change::Change;
+use screen_change::Change;
 
 // A colour: `default`, or its number in the palette.
 fn color_of(word: &str) -> Result<ColorAttribute, Fault> {

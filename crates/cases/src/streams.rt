@@ -199,8 +199,8 @@ fn say_copies(alloc: Global, actions: &[Action], sheet: &mut Sheet) -> Result<()
     Ok(())
 }
 
-/// `PIECES => ACTIONS | BYTES | ACTIONS`: the actions of streams that are each read by themselves, what `encode` writes for
-/// the list of them, and what that is read as, in any pieces.
+/// `PIECES => ACTIONS | BYTES | ACTIONS`: the actions of streams that are each read by themselves, what `encode` writes
+/// for the list of them, and what that is read as, in any pieces.
 pub fn list(row: &Row<'_>, sheet: &mut Sheet) -> Result<(), Fault> {
     let actions = list_of(row)?;
     say_actions(row.alloc(), &actions, sheet);
@@ -240,8 +240,8 @@ fn say_first(alloc: Global, found: Option<(Action, usize)>, sheet: &mut Sheet) {
     sheet.word("+");
 }
 
-/// `PIECES => ANSWERS`: what `parse_first` answers for each piece, all handed to one parser: an action and how many bytes were
-/// read, or `none`, each with a `+` behind it.
+/// `PIECES => ANSWERS`: what `parse_first` answers for each piece, all handed to one parser: an action and how many
+/// bytes were read, or `none`, each with a `+` behind it.
 pub fn first(row: &Row<'_>, sheet: &mut Sheet) -> Result<(), Fault> {
     let mut parser = Parser::new(row.alloc());
     for piece in row.column(0).split(" + ") {
@@ -292,8 +292,8 @@ fn say_pieces(
     Ok(())
 }
 
-/// `PIECES => ITEMS`: what `pieces` lends of each piece, all handed to one parser: texts between quotes and the actions between
-/// them, with a `+` behind the items of each piece.
+/// `PIECES => ITEMS`: what `pieces` lends of each piece, all handed to one parser: texts between quotes and the actions
+/// between them, with a `+` behind the items of each piece.
 pub fn pieces(row: &Row<'_>, sheet: &mut Sheet) -> Result<(), Fault> {
     let mut parser = Parser::new(row.alloc());
     for piece in row.column(0).split(" + ") {

@@ -5,9 +5,9 @@ use crate::row::{Row, number_up_to};
 use crate::sheet::Sheet;
 use crate::{attributes, changes, steps, stored};
 use cell_base::{CellAttributes, CursorVisibility, ProgramWidth};
-use cell_change::Change;
 use cell_line::Line;
 use cell_surface::Surface;
+use screen_change::Change;
 use std::alloc::Global;
 use std::mem;
 

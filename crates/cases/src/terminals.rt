@@ -76,7 +76,8 @@ fn take_step(alloc: Global, pair: &mut Pair, step: &str, sheet: &mut Sheet) -> R
     Ok(())
 }
 
-/// `WIDTH HEIGHT | STEPS => ANSWERS`: what a new terminal answers behind pieces and calls with ` + ` between them; a call stands in `<>`.
+/// `WIDTH HEIGHT | STEPS => ANSWERS`: what a new terminal answers behind pieces and calls with ` + ` between them; a
+/// call stands in `<>`.
 pub fn terminal(row: &Row<'_>, sheet: &mut Sheet) -> Result<(), Fault> {
     let mut pair = Pair::new(row.alloc(), row.column(0))?;
     for step in row.column(1).split(" + ") {
@@ -172,7 +173,8 @@ pub fn say_torn(
     Ok(all_same && is_same)
 }
 
-// Says in which pieces the bytes lead to something else on a terminal of this size, or that its viewer does; whether neither is so.
+// Says in which pieces the bytes lead to something else on a terminal of this size, or that its viewer does; whether
+// neither is so.
 fn say_apart(alloc: Global, size: &str, bytes: &[u8], sheet: &mut Sheet) -> Result<bool, Fault> {
     let whole = Seen::in_two(alloc, size, bytes, 0)?;
     let is_viewed = whole.is_viewed(alloc, size)?;
@@ -180,8 +182,9 @@ fn say_apart(alloc: Global, size: &str, bytes: &[u8], sheet: &mut Sheet) -> Resu
     Ok(say_torn(alloc, size, bytes, &whole, sheet)? && is_viewed)
 }
 
-/// `BYTES => same`: whether terminals of several sizes show the same, and are sent the same, if the bytes are cut in two at each
-/// place, and byte by byte; and whether a new viewer that reads the update for 0 byte by byte shows the screen.
+/// `BYTES => same`: whether terminals of several sizes show the same, and are sent the same, if the bytes are cut in
+/// two at each place, and byte by byte; and whether a new viewer that reads the update for 0 byte by byte shows the
+/// screen.
 pub fn torn(row: &Row<'_>, sheet: &mut Sheet) -> Result<(), Fault> {
     let bytes = row.bytes(0)?;
     let mut all_same = true;

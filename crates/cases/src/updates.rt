@@ -1,4 +1,5 @@
-//! Updates and patches: of a terminal, which a viewer reads, and of an input that is run; and what is sent for a change.
+//! Updates and patches: of a terminal, which a viewer reads, and of an input that is run; and what is sent for a
+//! change.
 ghost use Rattle.std.specs.Prelude.{◌<◌, ◌≤◌};
 
 use crate::call::Call;
@@ -81,8 +82,8 @@ impl Pair {
         Ok(())
     }
 
-    /// Writes the number and the bytes of the patch from what the viewer shows, which reads them one by one; says so where it
-    /// then shows another screen.
+    /// Writes the number and the bytes of the patch from what the viewer shows, which reads them one by one; says so
+    /// where it then shows another screen.
     pub fn say_patch(&mut self, sheet: &mut Sheet) -> Result<(), Fault> {
         let (number, bytes) = patched(&mut self.terminal, &self.viewer)?;
         sheet.show(&number);
@@ -104,7 +105,8 @@ impl Pair {
         Ok(())
     }
 
-    /// Writes the number and the bytes of an update, which the viewer reads one by one; says so where it then shows another screen.
+    /// Writes the number and the bytes of an update, which the viewer reads one by one; says so where it then shows
+    /// another screen.
     pub fn say_sent(&mut self, number: usize, sheet: &mut Sheet) -> Result<(), Fault> {
         let bytes = self.take_update(number, sheet)?;
         self.say_read(&bytes, sheet)
@@ -170,8 +172,8 @@ fn written(row: &Row<'_>, most: usize) -> Result<Vec<u8>, Fault> {
     Ok(text)
 }
 
-/// `WIDTH HEIGHT | EVERY | INPUT => UPDATES`: what `run` writes for an input with a look behind each `EVERY` bytes; also where one
-/// byte is read and written at a time.
+/// `WIDTH HEIGHT | EVERY | INPUT => UPDATES`: what `run` writes for an input with a look behind each `EVERY` bytes;
+/// also where one byte is read and written at a time.
 pub fn run_input(row: &Row<'_>, sheet: &mut Sheet) -> Result<(), Fault> {
     let whole = written(row, usize::MAX)?;
     sheet.quoted_bytes(&whole);

@@ -119,8 +119,8 @@ fn say_attributes(attrs: &CellAttributes, sheet: &mut Sheet) -> Result<(), Fault
     Ok(())
 }
 
-/// `WORDS => WORDS | WORDS`: attributes that are set by these words, what is then read of them, and the same of what erased
-/// places keep.
+/// `WORDS => WORDS | WORDS`: attributes that are set by these words, what is then read of them, and the same of what
+/// erased places keep.
 pub fn attribute(row: &Row<'_>, sheet: &mut Sheet) -> Result<(), Fault> {
     let mut attrs = CellAttributes::blank();
     for word in row.column(0).split_ascii_whitespace() {

@@ -16,11 +16,11 @@ use Rattle.unicode_width.specs.Kind.{kind}
 use Rattle.unicode_width.specs.Width.{alone, char_width, of_kind, str_width}
 use Rattle.unicode_width.proofs.Computing.{unicode_width}
 use Rattle.unicode_width.proofs.KindLemmas.{kind_stepped}
-use Rattle.text_clusters.specs.Apart.{stands_apart}
+use Rattle.text_clusters.specs.Independent.{is_independent}
 use Rattle.text_clusters.proofs.CharacterFacts.{implies_from}
 use Rattle.cell_base.specs.Cluster.{program_width}
 use Rattle.cell_base.specs.KnownWidths.{is_eastern_letter, is_western_letter}
-use Rattle.cell_base.proofs.LoneWidths.{lone_width}
+use Rattle.cell_base.proofs.SingleWidths.{single_width}
 
 abbrev is_two : Kind → Bool
 is_two Wide = true
@@ -86,7 +86,7 @@ letter_width : (c n : ℕ) → IsScalar c → 0xA0 < c → (of_kind false c (kin
 unfolding program_width
 letter_width c n s h e =
     ap (λ cs. min (str_width false cs) 2) (chars-encode_utf8 c (IsUtf8-encode c s))
-    ∙ ap (λ m. min m 2) (lone_width c h)
+    ∙ ap (λ m. min m 2) (single_width c h)
     ∙ ap (λ o. min (unwrap_or o 0) 2) (high_width c n h e)
 
 pub eastern_width : (c : ℕ) → IsScalar c → is_eastern_letter c ≡ true → program_width (encode_utf8 c) ≡ 2
@@ -95,36 +95,36 @@ eastern_width c s h = letter_width c 2 s (eastern_high c h) (two_columns c (kind
 pub western_width : (c : ℕ) → IsScalar c → is_western_letter c ≡ true → program_width (encode_utf8 c) ≡ 1
 western_width c s h = letter_width c 1 s (western_high c h) (one_column c (kind c) (western_one c h))
 
--- ---- they stand apart
+-- ---- they are independent
 
 within : (c lo hi : ℕ) → is_in_range lo hi c ≡ true → (lo ≤ c) × (c ≤ hi)
 within c lo hi h = let p = and_parts (nat_le lo c) (nat_le c hi) h in (leb-true lo c p.0, leb-true c hi p.1)
 
-kana_apart : (c : ℕ) → 0x3041 ≤ c → c ≤ 0x3096 → stands_apart c ≡ true
-unfolding stands_apart
+kana_apart : (c : ℕ) → 0x3041 ≤ c → c ≤ 0x3096 → is_independent c ≡ true
+unfolding is_independent
 kana_apart c l h = grind (arith, nat_tests)
 
-katakana_apart : (c : ℕ) → 0x30A0 ≤ c → c ≤ 0x30FF → stands_apart c ≡ true
-unfolding stands_apart
+katakana_apart : (c : ℕ) → 0x30A0 ≤ c → c ≤ 0x30FF → is_independent c ≡ true
+unfolding is_independent
 katakana_apart c l h = grind (arith, nat_tests)
 
-ideograph_apart : (c : ℕ) → 0x4E00 ≤ c → c ≤ 0x9FFF → stands_apart c ≡ true
-unfolding stands_apart
+ideograph_apart : (c : ℕ) → 0x4E00 ≤ c → c ≤ 0x9FFF → is_independent c ≡ true
+unfolding is_independent
 ideograph_apart c l h = grind (arith, nat_tests)
 
-syllable_apart : (c : ℕ) → 0xAC00 ≤ c → c ≤ 0xD7A3 → stands_apart c ≡ true
-unfolding stands_apart
+syllable_apart : (c : ℕ) → 0xAC00 ≤ c → c ≤ 0xD7A3 → is_independent c ≡ true
+unfolding is_independent
 syllable_apart c l h = grind (arith, nat_tests)
 
-latin_apart : (c : ℕ) → 0xC0 ≤ c → c ≤ 0x2AF → stands_apart c ≡ true
-unfolding stands_apart
+latin_apart : (c : ℕ) → 0xC0 ≤ c → c ≤ 0x2AF → is_independent c ≡ true
+unfolding is_independent
 latin_apart c l h = grind (arith, nat_tests)
 
-cyrillic_apart : (c : ℕ) → 0x400 ≤ c → c ≤ 0x481 → stands_apart c ≡ true
-unfolding stands_apart
+cyrillic_apart : (c : ℕ) → 0x400 ≤ c → c ≤ 0x481 → is_independent c ≡ true
+unfolding is_independent
 cyrillic_apart c l h = grind (arith, nat_tests)
 
-pub eastern_apart : (c : ℕ) → is_eastern_letter c ≡ true → stands_apart c ≡ true
+pub eastern_apart : (c : ℕ) → is_eastern_letter c ≡ true → is_independent c ≡ true
 eastern_apart c h = elim (or_cases (is_in_range 0x3041 0x3096 c || is_in_range 0x30A0 0x30FF c || is_in_range 0x4E00 0x9FFF c) (is_in_range 0xAC00 0xD7A3 c) h) [
   | inl p ↦ elim (or_cases (is_in_range 0x3041 0x3096 c || is_in_range 0x30A0 0x30FF c) (is_in_range 0x4E00 0x9FFF c) p) [
     | inl q ↦ elim (or_cases (is_in_range 0x3041 0x3096 c) (is_in_range 0x30A0 0x30FF c) q) [
@@ -136,7 +136,7 @@ eastern_apart c h = elim (or_cases (is_in_range 0x3041 0x3096 c || is_in_range 0
   | inr p ↦ let b = within c 0xAC00 0xD7A3 p in syllable_apart c b.0 b.1
 ]
 
-pub western_apart : (c : ℕ) → is_western_letter c ≡ true → stands_apart c ≡ true
+pub western_apart : (c : ℕ) → is_western_letter c ≡ true → is_independent c ≡ true
 western_apart c h = elim (or_cases (is_in_range 0xC0 0x2AF c) (is_in_range 0x400 0x481 c) h) [
   | inl p ↦ let b = within c 0xC0 0x2AF p in latin_apart c b.0 b.1
   | inr p ↦ let b = within c 0x400 0x481 p in cyrillic_apart c b.0 b.1

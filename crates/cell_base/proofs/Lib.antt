@@ -8,5 +8,7 @@ pub mod SameTexts
 pub mod TextsReading
 pub mod PlainClusters
 pub mod NarrowAscii
-pub mod LoneWidths
+pub mod SingleWidths
 mod LookLaws
+pub mod LawfulScreens
+pub mod RowLemmas

@@ -88,8 +88,8 @@ utf8_before c xs ys l u =
     let cut : take (length xs) (xs ++ c ∷ ys) ≡ xs = grind (arith, common_steps) in
     subst IsUtf8 cut (IsUtf8-take (xs ++ c ∷ ys) (length xs) u (IsCharBoundary-before_ascii (xs ++ c ∷ ys) (length xs) on (omega arith)))
 
-pub utf8_behind : (c : ℕ) (xs ys : List ℕ) → c < 128 → IsUtf8 (xs ++ c ∷ ys) → IsUtf8 ys
-utf8_behind c xs ys l u =
+pub utf8_after : (c : ℕ) (xs ys : List ℕ) → c < 128 → IsUtf8 (xs ++ c ∷ ys) → IsUtf8 ys
+utf8_after c xs ys l u =
     let at : get_or (xs ++ c ∷ ys) (length xs) 0 ≡ c = grind (arith, common_steps) in
     let on : length xs < length (xs ++ c ∷ ys) = grind (arith, common_steps) in
     let cut : drop (length xs + 1) (xs ++ c ∷ ys) ≡ ys = grind (arith, common_steps) in
@@ -103,7 +103,7 @@ joined_utf8 c (t ∷ u ∷ ts) l h = utf8_around c t (join_with_byte c (u ∷ ts
 pub each_utf8 : (c : ℕ) (ts : List (List ℕ)) → c < 128 → IsUtf8 (join_with_byte c ts) → AllByRecursion IsUtf8 ts
 each_utf8 c [] l h = tt
 each_utf8 c (t ∷ []) l h = (h, tt)
-each_utf8 c (t ∷ u ∷ ts) l h = (utf8_before c t (join_with_byte c (u ∷ ts)) l h, each_utf8 c (u ∷ ts) l (utf8_behind c t (join_with_byte c (u ∷ ts)) l h))
+each_utf8 c (t ∷ u ∷ ts) l h = (utf8_before c t (join_with_byte c (u ∷ ts)) l h, each_utf8 c (u ∷ ts) l (utf8_after c t (join_with_byte c (u ∷ ts)) l h))
 
 -- ---- the first c
 
@@ -140,17 +140,17 @@ first_at c (x ∷ xs) ys h =
     let on = first_at c xs ys h.1 in
     ap (λ t. cond (not t) (1 + position_or_len (λ b. eqb b c) (xs ++ c ∷ ys)) 0) h.0 ∙ omega arith
 
-drop_behind : (c n : ℕ) (xs ys : List ℕ) → n ≡ length xs → drop (n + 1) (xs ++ c ∷ ys) ≡ ys
-drop_behind c n [] ys e = let on : n + 1 ≡ 1 = omega arith in ap (λ m. drop m (c ∷ ys)) on
-drop_behind c n (x ∷ xs) ys e =
+drop_after : (c n : ℕ) (xs ys : List ℕ) → n ≡ length xs → drop (n + 1) (xs ++ c ∷ ys) ≡ ys
+drop_after c n [] ys e = let on : n + 1 ≡ 1 = omega arith in ap (λ m. drop m (c ∷ ys)) on
+drop_after c n (x ∷ xs) ys e =
     let on : n + 1 ≡ suc (length xs + 1) = omega arith in
-    ap (λ m. drop m (x ∷ (xs ++ c ∷ ys))) on ∙ drop_behind c (length xs) xs ys refl
+    ap (λ m. drop m (x ∷ (xs ++ c ∷ ys))) on ∙ drop_after c (length xs) xs ys refl
 
 pub before_is : (c : ℕ) (xs ys : List ℕ) → Lacks c xs → before_first (λ b. eqb b c) (xs ++ c ∷ ys) ≡ xs
 before_is c xs ys h = rw (first_at c xs ys h) (grind (arith, common_steps))
 
 pub after_is : (c : ℕ) (xs ys : List ℕ) → Lacks c xs → after_first (λ b. eqb b c) (xs ++ c ∷ ys) ≡ ys
-after_is c xs ys h = drop_behind c _ xs ys (first_at c xs ys h)
+after_is c xs ys h = drop_after c _ xs ys (first_at c xs ys h)
 
 pub has_byte : (c : ℕ) (xs ys : List ℕ) → list_any (λ b. eqb b c) (xs ++ c ∷ ys) ≡ true
 has_byte c [] ys = or_left _ _ (eq-eqb c c refl)

@@ -114,29 +114,29 @@ module _ {A : Type 0} (f : A → List ℕ) where
 
 -- ---- printing parameters one by one
 
-abbrev pub separator_behind : {A : Type 0} → List A → List ℕ
-separator_behind xs = cond (eqb (length xs) 0) [] (58 ∷ [])
+abbrev pub separator_after : {A : Type 0} → List A → List ℕ
+separator_after xs = cond (eqb (length xs) 0) [] (58 ∷ [])
 
-pub separator_more : {A : Type 0} (xs : List A) (x : A) → separator_behind (xs ++ x ∷ []) ≡ 58 ∷ []
+pub separator_more : {A : Type 0} (xs : List A) (x : A) → separator_after (xs ++ x ∷ []) ≡ 58 ∷ []
 separator_more [] x = refl
 separator_more (y ∷ xs) x = cond-false _ [] (58 ∷ []) (ne_eqb _ 0 (λ e. absurd (omega arith)))
 
-joined_behind : {A : Type 0} (xs : List A) (ts : List (List ℕ)) (t : List ℕ) → length ts ≡ length xs → join_with_byte 58 ts ++ (separator_behind xs ++ t) ≡ join_with_byte 58 (ts ++ t ∷ [])
-joined_behind [] [] t e = refl
-joined_behind [] (u ∷ ts) t e = absurd (omega arith)
-joined_behind (x ∷ xs) [] t e = absurd (omega arith)
-joined_behind (x ∷ xs) (u ∷ ts) t e =
+joined_after : {A : Type 0} (xs : List A) (ts : List (List ℕ)) (t : List ℕ) → length ts ≡ length xs → join_with_byte 58 ts ++ (separator_after xs ++ t) ≡ join_with_byte 58 (ts ++ t ∷ [])
+joined_after [] [] t e = refl
+joined_after [] (u ∷ ts) t e = absurd (omega arith)
+joined_after (x ∷ xs) [] t e = absurd (omega arith)
+joined_after (x ∷ xs) (u ∷ ts) t e =
     let off : eqb (length (x ∷ xs)) 0 ≡ false = ne_eqb _ 0 (λ z. absurd (omega arith)) in
     let off' : eqb (length (u ∷ ts)) 0 ≡ false = ne_eqb _ 0 (λ z. absurd (omega arith)) in
     ap (λ s. join_with_byte 58 (u ∷ ts) ++ (s ++ t)) (cond-false _ [] (58 ∷ []) off)
     ∙ sym (cond-false _ t (join_with_byte 58 (u ∷ ts) ++ 58 ∷ t) off')
     ∙ sym (joined_more 58 (u ∷ ts) t)
 
-pub params_more : {A B : Type 0} (g : B → Param) (h : A → B) (xs : List A) (x : A) (s : List ℕ) → s ≡ separator_behind xs → params_text (map g (map h xs)) ++ (s ++ param_text (g (h x))) ≡ params_text (map g (map h (xs ++ x ∷ [])))
+pub params_more : {A B : Type 0} (g : B → Param) (h : A → B) (xs : List A) (x : A) (s : List ℕ) → s ≡ separator_after xs → params_text (map g (map h xs)) ++ (s ++ param_text (g (h x))) ≡ params_text (map g (map h (xs ++ x ∷ [])))
 params_more g h xs x s e =
     let n : length (map param_text (map g (map h xs))) ≡ length xs = length-map param_text (map g (map h xs)) ∙ length-map g (map h xs) ∙ length-map h xs in
     ap (λ r. params_text (map g (map h xs)) ++ (r ++ param_text (g (h x)))) e
-    ∙ joined_behind xs (map param_text (map g (map h xs))) (param_text (g (h x))) n
+    ∙ joined_after xs (map param_text (map g (map h xs))) (param_text (g (h x))) n
     ∙ ap (join_with_byte 58) (sym (map-append param_text (map g (map h xs)) (g (h x) ∷ [])))
     ∙ ap (λ ps. params_text ps) (sym (map-append g (map h xs) (h x ∷ [])))
     ∙ ap (λ ys. params_text (map g ys)) (sym (map-append h xs (x ∷ [])))

@@ -2,7 +2,9 @@
 use Rattle.std.specs.Option.{option_map}
 use Rattle.cell_base.specs.Attributes.{Attributes}
 use Rattle.cell_base.specs.declared.attribute_change.AttributeChange.{AttributeChange}
-use Rattle.cell_base.specs.declared.attribute_change.AttributeChange.TheVariants.{Intensity, Underline, Italic, Blink, Reverse, StrikeThrough, Invisible, Foreground, Background, Hyperlink}
+use Rattle.cell_base.specs.declared.attribute_change.AttributeChange.TheVariants.{Intensity, Underline, Italic, Blink}
+use Rattle.cell_base.specs.declared.attribute_change.AttributeChange.TheVariants.{Reverse, StrikeThrough, Invisible}
+use Rattle.cell_base.specs.declared.attribute_change.AttributeChange.TheVariants.{Foreground, Background, Hyperlink}
 
 -- the attributes with the changed one set
 abbrev pub changed_by : Attributes → AttributeChange → Attributes

@@ -33,7 +33,24 @@ pub record Attributes : Type 0 where
 
 -- what a cell has where nothing was set
 abbrev pub plain : Attributes
-plain = record { intensity = Normal; underline = no_underline; blink = no_blink; italic = false; reverse = false; strikethrough = false; invisible = false; wrapped = false; overline = false; semantic_type = Output; vertical_align = BaseLine; foreground = Default; background = Default; underline_color = Default; hyperlink = None }
+plain =
+    record {
+      intensity = Normal;
+      underline = no_underline;
+      blink = no_blink;
+      italic = false;
+      reverse = false;
+      strikethrough = false;
+      invisible = false;
+      wrapped = false;
+      overline = false;
+      semantic_type = Output;
+      vertical_align = BaseLine;
+      foreground = Default;
+      background = Default;
+      underline_color = Default;
+      hyperlink = None;
+    }
 
 -- plain attributes on a background
 abbrev pub blank_of : ColorAttribute → Attributes
@@ -41,7 +58,9 @@ blank_of color = record plain { background = color }
 
 -- the attributes less underlining, overline, strikethrough, semantic type and link
 abbrev pub sgr_only : Attributes → Attributes
-sgr_only a = record a { semantic_type = Output; underline = no_underline; overline = false; strikethrough = false; hyperlink = None }
+sgr_only a =
+    record a
+    { semantic_type = Output; underline = no_underline; overline = false; strikethrough = false; hyperlink = None }
 
 -- the attributes less colours and link
 abbrev pub style_of : Attributes → Attributes

@@ -22,15 +22,18 @@ cell_text text = if shows_as_space text then space else text
 
 -- the cell of a text of some columns: none counts as one, and a space in place of the text takes one
 abbrev pub cell_of : List ℕ → ℕ → Attributes → CellContent
-cell_of text width attributes = record { text = cell_text text; width = if shows_as_space text then 1 else max 1 width; attributes = attributes }
+cell_of text width attributes =
+    record { text = cell_text text; width = if shows_as_space text then 1 else max 1 width; attributes = attributes }
 
 abbrev pub blank_cell : Attributes → CellContent
 blank_cell attributes = record { text = space; width = 1; attributes = attributes }
 
--- Cells read from the left as a row. The cell that is stored behind a wide one isn't looked at, and a wide cell with none behind it counts as a blank with its attributes.
+-- Cells read from the left as a row. The cell that is stored behind a wide one isn't looked at, and a wide cell with
+-- none behind it counts as a blank with its attributes.
 abbrev pub row_of_cells : List CellContent → Row
 row_of_cells [] = []
-row_of_cells (cell ∷ []) = (if nat_le 2 cell.width then blank cell.attributes else Narrow cell.text cell.attributes) ∷ []
+row_of_cells (cell ∷ []) =
+    (if nat_le 2 cell.width then blank cell.attributes else Narrow cell.text cell.attributes) ∷ []
 row_of_cells (cell ∷ next ∷ cells) =
     if nat_le 2 cell.width then LeftHalf cell.text cell.attributes ∷ RightHalf cell.attributes ∷ row_of_cells cells
     else Narrow cell.text cell.attributes ∷ row_of_cells (next ∷ cells)

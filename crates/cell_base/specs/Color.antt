@@ -1,13 +1,17 @@
 -- Colours: their numbers and how one form is read as another.
 use Rattle.std.specs.Prelude.{ℕ}
 use Rattle.cell_base.specs.declared.color.AnsiColor.{AnsiColor}
-use Rattle.cell_base.specs.declared.color.AnsiColor.TheVariants.{Black, Maroon, Green, Olive, Navy, Purple, Teal, Silver, Grey, Red, Lime, Yellow, Blue, Fuchsia, Aqua, White}
+use Rattle.cell_base.specs.declared.color.AnsiColor.TheVariants.{Black, Maroon, Green, Olive, Navy, Purple, Teal}
+use Rattle.cell_base.specs.declared.color.AnsiColor.TheVariants.{Silver, Grey, Red, Lime, Yellow, Blue, Fuchsia, Aqua}
+use Rattle.cell_base.specs.declared.color.AnsiColor.TheVariants.{White}
 use Rattle.cell_base.specs.declared.color.RgbColor.{RgbColor}
 use Rattle.cell_base.specs.declared.color.SrgbaTuple.{SrgbaTuple}
 use Rattle.cell_base.specs.declared.color.ColorSpec.{ColorSpec}
 use Rattle.cell_base.specs.declared.color.ColorSpec.TheVariants.{Default, PaletteIndex, TrueColor}
 use Rattle.cell_base.specs.declared.color.ColorAttribute.{ColorAttribute}
-use Rattle.cell_base.specs.declared.color.ColorAttribute.TheVariants.{TrueColorWithDefaultFallback, PaletteIndex as palette_attribute, Default as default_attribute}
+use Rattle.cell_base.specs.declared.color.ColorAttribute.TheVariants.{TrueColorWithDefaultFallback}
+use Rattle.cell_base.specs.declared.color.ColorAttribute.TheVariants.{PaletteIndex as palette_attribute}
+use Rattle.cell_base.specs.declared.color.ColorAttribute.TheVariants.{Default as default_attribute}
 
 -- the place of a named colour in the palette
 abbrev pub number_of : AnsiColor → ℕ

@@ -1,5 +1,6 @@
 -- Colours as texts.
-use Rattle.std.specs.Prelude.{ℕ, ◌+◌, ◌-◌, ◌*◌, ◌/◌, ◌^◌, Bool, false, ◌&&◌, ◌==◌, nat_eq, nat_lt, nat_le, if◌then◌else◌, List, [], ◌∷◌, ◌++◌, length, take, drop, fold, Option, Some, None, codes}
+use Rattle.std.specs.Prelude.{ℕ, ◌+◌, ◌-◌, ◌*◌, ◌/◌, ◌^◌, Bool, false, ◌&&◌, ◌==◌, nat_eq, nat_lt, nat_le}
+use Rattle.std.specs.Prelude.{if◌then◌else◌, List, [], ◌∷◌, ◌++◌, length, take, drop, fold, Option, Some, None, codes}
 use Rattle.std.specs.Char.{digit_value, is_ascii_hexdigit}
 use Rattle.std.specs.List.{list_all, starts_with, before_first, after_first, position_or_len}
 use Rattle.std.specs.Option.{option_map}
@@ -41,7 +42,8 @@ abbrev pub is_part : List ℕ → Bool
 is_part digits = nat_le 1 (length digits) && nat_le (length digits) 4
 
 abbrev pub scaled : List ℕ → Option ℕ
-scaled digits = if is_part digits then option_map (λ v. 255 * v / (16 ^ length digits - 1)) (hex_reading digits) else None
+scaled digits =
+    if is_part digits then option_map (λ v. 255 * v / (16 ^ length digits - 1)) (hex_reading digits) else None
 
 -- three channels, if each was read
 abbrev pub three : Option ℕ → Option ℕ → Option ℕ → Option (ℕ × ℕ × ℕ)
@@ -54,7 +56,9 @@ three None green blue = None
 abbrev pub sharp_reading : List ℕ → Option (ℕ × ℕ × ℕ)
 sharp_reading digits =
     let n = length digits / 3 in
-    if length digits == 3 * n && (nat_le 1 n && nat_le n 4) then three (upper_bits (take n digits)) (upper_bits (take n (drop n digits))) (upper_bits (drop (2 * n) digits)) else None
+    if length digits == 3 * n && (nat_le 1 n && nat_le n 4)
+    then three (upper_bits (take n digits)) (upper_bits (take n (drop n digits))) (upper_bits (drop (2 * n) digits))
+    else None
 
 -- what follows `rgb:`: three parts joined by `/`
 abbrev pub has_slash : List ℕ → Bool
@@ -63,7 +67,9 @@ has_slash text = nat_lt (position_or_len (λ b. b == 47) text) (length text)
 abbrev pub x11_reading : List ℕ → Option (ℕ × ℕ × ℕ)
 x11_reading text =
     let rest = after_first (λ b. b == 47) text in
-    if has_slash text && has_slash rest then three (scaled (before_first (λ b. b == 47) text)) (scaled (before_first (λ b. b == 47) rest)) (scaled (after_first (λ b. b == 47) rest)) else None
+    if has_slash text && has_slash rest
+    then three (scaled (before_first (λ b. b == 47) text)) (scaled (before_first (λ b. b == 47) rest))
+    (scaled (after_first (λ b. b == 47) rest)) else None
 
 abbrev pub rgb_reading : List ℕ → Option (ℕ × ℕ × ℕ)
 rgb_reading text =

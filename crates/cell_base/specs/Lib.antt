@@ -26,3 +26,5 @@ pub mod SameLink
 pub mod SameValue
 pub mod Screen
 pub mod KnownWidths
+pub mod WholeRow
+pub mod UpToLast

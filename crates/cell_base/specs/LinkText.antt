@@ -1,5 +1,7 @@
--- The text of a link, and its reading. OSC 8 carries a link as `8;params;uri`, where the params are `key=value` joined by `:` (Koblinger, "Hyperlinks in terminal emulators"). `:` is 58, `;` is 59, `=` is 61.
-use Rattle.std.specs.Prelude.{◌≡◌, ◌⊎◌, ℕ, Bool, false, ◌&&◌, ◌==◌, not, if◌then◌else◌, List, [], ◌∷◌, ◌++◌, map, fold, length, Option, Some, None, Result, Ok, Err, MatchResult}
+-- The text of a link, and its reading. OSC 8 carries a link as `8;params;uri`, where the params are `key=value` joined
+-- by `:` (Koblinger, "Hyperlinks in terminal emulators"). `:` is 58, `;` is 59, `=` is 61.
+use Rattle.std.specs.Prelude.{◌≡◌, ◌⊎◌, ℕ, Bool, false, ◌&&◌, ◌==◌, not, if◌then◌else◌, List, [], ◌∷◌, ◌++◌, map, fold}
+use Rattle.std.specs.Prelude.{length, Option, Some, None, Result, Ok, Err, MatchResult}
 use Rattle.std.specs.List.{slice_split, join_with_byte, before_first, after_first, list_any, list_all}
 use Rattle.std.specs.Ordering.{nat_cmp}
 use Rattle.std.specs.Cmp.Lexicographic.{slice_cmp}
@@ -37,7 +39,8 @@ is_param text = list_any (λ b. b == 61) text
 abbrev pub param_of : List ℕ → Param
 param_of text = (before_first (λ b. b == 61) text, after_first (λ b. b == 61) text)
 
--- a parameter put in its place in the order of the keys' bytes; where the key is there, its value takes the other's place
+-- a parameter put in its place in the order of the keys' bytes; where the key is there, its value takes the other's
+-- place
 abbrev pub put_param : List Param → Param → List Param
 put_param ps p = insert_entry (slice_cmp nat_cmp) ps p.0 p.1
 
@@ -61,7 +64,8 @@ texts_reading params uri =
     Ok (Some (record { params = params_of params; uri = uri; implicit = false }))
     else Err Params) else Err Utf8)
 
--- the link of the parts of an OSC 8, of which the first isn't looked at; those from the third on are the URI, joined by `;`
+-- the link of the parts of an OSC 8, of which the first isn't looked at; those from the third on are the URI, joined by
+-- `;`
 unfoldable pub link_reading : List (List ℕ) → Result (Option Link) LinkError
 link_reading (_ ∷ params ∷ uri ∷ more) = texts_reading params (join_with_byte 59 (uri ∷ more))
 link_reading _ = Err PartCount
@@ -70,7 +74,8 @@ link_reading _ = Err PartCount
 abbrev pub IsUnlessMemory : Result (Option Link) LinkError → Result (Option Link) LinkError → Type 0
 IsUnlessMemory reading r = MatchResult reading (λ link. (r ≡ Ok link) ⊎ (r ≡ Err Memory)) (λ e. r ≡ Err e)
 
--- whether a text stands in a link's text as it is: a value where it has no `:` and no `;`, a key where it has no `=` either
+-- whether a text stands in a link's text as it is: a value where it has no `:` and no `;`, a key where it has no `=`
+-- either
 abbrev pub is_value_text : List ℕ → Bool
 is_value_text text = not (list_any (λ b. b == 58) text) && not (list_any (λ b. b == 59) text)
 

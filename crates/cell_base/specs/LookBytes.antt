@@ -6,7 +6,8 @@ use Rattle.cell_base.specs.declared.color.ColorAttribute.{ColorAttribute}
 use Rattle.cell_base.specs.declared.attributes.Intensity.{Intensity}
 use Rattle.cell_base.specs.declared.attributes.Intensity.TheVariants.{Normal, Bold, Half}
 use Rattle.cell_base.specs.declared.attributes.Underline.{Underline}
-use Rattle.cell_base.specs.declared.attributes.Underline.TheVariants.{None as no_underline, Single, Double, Curly, Dotted, Dashed}
+use Rattle.cell_base.specs.declared.attributes.Underline.TheVariants.{None as no_underline, Single, Double, Curly}
+use Rattle.cell_base.specs.declared.attributes.Underline.TheVariants.{Dotted, Dashed}
 use Rattle.cell_base.specs.declared.attributes.Blink.{Blink}
 use Rattle.cell_base.specs.declared.attributes.Blink.TheVariants.{None as no_blink, Slow, Rapid}
 use Rattle.cell_base.specs.declared.attributes.SemanticType.{SemanticType}

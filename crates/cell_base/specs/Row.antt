@@ -24,7 +24,8 @@ plain_row width = replicate width (blank plain)
 
 -- the columns of one text
 abbrev pub columns_of : List ℕ → Bool → Attributes → Row
-columns_of text wide attributes = if wide then LeftHalf text attributes ∷ RightHalf attributes ∷ [] else Narrow text attributes ∷ []
+columns_of text wide attributes =
+    if wide then LeftHalf text attributes ∷ RightHalf attributes ∷ [] else Narrow text attributes ∷ []
 
 -- a half that is left alone becomes a blank with the attributes of the wide text
 abbrev pub left_alone : Column → Column

@@ -1,12 +1,13 @@
 -- Screens, and putting a cluster on one.
-use Rattle.std.specs.Prelude.{◌≡◌, ℕ, ◌+◌, ◌<◌, ◌≤◌, Bool, true, ◌&&◌, nat_lt, nat_le, ◌==◌, List, [], ◌∷◌, ◌++◌, length, drop, replicate, fold, All, slice_index_or, slice_set, if◌then◌else◌}
+use Rattle.std.specs.Prelude.{◌≡◌, ℕ, ◌+◌, ◌<◌, ◌≤◌, Bool, true, ◌&&◌, nat_lt, nat_le, ◌==◌, List, [], ◌∷◌, ◌++◌}
+use Rattle.std.specs.Prelude.{length, drop, replicate, fold, All, slice_index_or, slice_set, if◌then◌else◌}
 use Rattle.std.specs.List.{flat_map}
 use Rattle.cell_base.specs.Attributes.{Attributes, plain}
 use Rattle.cell_base.specs.Cluster.{clusters}
 use Rattle.cell_base.specs.Row.{Row, space, plain_row, columns_of, set_columns, row_text}
 
--- Rows of `width` columns, the cursor's column and row counted from 0, whether it is shown, the pen's attributes, and the title, a text.
--- At column `width` a wrap is pending.
+-- Rows of `width` columns, the cursor's column and row counted from 0, whether it is shown, the pen's attributes, and
+-- the title, a text. At column `width` a wrap is pending.
 pub record Screen : Type 0 where
   pub width : ℕ
   pub rows : List Row
@@ -28,7 +29,16 @@ height screen = length screen.rows
 
 -- plain blanks, with the cursor at home and no title
 abbrev pub new_screen : ℕ → ℕ → Screen
-new_screen width height = record { width = width; rows = replicate height (plain_row width); column = 0; row = 0; visible = true; pen = plain; title = [] }
+new_screen width height =
+    record {
+      width = width;
+      rows = replicate height (plain_row width);
+      column = 0;
+      row = 0;
+      visible = true;
+      pen = plain;
+      title = [];
+    }
 
 -- the first row goes, and a plain one comes below
 abbrev pub scrolled : Screen → Screen
@@ -44,7 +54,8 @@ carriage_return screen = record screen { column = 0 }
 -- the columns from the cursor on become these, and the cursor stands behind them
 abbrev pub write_columns : Row → Screen → Screen
 write_columns columns screen = record screen {
-  rows = slice_set screen.rows screen.row (set_columns (slice_index_or screen.rows screen.row []) screen.column columns);
+  rows =
+      slice_set screen.rows screen.row (set_columns (slice_index_or screen.rows screen.row []) screen.column columns);
   column = screen.column + length columns;
 }
 
@@ -59,7 +70,8 @@ cluster_columns width_of screen cluster =
 abbrev pub put : (List ℕ → ℕ) → Screen → List ℕ → Screen
 put width_of screen cluster =
     let columns = cluster_columns width_of screen cluster in
-    write_columns columns (if nat_lt screen.width (screen.column + length columns) then carriage_return (line_feed screen) else screen)
+    write_columns columns
+    (if nat_lt screen.width (screen.column + length columns) then carriage_return (line_feed screen) else screen)
 
 -- puts each cluster of a run
 abbrev pub put_run : (List ℕ → ℕ) → Screen → List ℕ → Screen

@@ -379,7 +379,7 @@ impl CellAttributes {
         Ok(())
     }
 
-    // The same where either has a link.
+    // Shares the link of other attributes, or drops its own, where one of both has a link.
     #[inline(never)]
     fn take_link(&mut self, other: &CellAttributes) -> Result<(), AllocError>
         ensures done { OnOk result (self.new ≡ record self.old { hyperlink = other.now.hyperlink }) }
@@ -402,8 +402,8 @@ impl CellAttributes {
         }
     }
 
-    /// Becomes a copy of other attributes that shares their link; a refused one stays as it was. It is refused only where
-    /// they have a link.
+    /// Becomes a copy of other attributes that shares their link; a refused one stays as it was. It is refused only
+    /// where they have a link.
     #[inline(always)]
     pub fn copy_from(&mut self, other: &CellAttributes) -> Result<(), AllocError>
         ensures done { OnOk result (self.new ≡ other.now) }

@@ -73,9 +73,9 @@ impl RgbColor {
         self.into()
     }
 
-    /// Reads `#` and 3, 6, 9 or 12 hex digits, of which each channel's upper eight bits count (of one digit d these are d0h),
-    /// or `rgb:` and three parts of 1 to 4 hex digits joined by `/`, each scaled to 0 to 255
-    /// (XParseColor). Letters may be capital or small. `None` for any other text.
+    /// Reads `#` and 3, 6, 9 or 12 hex digits, of which each channel's upper eight bits count (of one digit d these are
+    /// d0h), or `rgb:` and three parts of 1 to 4 hex digits joined by `/`, each scaled to 0 to 255 (XParseColor).
+    /// Letters may be capital or small. `None` for any other text.
     pub fn from_rgb_str(s: &str) -> Option<RgbColor>
         ensures { option_map channels result ≡ rgb_reading s.now }
     {

@@ -1,5 +1,6 @@
 //! Links: a URI with parameters, as OSC 8 carries them.
-ghost use Rattle.std.specs.Prelude.{◌≡◌, ◌↔◌, [], ◌∷◌, ◌<◌, length, map, IfOk, IsTrue, IfErr, Some, Ok, Err, false, true, codes};
+ghost use Rattle.std.specs.Prelude.{◌≡◌, ◌↔◌, [], ◌∷◌, ◌<◌, length, map, IfOk, IsTrue, IfErr, Some, Ok, Err, false};
+ghost use Rattle.std.specs.Prelude.{true, codes};
 ghost use Rattle.std.specs.Fmt.{WritesOnOk};
 ghost use Rattle.std.specs.List.{join_with_byte, list_all};
 ghost use Rattle.std.specs.Cmp.Lexicographic.{slice_cmp};
@@ -8,7 +9,8 @@ ghost use Rattle.std.specs.Map.{keys_of};
 ghost use Rattle.std.specs.Ordering.{nat_cmp};
 ghost use Rattle.std.specs.Str.{is_utf8};
 ghost use Rattle.std.specs.String.{string_bytes};
-ghost use Rattle.cell_base.specs.LinkText.{link_text, link_reading, params_of, params_text, texts_reading, is_empty_link, is_writable, IsReadBack, IsUnlessMemory};
+ghost use Rattle.cell_base.specs.LinkText.{link_text, link_reading, params_of, params_text, texts_reading};
+ghost use Rattle.cell_base.specs.LinkText.{is_empty_link, is_writable, IsReadBack, IsUnlessMemory};
 ghost use Rattle.cell_base.specs.Link.{texts_of};
 
 use crate::link_error::LinkError;

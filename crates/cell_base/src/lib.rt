@@ -1,5 +1,7 @@
 //! The values that every layer of the stack speaks of: colours, attributes, links, widths and
 //! cells.
+//!
+//! - `row_laws`: columns whose halves stand in pairs, and what becomes of rows where columns are set.
 #![tactic(auto)]
 
 mod attribute_change;
@@ -18,6 +20,7 @@ mod link_reading;
 mod long_text;
 mod look;
 mod ranges;
+pub mod row_laws;
 mod stored_color;
 mod widths;
 

@@ -4,7 +4,8 @@ ghost use Rattle.std.specs.List.{before_first, after_first, list_all, list_any, 
 ghost use Rattle.std.specs.Str.{is_utf8};
 ghost use Rattle.std.specs.String.{string_bytes};
 ghost use Rattle.cell_base.specs.Link.{texts_of};
-ghost use Rattle.cell_base.specs.LinkText.{is_key_text, is_param, is_value_text, is_writable, param_of, param_pieces, params_of, put_param};
+ghost use Rattle.cell_base.specs.LinkText.{is_key_text, is_param, is_value_text, is_writable, param_of, param_pieces};
+ghost use Rattle.cell_base.specs.LinkText.{params_of, put_param};
 
 use std::alloc::{AllocError, Global};
 use std::collections::BTreeMap;

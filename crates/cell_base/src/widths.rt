@@ -6,7 +6,7 @@ ghost use Rattle.std.proofs.Common.{arith};
 ghost use Rattle.cell_base.specs.Cluster.{program_width, program_width_le, program_width-space};
 ghost use Rattle.cell_base.specs.KnownWidths.{is_eastern_letter, is_western_letter};
 ghost use Rattle.std.specs.Int.{is_in_range};
-ghost use Rattle.text_clusters.specs.Apart.{stands_apart};
+ghost use Rattle.text_clusters.specs.Independent.{is_independent};
 ghost use Rattle.text_clusters.specs.Plain.{is_printable};
 
 use unicode_width::{UnicodeWidthChar, UnicodeWidthStr};
@@ -29,12 +29,13 @@ pub trait Widths {
         self.width(character.encode_utf8(&mut buffer))
     }
 
-    /// The columns of a character by itself, if it is one of those of which they are known without a look at a table and that
-    /// stand apart, so that a boundary of clusters lies between any two of them. To answer `None` is never wrong.
+    /// The columns of a character by itself, if it is one of those of which they are known without a look at a table
+    /// and that are independent, so that a boundary of clusters lies between any two of them. To answer `None` is never
+    /// wrong.
     fn letter_columns(&self, character: char) -> Option<u8>
         ensures value { IfSome result (λ columns. columns ≡ width_of self.now (encode_utf8 character)) }
         ensures some { IfSome result (λ columns. 1 ≤ columns) }
-        ensures apart { IfSome result (λ columns. stands_apart character ≡ true) }
+        ensures apart { IfSome result (λ columns. is_independent character ≡ true) }
     {
         let _character = character;
         None
@@ -71,7 +72,7 @@ impl Widths for ProgramWidth {
     fn width(&self, cluster: &str) -> u8
         ensures { result ≡ program_width cluster.now }
     {
-        match lone_character(cluster) {
+        match single_character(cluster) {
             Some(character) => character_columns(character),
             None => text_columns(cluster),
         }
@@ -83,7 +84,7 @@ impl Widths for ProgramWidth {
     {
         match known_columns(character) {
             Some(columns) => columns,
-            None => lone_columns(character),
+            None => single_columns(character),
         }
     }
 
@@ -91,7 +92,7 @@ impl Widths for ProgramWidth {
     fn letter_columns(&self, character: char) -> Option<u8>
         ensures value { IfSome result (λ columns. columns ≡ program_width (encode_utf8 character)) }
         ensures some { IfSome result (λ columns. 1 ≤ columns) }
-        ensures apart { IfSome result (λ columns. stands_apart character ≡ true) }
+        ensures apart { IfSome result (λ columns. is_independent character ≡ true) }
     {
         known_columns(character)
     }
@@ -106,7 +107,7 @@ impl Widths for ProgramWidth {
 
 // The one character of a text, if it lies above U+00A0.
 #[inline(always)]
-fn lone_character(text: &str) -> Option<char>
+fn single_character(text: &str) -> Option<char>
     ensures { IfSome result (λ character. (chars text.now ≡ character ∷ []) × (0xA0 < character)) }
 {
     let mut characters = text.chars();
@@ -158,7 +159,7 @@ fn is_in(code: u32, first: u32, last: u32) -> bool
 fn known_columns(character: char) -> Option<u8>
     ensures value { IfSome result (λ columns. columns ≡ program_width (encode_utf8 character)) }
     ensures some { IfSome result (λ columns. 1 ≤ columns) }
-    ensures apart { IfSome result (λ columns. stands_apart character ≡ true) }
+    ensures apart { IfSome result (λ columns. is_independent character ≡ true) }
 {
     let code = character as u32;
     if is_eastern_letter(code) {
@@ -172,7 +173,7 @@ fn known_columns(character: char) -> Option<u8>
 
 // The columns of any character.
 #[inline(always)]
-fn lone_columns(character: char) -> u8
+fn single_columns(character: char) -> u8
     ensures { result ≡ program_width (encode_utf8 character) }
 {
     if character > '\u{a0}' {

@@ -6,7 +6,7 @@ use Rattle.std.specs.Prelude.{nat_le, not, if◌then◌else◌}
 use Rattle.cell_base.specs.Attributes.{Attributes}
 use Rattle.cell_base.specs.CellContent.{CellContent, blank_cell, row_of_cells}
 use Rattle.cell_base.specs.Row.{Narrow, LeftHalf, RightHalf, Row, blank, closed_end, closed_start}
-use Rattle.cell_edits.specs.CellList.{ends_halved}
+use Rattle.cell_edits.specs.CellList.{ends_split}
 
 -- both answers of a test
 pub by_test : {P : Type 0} (b : Bool) → (b ≡ true → P) → (b ≡ false → P) → P
@@ -30,10 +30,10 @@ row_wide c n cs e = rw e refl
 pub row_narrow : (c n : CellContent) (cs : List CellContent) → nat_le 2 c.width ≡ false → row_of_cells (c ∷ n ∷ cs) ≡ Narrow c.text c.attributes ∷ row_of_cells (n ∷ cs)
 row_narrow c n cs e = rw e refl
 
-pub halved_wide : (c n : CellContent) (cs : List CellContent) → nat_le 2 c.width ≡ true → ends_halved (c ∷ n ∷ cs) ≡ ends_halved cs
+pub halved_wide : (c n : CellContent) (cs : List CellContent) → nat_le 2 c.width ≡ true → ends_split (c ∷ n ∷ cs) ≡ ends_split cs
 halved_wide c n cs e = rw e refl
 
-pub halved_narrow : (c n : CellContent) (cs : List CellContent) → nat_le 2 c.width ≡ false → ends_halved (c ∷ n ∷ cs) ≡ ends_halved (n ∷ cs)
+pub halved_narrow : (c n : CellContent) (cs : List CellContent) → nat_le 2 c.width ≡ false → ends_split (c ∷ n ∷ cs) ≡ ends_split (n ∷ cs)
 halved_narrow c n cs e = rw e refl
 
 -- a line has a column for each cell
@@ -60,7 +60,7 @@ starts_closed (c ∷ n ∷ cs) = by_test (nat_le 2 c.width) (λ e. rw e refl) (�
 
 -- ---- a cut between two cells
 
-pub before_clean : (cells : List CellContent) (at : ℕ) → ends_halved (take at cells) ≡ false → row_of_cells (take at cells) ≡ closed_end (take at (row_of_cells cells))
+pub before_clean : (cells : List CellContent) (at : ℕ) → ends_split (take at cells) ≡ false → row_of_cells (take at cells) ≡ closed_end (take at (row_of_cells cells))
 before_clean [] zero h = refl
 before_clean [] (suc m) h = refl
 before_clean (c ∷ []) zero h = refl
@@ -78,15 +78,15 @@ before_clean (c ∷ n ∷ cs) (suc (suc m)) h = by_test (nat_le 2 c.width)
     ∙ sym (closed_end-narrow c.text c.attributes (take (suc m) (row_of_cells (n ∷ cs))))
     ∙ sym (ap (λ (r : Row). closed_end (take (suc (suc m)) r)) (row_narrow c n cs e)))
 
-pub behind_clean : (cells : List CellContent) (at : ℕ) → ends_halved (take at cells) ≡ false → row_of_cells (drop at cells) ≡ closed_start (drop at (row_of_cells cells))
-behind_clean cells zero h = starts_closed cells
-behind_clean [] (suc m) h = refl
-behind_clean (c ∷ []) (suc zero) h = refl
-behind_clean (c ∷ []) (suc (suc m)) h = refl
-behind_clean (c ∷ n ∷ cs) (suc zero) h = starts_closed (n ∷ cs) ∙ sym (ap (λ (r : Row). closed_start (drop 1 r)) (row_narrow c n cs h))
-behind_clean (c ∷ n ∷ cs) (suc (suc m)) h = by_test (nat_le 2 c.width)
-    (λ e. behind_clean cs m (sym (halved_wide c n (take m cs) e) ∙ h) ∙ sym (ap (λ (r : Row). closed_start (drop (suc (suc m)) r)) (row_wide c n cs e)))
-    (λ e. behind_clean (n ∷ cs) (suc m) (sym (halved_narrow c n (take m cs) e) ∙ h) ∙ sym (ap (λ (r : Row). closed_start (drop (suc (suc m)) r)) (row_narrow c n cs e)))
+pub after_clean : (cells : List CellContent) (at : ℕ) → ends_split (take at cells) ≡ false → row_of_cells (drop at cells) ≡ closed_start (drop at (row_of_cells cells))
+after_clean cells zero h = starts_closed cells
+after_clean [] (suc m) h = refl
+after_clean (c ∷ []) (suc zero) h = refl
+after_clean (c ∷ []) (suc (suc m)) h = refl
+after_clean (c ∷ n ∷ cs) (suc zero) h = starts_closed (n ∷ cs) ∙ sym (ap (λ (r : Row). closed_start (drop 1 r)) (row_narrow c n cs h))
+after_clean (c ∷ n ∷ cs) (suc (suc m)) h = by_test (nat_le 2 c.width)
+    (λ e. after_clean cs m (sym (halved_wide c n (take m cs) e) ∙ h) ∙ sym (ap (λ (r : Row). closed_start (drop (suc (suc m)) r)) (row_wide c n cs e)))
+    (λ e. after_clean (n ∷ cs) (suc m) (sym (halved_narrow c n (take m cs) e) ∙ h) ∙ sym (ap (λ (r : Row). closed_start (drop (suc (suc m)) r)) (row_narrow c n cs e)))
 
 -- ---- a cut through a wide cell, whose two cells become blanks
 
@@ -94,7 +94,7 @@ blank_row : (a : Attributes) (cs : List CellContent) → row_of_cells (blank_cel
 blank_row a [] = refl
 blank_row a (x ∷ cs) = refl
 
-pub before_cut : (cells : List CellContent) (p : ℕ) (d : CellContent) → ends_halved (take (suc p) cells) ≡ true → p < length cells
+pub before_cut : (cells : List CellContent) (p : ℕ) (d : CellContent) → ends_split (take (suc p) cells) ≡ true → p < length cells
     → row_of_cells (take p cells ++ blank_cell (get_or cells p d).attributes ∷ []) ≡ closed_end (take (suc p) (row_of_cells cells))
 before_cut [] p d h l = absurd (omega arith)
 before_cut (c ∷ []) zero d h l = rw h refl
@@ -116,20 +116,20 @@ before_cut (c ∷ n ∷ cs) (suc (suc p)) d h l = by_test (nat_le 2 c.width)
     ∙ sym (closed_end-narrow c.text c.attributes (take (suc (suc p)) (row_of_cells (n ∷ cs))))
     ∙ sym (ap (λ (r : Row). closed_end (take (suc (suc (suc p))) r)) (row_narrow c n cs e)))
 
-pub behind_cut : (cells : List CellContent) (p : ℕ) (d : CellContent) → ends_halved (take (suc p) cells) ≡ true → suc p < length cells
+pub after_cut : (cells : List CellContent) (p : ℕ) (d : CellContent) → ends_split (take (suc p) cells) ≡ true → suc p < length cells
     → row_of_cells (blank_cell (get_or cells p d).attributes ∷ drop (suc (suc p)) cells) ≡ closed_start (drop (suc p) (row_of_cells cells))
-behind_cut [] p d h l = absurd (omega arith)
-behind_cut (c ∷ []) p d h l = absurd (omega arith)
-behind_cut (c ∷ n ∷ cs) zero d h l = blank_row c.attributes cs ∙ sym (ap (λ (r : Row). closed_start (drop 1 r)) (row_wide c n cs h))
-behind_cut (c ∷ n ∷ cs) (suc zero) d h l = by_test (nat_le 2 c.width)
+after_cut [] p d h l = absurd (omega arith)
+after_cut (c ∷ []) p d h l = absurd (omega arith)
+after_cut (c ∷ n ∷ cs) zero d h l = blank_row c.attributes cs ∙ sym (ap (λ (r : Row). closed_start (drop 1 r)) (row_wide c n cs h))
+after_cut (c ∷ n ∷ cs) (suc zero) d h l = by_test (nat_le 2 c.width)
     (λ e. absurd (false≢true (sym (halved_wide c n [] e) ∙ h)))
-    (λ e. behind_cut (n ∷ cs) zero d (sym (halved_narrow c n [] e) ∙ h) (omega arith) ∙ sym (ap (λ (r : Row). closed_start (drop 2 r)) (row_narrow c n cs e)))
-behind_cut (c ∷ n ∷ cs) (suc (suc p)) d h l = by_test (nat_le 2 c.width)
-    (λ e. behind_cut cs p d (sym (halved_wide c n (take (suc p) cs) e) ∙ h) (omega arith) ∙ sym (ap (λ (r : Row). closed_start (drop (suc (suc (suc p))) r)) (row_wide c n cs e)))
-    (λ e. behind_cut (n ∷ cs) (suc p) d (sym (halved_narrow c n (take (suc p) cs) e) ∙ h) (omega arith) ∙ sym (ap (λ (r : Row). closed_start (drop (suc (suc (suc p))) r)) (row_narrow c n cs e)))
+    (λ e. after_cut (n ∷ cs) zero d (sym (halved_narrow c n [] e) ∙ h) (omega arith) ∙ sym (ap (λ (r : Row). closed_start (drop 2 r)) (row_narrow c n cs e)))
+after_cut (c ∷ n ∷ cs) (suc (suc p)) d h l = by_test (nat_le 2 c.width)
+    (λ e. after_cut cs p d (sym (halved_wide c n (take (suc p) cs) e) ∙ h) (omega arith) ∙ sym (ap (λ (r : Row). closed_start (drop (suc (suc (suc p))) r)) (row_wide c n cs e)))
+    (λ e. after_cut (n ∷ cs) (suc p) d (sym (halved_narrow c n (take (suc p) cs) e) ∙ h) (omega arith) ∙ sym (ap (λ (r : Row). closed_start (drop (suc (suc (suc p))) r)) (row_narrow c n cs e)))
 
 -- what is cut at the end where nothing is behind it
-pub cut_whole : (cells : List CellContent) (p : ℕ) (a : Attributes) → ends_halved (take (suc p) cells) ≡ true → p < length cells → ends_halved (take p cells ++ blank_cell a ∷ []) ≡ false
+pub cut_whole : (cells : List CellContent) (p : ℕ) (a : Attributes) → ends_split (take (suc p) cells) ≡ true → p < length cells → ends_split (take p cells ++ blank_cell a ∷ []) ≡ false
 cut_whole [] p a h l = absurd (omega arith)
 cut_whole (c ∷ []) zero a h l = refl
 cut_whole (c ∷ []) (suc p) a h l = absurd (omega arith)
@@ -143,7 +143,7 @@ cut_whole (c ∷ n ∷ cs) (suc (suc p)) a h l = by_test (nat_le 2 c.width)
 
 -- ---- one more cell
 
-pub halved_more : (cells : List CellContent) (k : ℕ) (d : CellContent) → k < length cells → ends_halved (take (suc k) cells) ≡ (if nat_le 2 (get_or cells k d).width then not (ends_halved (take k cells)) else false)
+pub halved_more : (cells : List CellContent) (k : ℕ) (d : CellContent) → k < length cells → ends_split (take (suc k) cells) ≡ (if nat_le 2 (get_or cells k d).width then not (ends_split (take k cells)) else false)
 halved_more [] k d l = absurd (omega arith)
 halved_more (c ∷ []) zero d l = by_test (nat_le 2 c.width) (λ e. rw e refl) (λ e. rw e refl)
 halved_more (c ∷ []) (suc k) d l = absurd (omega arith)
@@ -165,23 +165,23 @@ pub turned_last : (halved now answer : Bool) → (if halved then not now else no
 turned_last true now answer h e = ap not (sym e) ∙ h
 turned_last false now answer h e = sym e ∙ h
 
-pub halved_at_wide : (cells : List CellContent) (n : ℕ) (d : CellContent) → 0 < n → n ≤ length cells → 2 ≤ (get_or cells (n - 1) d).width → ends_halved (take n cells) ≡ not (ends_halved (take (n - 1) cells))
+pub halved_at_wide : (cells : List CellContent) (n : ℕ) (d : CellContent) → 0 < n → n ≤ length cells → 2 ≤ (get_or cells (n - 1) d).width → ends_split (take n cells) ≡ not (ends_split (take (n - 1) cells))
 halved_at_wide cells zero d some l w = absurd (omega arith)
 halved_at_wide cells (suc k) d some l w =
     let on : suc k - 1 ≡ k = omega arith in
     let w' : 2 ≤ (get_or cells k d).width = subst (λ (m : ℕ). 2 ≤ (get_or cells m d).width) on w in
-    halved_more cells k d (omega arith) ∙ ap (λ t. if t then not (ends_halved (take k cells)) else false) (wide_is _ w') ∙ ap (λ (m : ℕ). not (ends_halved (take m cells))) (sym on)
+    halved_more cells k d (omega arith) ∙ ap (λ t. if t then not (ends_split (take k cells)) else false) (wide_is _ w') ∙ ap (λ (m : ℕ). not (ends_split (take m cells))) (sym on)
 
-pub halved_at_narrow : (cells : List CellContent) (n : ℕ) (d : CellContent) → 0 < n → n ≤ length cells → (get_or cells (n - 1) d).width < 2 → ends_halved (take n cells) ≡ false
+pub halved_at_narrow : (cells : List CellContent) (n : ℕ) (d : CellContent) → 0 < n → n ≤ length cells → (get_or cells (n - 1) d).width < 2 → ends_split (take n cells) ≡ false
 halved_at_narrow cells zero d some l w = absurd (omega arith)
 halved_at_narrow cells (suc k) d some l w =
     let on : suc k - 1 ≡ k = omega arith in
     let w' : (get_or cells k d).width < 2 = subst (λ (m : ℕ). (get_or cells m d).width < 2) on w in
-    halved_more cells k d (omega arith) ∙ ap (λ t. if t then not (ends_halved (take k cells)) else false) (narrow_is _ w')
+    halved_more cells k d (omega arith) ∙ ap (λ t. if t then not (ends_split (take k cells)) else false) (narrow_is _ w')
 
 -- ---- joined
 
-pub row_joined : (xs ys : List CellContent) → ends_halved xs ≡ false → row_of_cells (xs ++ ys) ≡ row_of_cells xs ++ row_of_cells ys
+pub row_joined : (xs ys : List CellContent) → ends_split xs ≡ false → row_of_cells (xs ++ ys) ≡ row_of_cells xs ++ row_of_cells ys
 row_joined [] ys h = refl
 row_joined (c ∷ []) [] h = refl
 row_joined (c ∷ []) (y ∷ ys) h = rw h refl
@@ -189,7 +189,7 @@ row_joined (c ∷ n ∷ cs) ys h = by_test (nat_le 2 c.width)
     (λ e. row_wide c n (cs ++ ys) e ∙ ap (λ (r : Row). LeftHalf c.text c.attributes ∷ RightHalf c.attributes ∷ r) (row_joined cs ys (sym (halved_wide c n cs e) ∙ h)) ∙ ap (λ (r : Row). r ++ row_of_cells ys) (sym (row_wide c n cs e)))
     (λ e. row_narrow c n (cs ++ ys) e ∙ ap (λ (r : Row). Narrow c.text c.attributes ∷ r) (row_joined (n ∷ cs) ys (sym (halved_narrow c n cs e) ∙ h)) ∙ ap (λ (r : Row). r ++ row_of_cells ys) (sym (row_narrow c n cs e)))
 
-pub halved_joined : (xs ys : List CellContent) → ends_halved xs ≡ false → ends_halved (xs ++ ys) ≡ ends_halved ys
+pub halved_joined : (xs ys : List CellContent) → ends_split xs ≡ false → ends_split (xs ++ ys) ≡ ends_split ys
 halved_joined [] ys h = refl
 halved_joined (c ∷ []) [] h = h
 halved_joined (c ∷ []) (y ∷ ys) h = rw h refl

@@ -9,9 +9,9 @@ use Rattle.std.proofs.Math.Seq.{drop-append-add}
 use Rattle.cell_base.specs.Attributes.{Attributes, plain}
 use Rattle.cell_base.specs.CellContent.{CellContent, blank_cell, row_of_cells}
 use Rattle.cell_base.specs.Row.{Narrow, LeftHalf, RightHalf, Row, blank, plain_row, closed_end, closed_start}
-use Rattle.cell_edits.specs.CellList.{ends_halved, blank_for, cell_columns}
-use Rattle.cell_edits.specs.RowEdits.{cut, cut_front, padded, resized, removed, inserted}
-use Rattle.cell_edits.proofs.CellLemmas.{by_test, row_wide, row_narrow, length-row, closed_end-wide, closed_end-narrow, before_cut, behind_cut, cut_whole, row_joined, halved_joined, halved_wide}
+use Rattle.cell_edits.specs.CellList.{ends_split, blank_for, cell_columns}
+use Rattle.cell_edits.specs.RowEdits.{cut, cut_prefix, padded, resized, removed, inserted}
+use Rattle.cell_edits.proofs.CellLemmas.{by_test, row_wide, row_narrow, length-row, closed_end-wide, closed_end-narrow, before_cut, after_cut, cut_whole, row_joined, halved_joined, halved_wide}
 
 leb_false : (m n : ℕ) → n < m → nat_le m n ≡ false
 leb_false m n h = elim (leb_tells m n) [ inl p ↦ absurd (omega arith) | inr p ↦ p.0 ]
@@ -33,38 +33,38 @@ split_before {X} cells joined at l r h (inr e) =
     let n : length joined ≡ length cells = ap length e in
     take_more_set joined at l (omega arith) ∙ ap (λ (xs : List X). take at xs ++ l ∷ []) e
 
-pub split_behind : {X : Type 0} (cells joined : List X) (at : ℕ) (l r : X) → at + 1 < length cells → joined ≡ set cells (at + 1) r
+pub split_after : {X : Type 0} (cells joined : List X) (at : ℕ) (l r : X) → at + 1 < length cells → joined ≡ set cells (at + 1) r
     → drop (at + 1) (set joined at l) ≡ r ∷ drop (at + 2) cells
-split_behind {X} cells joined at l r h e =
+split_after {X} cells joined at l r h e =
     let on : at + 1 + 1 ≡ at + 2 = omega arith in
     drop-set-lt (at + 1) joined at l (omega arith) ∙ ap (drop (at + 1)) e ∙ drop-set cells (at + 1) r h ∙ ap (λ n. r ∷ drop n cells) on
 
 -- ---- a cut at a place
 
-pub cut_before : (cells new : List CellContent) (p at : ℕ) → at ≡ p + 1 → ends_halved (take at cells) ≡ true → p < length cells
+pub cut_before : (cells new : List CellContent) (p at : ℕ) → at ≡ p + 1 → ends_split (take at cells) ≡ true → p < length cells
     → take (p + 1) new ≡ take p cells ++ blank_for cells p ∷ [] → row_of_cells (take at new) ≡ cut at (row_of_cells cells)
 cut_before cells new p at e h l k =
     let on : at ≡ suc p = omega arith in
     ap (λ n. row_of_cells (take n new)) e ∙ ap row_of_cells k
-    ∙ before_cut cells p (blank_cell plain) (ap (λ n. ends_halved (take n cells)) (sym on) ∙ h) l
+    ∙ before_cut cells p (blank_cell plain) (ap (λ n. ends_split (take n cells)) (sym on) ∙ h) l
     ∙ ap (λ n. closed_end (take n (row_of_cells cells))) (sym on)
 
-pub cut_is_whole : (cells new : List CellContent) (p at : ℕ) → at ≡ p + 1 → ends_halved (take at cells) ≡ true → p < length cells
-    → take (p + 1) new ≡ take p cells ++ blank_for cells p ∷ [] → ends_halved (take at new) ≡ false
+pub cut_is_whole : (cells new : List CellContent) (p at : ℕ) → at ≡ p + 1 → ends_split (take at cells) ≡ true → p < length cells
+    → take (p + 1) new ≡ take p cells ++ blank_for cells p ∷ [] → ends_split (take at new) ≡ false
 cut_is_whole cells new p at e h l k =
     let on : at ≡ suc p = omega arith in
-    ap (λ n. ends_halved (take n new)) e ∙ ap ends_halved k
-    ∙ cut_whole cells p _ (ap (λ n. ends_halved (take n cells)) (sym on) ∙ h) l
+    ap (λ n. ends_split (take n new)) e ∙ ap ends_split k
+    ∙ cut_whole cells p _ (ap (λ n. ends_split (take n cells)) (sym on) ∙ h) l
 
-pub cut_behind : (cells new : List CellContent) (p at : ℕ) → at ≡ p + 1 → ends_halved (take at cells) ≡ true → at ≤ length cells → length new ≡ length cells
-    → (p + 1 < length cells → drop (p + 1) new ≡ blank_for cells p ∷ drop (p + 2) cells) → row_of_cells (drop at new) ≡ cut_front at (row_of_cells cells)
-cut_behind cells new p at e h l n k = by_test (nat_lt at (length cells))
+pub cut_after : (cells new : List CellContent) (p at : ℕ) → at ≡ p + 1 → ends_split (take at cells) ≡ true → at ≤ length cells → length new ≡ length cells
+    → (p + 1 < length cells → drop (p + 1) new ≡ blank_for cells p ∷ drop (p + 2) cells) → row_of_cells (drop at new) ≡ cut_prefix at (row_of_cells cells)
+cut_after cells new p at e h l n k = by_test (nat_lt at (length cells))
     (λ t.
     let inside : at < length cells = ltb-true at (length cells) t in
     let on : at ≡ suc p = omega arith in
     let two : p + 2 ≡ suc (suc p) = omega arith in
     ap (λ m. row_of_cells (drop m new)) e ∙ ap row_of_cells (k (omega arith)) ∙ ap (λ m. row_of_cells (blank_for cells p ∷ drop m cells)) two
-    ∙ behind_cut cells p (blank_cell plain) (ap (λ m. ends_halved (take m cells)) (sym on) ∙ h) (omega arith)
+    ∙ after_cut cells p (blank_cell plain) (ap (λ m. ends_split (take m cells)) (sym on) ∙ h) (omega arith)
     ∙ ap (λ m. closed_start (drop m (row_of_cells cells))) (sym on))
     (λ t.
     let all : length cells ≤ at = ltb-false at (length cells) t in
@@ -90,26 +90,26 @@ drop-closed_start j [] = refl
 drop-closed_start j (x ∷ r) = refl
 
 -- the row of cells that were cut
-pub row_cut : (new : List CellContent) (at : ℕ) (before behind : Row) → ends_halved (take at new) ≡ false → row_of_cells (take at new) ≡ before → row_of_cells (drop at new) ≡ behind
+pub row_cut : (new : List CellContent) (at : ℕ) (before behind : Row) → ends_split (take at new) ≡ false → row_of_cells (take at new) ≡ before → row_of_cells (drop at new) ≡ behind
     → row_of_cells new ≡ before ++ behind
 row_cut new at before behind w b d =
     ap row_of_cells (sym (take-append-drop at new)) ∙ row_joined (take at new) (drop at new) w ∙ (λ i. b i ++ d i)
 
-front_of_joined : (r : Row) (s j : ℕ) → s ≤ length r → closed_start (drop (s + suc j) (cut s r ++ cut_front s r)) ≡ cut_front (s + suc j) r
+front_of_joined : (r : Row) (s j : ℕ) → s ≤ length r → closed_start (drop (s + suc j) (cut s r ++ cut_prefix s r)) ≡ cut_prefix (s + suc j) r
 front_of_joined r s j h =
     let n = length-cut s r h in
-    ap (λ m. closed_start (drop (m + suc j) (cut s r ++ cut_front s r))) (sym n)
-    ∙ ap closed_start (drop-append-add (cut s r) (cut_front s r) (suc j))
+    ap (λ m. closed_start (drop (m + suc j) (cut s r ++ cut_prefix s r))) (sym n)
+    ∙ ap closed_start (drop-append-add (cut s r) (cut_prefix s r) (suc j))
     ∙ ap closed_start (drop-closed_start j (drop s r))
     ∙ ap closed_start (drop-drop (suc j) s r)
 
 pub second_cut : (first second : List CellContent) (r : Row) (s e : ℕ) → s < e → s ≤ length r
-    → ends_halved (take s first) ≡ false → row_of_cells (take s first) ≡ cut s r → row_of_cells (drop s first) ≡ cut_front s r
-    → row_of_cells (drop e second) ≡ cut_front e (row_of_cells first) → row_of_cells (drop e second) ≡ cut_front e r
+    → ends_split (take s first) ≡ false → row_of_cells (take s first) ≡ cut s r → row_of_cells (drop s first) ≡ cut_prefix s r
+    → row_of_cells (drop e second) ≡ cut_prefix e (row_of_cells first) → row_of_cells (drop e second) ≡ cut_prefix e r
 second_cut first second r s e h l w b d k =
     let j : ℕ = e - s - 1 in
     let is : e ≡ s + suc j = omega arith in
-    k ∙ ap (cut_front e) (row_cut first s _ _ w b d) ∙ ap (λ m. closed_start (drop m (cut s r ++ cut_front s r))) is ∙ front_of_joined r s j l ∙ ap (λ m. cut_front m r) (sym is)
+    k ∙ ap (cut_prefix e) (row_cut first s _ _ w b d) ∙ ap (λ m. closed_start (drop m (cut s r ++ cut_prefix s r))) is ∙ front_of_joined r s j l ∙ ap (λ m. cut_prefix m r) (sym is)
 
 pub still_before : (first second : List CellContent) (s e : ℕ) → s < e → take (e - 1) second ≡ take (e - 1) first → take s second ≡ take s first
 still_before first second s e h k =
@@ -136,13 +136,13 @@ count_narrow c e = by_test (nat_le 2 c.width) (λ t. absurd (e (ap length (colum
 pub length-cell_columns : (c : CellContent) → (length (cell_columns c) ≡ 1) ⊎ (length (cell_columns c) ≡ 2)
 length-cell_columns c = by_test (nat_le 2 c.width) (λ t. inr (ap length (columns_wide c t))) (λ t. inl (ap length (columns_narrow c t)))
 
-pub between_narrow : (before behind : List CellContent) (c : CellContent) (b d : Row) → ends_halved before ≡ false → row_of_cells before ≡ b → row_of_cells behind ≡ d → nat_le 2 c.width ≡ false
+pub between_narrow : (before behind : List CellContent) (c : CellContent) (b d : Row) → ends_split before ≡ false → row_of_cells before ≡ b → row_of_cells behind ≡ d → nat_le 2 c.width ≡ false
     → row_of_cells (before ++ c ∷ behind) ≡ b ++ cell_columns c ++ d
 between_narrow before behind c b d w p q t =
     row_joined before (c ∷ behind) w ∙ (λ i. p i ++ (row_narrow_any c behind t ∙ ap (λ (r : Row). Narrow c.text c.attributes ∷ r) q) i)
     ∙ ap (λ (r : Row). b ++ (r ++ d)) (sym (columns_narrow c t)) ∙ sym (append_assoc b (cell_columns c) d)
 
-pub between_wide : (before behind : List CellContent) (c f : CellContent) (b d : Row) → ends_halved before ≡ false → row_of_cells before ≡ b → row_of_cells behind ≡ d → nat_le 2 c.width ≡ true
+pub between_wide : (before behind : List CellContent) (c f : CellContent) (b d : Row) → ends_split before ≡ false → row_of_cells before ≡ b → row_of_cells behind ≡ d → nat_le 2 c.width ≡ true
     → row_of_cells (before ++ c ∷ f ∷ behind) ≡ b ++ cell_columns c ++ d
 between_wide before behind c f b d w p q t =
     row_joined before (c ∷ f ∷ behind) w ∙ (λ i. p i ++ (row_wide c f behind t ∙ ap (λ (r : Row). LeftHalf c.text c.attributes ∷ RightHalf c.attributes ∷ r) q) i)
@@ -182,13 +182,13 @@ pub cut_all : (cells : List CellContent) (n : ℕ) → length cells ≤ n → cu
 cut_all cells n h = let l = length-row cells in ap closed_end (take_all n (row_of_cells cells) (omega arith)) ∙ closed_ends cells
 
 -- cells that were cut at their end
-pub whole_end : (cells X : List CellContent) (n : ℕ) → length cells ≡ n → length X ≡ length cells → ends_halved (take n X) ≡ false → ends_halved X ≡ false
-whole_end cells X n e l w = ap ends_halved (sym (take_all n X (omega arith))) ∙ w
+pub whole_end : (cells X : List CellContent) (n : ℕ) → length cells ≡ n → length X ≡ length cells → ends_split (take n X) ≡ false → ends_split X ≡ false
+whole_end cells X n e l w = ap ends_split (sym (take_all n X (omega arith))) ∙ w
 
 pub row_end : (cells X : List CellContent) (n : ℕ) → length cells ≡ n → length X ≡ length cells → row_of_cells (take n X) ≡ cut n (row_of_cells cells) → row_of_cells X ≡ row_of_cells cells
 row_end cells X n e l b = ap row_of_cells (sym (take_all n X (omega arith))) ∙ b ∙ cut_all cells n (omega arith)
 
-pub pad_row : (cells X new : List CellContent) (n width : ℕ) → length cells ≡ n → length X ≡ length cells → ends_halved (take n X) ≡ false → row_of_cells (take n X) ≡ cut n (row_of_cells cells)
+pub pad_row : (cells X new : List CellContent) (n width : ℕ) → length cells ≡ n → length X ≡ length cells → ends_split (take n X) ≡ false → row_of_cells (take n X) ≡ cut n (row_of_cells cells)
     → new ≡ X ++ replicate (width - n) (blank_cell plain) → row_of_cells new ≡ padded width (row_of_cells cells)
 pad_row cells X new n width e l w b k =
     let is = row_end cells X n e l b in
@@ -253,16 +253,16 @@ falls_short rest m a h = sym (ap (λ t. if t then inserted (m - 1) (blank a ∷ 
 
 -- ---- behind a cell that was written no wide one stands on both sides
 
-pub whole_narrow : (before behind : List CellContent) (c : CellContent) (new : List CellContent) (n : ℕ) → n ≡ length before + 1 → new ≡ before ++ c ∷ behind → ends_halved before ≡ false → nat_le 2 c.width ≡ false
-    → ends_halved (take n new) ≡ false
+pub whole_narrow : (before behind : List CellContent) (c : CellContent) (new : List CellContent) (n : ℕ) → n ≡ length before + 1 → new ≡ before ++ c ∷ behind → ends_split before ≡ false → nat_le 2 c.width ≡ false
+    → ends_split (take n new) ≡ false
 whole_narrow before behind c new n l e w narrow =
     let long = length-append before (c ∷ []) in
-    ap (λ xs. ends_halved (take n xs)) (e ∙ sym (append_assoc before (c ∷ []) behind))
-    ∙ ap ends_halved (take_at (before ++ c ∷ []) behind n (omega arith)) ∙ halved_joined before (c ∷ []) w ∙ narrow
+    ap (λ xs. ends_split (take n xs)) (e ∙ sym (append_assoc before (c ∷ []) behind))
+    ∙ ap ends_split (take_at (before ++ c ∷ []) behind n (omega arith)) ∙ halved_joined before (c ∷ []) w ∙ narrow
 
-pub whole_wide : (before behind : List CellContent) (c f : CellContent) (new : List CellContent) (n : ℕ) → n ≡ length before + 2 → new ≡ before ++ c ∷ f ∷ behind → ends_halved before ≡ false → nat_le 2 c.width ≡ true
-    → ends_halved (take n new) ≡ false
+pub whole_wide : (before behind : List CellContent) (c f : CellContent) (new : List CellContent) (n : ℕ) → n ≡ length before + 2 → new ≡ before ++ c ∷ f ∷ behind → ends_split before ≡ false → nat_le 2 c.width ≡ true
+    → ends_split (take n new) ≡ false
 whole_wide before behind c f new n l e w wide =
     let long = length-append before (c ∷ f ∷ []) in
-    ap (λ xs. ends_halved (take n xs)) (e ∙ sym (append_assoc before (c ∷ f ∷ []) behind))
-    ∙ ap ends_halved (take_at (before ++ c ∷ f ∷ []) behind n (omega arith)) ∙ halved_joined before (c ∷ f ∷ []) w ∙ halved_wide c f [] wide
+    ap (λ xs. ends_split (take n xs)) (e ∙ sym (append_assoc before (c ∷ f ∷ []) behind))
+    ∙ ap ends_split (take_at (before ++ c ∷ f ∷ []) behind n (omega arith)) ∙ halved_joined before (c ∷ f ∷ []) w ∙ halved_wide c f [] wide

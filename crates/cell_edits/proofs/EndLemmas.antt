@@ -7,8 +7,8 @@ use Rattle.std.proofs.lemmas.List.{take_more}
 use Rattle.cell_base.specs.Attributes.{Attributes}
 use Rattle.cell_base.specs.CellContent.{CellContent, row_of_cells}
 use Rattle.cell_base.specs.Row.{Column, Narrow, LeftHalf, RightHalf, Row, blank}
-use Rattle.cell_edits.specs.CellList.{ends_halved, last_read}
-use Rattle.cell_change.specs.UpToLast.{up_to_last}
+use Rattle.cell_edits.specs.CellList.{ends_split, last_read}
+use Rattle.cell_base.specs.UpToLast.{up_to_last}
 use Rattle.cell_edits.specs.RowEdits.{is_plain_blank, pruned_row}
 use Rattle.cell_edits.specs.VisibleCells.{mark_cell, VisibleCell, visible_at, visible_from, visible_cells, ends_wrapped, row_of_visible, with_end_wrapped, row_end_wrapped}
 use Rattle.cell_edits.proofs.CutLemmas.{row_narrow_any}
@@ -46,11 +46,11 @@ module _ {A : Type 0} (p : A → Bool) where
 
 -- ---- the last column
 
-pub last_narrow : (cells : List CellContent) (k : ℕ) (d : CellContent) → k < length cells → ends_halved (take (k + 1) cells) ≡ false → ends_halved (take k cells) ≡ false
+pub last_narrow : (cells : List CellContent) (k : ℕ) (d : CellContent) → k < length cells → ends_split (take (k + 1) cells) ≡ false → ends_split (take k cells) ≡ false
     → row_of_cells (take (k + 1) cells) ≡ row_of_cells (take k cells) ++ Narrow (get_or cells k d).text (get_or cells k d).attributes ∷ []
 last_narrow cells k d l w v =
     let on : k + 1 ≡ suc k = omega arith in
-    let narrow : nat_le 2 (get_or cells k d).width ≡ false = one (nat_le 2 (get_or cells k d).width) (sym (ap (λ h. if nat_le 2 (get_or cells k d).width then not h else false) v) ∙ sym (halved_more cells k d l) ∙ ap (λ n. ends_halved (take n cells)) (sym on) ∙ w) in
+    let narrow : nat_le 2 (get_or cells k d).width ≡ false = one (nat_le 2 (get_or cells k d).width) (sym (ap (λ h. if nat_le 2 (get_or cells k d).width then not h else false) v) ∙ sym (halved_more cells k d l) ∙ ap (λ n. ends_split (take n cells)) (sym on) ∙ w) in
     ap row_of_cells (take_more cells k d l) ∙ row_joined (take k cells) (get_or cells k d ∷ []) v
     ∙ ap (λ t. row_of_cells (take k cells) ++ (if t then blank (get_or cells k d).attributes else Narrow (get_or cells k d).text (get_or cells k d).attributes) ∷ []) narrow
   where
@@ -64,7 +64,7 @@ pub record EndsRight (r : Row) : Type 0 where
   pub attributes : Attributes
   pub is : r ≡ front ++ RightHalf attributes ∷ []
 
-ends_right : (xs : List CellContent) (c : CellContent) → ends_halved xs ≡ true → EndsRight (row_of_cells (xs ++ c ∷ []))
+ends_right : (xs : List CellContent) (c : CellContent) → ends_split xs ≡ true → EndsRight (row_of_cells (xs ++ c ∷ []))
 ends_right [] c h = absurd (false≢true h)
 ends_right (x ∷ []) c h = record { front = LeftHalf x.text x.attributes ∷ []; attributes = x.attributes; is = row_wide x c [] h }
 ends_right (x ∷ y ∷ ys) c h = by_test (nat_le 2 x.width)
@@ -75,7 +75,7 @@ ends_right (x ∷ y ∷ ys) c h = by_test (nat_le 2 x.width)
     let rest = ends_right (y ∷ ys) c (sym (halved_narrow x y ys e) ∙ h) in
     record { front = Narrow x.text x.attributes ∷ rest.front; attributes = rest.attributes; is = row_narrow x y (ys ++ c ∷ []) e ∙ ap (λ (r : Row). Narrow x.text x.attributes ∷ r) rest.is })
 
-pub last_right : (cells : List CellContent) (k : ℕ) (d : CellContent) → k < length cells → ends_halved (take k cells) ≡ true → EndsRight (row_of_cells (take (k + 1) cells))
+pub last_right : (cells : List CellContent) (k : ℕ) (d : CellContent) → k < length cells → ends_split (take k cells) ≡ true → EndsRight (row_of_cells (take (k + 1) cells))
 last_right cells k d l h = subst (λ (xs : List CellContent). EndsRight (row_of_cells xs)) (sym (take_more cells k d l)) (ends_right (take k cells) (get_or cells k d) h)
 
 -- ---- what is pruned
@@ -83,40 +83,40 @@ last_right cells k d l h = subst (λ (xs : List CellContent). EndsRight (row_of_
 abbrev is_kept : Column → Bool
 is_kept column = not (is_plain_blank column)
 
-pub prune_on : (cells : List CellContent) (k : ℕ) (d : CellContent) → k < length cells → ends_halved (take (k + 1) cells) ≡ false → ends_halved (take k cells) ≡ false
+pub prune_on : (cells : List CellContent) (k : ℕ) (d : CellContent) → k < length cells → ends_split (take (k + 1) cells) ≡ false → ends_split (take k cells) ≡ false
     → is_plain_blank (Narrow (get_or cells k d).text (get_or cells k d).attributes) ≡ true
     → pruned_row (row_of_cells (take (k + 1) cells)) ≡ pruned_row (row_of_cells (take k cells))
 prune_on cells k d l w v b =
     ap pruned_row (last_narrow cells k d l w v) ∙ up_to_failing is_kept (row_of_cells (take k cells)) _ (ap not b)
 
-pub prune_stops : (cells : List CellContent) (k : ℕ) (d : CellContent) → k < length cells → ends_halved (take (k + 1) cells) ≡ false → ends_halved (take k cells) ≡ false
+pub prune_stops : (cells : List CellContent) (k : ℕ) (d : CellContent) → k < length cells → ends_split (take (k + 1) cells) ≡ false → ends_split (take k cells) ≡ false
     → is_plain_blank (Narrow (get_or cells k d).text (get_or cells k d).attributes) ≡ false
     → pruned_row (row_of_cells (take (k + 1) cells)) ≡ row_of_cells (take (k + 1) cells)
 prune_stops cells k d l w v b =
     let e = last_narrow cells k d l w v in
     ap pruned_row e ∙ up_to_passing is_kept (row_of_cells (take k cells)) _ (ap not b) ∙ sym e
 
-pub prune_stops_wide : (cells : List CellContent) (k : ℕ) (d : CellContent) → k < length cells → ends_halved (take k cells) ≡ true
+pub prune_stops_wide : (cells : List CellContent) (k : ℕ) (d : CellContent) → k < length cells → ends_split (take k cells) ≡ true
     → pruned_row (row_of_cells (take (k + 1) cells)) ≡ row_of_cells (take (k + 1) cells)
 prune_stops_wide cells k d l h =
     let e = last_right cells k d l h in
     ap pruned_row e.is ∙ up_to_passing is_kept e.front (RightHalf e.attributes) refl ∙ sym e.is
 
-pub prune_step : (cells : List CellContent) (w : ℕ) (d : CellContent) → 0 < w → w ≤ length cells → ends_halved (take w cells) ≡ false → ends_halved (take (w - 1) cells) ≡ false
+pub prune_step : (cells : List CellContent) (w : ℕ) (d : CellContent) → 0 < w → w ≤ length cells → ends_split (take w cells) ≡ false → ends_split (take (w - 1) cells) ≡ false
     → is_plain_blank (Narrow (get_or cells (w - 1) d).text (get_or cells (w - 1) d).attributes) ≡ true
     → pruned_row (row_of_cells (take (w - 1) cells)) ≡ pruned_row (row_of_cells (take w cells))
 prune_step cells w d s l h v b =
     let is : w - 1 + 1 ≡ w = omega arith in
-    sym (prune_on cells (w - 1) d (omega arith) (ap (λ n. ends_halved (take n cells)) is ∙ h) v b) ∙ ap (λ n. pruned_row (row_of_cells (take n cells))) is
+    sym (prune_on cells (w - 1) d (omega arith) (ap (λ n. ends_split (take n cells)) is ∙ h) v b) ∙ ap (λ n. pruned_row (row_of_cells (take n cells))) is
 
-pub prune_end : (cells : List CellContent) (w : ℕ) (d : CellContent) → 0 < w → w ≤ length cells → ends_halved (take w cells) ≡ false → ends_halved (take (w - 1) cells) ≡ false
+pub prune_end : (cells : List CellContent) (w : ℕ) (d : CellContent) → 0 < w → w ≤ length cells → ends_split (take w cells) ≡ false → ends_split (take (w - 1) cells) ≡ false
     → is_plain_blank (Narrow (get_or cells (w - 1) d).text (get_or cells (w - 1) d).attributes) ≡ false
     → row_of_cells (take w cells) ≡ pruned_row (row_of_cells (take w cells))
 prune_end cells w d s l h v b =
     let is : w - 1 + 1 ≡ w = omega arith in
-    sym (subst (λ n. pruned_row (row_of_cells (take n cells)) ≡ row_of_cells (take n cells)) is (prune_stops cells (w - 1) d (omega arith) (ap (λ n. ends_halved (take n cells)) is ∙ h) v b))
+    sym (subst (λ n. pruned_row (row_of_cells (take n cells)) ≡ row_of_cells (take n cells)) is (prune_stops cells (w - 1) d (omega arith) (ap (λ n. ends_split (take n cells)) is ∙ h) v b))
 
-pub prune_end_wide : (cells : List CellContent) (w : ℕ) (d : CellContent) → 0 < w → w ≤ length cells → ends_halved (take (w - 1) cells) ≡ true
+pub prune_end_wide : (cells : List CellContent) (w : ℕ) (d : CellContent) → 0 < w → w ≤ length cells → ends_split (take (w - 1) cells) ≡ true
     → row_of_cells (take w cells) ≡ pruned_row (row_of_cells (take w cells))
 prune_end_wide cells w d s l h =
     let is : w - 1 + 1 ≡ w = omega arith in
@@ -125,7 +125,7 @@ prune_end_wide cells w d s l h =
 -- ---- the last cell
 
 -- it is the last one, or the one before it, behind which the last one is not looked at
-pub end_is : (cells : List CellContent) (k : ℕ) → length cells ≡ suc k → last_read cells ≡ (if ends_halved (take k cells) then k - 1 else k)
+pub end_is : (cells : List CellContent) (k : ℕ) → length cells ≡ suc k → last_read cells ≡ (if ends_split (take k cells) then k - 1 else k)
 end_is [] k e = absurd (omega arith)
 end_is (c ∷ []) zero e = refl
 end_is (c ∷ []) (suc k) e = absurd (omega arith)
@@ -138,12 +138,12 @@ end_is (c ∷ n ∷ m ∷ cs) (suc (suc k)) e = by_test (nat_le 2 c.width)
     (λ t.
     ap (λ b. if b then suc (suc (last_read (m ∷ cs))) else suc (last_read (n ∷ m ∷ cs))) t
     ∙ ap (λ x. suc (suc x)) (end_is (m ∷ cs) k (omega arith))
-    ∙ two (ends_halved (take k (m ∷ cs))) k (some k (m ∷ cs))
+    ∙ two (ends_split (take k (m ∷ cs))) k (some k (m ∷ cs))
     ∙ ap (λ b. if b then suc (suc k) - 1 else suc (suc k)) (sym (halved_wide c n (take k (m ∷ cs)) t)))
     (λ t.
     ap (λ b. if b then suc (suc (last_read (m ∷ cs))) else suc (last_read (n ∷ m ∷ cs))) t
     ∙ ap suc (end_is (n ∷ m ∷ cs) (suc k) (omega arith))
-    ∙ one (ends_halved (n ∷ take k (m ∷ cs))) k
+    ∙ one (ends_split (n ∷ take k (m ∷ cs))) k
     ∙ ap (λ b. if b then suc (suc k) - 1 else suc (suc k)) (sym (halved_narrow c n (take k (m ∷ cs)) t)))
   where
     two : (b : Bool) (j : ℕ) → (b ≡ true → 0 < j) → suc (suc (if b then j - 1 else j)) ≡ (if b then suc (suc j) - 1 else suc (suc j))
@@ -154,7 +154,7 @@ end_is (c ∷ n ∷ m ∷ cs) (suc (suc k)) e = by_test (nat_le 2 c.width)
     one true j = omega arith
     one false j = refl
 
-    some : (j : ℕ) (xs : List CellContent) → ends_halved (take j xs) ≡ true → 0 < j
+    some : (j : ℕ) (xs : List CellContent) → ends_split (take j xs) ≡ true → 0 < j
     some zero xs h = absurd (false≢true h)
     some (suc j) xs h = omega arith
 

@@ -1,5 +1,6 @@
 pub mod CellLemmas
 pub mod CutLemmas
+pub mod EachLemmas
 pub mod EndLemmas
 pub mod LinkLemmas
 pub mod RowLaws

@@ -6,10 +6,10 @@ use Rattle.std.proofs.lemmas.List.{length-take-le, length-replicate}
 use Rattle.cell_base.specs.Attributes.{Attributes}
 use Rattle.cell_base.specs.CellContent.{CellContent, row_of_cells}
 use Rattle.cell_base.specs.Row.{Narrow, LeftHalf, RightHalf, Row, plain_row, set_columns}
-use Rattle.cell_rows.specs.WholeRow.{IsWhole}
-use Rattle.cell_rows.proofs.RowLemmas.{length-closed_end, length-set_columns, set_columns-again}
+use Rattle.cell_base.specs.WholeRow.{IsWhole}
+use Rattle.cell_base.proofs.RowLemmas.{length-closed_end, length-set_columns, set_columns-again}
 use Rattle.cell_edits.specs.CellList.{cell_columns}
-use Rattle.cell_edits.specs.RowEdits.{cut, cut_front, padded, with_cell, overlaid, filled}
+use Rattle.cell_edits.specs.RowEdits.{cut, cut_prefix, padded, with_cell, overlaid, filled}
 use Rattle.cell_edits.specs.VisibleCells.{VisibleCell, visible_from, visible_cells, row_of_visible}
 use Rattle.cell_edits.proofs.CellLemmas.{by_test, row_wide, row_narrow}
 use Rattle.cell_edits.proofs.CutLemmas.{columns_narrow, columns_wide}
@@ -47,14 +47,14 @@ visible-append i (RightHalf a ∷ r) b = let e : i + 1 + length r ≡ i + suc (l
 
 -- those of a row in which columns were set: before them, theirs, and behind them
 pub visible-set : (row : Row) (at : ℕ) (columns : Row) → at ≤ length row
-    → visible_cells (set_columns row at columns) ≡ visible_cells (cut at row) ++ visible_from at columns ++ visible_from (at + length columns) (cut_front (at + length columns) row)
+    → visible_cells (set_columns row at columns) ≡ visible_cells (cut at row) ++ visible_from at columns ++ visible_from (at + length columns) (cut_prefix (at + length columns) row)
 visible-set row at columns h =
     let l : length (cut at row) ≡ at = length-closed_end (take at row) ∙ length-take-le at row h in
     let k = length-append (cut at row) columns in
     let n : 0 + length (cut at row) ≡ at = omega arith in
     let m : 0 + length (cut at row ++ columns) ≡ at + length columns = omega arith in
-    visible-append 0 (cut at row ++ columns) (cut_front (at + length columns) row)
-    ∙ (λ i. (visible-append 0 (cut at row) columns ∙ ap (λ x. visible_from 0 (cut at row) ++ visible_from x columns) n) i ++ visible_from (m i) (cut_front (at + length columns) row))
+    visible-append 0 (cut at row ++ columns) (cut_prefix (at + length columns) row)
+    ∙ (λ i. (visible-append 0 (cut at row) columns ∙ ap (λ x. visible_from 0 (cut at row) ++ visible_from x columns) n) i ++ visible_from (m i) (cut_prefix (at + length columns) row))
 
 -- ---- within a row
 

@@ -14,9 +14,9 @@ use Rattle.cell_base.specs.CellContent.{CellContent, blank_cell, cell_of, row_of
 use Rattle.cell_base.specs.Cluster.{read_cluster, clusters}
 use Rattle.cell_base.specs.Row.{Row, blank, set_columns}
 use Rattle.cell_base.proofs.PlainClusters.{read_alone, read_each}
-use Rattle.cell_edits.specs.CellList.{ends_halved, cell_columns, text_cells}
-use Rattle.cell_edits.specs.RowEdits.{cut, cut_front, with_cell, overlaid}
-use Rattle.cell_edits.specs.TextRuns.{fitting, text_behind, plain_cells, Leads, Stops}
+use Rattle.cell_edits.specs.CellList.{ends_split, cell_columns, text_cells}
+use Rattle.cell_edits.specs.RowEdits.{cut, cut_prefix, with_cell, overlaid}
+use Rattle.cell_edits.specs.TextRuns.{fitting, text_after, plain_cells, Leads, Stops}
 use Rattle.cell_edits.proofs.CellLemmas.{by_test, length-row, row_joined}
 use Rattle.cell_edits.proofs.CutLemmas.{row_narrow_any, columns_narrow, length-cell_columns, set_one}
 use Rattle.cell_edits.proofs.RowLaws.{overlaid_next, overlaid_within}
@@ -49,8 +49,8 @@ blanks_more {X} first now start at x o h e =
     ∙ ap (λ (xs : List X). xs ++ drop (at + 1) first) (append_assoc (take start first) (replicate (at - start) x) (x ∷ []) ∙ ap (λ (xs : List X). take start first ++ xs) (one_more (at - start) x ∙ ap (λ n. replicate n x) on))
 
 -- blanks in place of all that there is, and behind
-pub blanks_behind : {X : Type 0} (first now new : List X) (len width : ℕ) (x : X) → len ≡ length first → len ≤ width → now ≡ take 0 first ++ replicate (len - 0) x ++ drop len first → new ≡ now ++ replicate (width - len) x → new ≡ replicate width x
-blanks_behind {X} first now new len width x e h n m =
+pub blanks_after : {X : Type 0} (first now new : List X) (len width : ℕ) (x : X) → len ≡ length first → len ≤ width → now ≡ take 0 first ++ replicate (len - 0) x ++ drop len first → new ≡ now ++ replicate (width - len) x → new ≡ replicate width x
+blanks_after {X} first now new len width x e h n m =
     let all : len - 0 ≡ len = omega arith in
     let none : drop len first ≡ [] = drop_all len first (omega arith) in
     let on : len + (width - len) ≡ width = omega arith in
@@ -98,14 +98,14 @@ blanks_row zero a cells = refl
 blanks_row (suc n) a cells = row_narrow_any (blank_cell a) (replicate n (blank_cell a) ++ cells) refl ∙ ap (λ (r : Row). blank a ∷ r) (blanks_row n a cells)
 
 -- cells between those before and behind them
-between : (before behind mid : List CellContent) (b d m : Row) → ends_halved before ≡ false → row_of_cells before ≡ b → row_of_cells behind ≡ d
+between : (before behind mid : List CellContent) (b d m : Row) → ends_split before ≡ false → row_of_cells before ≡ b → row_of_cells behind ≡ d
     → ((cells : List CellContent) → row_of_cells (mid ++ cells) ≡ m ++ row_of_cells cells) → row_of_cells (before ++ mid ++ behind) ≡ b ++ m ++ d
 between before behind mid b d m w p q t =
     ap row_of_cells (append_assoc before mid behind) ∙ row_joined before (mid ++ behind) w
     ∙ (λ i. p i ++ (t behind ∙ ap (λ (r : Row). m ++ r) q) i) ∙ sym (append_assoc b m d)
 
-pub blanks_set : (cells opened now : List CellContent) (start end : ℕ) (a : Attributes) → start ≤ end → ends_halved (take start opened) ≡ false
-    → row_of_cells (take start opened) ≡ cut start (row_of_cells cells) → row_of_cells (drop end opened) ≡ cut_front end (row_of_cells cells)
+pub blanks_set : (cells opened now : List CellContent) (start end : ℕ) (a : Attributes) → start ≤ end → ends_split (take start opened) ≡ false
+    → row_of_cells (take start opened) ≡ cut start (row_of_cells cells) → row_of_cells (drop end opened) ≡ cut_prefix end (row_of_cells cells)
     → now ≡ take start opened ++ replicate (end - start) (blank_cell a) ++ drop end opened
     → row_of_cells now ≡ set_columns (row_of_cells cells) start (replicate (end - start) (blank a))
 blanks_set cells opened now start end a o w p q e =
@@ -113,7 +113,7 @@ blanks_set cells opened now start end a o w p q e =
     let last : end ≡ start + length (replicate (end - start) (blank a)) = omega arith in
     ap row_of_cells e
     ∙ between (take start opened) (drop end opened) (replicate (end - start) (blank_cell a)) _ _ (replicate (end - start) (blank a)) w p q (blanks_row (end - start) a)
-    ∙ ap (λ n. cut start (row_of_cells cells) ++ replicate (end - start) (blank a) ++ cut_front n (row_of_cells cells)) last
+    ∙ ap (λ n. cut start (row_of_cells cells) ++ replicate (end - start) (blank a) ++ cut_prefix n (row_of_cells cells)) last
 
 pub plain_narrow : (byte : ℕ) (a : Attributes) → nat_le 2 (cell_of (byte ∷ []) 1 a).width ≡ false
 plain_narrow byte a = by_test (is_ascii_control byte) (λ e. rw e refl) (λ e. rw e refl)
@@ -133,8 +133,8 @@ plain_count (b ∷ bytes) a =
     let rest = plain_count bytes a in
     omega arith
 
-pub plain_set : (cells opened now : List CellContent) (at : ℕ) (bytes : List ℕ) (a : Attributes) → 0 < length bytes → at + length bytes ≤ length cells → ends_halved (take at opened) ≡ false
-    → row_of_cells (take at opened) ≡ cut at (row_of_cells cells) → row_of_cells (drop (at + length bytes) opened) ≡ cut_front (at + length bytes) (row_of_cells cells)
+pub plain_set : (cells opened now : List CellContent) (at : ℕ) (bytes : List ℕ) (a : Attributes) → 0 < length bytes → at + length bytes ≤ length cells → ends_split (take at opened) ≡ false
+    → row_of_cells (take at opened) ≡ cut at (row_of_cells cells) → row_of_cells (drop (at + length bytes) opened) ≡ cut_prefix (at + length bytes) (row_of_cells cells)
     → now ≡ take at opened ++ plain_cells bytes a ++ drop (at + length bytes) opened
     → row_of_cells now ≡ overlaid (row_of_cells cells) at (plain_cells bytes a)
 plain_set cells opened now at bytes a some l w p q e =
@@ -144,7 +144,7 @@ plain_set cells opened now at bytes a some l w p q e =
     let last : at + length bytes ≡ at + length (flat_map cell_columns (plain_cells bytes a)) = omega arith in
     ap row_of_cells e
     ∙ between (take at opened) (drop (at + length bytes) opened) (plain_cells bytes a) _ _ (flat_map cell_columns (plain_cells bytes a)) w p q (plain_columns bytes a)
-    ∙ ap (λ k. cut at (row_of_cells cells) ++ flat_map cell_columns (plain_cells bytes a) ++ cut_front k (row_of_cells cells)) last
+    ∙ ap (λ k. cut at (row_of_cells cells) ++ flat_map cell_columns (plain_cells bytes a) ++ cut_prefix k (row_of_cells cells)) last
     ∙ sym (overlaid_within (row_of_cells cells) at (plain_cells bytes a) (omega arith) (omega arith))
 
 -- ---- what fits
@@ -257,7 +257,7 @@ module _ (width_of : List ℕ → ℕ) (a : Attributes) where
   stopped : (row : Row) (at end : ℕ) (text : List ℕ) → concat (graphemes true text) ≡ text → fitting (end - at) (text_cells width_of text a) ≡ [] → Stops width_of end a row at text
   stopped row at end text whole e = record {
     columns = ap (overlaid row at) e;
-    left = ap (λ (cs : List CellContent). text_behind (length cs) text) e ∙ whole;
+    left = ap (λ (cs : List CellContent). text_after (length cs) text) e ∙ whole;
     behind = let none = ap (λ (cs : List CellContent). length (flat_map cell_columns cs)) e in omega (arith, none);
   }
 
@@ -283,11 +283,11 @@ joined_each : (front : List ℕ) (gs : List (List ℕ)) → concat (each front +
 joined_each [] gs = refl
 joined_each (b ∷ front) gs = ap (λ (bs : List ℕ). b ∷ bs) (joined_each front gs)
 
-same_behind : (front xs ys : List ℕ) → front ++ xs ≡ front ++ ys → xs ≡ ys
-same_behind front xs ys e = sym (drop_at front xs (length front) refl) ∙ ap (drop (length front)) e ∙ drop_at front ys (length front) refl
+same_after : (front xs ys : List ℕ) → front ++ xs ≡ front ++ ys → xs ≡ ys
+same_after front xs ys e = sym (drop_at front xs (length front) refl) ∙ ap (drop (length front)) e ∙ drop_at front ys (length front) refl
 
 pub rest_front : (text front rest : List ℕ) → concat (graphemes true text) ≡ text → text ≡ front ++ rest → graphemes true text ≡ each front ++ graphemes true rest → concat (graphemes true rest) ≡ rest
-rest_front text front rest whole parts e = same_behind front _ rest (sym (joined_each front (graphemes true rest)) ∙ ap concat (sym e) ∙ whole ∙ parts)
+rest_front text front rest whole parts e = same_after front _ rest (sym (joined_each front (graphemes true rest)) ∙ ap concat (sym e) ∙ whole ∙ parts)
 
 pub rest_first : (text g rest : List ℕ) → concat (graphemes true text) ≡ text → text ≡ g ++ rest → graphemes true text ≡ g ∷ graphemes true rest → concat (graphemes true rest) ≡ rest
-rest_first text g rest whole parts e = same_behind g _ rest (ap concat (sym e) ∙ whole ∙ parts)
+rest_first text g rest whole parts e = same_after g _ rest (ap concat (sym e) ∙ whole ∙ parts)

@@ -5,14 +5,14 @@ use Rattle.std.proofs.lemmas.Bool.{ltb-true, ltb-false}
 use Rattle.std.specs.Prelude.{nat_le, nat_lt, if◌then◌else◌}
 use Rattle.cell_base.specs.CellContent.{CellContent, blank_cell, row_of_cells}
 use Rattle.cell_base.specs.Row.{Row}
-use Rattle.cell_edits.specs.CellList.{ends_halved}
+use Rattle.cell_edits.specs.CellList.{ends_split}
 use Rattle.cell_edits.specs.ShownCells.{lent_cells}
 use Rattle.cell_edits.proofs.CellLemmas.{by_test, wide_is, narrow_is, row_wide, halved_wide, halved_joined, row_joined}
 use Rattle.cell_edits.proofs.CutLemmas.{row_narrow_any}
 
 -- the cells before a place are those that are shown there, and with what the cells from there on are shown as they are the whole
 pub record IsSettled (at : ℕ) (now old : List CellContent) : Type 0 where
-  pub whole : ends_halved (take at now) ≡ false
+  pub whole : ends_split (take at now) ≡ false
   pub row : row_of_cells now ≡ row_of_cells old
   pub same : take at now ++ lent_cells (row_of_cells (drop at now)) ≡ lent_cells (row_of_cells old)
 
@@ -43,7 +43,7 @@ settled_narrow old xs p d l some w s =
     let front : take (p + 1) xs ≡ take p xs ++ c ∷ [] = take_more xs p d l in
     let shown : lent_cells (row_of_cells (drop p xs)) ≡ c ∷ lent_cells (row_of_cells cs) = ap (λ (ys : List CellContent). lent_cells (row_of_cells ys)) (from_place xs p d l) ∙ shown_narrow c cs e (omega arith) in
     record {
-      whole = ap ends_halved front ∙ halved_joined (take p xs) (c ∷ []) s.whole ∙ e;
+      whole = ap ends_split front ∙ halved_joined (take p xs) (c ∷ []) s.whole ∙ e;
       row = s.row;
       same = (λ i. front i ++ lent_cells (row_of_cells (drop (on i) xs))) ∙ append_assoc (take p xs) (c ∷ []) (lent_cells (row_of_cells cs)) ∙ ap (λ (ys : List CellContent). take p xs ++ ys) (sym shown) ∙ s.same;
     }
@@ -66,7 +66,7 @@ settled_wide old xs p d l w most s =
     let before : xs ≡ take p xs ++ c ∷ n ∷ cs = sym (take-append-drop p xs) ∙ ap (λ (ys : List CellContent). take p xs ++ ys) left in
     let after : new ≡ take p xs ++ c ∷ b ∷ cs = sym (take-append-drop (p + 1 + 1) new) ∙ (λ i. front i ++ behind i) ∙ append_assoc (take p xs) (c ∷ b ∷ []) cs in
     record {
-      whole = ap ends_halved front ∙ halved_joined (take p xs) (c ∷ b ∷ []) s.whole ∙ halved_wide c b [] e;
+      whole = ap ends_split front ∙ halved_joined (take p xs) (c ∷ b ∷ []) s.whole ∙ halved_wide c b [] e;
       row = ap row_of_cells after ∙ row_joined (take p xs) (c ∷ b ∷ cs) s.whole ∙ ap (λ (r : Row). row_of_cells (take p xs) ++ r) (row_wide c b cs e ∙ sym (row_wide c n cs e))
           ∙ sym (row_joined (take p xs) (c ∷ n ∷ cs) s.whole) ∙ sym (ap row_of_cells before) ∙ s.row;
       same = (λ i. front i ++ lent_cells (row_of_cells (behind i))) ∙ append_assoc (take p xs) (c ∷ b ∷ []) (lent_cells (row_of_cells cs)) ∙ ap (λ (ys : List CellContent). take p xs ++ ys) (sym shown) ∙ s.same;
@@ -86,7 +86,7 @@ settled_last old xs p d l w s =
     let left : drop p xs ≡ c ∷ [] = from_place xs p d (omega arith) ∙ ap (λ (ys : List CellContent). c ∷ ys) (drop_all (suc p) xs (omega arith)) in
     let before : xs ≡ take p xs ++ c ∷ [] = sym (take-append-drop p xs) ∙ ap (λ (ys : List CellContent). take p xs ++ ys) left in
     record {
-      whole = ap ends_halved front ∙ halved_joined (take p xs) (b ∷ []) s.whole;
+      whole = ap ends_split front ∙ halved_joined (take p xs) (b ∷ []) s.whole;
       row = ap row_of_cells all ∙ row_joined (take p xs) (b ∷ []) s.whole ∙ ap (λ (r : Row). row_of_cells (take p xs) ++ r) (sym (shown_last c e))
           ∙ sym (row_joined (take p xs) (c ∷ []) s.whole) ∙ sym (ap row_of_cells before) ∙ s.row;
       same = (λ i. front i ++ lent_cells (row_of_cells (none i))) ∙ append_assoc (take p xs) (b ∷ []) [] ∙ ap (λ (ys : List CellContent). take p xs ++ ys) (sym (ap (λ (ys : List CellContent). lent_cells (row_of_cells ys)) left ∙ ap lent_cells (shown_last c e))) ∙ s.same;

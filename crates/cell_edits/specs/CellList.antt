@@ -19,17 +19,18 @@ abbrev pub text_row : (List ℕ → ℕ) → List ℕ → Attributes → Row
 text_row width_of text attributes = flat_map cell_columns (text_cells width_of text attributes)
 
 -- the last cell that is read is a wide one, with no cell behind it
-abbrev pub ends_halved : List CellContent → Bool
-ends_halved [] = false
-ends_halved (cell ∷ []) = nat_le 2 cell.width
-ends_halved (cell ∷ next ∷ cells) = if nat_le 2 cell.width then ends_halved cells else ends_halved (next ∷ cells)
+abbrev pub ends_split : List CellContent → Bool
+ends_split [] = false
+ends_split (cell ∷ []) = nat_le 2 cell.width
+ends_split (cell ∷ next ∷ cells) = if nat_le 2 cell.width then ends_split cells else ends_split (next ∷ cells)
 
 -- where the last cell that is read stands
 abbrev pub last_read : List CellContent → ℕ
 last_read [] = 0
 last_read (cell ∷ []) = 0
 last_read (cell ∷ next ∷ []) = if nat_le 2 cell.width then 0 else 1
-last_read (cell ∷ next ∷ more ∷ cells) = if nat_le 2 cell.width then suc (suc (last_read (more ∷ cells))) else suc (last_read (next ∷ more ∷ cells))
+last_read (cell ∷ next ∷ more ∷ cells) =
+    if nat_le 2 cell.width then suc (suc (last_read (more ∷ cells))) else suc (last_read (next ∷ more ∷ cells))
 
 -- a blank with the attributes of the cell at a place
 abbrev pub blank_for : List CellContent → ℕ → CellContent

@@ -17,7 +17,8 @@ has_implicit_link row = list_any (λ v. is_implicit v.cell.attributes.hyperlink)
 
 -- the attributes less a link that was found in a text
 abbrev pub without_implicit : Attributes → Attributes
-without_implicit attributes = if is_implicit attributes.hyperlink then record attributes { hyperlink = None } else attributes
+without_implicit attributes =
+    if is_implicit attributes.hyperlink then record attributes { hyperlink = None } else attributes
 
 abbrev pub column_with : (Attributes → Attributes) → Column → Column
 column_with change (Narrow text attributes) = Narrow text (change attributes)

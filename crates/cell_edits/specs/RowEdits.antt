@@ -1,11 +1,13 @@
 -- What edits of a line do to its columns. A half that is left alone becomes a blank with the wide cell's attributes.
-use Rattle.std.specs.Prelude.{ℕ, zero, suc, ◌+◌, ◌-◌, Bool, false, ◌&&◌, not, nat_lt, nat_le, List, [], ◌∷◌, ◌++◌, length, take, drop, if◌then◌else◌}
+use Rattle.std.specs.Prelude.{ℕ, zero, suc, ◌+◌, ◌-◌, Bool, false, ◌&&◌, not, nat_lt, nat_le, List, [], ◌∷◌, ◌++◌}
+use Rattle.std.specs.Prelude.{length, take, drop, if◌then◌else◌}
 use Rattle.std.specs.Str.{bytes_eq}
 use Rattle.cell_base.specs.Attributes.{Attributes, plain}
 use Rattle.cell_base.specs.CellContent.{CellContent}
 use Rattle.cell_base.specs.SameAttributes.{same_attributes}
-use Rattle.cell_base.specs.Row.{Column, Narrow, LeftHalf, RightHalf, Row, space, blank, plain_row, closed_end, closed_start, set_columns}
-use Rattle.cell_change.specs.UpToLast.{up_to_last}
+use Rattle.cell_base.specs.Row.{Column, Narrow, LeftHalf, RightHalf, Row, space, blank, plain_row, closed_end}
+use Rattle.cell_base.specs.Row.{closed_start, set_columns}
+use Rattle.cell_base.specs.UpToLast.{up_to_last}
 use Rattle.cell_edits.specs.CellList.{cell_columns}
 
 -- the first columns
@@ -13,8 +15,8 @@ abbrev pub cut : ℕ → Row → Row
 cut width row = closed_end (take width row)
 
 -- the columns from a place on
-abbrev pub cut_front : ℕ → Row → Row
-cut_front at row = closed_start (drop at row)
+abbrev pub cut_prefix : ℕ → Row → Row
+cut_prefix at row = closed_start (drop at row)
 
 -- plain blanks are added where columns are missing
 abbrev pub padded : ℕ → Row → Row
@@ -30,21 +32,24 @@ with_cell row at cell = let columns = cell_columns cell in set_columns (padded (
 
 -- one column less
 abbrev pub removed : ℕ → Row → Row
-removed at row = cut at row ++ cut_front (at + 1) row
+removed at row = cut at row ++ cut_prefix (at + 1) row
 
 -- columns stand between the columns before a place and those behind it
 abbrev pub inserted : ℕ → Row → Row → Row
-inserted at columns row = cut at row ++ columns ++ cut_front at row
+inserted at columns row = cut at row ++ columns ++ cut_prefix at row
 
--- the last column within the margin goes if it is there, and the cell's columns are inserted at a place, which is padded to
+-- the last column within the margin goes if it is there, and the cell's columns are inserted at a place, which is
+-- padded to
 abbrev pub with_inserted : Row → ℕ → CellContent → ℕ → Row
-with_inserted row at cell margin = inserted at (cell_columns cell) (padded at (if nat_le margin (length row) then removed (margin - 1) row else row))
+with_inserted row at cell margin =
+    inserted at (cell_columns cell) (padded at (if nat_le margin (length row) then removed (margin - 1) row else row))
 
 -- a column goes, and a plain blank is added
 abbrev pub erased : ℕ → Row → Row
 erased at row = removed at row ++ plain_row 1
 
--- a column goes if it is there, and a blank is inserted as the last column within the margin if no column before it is missing
+-- a column goes if it is there, and a blank is inserted as the last column within the margin if no column before it is
+-- missing
 abbrev pub erased_within : Row → ℕ → ℕ → Attributes → Row
 erased_within row at margin attributes =
     let rest = if nat_lt at (length row) then removed at row else row in

@@ -11,15 +11,16 @@ use Rattle.cell_edits.specs.RowEdits.{overlaid}
 -- the cells at the front that fit side by side in so many columns
 abbrev pub fitting : ℕ → List CellContent → List CellContent
 fitting room [] = []
-fitting room (cell ∷ cells) = if nat_le (length (cell_columns cell)) room then cell ∷ fitting (room - length (cell_columns cell)) cells else []
+fitting room (cell ∷ cells) =
+    if nat_le (length (cell_columns cell)) room then cell ∷ fitting (room - length (cell_columns cell)) cells else []
 
 -- the cells of a text's clusters that fit
 abbrev pub fitting_cells : (List ℕ → ℕ) → ℕ → List ℕ → Attributes → List CellContent
 fitting_cells width_of room text attributes = fitting room (text_cells width_of text attributes)
 
 -- what stands behind so many clusters of a text
-abbrev pub text_behind : ℕ → List ℕ → List ℕ
-text_behind count text = concat (drop count (graphemes true text))
+abbrev pub text_after : ℕ → List ℕ → List ℕ
+text_after count text = concat (drop count (graphemes true text))
 
 -- the row with the cells of a text set from a column on, as far as they fit before another
 abbrev pub text_on : (List ℕ → ℕ) → ℕ → Attributes → Row → ℕ → List ℕ → Row
@@ -27,27 +28,30 @@ text_on width_of end attributes row at text = overlaid row at (fitting_cells wid
 
 -- the text that is left then
 abbrev pub text_left : (List ℕ → ℕ) → ℕ → Attributes → ℕ → List ℕ → List ℕ
-text_left width_of end attributes at text = text_behind (length (fitting_cells width_of (end - at) text attributes)) text
+text_left width_of end attributes at text = text_after (length (fitting_cells width_of (end - at) text attributes)) text
 
 -- the column behind the cells of a text that fit
-abbrev pub place_behind : (List ℕ → ℕ) → ℕ → Attributes → ℕ → List ℕ → ℕ
-place_behind width_of end attributes at text = at + length (flat_map cell_columns (fitting_cells width_of (end - at) text attributes))
+abbrev pub place_after : (List ℕ → ℕ) → ℕ → Attributes → ℕ → List ℕ → ℕ
+place_after width_of end attributes at text =
+    at + length (flat_map cell_columns (fitting_cells width_of (end - at) text attributes))
 
 -- a cell of one column for each byte
 abbrev pub plain_cells : List ℕ → Attributes → List CellContent
 plain_cells text attributes = map (λ byte. cell_of (byte ∷ []) 1 attributes) text
 
 -- a step leads on: from a row, a column and a text to others from which the whole comes out the same
-pub record Leads (width_of : List ℕ → ℕ) (end : ℕ) (attributes : Attributes) (row : Row) (at : ℕ) (text : List ℕ) (next : Row) (place : ℕ) (rest : List ℕ) : Type 0 where
+pub record Leads (width_of : List ℕ → ℕ) (end : ℕ) (attributes : Attributes) (row : Row) (at : ℕ) (text : List ℕ)
+    (next : Row) (place : ℕ) (rest : List ℕ) : Type 0 where
   pub columns : text_on width_of end attributes next place rest ≡ text_on width_of end attributes row at text
   pub left : text_left width_of end attributes place rest ≡ text_left width_of end attributes at text
-  pub behind : place_behind width_of end attributes place rest ≡ place_behind width_of end attributes at text
+  pub behind : place_after width_of end attributes place rest ≡ place_after width_of end attributes at text
   pub order : at ≤ place
   pub within : place ≤ end
   pub whole : concat (graphemes true rest) ≡ rest
 
 -- nothing more fits
-pub record Stops (width_of : List ℕ → ℕ) (end : ℕ) (attributes : Attributes) (row : Row) (at : ℕ) (text : List ℕ) : Type 0 where
+pub record Stops (width_of : List ℕ → ℕ) (end : ℕ) (attributes : Attributes) (row : Row) (at : ℕ) (text : List ℕ) : Type
+    0 where
   pub columns : text_on width_of end attributes row at text ≡ row
   pub left : text_left width_of end attributes at text ≡ text
-  pub behind : place_behind width_of end attributes at text ≡ at
+  pub behind : place_after width_of end attributes at text ≡ at

@@ -1,5 +1,6 @@
 -- The visible cells of a row, and what is asked of them.
-use Rattle.std.specs.Prelude.{ℕ, ◌+◌, Bool, false, ◌&&◌, ◌==◌, nat_lt, nat_le, List, [], ◌∷◌, Option, Some, None, find, filter, fold, map, is_some}
+use Rattle.std.specs.Prelude.{ℕ, ◌+◌, Bool, false, ◌&&◌, ◌==◌, nat_lt, nat_le, List, [], ◌∷◌, Option, Some, None, find}
+use Rattle.std.specs.Prelude.{filter, fold, map, is_some}
 use Rattle.std.specs.List.{flat_map, list_any, list_all}
 use Rattle.std.specs.Str.{bytes_eq}
 use Rattle.cell_base.specs.Attributes.{Attributes}
@@ -13,7 +14,8 @@ pub record VisibleCell : Type 0 where
   pub cell : CellContent
 
 abbrev pub visible_at : ℕ → List ℕ → ℕ → Attributes → VisibleCell
-visible_at column text width attributes = record { column = column; cell = record { text = text; width = width; attributes = attributes } }
+visible_at column text width attributes =
+    record { column = column; cell = record { text = text; width = width; attributes = attributes } }
 
 -- the cells of a row whose first column has a number, in order
 abbrev pub visible_from : ℕ → Row → List VisibleCell
@@ -21,6 +23,12 @@ visible_from at [] = []
 visible_from at (Narrow text attributes ∷ row) = visible_at at text 1 attributes ∷ visible_from (at + 1) row
 visible_from at (LeftHalf text attributes ∷ row) = visible_at at text 2 attributes ∷ visible_from (at + 1) row
 visible_from at (RightHalf attributes ∷ row) = visible_from (at + 1) row
+
+-- a cell for each byte of a text, side by side from a column on, all with the same attributes
+abbrev pub visible_each : ℕ → List ℕ → Attributes → List VisibleCell
+visible_each at [] attributes = []
+visible_each at (byte ∷ text) attributes =
+    visible_at at (byte ∷ []) 1 attributes ∷ visible_each (at + 1) text attributes
 
 abbrev pub visible_cells : Row → List VisibleCell
 visible_cells row = visible_from 0 row

@@ -1,16 +1,18 @@
 //! Steps on the cells of a line, which are read from the left: the cell stored behind a wide one
 //! isn't looked at.
-ghost use Rattle.std.specs.Prelude.{◌≡◌, ℕ, ◌+◌, ◌-◌, ◌≤◌, ◌<◌, ◌++◌, ◌&&◌, true, false, length, take, drop, [], ◌∷◌, slice_set, replicate, map, vec_len, nat_lt, if◌then◌else◌, OnOk, OnErr, IfOk};
+ghost use Rattle.std.specs.Prelude.{◌≡◌, ℕ, ◌+◌, ◌-◌, ◌≤◌, ◌<◌, ◌++◌, ◌&&◌, true, false, length, take, drop, [], ◌∷◌};
+ghost use Rattle.std.specs.Prelude.{slice_set, replicate, map, vec_len, nat_lt, if◌then◌else◌, OnOk, OnErr, IfOk};
 ghost use Rattle.cell_base.specs.CellContent.{row_of_cells, blank_cell};
 ghost use Rattle.cell_base.specs.Attributes.{plain};
 ghost use Rattle.cell_base.specs.Row.{set_columns, space};
-ghost use Rattle.cell_edits.specs.CellList.{ends_halved, last_read, blank_for, cell_columns};
+ghost use Rattle.cell_edits.specs.CellList.{ends_split, last_read, blank_for, cell_columns};
 ghost use Rattle.cell_edits.specs.VisibleCells.{mark_cell, row_end_wrapped};
 ghost use Rattle.cell_edits.specs.Links.{is_implicit, cell_without_implicit};
 ghost use Rattle.std.specs.Str.{bytes_eq};
 ghost use Rattle.cell_base.specs.SameAttributes.{same_attributes};
 ghost use Rattle.cell_edits.specs.ShownCells.{lent_cells};
-ghost use Rattle.cell_edits.specs.RowEdits.{cut, cut_front, padded, resized, with_cell, removed, inserted, with_inserted, erased, erased_within, filled, pruned_row};
+ghost use Rattle.cell_edits.specs.RowEdits.{cut, cut_prefix, padded, resized, with_cell, removed, inserted};
+ghost use Rattle.cell_edits.specs.RowEdits.{with_inserted, erased, erased_within, filled, pruned_row};
 
 use cell_base::{Cell, CellAttributes};
 use std::alloc::{AllocError, Global};
@@ -23,11 +25,11 @@ pub fn column_count(cell: &Cell) -> usize
     if cell.width() >= 2 { 2 } else { 1 }
 }
 
-/// Whether the cell that is read last before `at` is a wide one whose second column is at `at`: of a run of wide cells every
-/// second one is read.
-pub fn is_halved(cells: &[Cell], at: usize) -> bool
+/// Whether the cell that is read last before `at` is a wide one whose second column is at `at`: of a run of wide cells
+/// every second one is read.
+pub fn is_split(cells: &[Cell], at: usize) -> bool
     requires { at ≤ length cells.now }
-    ensures { result ≡ ends_halved (take at cells.now) }
+    ensures { result ≡ ends_split (take at cells.now) }
 {
     let mut halved = false;
     let mut place = at;
@@ -45,7 +47,7 @@ pub fn last_read(cells: &[Cell]) -> usize
     ensures at { result ≡ last_read cells.now }
 {
     let last = cells.len() - 1;
-    if is_halved(cells, last) {
+    if is_split(cells, last) {
         last - 1
     } else {
         last
@@ -66,8 +68,11 @@ pub(crate) fn put(cells: &mut Vec<Cell>, at: usize, cell: Cell)
 fn split_cell(cells: &mut Vec<Cell>, at: usize) -> Result<(), AllocError>
     requires { at < vec_len cells.old }
     ensures len { vec_len cells.new ≡ vec_len cells.old }
-    ensures before { OnOk result (take (at + 1) cells.new.items ≡ take at cells.old.items ++ blank_for cells.old.items at ∷ []) }
-    ensures behind { OnOk result (at + 1 < vec_len cells.old → drop (at + 1) cells.new.items ≡ blank_for cells.old.items at ∷ drop (at + 2) cells.old.items) }
+    ensures before { OnOk result
+        (take (at + 1) cells.new.items ≡ take at cells.old.items ++ blank_for cells.old.items at ∷ []) }
+    ensures behind { OnOk result
+        (at + 1 < vec_len cells.old
+        → drop (at + 1) cells.new.items ≡ blank_for cells.old.items at ∷ drop (at + 2) cells.old.items) }
 {
     let left = Cell::blank_with_attrs(cells[at].attrs().try_clone()?);
     if at + 1 < cells.len() {
@@ -83,12 +88,13 @@ fn split_cell(cells: &mut Vec<Cell>, at: usize) -> Result<(), AllocError>
 fn cut_at(cells: &mut Vec<Cell>, at: usize) -> Result<(), AllocError>
     requires { at ≤ vec_len cells.old }
     ensures len { vec_len cells.new ≡ vec_len cells.old }
-    ensures whole { OnOk result (ends_halved (take at cells.new.items) ≡ false) }
+    ensures whole { OnOk result (ends_split (take at cells.new.items) ≡ false) }
     ensures before { OnOk result (row_of_cells (take at cells.new.items) ≡ cut at (row_of_cells cells.old.items)) }
-    ensures behind { OnOk result (row_of_cells (drop at cells.new.items) ≡ cut_front at (row_of_cells cells.old.items)) }
+    ensures behind { OnOk result
+        (row_of_cells (drop at cells.new.items) ≡ cut_prefix at (row_of_cells cells.old.items)) }
     ensures earlier { OnOk result (take (at - 1) cells.new.items ≡ take (at - 1) cells.old.items) }
 {
-    if at > 0 && is_halved(cells, at) {
+    if at > 0 && is_split(cells, at) {
         split_cell(cells, at - 1)?;
     }
     Ok(())
@@ -100,9 +106,11 @@ pub(crate) fn open(cells: &mut Vec<Cell>, start: usize, end: usize) -> Result<()
     requires order { start ≤ end }
     requires within { end ≤ vec_len cells.old }
     ensures len { vec_len cells.new ≡ vec_len cells.old }
-    ensures whole { OnOk result (ends_halved (take start cells.new.items) ≡ false) }
-    ensures before { OnOk result (row_of_cells (take start cells.new.items) ≡ cut start (row_of_cells cells.old.items)) }
-    ensures behind { OnOk result (row_of_cells (drop end cells.new.items) ≡ cut_front end (row_of_cells cells.old.items)) }
+    ensures whole { OnOk result (ends_split (take start cells.new.items) ≡ false) }
+    ensures before { OnOk result
+        (row_of_cells (take start cells.new.items) ≡ cut start (row_of_cells cells.old.items)) }
+    ensures behind { OnOk result
+        (row_of_cells (drop end cells.new.items) ≡ cut_prefix end (row_of_cells cells.old.items)) }
 {
     cut_at(cells, start)?;
     if start < end {
@@ -115,7 +123,8 @@ pub(crate) fn open(cells: &mut Vec<Cell>, start: usize, end: usize) -> Result<()
 pub(crate) fn write_cell(cells: &mut Vec<Cell>, at: usize, cell: Cell) -> Result<(), AllocError>
     requires { at + length (cell_columns cell) ≤ vec_len cells.old }
     ensures len { vec_len cells.new ≡ vec_len cells.old }
-    ensures row { OnOk result (row_of_cells cells.new.items ≡ set_columns (row_of_cells cells.old.items) at (cell_columns cell)) }
+    ensures row { OnOk result
+        (row_of_cells cells.new.items ≡ set_columns (row_of_cells cells.old.items) at (cell_columns cell)) }
 {
     let count = column_count(&cell);
     open(cells, at, at + count)?;
@@ -129,7 +138,8 @@ pub(crate) fn write_cell(cells: &mut Vec<Cell>, at: usize, cell: Cell) -> Result
 // The cell's columns come between those before `at` and those from `at` on.
 pub(crate) fn insert_columns(cells: &mut Vec<Cell>, at: usize, cell: Cell) -> Result<(), AllocError>
     requires { at ≤ vec_len cells.old }
-    ensures { OnOk result (row_of_cells cells.new.items ≡ inserted at (cell_columns cell) (row_of_cells cells.old.items)) }
+    ensures { OnOk result
+        (row_of_cells cells.new.items ≡ inserted at (cell_columns cell) (row_of_cells cells.old.items)) }
 {
     open(cells, at, at)?;
     if column_count(&cell) == 2 {
@@ -232,7 +242,7 @@ pub(crate) fn push_blanks_with(
 pub fn split_off(cells: &mut Vec<Cell>, at: usize) -> Result<Vec<Cell>, AllocError>
     requires { at ≤ vec_len cells.old }
     ensures kept { OnOk result (row_of_cells cells.new.items ≡ cut at (row_of_cells cells.old.items)) }
-    ensures rest { IfOk result (λ rest. row_of_cells rest.items ≡ cut_front at (row_of_cells cells.old.items)) }
+    ensures rest { IfOk result (λ rest. row_of_cells rest.items ≡ cut_prefix at (row_of_cells cells.old.items)) }
 {
     cut_at(cells, at)?;
     cells.split_off(at)
@@ -248,7 +258,8 @@ pub fn append(cells: &mut Vec<Cell>, mut other: Vec<Cell>) -> Result<(), AllocEr
     Ok(())
 }
 
-/// The last column before the margin goes, if the row reaches that far, and the cell is inserted at `x`, which is padded to.
+/// The last column before the margin goes, if the row reaches that far, and the cell is inserted at `x`, which is
+/// padded to.
 pub fn insert_cell(
     cells: &mut Vec<Cell>,
     x: usize,
@@ -256,7 +267,8 @@ pub fn insert_cell(
     right_margin: usize,
 ) -> Result<(), AllocError>
     requires { 1 ≤ right_margin }
-    ensures { OnOk result (row_of_cells cells.new.items ≡ with_inserted (row_of_cells cells.old.items) x cell right_margin) }
+    ensures { OnOk result
+        (row_of_cells cells.new.items ≡ with_inserted (row_of_cells cells.old.items) x cell right_margin) }
 {
     if right_margin <= cells.len() {
         remove_column(cells, right_margin - 1)?;
@@ -287,7 +299,8 @@ pub fn erase_within(
     blank_attr: CellAttributes,
 ) -> Result<(), AllocError>
     requires { 1 ≤ right_margin }
-    ensures { OnOk result (row_of_cells cells.new.items ≡ erased_within (row_of_cells cells.old.items) x right_margin blank_attr) }
+    ensures { OnOk result
+        (row_of_cells cells.new.items ≡ erased_within (row_of_cells cells.old.items) x right_margin blank_attr) }
 {
     if x < cells.len() {
         remove_column(cells, x)?;
@@ -300,8 +313,8 @@ pub fn erase_within(
 
 /// The cell's columns come behind those that are there.
 pub fn push_cell(cells: &mut Vec<Cell>, cell: Cell) -> Result<(), AllocError>
-    requires { ends_halved cells.old.items ≡ false }
-    ensures whole { OnOk result (ends_halved cells.new.items ≡ false) }
+    requires { ends_split cells.old.items ≡ false }
+    ensures whole { OnOk result (ends_split cells.new.items ≡ false) }
     ensures row { OnOk result (row_of_cells cells.new.items ≡ row_of_cells cells.old.items ++ cell_columns cell) }
 {
     let is_wide = cell.width() >= 2;
@@ -314,7 +327,8 @@ pub fn push_cell(cells: &mut Vec<Cell>, cell: Cell) -> Result<(), AllocError>
 
 /// The cell is set at each column from `start` on and before `end`, in turn.
 pub fn fill(cells: &mut Vec<Cell>, start: usize, end: usize, cell: &Cell) -> Result<(), AllocError>
-    ensures { OnOk result (row_of_cells cells.new.items ≡ filled (row_of_cells cells.old.items) start (end - start) cell.now) }
+    ensures { OnOk result
+        (row_of_cells cells.new.items ≡ filled (row_of_cells cells.old.items) start (end - start) cell.now) }
 {
     for at in start..end {
         set_cell(cells, at, cell.try_clone()?)?;
@@ -326,7 +340,10 @@ pub fn fill(cells: &mut Vec<Cell>, start: usize, end: usize, cell: &Cell) -> Res
 // behind it the blank that it is read as.
 fn settle_cell(cells: &mut Vec<Cell>, at: usize) -> Result<(), AllocError>
     requires { at < vec_len cells.old }
-    ensures done { OnOk result (cells.new.items ≡ slice_set cells.old.items (if nat_lt (at + 1) (vec_len cells.old) then at + 1 else at) (blank_for cells.old.items at)) }
+    ensures done { OnOk result
+        (cells.new.items
+        ≡ slice_set cells.old.items (if nat_lt (at + 1) (vec_len cells.old) then at + 1 else at)
+        (blank_for cells.old.items at)) }
     ensures refused { OnErr result (cells.new.items ≡ cells.old.items) }
 {
     let blank = Cell::blank_with_attrs(cells[at].attrs().try_clone()?);
@@ -374,12 +391,12 @@ fn is_plain_blank(cell: &Cell) -> bool
 
 // How many columns there are without the plain blanks at the end.
 fn pruned_width(cells: &[Cell]) -> usize
-    requires { ends_halved cells.now ≡ false }
+    requires { ends_split cells.now ≡ false }
     ensures within { result ≤ length cells.now }
     ensures row { row_of_cells (take result cells.now) ≡ pruned_row (row_of_cells cells.now) }
 {
     let mut width = cells.len();
-    while width > 0 && !is_halved(cells, width - 1) && is_plain_blank(&cells[width - 1]) {
+    while width > 0 && !is_split(cells, width - 1) && is_plain_blank(&cells[width - 1]) {
         width -= 1;
     }
     width
@@ -387,8 +404,14 @@ fn pruned_width(cells: &[Cell]) -> usize
 
 /// The plain blanks at the end go, unless nothing would be left; answers whether something is.
 pub fn prune(cells: &mut Vec<Cell>) -> Result<bool, AllocError>
-    ensures none { IfOk result (λ some. some ≡ false → (pruned_row (row_of_cells cells.old.items) ≡ []) × (row_of_cells cells.new.items ≡ row_of_cells cells.old.items)) }
-    ensures some { IfOk result (λ some. some ≡ true → (0 < length (pruned_row (row_of_cells cells.old.items))) × (row_of_cells cells.new.items ≡ pruned_row (row_of_cells cells.old.items))) }
+    ensures none { IfOk result
+        (λ some. some ≡ false
+        → (pruned_row (row_of_cells cells.old.items) ≡ [])
+        × (row_of_cells cells.new.items ≡ row_of_cells cells.old.items)) }
+    ensures some { IfOk result
+        (λ some. some ≡ true
+        → (0 < length (pruned_row (row_of_cells cells.old.items)))
+        × (row_of_cells cells.new.items ≡ pruned_row (row_of_cells cells.old.items))) }
 {
     let len = cells.len();
     cut_at(cells, len)?;
@@ -452,7 +475,7 @@ pub fn drop_implicit_links(cells: &mut [Cell])
 
 /// A wide cell with none behind it becomes the blank that it is read as.
 pub fn close_end(cells: &mut Vec<Cell>) -> Result<(), AllocError>
-    ensures whole { OnOk result (ends_halved cells.new.items ≡ false) }
+    ensures whole { OnOk result (ends_split cells.new.items ≡ false) }
     ensures row { OnOk result (row_of_cells cells.new.items ≡ row_of_cells cells.old.items) }
 {
     let len = cells.len();

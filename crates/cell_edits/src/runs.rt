@@ -1,13 +1,14 @@
 //! Columns of a row that are set at once: blanks, and the cells of a text as far as they fit.
-ghost use Rattle.std.specs.Prelude.{◌≡◌, ◌+◌, ◌-◌, ◌≤◌, ◌<◌, ◌++◌, [], ◌∷◌, true, false, None, length, take, drop, replicate, slice_set, vec_len, OnOk, IfOk, IfSome, IsTrue, MatchOption};
+ghost use Rattle.std.specs.Prelude.{◌≡◌, ◌+◌, ◌-◌, ◌≤◌, ◌<◌, ◌++◌, [], ◌∷◌, true, false, None, length, take, drop};
+ghost use Rattle.std.specs.Prelude.{replicate, slice_set, vec_len, OnOk, IfOk, IfSome, IsTrue, MatchOption};
 ghost use Rattle.std.specs.List.{list_all};
 ghost use Rattle.text_clusters.specs.Plain.{is_printable};
 ghost use Rattle.cell_base.specs.Attributes.{Attributes};
 ghost use Rattle.cell_base.specs.CellContent.{row_of_cells, blank_cell, cell_of, shows_as_space};
 ghost use Rattle.cell_base.specs.Row.{set_columns, blank};
-ghost use Rattle.cell_edits.specs.CellList.{cell_columns, ends_halved};
+ghost use Rattle.cell_edits.specs.CellList.{cell_columns, ends_split};
 ghost use Rattle.cell_edits.specs.RowEdits.{overlaid};
-ghost use Rattle.cell_edits.specs.TextRuns.{place_behind, plain_cells, text_on, text_left, Leads, Stops};
+ghost use Rattle.cell_edits.specs.TextRuns.{place_after, plain_cells, text_on, text_left, Leads, Stops};
 
 use crate::row::{open, push_blanks_with};
 use cell_base::{Cell, CellAttributes, Widths};
@@ -25,7 +26,8 @@ fn put_ascii(
     requires printable { is_printable character ≡ true }
     requires within { at < vec_len cells.old }
     ensures len { vec_len cells.new ≡ vec_len cells.old }
-    ensures items { OnOk result (cells.new.items ≡ slice_set cells.old.items at (cell_of (character ∷ []) 1 attrs.now)) }
+    ensures items { OnOk result
+        (cells.new.items ≡ slice_set cells.old.items at (cell_of (character ∷ []) 1 attrs.now)) }
 {
     cells[at].set_ascii(character, attrs)
 }
@@ -68,7 +70,10 @@ fn write_blanks(
     requires order { start ≤ end }
     requires within { end ≤ vec_len cells.old }
     ensures len { vec_len cells.new ≡ vec_len cells.old }
-    ensures items { OnOk result (cells.new.items ≡ take start cells.old.items ++ replicate (end - start) (blank_cell attrs.now) ++ drop end cells.old.items) }
+    ensures items { OnOk result
+        (cells.new.items
+        ≡ take start cells.old.items ++ replicate (end - start) (blank_cell attrs.now)
+        ++ drop end cells.old.items) }
 {
     for at in start..end {
         put_blank(cells, at, attrs)?;
@@ -85,7 +90,9 @@ pub fn set_blanks(
 ) -> Result<(), AllocError>
     requires order { start ≤ end }
     requires within { end ≤ vec_len cells.old }
-    ensures { OnOk result (row_of_cells cells.new.items ≡ set_columns (row_of_cells cells.old.items) start (replicate (end - start) (blank attrs.now))) }
+    ensures { OnOk result
+        (row_of_cells cells.new.items
+        ≡ set_columns (row_of_cells cells.old.items) start (replicate (end - start) (blank attrs.now))) }
 {
     open(cells, start, end)?;
     write_blanks(cells, start, end, attrs)?;
@@ -116,7 +123,10 @@ fn write_plain(
     requires printable { list_all is_printable bytes.now ≡ true }
     requires within { start + length bytes.now ≤ vec_len cells.old }
     ensures len { vec_len cells.new ≡ vec_len cells.old }
-    ensures items { OnOk result (cells.new.items ≡ take start cells.old.items ++ plain_cells bytes.now attrs.now ++ drop (start + length bytes.now) cells.old.items) }
+    ensures items { OnOk result
+        (cells.new.items
+        ≡ take start cells.old.items ++ plain_cells bytes.now attrs.now
+        ++ drop (start + length bytes.now) cells.old.items) }
 {
     for index in 0..bytes.len() {
         put_ascii(cells, start + index, bytes[index], attrs)?;
@@ -135,7 +145,8 @@ pub fn set_plain(
     requires printable { list_all is_printable text.now ≡ true }
     requires within { at + length text.now ≤ vec_len cells.old }
     ensures len { vec_len cells.new ≡ vec_len cells.old }
-    ensures row { OnOk result (row_of_cells cells.new.items ≡ overlaid (row_of_cells cells.old.items) at (plain_cells text.now attrs.now)) }
+    ensures row { OnOk result
+        (row_of_cells cells.new.items ≡ overlaid (row_of_cells cells.old.items) at (plain_cells text.now attrs.now)) }
 {
     if text.is_empty() {
         return Ok(());
@@ -147,7 +158,7 @@ pub fn set_plain(
 
 // Sets the plain front of a text as far as it fits before `end`; answers the next column and the
 // rest.
-fn set_plain_front<'a, W: Widths>(
+fn set_plain_prefix<'a, W: Widths>(
     cells: &mut Vec<Cell>,
     at: usize,
     end: usize,
@@ -158,7 +169,9 @@ fn set_plain_front<'a, W: Widths>(
     requires order { at ≤ end }
     requires within { end ≤ vec_len cells.old }
     ensures len { vec_len cells.new ≡ vec_len cells.old }
-    ensures leads { IfOk result (λ next. Leads (W.width_of w.now) end attrs.now (row_of_cells cells.old.items) at text.now (row_of_cells cells.new.items) next.0 next.1.now) }
+    ensures leads { IfOk result
+        (λ next. Leads (W.width_of w.now) end attrs.now (row_of_cells cells.old.items) at text.now
+        (row_of_cells cells.new.items) next.0 next.1.now) }
 {
     if !begins_plainly(text) {
         return Ok((at, text));
@@ -197,7 +210,9 @@ fn write_cluster(
     requires most { width ≤ 2 }
     requires within { at + length (cell_columns (cell_of cluster.now width attrs.now)) ≤ vec_len cells.old }
     ensures len { vec_len cells.new ≡ vec_len cells.old }
-    ensures row { OnOk result (row_of_cells cells.new.items ≡ set_columns (row_of_cells cells.old.items) at (cell_columns (cell_of cluster.now width attrs.now))) }
+    ensures row { OnOk result
+        (row_of_cells cells.new.items
+        ≡ set_columns (row_of_cells cells.old.items) at (cell_columns (cell_of cluster.now width attrs.now))) }
 {
     let count = cluster_columns(cluster, width);
     open(cells, at, at + count)?;
@@ -221,9 +236,13 @@ fn set_first_cluster<'a, W: Widths>(
     requires order { at ≤ end }
     requires within { end ≤ vec_len cells.old }
     ensures len { vec_len cells.new ≡ vec_len cells.old }
-    ensures leads { IfOk result (λ next. MatchOption next
-        ((row_of_cells cells.new.items ≡ row_of_cells cells.old.items) × Stops (W.width_of w.now) end attrs.now (row_of_cells cells.old.items) at text.now)
-        (λ n. (at < n.0) × Leads (W.width_of w.now) end attrs.now (row_of_cells cells.old.items) at text.now (row_of_cells cells.new.items) n.0 n.1.now)) }
+    ensures leads { IfOk result
+        (λ next. MatchOption next
+        ((row_of_cells cells.new.items ≡ row_of_cells cells.old.items)
+        × Stops (W.width_of w.now) end attrs.now (row_of_cells cells.old.items) at text.now)
+        (λ n. (at < n.0)
+        × Leads (W.width_of w.now) end attrs.now (row_of_cells cells.old.items) at text.now
+        (row_of_cells cells.new.items) n.0 n.1.now)) }
 {
     if at == end {
         return Ok(None);
@@ -256,14 +275,16 @@ pub fn set_text<'a, W: Widths>(
 ) -> Result<(usize, &'a str), AllocError>
     requires order { start ≤ end }
     requires within { end ≤ vec_len cells.old }
-    ensures row { OnOk result (row_of_cells cells.new.items ≡ text_on (W.width_of w.now) end attrs.now (row_of_cells cells.old.items) start text.now) }
-    ensures behind { IfOk result (λ r. r.0 ≡ place_behind (W.width_of w.now) end attrs.now start text.now) }
+    ensures row { OnOk result
+        (row_of_cells cells.new.items
+        ≡ text_on (W.width_of w.now) end attrs.now (row_of_cells cells.old.items) start text.now) }
+    ensures behind { IfOk result (λ r. r.0 ≡ place_after (W.width_of w.now) end attrs.now start text.now) }
     ensures left { IfOk result (λ r. r.1.now ≡ text_left (W.width_of w.now) end attrs.now start text.now) }
 {
     let mut at = start;
     let mut left = text;
     while at < end {
-        let (place, rest) = set_plain_front(cells, at, end, left, attrs, w)?;
+        let (place, rest) = set_plain_prefix(cells, at, end, left, attrs, w)?;
         match set_first_cluster(alloc, cells, place, end, rest, attrs, w)? {
             None => return Ok((place, rest)),
             Some((next, behind)) => {

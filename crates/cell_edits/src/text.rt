@@ -1,7 +1,7 @@
 //! Texts as cells of a line: a cell for each extended grapheme cluster (UAX 29).
 ghost use Rattle.std.specs.Prelude.{◌≡◌, false, IfOk, OnOk};
 ghost use Rattle.cell_base.specs.CellContent.{row_of_cells};
-ghost use Rattle.cell_edits.specs.CellList.{ends_halved, text_cells, text_row};
+ghost use Rattle.cell_edits.specs.CellList.{ends_split, text_cells, text_row};
 ghost use Rattle.cell_edits.specs.RowEdits.{overlaid};
 
 use crate::row::{column_count, push_cell, set_cell};
@@ -35,7 +35,9 @@ pub fn overlay<W: Widths>(
     attrs: &CellAttributes,
     w: &W,
 ) -> Result<(), AllocError>
-    ensures { OnOk result (row_of_cells cells.new.items ≡ overlaid (row_of_cells cells.old.items) start (text_cells (W.width_of w.now) text.now attrs.now)) }
+    ensures { OnOk result
+        (row_of_cells cells.new.items
+        ≡ overlaid (row_of_cells cells.old.items) start (text_cells (W.width_of w.now) text.now attrs.now)) }
 {
     let mut at = start;
     for cluster in text.graphemes(true) {

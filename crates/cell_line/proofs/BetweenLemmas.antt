@@ -9,12 +9,12 @@ use Rattle.std.specs.Prelude.{nat_le, nat_lt, ◌&&◌, filter, if◌then◌else
 use Rattle.cell_base.specs.Attributes.{Attributes, plain}
 use Rattle.cell_base.specs.CellContent.{CellContent, blank_cell, row_of_cells}
 use Rattle.cell_base.specs.Row.{Narrow, LeftHalf, RightHalf, Row, space, blank}
-use Rattle.cell_edits.specs.CellList.{ends_halved}
+use Rattle.cell_edits.specs.CellList.{ends_split}
 use Rattle.cell_edits.specs.CellList.{cell_columns}
 use Rattle.cell_edits.specs.VisibleCells.{VisibleCell, visible_at, visible_from, visible_cells, cells_between, row_of_visible}
 use Rattle.cell_edits.proofs.CellLemmas.{by_test, halved_more, row_joined, length-row}
 
-pub halved_some : (cells : List CellContent) (n : ℕ) → n ≡ length cells → ends_halved (take n cells) ≡ true → 0 < n
+pub halved_some : (cells : List CellContent) (n : ℕ) → n ≡ length cells → ends_split (take n cells) ≡ true → 0 < n
 halved_some [] zero e h = absurd (false≢true h)
 halved_some [] (suc n) e h = omega arith
 halved_some (c ∷ cells) zero e h = absurd (omega arith)
@@ -26,11 +26,11 @@ last_parts true false e = (refl, refl)
 last_parts true true e = absurd (false≢true e)
 last_parts false before e = absurd (false≢true e)
 
-pub halved_last : (cells : List CellContent) (n m : ℕ) (d : CellContent) → n ≡ length cells → m ≡ n - 1 → ends_halved (take n cells) ≡ true → (nat_le 2 (get_or cells m d).width ≡ true) × (ends_halved (take m cells) ≡ false)
+pub halved_last : (cells : List CellContent) (n m : ℕ) (d : CellContent) → n ≡ length cells → m ≡ n - 1 → ends_split (take n cells) ≡ true → (nat_le 2 (get_or cells m d).width ≡ true) × (ends_split (take m cells) ≡ false)
 halved_last cells n m d e on h =
     let some = halved_some cells n e h in
     let next : suc m ≡ n = omega arith in
-    last_parts (nat_le 2 (get_or cells m d).width) (ends_halved (take m cells)) (sym (halved_more cells m d (omega arith)) ∙ ap (λ k. ends_halved (take k cells)) next ∙ h)
+    last_parts (nat_le 2 (get_or cells m d).width) (ends_split (take m cells)) (sym (halved_more cells m d (omega arith)) ∙ ap (λ k. ends_split (take k cells)) next ∙ h)
 
 visible_last : (i : ℕ) (row : Row) (a : Attributes) → visible_from i (row ++ blank a ∷ []) ≡ visible_from i row ++ visible_at (i + length row) space 1 a ∷ []
 visible_last i [] a = let on : i ≡ i + 0 = omega arith in ap (λ k. visible_at k space 1 a ∷ []) on
@@ -45,7 +45,7 @@ not_le : (a b : ℕ) → b < a → nat_le a b ≡ false
 not_le a b l = elim (leb_tells a b) [ inl e ↦ absurd (omega arith) | inr e ↦ e.0 ]
 
 -- a range of them is the range of the whole ones and, where it reaches the last, the blank that this is read as
-between_last : (cells : List CellContent) (n m start end : ℕ) (d : CellContent) → n ≡ length cells → m ≡ n - 1 → ends_halved (take n cells) ≡ true
+between_last : (cells : List CellContent) (n m start end : ℕ) (d : CellContent) → n ≡ length cells → m ≡ n - 1 → ends_split (take n cells) ≡ true
     → row_of_visible (cells_between start end (row_of_cells cells))
     ≡ row_of_visible (cells_between start end (row_of_cells (take m cells))) ++ (if nat_le start m && nat_lt m end then blank (get_or cells m d).attributes ∷ [] else [])
 between_last cells n m start end d e on h =
@@ -67,7 +67,7 @@ between_last cells n m start end d e on h =
     ∙ flat_map-append (λ v. cell_columns v.cell) (filter p (visible_cells columns)) (filter p (visible_at m space 1 a ∷ []))
     ∙ ap (λ (r : Row). row_of_visible (filter p (visible_cells columns)) ++ r) (by_test (nat_le start m && nat_lt m end) (λ t. rw t refl) (λ t. rw t refl))
 
-pub between_within : (cells : List CellContent) (start end : ℕ) (x : CellContent) → ends_halved (take (length cells) cells) ≡ true → start ≤ length cells - 1 → length cells - 1 < end → x ≡ get_or cells (length cells - 1) x
+pub between_within : (cells : List CellContent) (start end : ℕ) (x : CellContent) → ends_split (take (length cells) cells) ≡ true → start ≤ length cells - 1 → length cells - 1 < end → x ≡ get_or cells (length cells - 1) x
     → row_of_visible (cells_between start end (row_of_cells cells)) ≡ row_of_visible (cells_between start end (row_of_cells (take (length cells - 1) cells))) ++ blank x.attributes ∷ []
 between_within cells start end x h from to is =
     let m = length cells - 1 in
@@ -75,7 +75,7 @@ between_within cells start end x h from to is =
     between_last cells (length cells) m start end x refl refl h
     ∙ (λ i. front ++ (if le-leb start m from i && lt-ltb m end to i then blank (sym is i).attributes ∷ [] else []))
 
-pub between_before : (cells : List CellContent) (start end : ℕ) → ends_halved (take (length cells) cells) ≡ true → end ≤ length cells - 1
+pub between_before : (cells : List CellContent) (start end : ℕ) → ends_split (take (length cells) cells) ≡ true → end ≤ length cells - 1
     → row_of_visible (cells_between start end (row_of_cells cells)) ≡ row_of_visible (cells_between start end (row_of_cells (take (length cells - 1) cells)))
 between_before cells start end h to =
     let m = length cells - 1 in
@@ -84,9 +84,9 @@ between_before cells start end h to =
     ∙ ap (λ t. front ++ (if nat_le start m && t then blank (get_or cells m (blank_cell plain)).attributes ∷ [] else [])) (le-ltb m end to)
     ∙ by_test (nat_le start m) (λ t. rw t (append-nil front)) (λ t. rw t (append-nil front))
 
-pub between_behind : (cells : List CellContent) (start end : ℕ) → ends_halved (take (length cells) cells) ≡ true → length cells - 1 < start
+pub between_after : (cells : List CellContent) (start end : ℕ) → ends_split (take (length cells) cells) ≡ true → length cells - 1 < start
     → row_of_visible (cells_between start end (row_of_cells cells)) ≡ row_of_visible (cells_between start end (row_of_cells (take (length cells - 1) cells)))
-between_behind cells start end h from =
+between_after cells start end h from =
     let m = length cells - 1 in
     let front : Row = row_of_visible (cells_between start end (row_of_cells (take m cells))) in
     between_last cells (length cells) m start end (blank_cell plain) refl refl h

@@ -6,13 +6,13 @@ use Rattle.cell_base.specs.declared.color.ColorAttribute.{ColorAttribute}
 use Rattle.cell_base.specs.declared.color.ColorAttribute.TheVariants.{TrueColorWithPaletteFallback, TrueColorWithDefaultFallback, PaletteIndex, Default}
 use Rattle.cell_base.specs.Attributes.{Attributes, blank_of}
 use Rattle.cell_base.specs.CellContent.{CellContent}
-use Rattle.cell_change.specs.CellChanges.{attributes_due, cells_written, pen_behind, clear_due, cleared_written, row_written}
-use Rattle.cell_change.specs.CellRuns.{is_blank_of, background_at_end, less_blanks}
-use Rattle.cell_change.specs.ChangeValue.{ChangeValue, ClearToEndOfLine}
-use Rattle.cell_change.specs.UpToLast.{up_to_last}
-use Rattle.cell_change.specs.Written.{Written, begun, finished, with_attributes, with_cells}
-use Rattle.cell_change.proofs.RunLemmas.{cells_are_written, pen_is_behind, attributes_written}
-use Rattle.cell_line.specs.OpenChanges.{last_beside, written_with_clear}
+use Rattle.screen_change.specs.CellChanges.{attributes_due, cells_written, last_pen, clear_due, cleared_written, row_written}
+use Rattle.screen_change.specs.CellRuns.{is_blank_of, background_at_end, less_blanks}
+use Rattle.screen_change.specs.ChangeValue.{ChangeValue, ClearToEndOfLine}
+use Rattle.cell_base.specs.UpToLast.{up_to_last}
+use Rattle.screen_change.specs.Written.{Written, begun, finished, with_attributes, with_cells}
+use Rattle.screen_change.proofs.RunLemmas.{cells_are_written, pen_is_after, attributes_written}
+use Rattle.cell_line.specs.OpenChanges.{last_non_blank, written_with_clear}
 use Rattle.cell_views.specs.OpenZones.{is_kept_by}
 use Rattle.cell_edits.specs.VisibleCells.{VisibleCell, contents}
 use Rattle.cell_edits.proofs.CellLemmas.{by_test}
@@ -34,8 +34,8 @@ with_clear start cells color cs w e is =
     e
     ∙ ap (λ (ds : List ChangeValue). ds ++ clear_due color) (attributes_written (blank_of color) w)
     ∙ ap (λ (v : Written). (finished v ++ attributes_due v.pen (blank_of color)) ++ clear_due color) is
-    ∙ ap (λ (p : Attributes). (finished (with_cells (begun start) cells) ++ attributes_due p (blank_of color)) ++ clear_due color) (pen_is_behind (begun start) cells)
-    ∙ ap (λ (ds : List ChangeValue). (ds ++ attributes_due (pen_behind start cells) (blank_of color)) ++ clear_due color) (cells_are_written (begun start) cells refl)
+    ∙ ap (λ (p : Attributes). (finished (with_cells (begun start) cells) ++ attributes_due p (blank_of color)) ++ clear_due color) (pen_is_after (begun start) cells)
+    ∙ ap (λ (ds : List ChangeValue). (ds ++ attributes_due (last_pen start cells) (blank_of color)) ++ clear_due color) (cells_are_written (begun start) cells refl)
 
 -- ---- the cells before the blanks
 
@@ -68,7 +68,7 @@ pub row_without_blanks : (start : Attributes) (cells : List CellContent) → bac
 row_without_blanks start cells e = row_with start cells None e
 
 -- all cells are blanks
-pub row_of_blanks : (start : Attributes) (color : ColorAttribute) (cells : List VisibleCell) → AreInOrder 0 cells → background_at_end (contents cells) ≡ Some color → last_beside color cells ≡ None
+pub row_of_blanks : (start : Attributes) (color : ColorAttribute) (cells : List VisibleCell) → AreInOrder 0 cells → background_at_end (contents cells) ≡ Some color → last_non_blank color cells ≡ None
     → row_written start (contents cells) ≡ clear_due color
 row_of_blanks start color cells order e none =
     row_with start (contents cells) (Some color) e
@@ -76,16 +76,16 @@ row_of_blanks start color cells order e none =
     (λ all. ap (λ (cs : List CellContent). cleared_written start cs (Some color)) (sym (contents_up_to (λ cell. not (is_blank_of color cell)) cells) ∙ ap contents (up_to_none (λ v. is_blank_of color v.cell) cells all)))
     (λ some. let k = kept (λ v. is_blank_of color v.cell) None 0 cells order some in absurd (none_some k.column (sym none ∙ k.is)))
 
-clear_behind_some : (start : Attributes) (color : ColorAttribute) (cells : List CellContent) → 0 < length cells → cleared_written start cells (Some color) ≡ written_with_clear start cells color
-clear_behind_some start color [] p = absurd (omega (arith, p))
-clear_behind_some start color (cell ∷ cells) p = refl
+clear_after_some : (start : Attributes) (color : ColorAttribute) (cells : List CellContent) → 0 < length cells → cleared_written start cells (Some color) ≡ written_with_clear start cells color
+clear_after_some start color [] p = absurd (omega (arith, p))
+clear_after_some start color (cell ∷ cells) p = refl
 
 same_count : (cells : List VisibleCell) → length (contents cells) ≡ length cells
 same_count [] = refl
 same_count (v ∷ cells) = ap (λ n. suc n) (same_count cells)
 
 -- cells before the blanks
-pub row_before_blanks : (start : Attributes) (color : ColorAttribute) (last : ℕ) (cells : List VisibleCell) → AreInOrder 0 cells → background_at_end (contents cells) ≡ Some color → last_beside color cells ≡ Some last
+pub row_before_blanks : (start : Attributes) (color : ColorAttribute) (last : ℕ) (cells : List VisibleCell) → AreInOrder 0 cells → background_at_end (contents cells) ≡ Some color → last_non_blank color cells ≡ Some last
     → row_written start (contents cells) ≡ written_with_clear start (contents (filter (λ v. is_kept_by (Some last) v.column) cells)) color
 row_before_blanks start color last cells order e is =
     by_test (list_all (λ v. is_blank_of color v.cell) cells)
@@ -99,5 +99,5 @@ row_before_blanks start color last cells order e is =
     subst (λ (cs : List CellContent). 0 < length cs) (contents_up_to (λ cell. not (is_blank_of color cell)) cells)
     (subst (λ (n : ℕ). 0 < n) (sym (same_count (up_to_last (λ v. not (is_blank_of color v.cell)) cells))) (some_up_to (λ v. is_blank_of color v.cell) cells some)) in
     row_with start (contents cells) (Some color) e
-    ∙ clear_behind_some start color (up_to_last (λ cell. not (is_blank_of color cell)) (contents cells)) many
+    ∙ clear_after_some start color (up_to_last (λ cell. not (is_blank_of color cell)) (contents cells)) many
     ∙ ap (λ (cs : List CellContent). written_with_clear start cs color) (sym front))

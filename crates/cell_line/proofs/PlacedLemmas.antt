@@ -3,7 +3,7 @@ use Rattle.std.proofs.Common.{◌≡◌, ℕ, ◌+◌, Bool, true, false, List, 
 use Rattle.std.specs.Prelude.{nat_lt, ◌&&◌, map, filter, if◌then◌else◌}
 use Rattle.cell_base.specs.CellContent.{CellContent, row_of_cells}
 use Rattle.cell_base.specs.Row.{Row}
-use Rattle.cell_edits.specs.CellList.{ends_halved, cell_columns}
+use Rattle.cell_edits.specs.CellList.{ends_split, cell_columns}
 use Rattle.cell_edits.specs.VisibleCells.{VisibleCell, visible_cells, contents, row_end_wrapped}
 use Rattle.cell_views.specs.OpenZones.{is_kept_by}
 use Rattle.cell_views.specs.ReadCells.{read_from}
@@ -18,7 +18,7 @@ rows_of_seen width row (v ∷ cells) =
     (λ i. if nat_lt 0 (length row) && nat_lt width (length row + length (seen_columns v i)) then row_end_wrapped true row ∷ rows_from width (seen_columns v i) (contents (map seen cells)) else rows_from width (row ++ seen_columns v i) (contents (map seen cells)))
     ∙ (λ i. if breaks width (length row) v.cell then row_end_wrapped true row ∷ rows_of_seen width (cell_columns v.cell) cells i else rows_of_seen width (row ++ cell_columns v.cell) cells i)
 
-pub rows_read : (width : ℕ) (cells : List CellContent) → ends_halved cells ≡ false
+pub rows_read : (width : ℕ) (cells : List CellContent) → ends_split cells ≡ false
     → rows_from width [] (contents (filter (λ v. is_kept_by (last_text (visible_cells (row_of_cells cells))) v.column) (read_from 0 cells))) ≡ rows_from width [] (contents (texts_up_to (visible_cells (row_of_cells cells))))
 rows_read width cells h =
     let p : ℕ → Bool = is_kept_by (last_text (visible_cells (row_of_cells cells))) in

@@ -13,7 +13,7 @@ use Rattle.cell_line.specs.Wrapped.{begins_row, continued, rows_of, texts_kept}
 use Rattle.cell_line.specs.OpenRows.{breaks, rows_from}
 use Rattle.cell_edits.proofs.CellLemmas.{by_test}
 use Rattle.cell_edits.proofs.CutLemmas.{length-cell_columns}
-use Rattle.cell_views.proofs.GroupLemmas.{some_groups, fold_behind}
+use Rattle.cell_views.proofs.GroupLemmas.{some_groups, fold_after}
 use Rattle.cell_views.proofs.KeptLemmas.{some_up_to}
 
 -- ---- rows
@@ -35,10 +35,10 @@ some_columns (v ∷ cells) p =
     lt-ltb 0 (length (row_of_visible (v ∷ cells))) (elim (length-cell_columns v.cell) [ inl e ↦ omega arith | inr e ↦ omega arith ])
 
 -- behind the cells of an open row
-rows_behind : (width : ℕ) (before cells : List VisibleCell) → 0 < length before
+rows_after : (width : ℕ) (before cells : List VisibleCell) → 0 < length before
     → rows_from width (row_of_visible before) (contents cells) ≡ continued (map row_of_visible (fold (joined (begins_row width)) (before ∷ []) cells))
-rows_behind width before [] p = refl
-rows_behind width before (v ∷ cells) p =
+rows_after width before [] p = refl
+rows_after width before (v ∷ cells) p =
     let row : Row = row_of_visible before in
     let rest : Bool → List Row = λ t. if t then row_end_wrapped true row ∷ rows_from width (cell_columns v.cell) (contents cells) else rows_from width (row ++ cell_columns v.cell) (contents cells) in
     let groups : Bool → List Row = λ t. continued (map row_of_visible (fold (joined (begins_row width)) (if t then before ∷ (v ∷ []) ∷ [] else (before ++ v ∷ []) ∷ []) cells)) in
@@ -48,13 +48,13 @@ rows_behind width before (v ∷ cells) p =
     ∙ by_test begins
     (λ b. ap rest b
     ∙ ap (λ (r : Row). row_end_wrapped true row ∷ rows_from width r (contents cells)) (sym (row_of_one v))
-    ∙ ap (λ (rs : List Row). row_end_wrapped true row ∷ rs) (rows_behind width (v ∷ []) cells (omega arith))
+    ∙ ap (λ (rs : List Row). row_end_wrapped true row ∷ rs) (rows_after width (v ∷ []) cells (omega arith))
     ∙ sym (continued-behind row (map row_of_visible (fold (joined (begins_row width)) ((v ∷ []) ∷ []) cells)) (some_rows width v cells))
-    ∙ ap (λ (gs : List (List VisibleCell)). continued (map row_of_visible gs)) (sym (fold_behind (begins_row width) before ((v ∷ []) ∷ []) cells (omega arith)))
+    ∙ ap (λ (gs : List (List VisibleCell)). continued (map row_of_visible gs)) (sym (fold_after (begins_row width) before ((v ∷ []) ∷ []) cells (omega arith)))
     ∙ sym (ap groups b))
     (λ b. ap rest b
     ∙ ap (λ (r : Row). rows_from width r (contents cells)) (sym (row_with_one before v))
-    ∙ rows_behind width (before ++ v ∷ []) cells (some_more before v)
+    ∙ rows_after width (before ++ v ∷ []) cells (some_more before v)
     ∙ sym (ap groups b))
   where
     some_rows : (width : ℕ) (v : VisibleCell) (cells : List VisibleCell) → 0 < length (map row_of_visible (fold (joined (begins_row width)) ((v ∷ []) ∷ []) cells))
@@ -69,7 +69,7 @@ rows_behind width before (v ∷ cells) p =
 
 pub rows_filled : (width : ℕ) (cells : List VisibleCell) → 0 < length cells → rows_from width [] (contents cells) ≡ rows_of width cells
 rows_filled width [] p = absurd (omega arith)
-rows_filled width (v ∷ cells) p = ap (λ (r : Row). rows_from width r (contents cells)) (sym (row_of_one v)) ∙ rows_behind width (v ∷ []) cells (omega arith)
+rows_filled width (v ∷ cells) p = ap (λ (r : Row). rows_from width r (contents cells)) (sym (row_of_one v)) ∙ rows_after width (v ∷ []) cells (omega arith)
 
 -- ---- a line that isn't all spaces keeps a cell
 

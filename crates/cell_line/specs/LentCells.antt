@@ -14,7 +14,9 @@ use Rattle.std.specs.contracts.impls.GlobalAllocator.TheImpl.{ghosts}
 
 -- the line ends with the cells that were last written over those that it lent, one for each column; at `Err` it stays
 abbrev pub LendsCells : {E : Type 0} → MutBor LineContent → Result (MutBor (List CellContent)) E → Fml
-LendsCells s r = LendsSoOk line (Array cell 0) s r (λ new cells. length cells ≡ length s.now.columns → new ≡ cells_mut s.now cells) (λ new. new ≡ s.now)
+LendsCells s r =
+    LendsSoOk line (Array cell 0) s r (λ new cells. length cells ≡ length s.now.columns → new ≡ cells_mut s.now cells)
+    (λ new. new ≡ s.now)
 
 -- the same for the vector that holds them
 abbrev pub LendsStored : {E : Type 0} → MutBor LineContent → Result (MutBor (Vec CellContent)) E → Fml

@@ -8,6 +8,7 @@ pub mod OpenChanges
 pub mod OpenRows
 pub mod SameLine
 pub mod Samples
+pub mod SemanticOrder
 pub mod StoredLines
 pub mod TakenCells
 pub mod Wrapped

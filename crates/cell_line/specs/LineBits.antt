@@ -1,7 +1,9 @@
 -- The bits of a line.
 use Rattle.std.specs.Prelude.{ℕ, ◌==◌, List, [], ◌∷◌, codes, if◌then◌else◌}
 use Rattle.cell_base.specs.declared.attributes.LineAttribute.{LineAttribute}
-use Rattle.cell_base.specs.declared.attributes.LineAttribute.TheVariants.{SingleWidthLine, DoubleWidthLine, DoubleHeightTopHalfLine, DoubleHeightBottomHalfLine}
+use Rattle.cell_base.specs.declared.attributes.LineAttribute.TheVariants.{SingleWidthLine, DoubleWidthLine}
+use Rattle.cell_base.specs.declared.attributes.LineAttribute.TheVariants.{DoubleHeightTopHalfLine}
+use Rattle.cell_base.specs.declared.attributes.LineAttribute.TheVariants.{DoubleHeightBottomHalfLine}
 use Rattle.cell_line.specs.declared.line_bits.BitSet.{BitSet}
 
 -- the bits and their names: double width, and the halves of double height

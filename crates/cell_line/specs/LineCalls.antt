@@ -1,20 +1,31 @@
--- What each call of `Line` gives, under the call's own name: a question's answer, and where a call changes the line, the line that it leaves. A call that is given a number makes it the line's if it is the later one (`changed`), unless something else is said here; and it keeps the line clustered, or one of cells, as it was. A half of a wide cell that is left alone becomes a blank with that cell's attributes: the words for rows (`RowEdits`) see to it. A margin counts columns, so the last column within it is the margin less one.
-use Rattle.std.specs.Prelude.{ℕ, ◌-◌, Bool, true, false, ◌&&◌, ◌||◌, ◌==◌, nat_lt, max, min, List, [], ◌∷◌, ◌++◌, length, map, replicate, Option, if◌then◌else◌}
-use Rattle.cell_base.specs.declared.attributes.LineAttribute.TheVariants.{SingleWidthLine, DoubleWidthLine, DoubleHeightTopHalfLine, DoubleHeightBottomHalfLine}
+-- What each call of `Line` gives, under the call's own name: a question's answer, and where a call changes the line,
+-- the line that it leaves. A call that is given a number makes it the line's if it is the later one (`changed`), unless
+-- something else is said here; and it keeps the line clustered, or one of cells, as it was. A half of a wide cell that
+-- is left alone becomes a blank with that cell's attributes: the words for rows (`RowEdits`) see to it. A margin counts
+-- columns, so the last column within it is the margin less one.
+use Rattle.std.specs.Prelude.{ℕ, ◌-◌, Bool, true, false, ◌&&◌, ◌||◌, ◌==◌, nat_lt, max, min, List, [], ◌∷◌, ◌++◌}
+use Rattle.std.specs.Prelude.{length, map, replicate, Option, if◌then◌else◌}
+use Rattle.cell_base.specs.declared.attributes.LineAttribute.TheVariants.{SingleWidthLine, DoubleWidthLine}
+use Rattle.cell_base.specs.declared.attributes.LineAttribute.TheVariants.{DoubleHeightTopHalfLine}
+use Rattle.cell_base.specs.declared.attributes.LineAttribute.TheVariants.{DoubleHeightBottomHalfLine}
 use Rattle.cell_base.specs.declared.ranges.DoubleClickRange.{DoubleClickRange}
 use Rattle.cell_base.specs.declared.ranges.ZoneRange.{ZoneRange}
 use Rattle.cell_base.specs.Attributes.{Attributes, plain}
 use Rattle.cell_base.specs.CellContent.{CellContent, blank_cell, cell_of, row_of_cells}
 use Rattle.cell_base.specs.SameCell.{same_cell}
 use Rattle.cell_base.specs.Row.{blank, plain_row, set_columns}
-use Rattle.cell_change.specs.CellChanges.{row_written}
-use Rattle.cell_change.specs.ChangeValue.{ChangeValue}
-use Rattle.cell_line.specs.LineContent.{LineContent, line_of, clustered_line_of, changed, changed_unless_empty, with_bits, same_bits}
+use Rattle.screen_change.specs.CellChanges.{row_written}
+use Rattle.screen_change.specs.ChangeValue.{ChangeValue}
+use Rattle.cell_line.specs.LineContent.{LineContent, line_of, clustered_line_of, changed, changed_unless_empty}
+use Rattle.cell_line.specs.LineContent.{with_bits, same_bits}
 use Rattle.cell_edits.specs.CellList.{text_cells, text_row}
 use Rattle.cell_views.specs.Region.{region}
-use Rattle.cell_edits.specs.RowEdits.{cut, cut_front, resized, with_cell, overlaid, with_inserted, removed, erased, erased_within, pruned_row, filled}
-use Rattle.cell_edits.specs.TextRuns.{fitting_cells, place_behind, plain_cells, text_on}
-use Rattle.cell_edits.specs.VisibleCells.{VisibleCell, contents, visible_cells as visible, texts_joined, cells_between, row_of_visible, cell_at, has_link, is_whitespace_row, ends_wrapped, row_end_wrapped}
+use Rattle.cell_edits.specs.RowEdits.{cut, cut_prefix, resized, with_cell, overlaid, with_inserted, removed, erased}
+use Rattle.cell_edits.specs.RowEdits.{erased_within, pruned_row, filled}
+use Rattle.cell_edits.specs.TextRuns.{fitting_cells, place_after, plain_cells, text_on}
+use Rattle.cell_edits.specs.VisibleCells.{VisibleCell, contents, visible_cells as visible, texts_joined, cells_between}
+use Rattle.cell_edits.specs.VisibleCells.{row_of_visible, cell_at, has_link, is_whitespace_row, ends_wrapped}
+use Rattle.cell_edits.specs.VisibleCells.{row_end_wrapped}
 use Rattle.cell_line.specs.Wrapped.{rows_of, texts_kept}
 use Rattle.cell_views.specs.Zones.{zones}
 use Rattle.cell_edits.specs.Links.{has_implicit_link, without_implicit, column_with}
@@ -49,7 +60,8 @@ from_text text attributes number width_of = line_of number (text_row width_of te
 
 -- the same, and the line goes on behind its last visible cell
 abbrev pub from_text_with_wrapped_last_col : List ℕ → Attributes → ℕ → (List ℕ → ℕ) → LineContent
-from_text_with_wrapped_last_col text attributes number width_of = line_of number (row_end_wrapped true (text_row width_of text attributes))
+from_text_with_wrapped_last_col text attributes number width_of =
+    line_of number (row_end_wrapped true (text_row width_of text attributes))
 
 -- a plain cell for each cluster of a text; the number is 0
 abbrev pub try_from_text : List ℕ → (List ℕ → ℕ) → LineContent
@@ -63,9 +75,12 @@ resize line width number = changed line number (resized width line.columns)
 
 -- so many blanks with these attributes, and no bits
 abbrev pub resize_and_clear : LineContent → ℕ → ℕ → Attributes → LineContent
-resize_and_clear line width number attributes = record (changed line number (replicate width (blank attributes))) { bits = SingleWidthLine }
+resize_and_clear line width number attributes =
+    record (changed line number (replicate width (blank attributes))) { bits = SingleWidthLine }
 
--- a line with no text but spaces stays as it is, alone; of another the cells behind the last text that isn't one space go, and the rest stand in rows, each a line of cells with this number and no bits: a cell begins a new row where the row would pass the width, unless it is the row's first, and the last cell of each row but the last one is wrapped
+-- a line with no text but spaces stays as it is, alone; of another the cells behind the last text that isn't one space
+-- go, and the rest stand in rows, each a line of cells with this number and no bits: a cell begins a new row where the
+-- row would pass the width, unless it is the row's first, and the last cell of each row but the last one is wrapped
 abbrev pub wrap : LineContent → ℕ → ℕ → List LineContent
 wrap line width number =
     if is_whitespace_row line.columns then line ∷ []
@@ -115,14 +130,17 @@ is_double_height_bottom line = same_bits line.bits DoubleHeightBottomHalfLine
 
 -- ---- zones, links, cutting and joining, words
 
--- the visible cells up to the last that isn't a plain blank, or all if there is none, in groups of neighbours of one semantic type, as long as may be; each from its first cell's column to its last one's, where columns past 65,535 count as that
+-- the visible cells up to the last that isn't a plain blank, or all if there is none, in groups of neighbours of one
+-- semantic type, as long as may be; each from its first cell's column to its last one's, where columns past 65,535
+-- count as that
 abbrev pub semantic_zone_ranges : LineContent → List ZoneRange
 semantic_zone_ranges line = zones (visible line.columns)
 
 -- links that were found in a text go; where there is none nothing changes, the number neither
 abbrev pub invalidate_implicit_hyperlinks : LineContent → ℕ → LineContent
 invalidate_implicit_hyperlinks line number =
-    if has_implicit_link line.columns then changed line number (map (column_with without_implicit) line.columns) else line
+    if has_implicit_link line.columns then changed line number (map (column_with without_implicit) line.columns)
+    else line
 
 -- the columns before the place, or before the end if that comes first; the number stays
 abbrev pub split_off_kept : LineContent → ℕ → LineContent
@@ -130,13 +148,18 @@ split_off_kept line at = record line { columns = cut (min at (length line.column
 
 -- and what is answered: the columns from there on, as a line of cells with this number and the same bits
 abbrev pub split_off : LineContent → ℕ → ℕ → LineContent
-split_off line at number = record line { number = number; columns = cut_front (min at (length line.columns)) line.columns; clustered = false }
+split_off line at number =
+    record line { number = number; columns = cut_prefix (min at (length line.columns)) line.columns; clustered = false }
 
 -- the other line's columns behind this one's
 abbrev pub append_line : LineContent → LineContent → ℕ → LineContent
 append_line line other number = changed line number (line.columns ++ other.columns)
 
--- nothing at the column, where that is at the end or past it. Else the words are the visible cells whose texts pass the test: up to one past the first column of the last of the unbroken words from the first cell at or behind the column on; down to the first column of the first of the unbroken words from the last cell at or before it back; each the column itself where there is none. With a wrap where the range isn't empty, reaches the end, and the line goes on behind its last visible cell
+-- nothing at the column, where that is at the end or past it. Else the words are the visible cells whose texts pass the
+-- test: up to one past the first column of the last of the unbroken words from the first cell at or behind the column
+-- on; down to the first column of the first of the unbroken words from the last cell at or before it back; each the
+-- column itself where there is none. With a wrap where the range isn't empty, reaches the end, and the line goes on
+-- behind its last visible cell
 abbrev pub compute_double_click_range : LineContent → ℕ → (List ℕ → Bool) → DoubleClickRange
 compute_double_click_range line at is_word = double_click_range is_word at line.columns
 
@@ -166,19 +189,23 @@ set_cell_grapheme line at text width attributes number = set_cell line at (cell_
 
 -- the same for a cell with these attributes for each cluster of a text, side by side from this place on
 abbrev pub overlay_text_with_attribute : LineContent → ℕ → List ℕ → Attributes → ℕ → (List ℕ → ℕ) → LineContent
-overlay_text_with_attribute line at text attributes number width_of = changed line number (overlaid line.columns at (text_cells width_of text attributes))
+overlay_text_with_attribute line at text attributes number width_of =
+    changed line number (overlaid line.columns at (text_cells width_of text attributes))
 
 -- blanks with these attributes in place of the columns of a range; the number stays
 abbrev pub set_blanks : LineContent → ℕ → ℕ → Attributes → LineContent
-set_blanks line start end attributes = record line { columns = set_columns line.columns start (replicate (end - start) (blank attributes)) }
+set_blanks line start end attributes =
+    record line { columns = set_columns line.columns start (replicate (end - start) (blank attributes)) }
 
--- a cell with these attributes for each cluster of a text, side by side from the start of a range on as far as they fit in it; the number stays
+-- a cell with these attributes for each cluster of a text, side by side from the start of a range on as far as they fit
+-- in it; the number stays
 abbrev pub set_text : LineContent → ℕ → ℕ → List ℕ → Attributes → (List ℕ → ℕ) → LineContent
-set_text line start end text attributes width_of = record line { columns = text_on width_of end attributes line.columns start text }
+set_text line start end text attributes width_of =
+    record line { columns = text_on width_of end attributes line.columns start text }
 
 -- the column behind the cells that `set_text` sets
 abbrev pub set_text_end : ℕ → ℕ → List ℕ → Attributes → (List ℕ → ℕ) → ℕ
-set_text_end start end text attributes width_of = place_behind width_of end attributes start text
+set_text_end start end text attributes width_of = place_after width_of end attributes start text
 
 -- how many of the text's clusters `set_text` sets
 abbrev pub set_clusters : ℕ → ℕ → List ℕ → Attributes → (List ℕ → ℕ) → ℕ
@@ -190,21 +217,26 @@ set_plain line at text attributes = record line { columns = overlaid line.column
 
 -- ---- inserting and removing
 
--- the last column within the margin is removed, if the line has it; then, padded with plain blanks to the place, the cell's columns are inserted there
+-- the last column within the margin is removed, if the line has it; then, padded with plain blanks to the place, the
+-- cell's columns are inserted there
 abbrev pub insert_cell : LineContent → ℕ → CellContent → ℕ → ℕ → LineContent
 insert_cell line at cell margin number = changed line number (with_inserted line.columns at cell margin)
 
 -- the column is removed; past the end nothing changes, the number neither
 abbrev pub remove_cell : LineContent → ℕ → ℕ → LineContent
-remove_cell line at number = if nat_lt at (length line.columns) then changed line number (removed at line.columns) else line
+remove_cell line at number =
+    if nat_lt at (length line.columns) then changed line number (removed at line.columns) else line
 
 -- the same, and a plain blank is added at the end
 abbrev pub erase_cell : LineContent → ℕ → ℕ → LineContent
-erase_cell line at number = if nat_lt at (length line.columns) then changed line number (erased at line.columns) else line
+erase_cell line at number =
+    if nat_lt at (length line.columns) then changed line number (erased at line.columns) else line
 
--- the column is removed, if it is there; then a blank with these attributes is inserted as the last column within the margin, if no column before it is missing
+-- the column is removed, if it is there; then a blank with these attributes is inserted as the last column within the
+-- margin, if no column before it is missing
 abbrev pub erase_cell_with_margin : LineContent → ℕ → ℕ → ℕ → Attributes → LineContent
-erase_cell_with_margin line at margin number attributes = changed line number (erased_within line.columns at margin attributes)
+erase_cell_with_margin line at margin number attributes =
+    changed line number (erased_within line.columns at margin attributes)
 
 -- ---- pruning and filling
 
@@ -212,7 +244,8 @@ erase_cell_with_margin line at margin number attributes = changed line number (e
 abbrev pub prune_trailing_blanks : LineContent → ℕ → LineContent
 prune_trailing_blanks line number = changed_unless_empty line number (pruned_row line.columns)
 
--- the cell is set at each column of a range in turn, and the line is then pruned; nothing changes for a plain blank on a line of no columns
+-- the cell is set at each column of a range in turn, and the line is then pruned; nothing changes for a plain blank on
+-- a line of no columns
 abbrev pub fill_range : LineContent → ℕ → ℕ → CellContent → ℕ → LineContent
 fill_range line start end cell number =
     if length line.columns == 0 && same_cell cell (blank_cell plain) then line
@@ -240,7 +273,8 @@ has_hyperlink line = has_link line.columns
 abbrev pub visible_cells : LineContent → List VisibleCell
 visible_cells line = visible line.columns
 
--- the visible cells of a range of columns: a cell that an edge cuts is a blank with its attributes for each column within
+-- the visible cells of a range of columns: a cell that an edge cuts is a blank with its attributes for each column
+-- within
 abbrev pub visible_cells_between : LineContent → ℕ → ℕ → List VisibleCell
 visible_cells_between line start end = region start end line.columns
 
@@ -248,7 +282,10 @@ visible_cells_between line start end = region start end line.columns
 abbrev pub cluster : LineContent → List ClusterContent
 cluster line = cell_clusters (visible line.columns)
 
--- the changes that write the line with these attributes in force at first, on blanks: each run of visible cells of equal attributes has its attributes, unless they are in force, and then its texts; in place of blanks at the end, plain but for one background, their attributes stand, where other cells stand before them, and a clear to the end of the line, unless the background is the default
+-- the changes that write the line with these attributes in force at first, on blanks: each run of visible cells of
+-- equal attributes has its attributes, unless they are in force, and then its texts; in place of blanks at the end,
+-- plain but for one background, their attributes stand, where other cells stand before them, and a clear to the end of
+-- the line, unless the background is the default
 abbrev pub changes : LineContent → Attributes → List ChangeValue
 changes line start = row_written start (contents (visible line.columns))
 
@@ -274,6 +311,7 @@ set_last_cell_was_wrapped line wrapped number = changed line number (row_end_wra
 
 -- ---- lent cells
 
--- the cells that are left where they were lent, one for each column, are read from the left again, and the line is one of cells; number and bits stay. `cells_mut_for_attr_changes_only` gives the same
+-- the cells that are left where they were lent, one for each column, are read from the left again, and the line is one
+-- of cells; number and bits stay. `cells_mut_for_attr_changes_only` gives the same
 abbrev pub cells_mut : LineContent → List CellContent → LineContent
 cells_mut line cells = record line { columns = row_of_cells cells; clustered = false }

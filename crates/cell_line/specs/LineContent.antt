@@ -1,10 +1,14 @@
 -- A line as a value: its number, its bits, its columns, and how these are kept.
 use Rattle.std.specs.Prelude.{◌≡◌, ℕ, Bool, true, false, max, [], ◌∷◌}
 use Rattle.cell_base.specs.declared.attributes.LineAttribute.{LineAttribute}
-use Rattle.cell_base.specs.declared.attributes.LineAttribute.TheVariants.{SingleWidthLine, DoubleWidthLine, DoubleHeightTopHalfLine, DoubleHeightBottomHalfLine}
+use Rattle.cell_base.specs.declared.attributes.LineAttribute.TheVariants.{SingleWidthLine, DoubleWidthLine}
+use Rattle.cell_base.specs.declared.attributes.LineAttribute.TheVariants.{DoubleHeightTopHalfLine}
+use Rattle.cell_base.specs.declared.attributes.LineAttribute.TheVariants.{DoubleHeightBottomHalfLine}
 use Rattle.cell_base.specs.Row.{Row}
 
--- the number of its last change, its bits (a line of single width has none), its columns, and whether it is clustered: kept as one text and runs of equal attributes, and not as cells. What that means, `IsKept` says of what `stored` lends
+-- the number of its last change, its bits (a line of single width has none), its columns, and whether it is clustered:
+-- kept as one text and runs of equal attributes, and not as cells. What that means, `IsKept` says of what `stored`
+-- lends
 pub record LineContent : Type 0 where
   pub number : ℕ
   pub bits : LineAttribute
@@ -17,9 +21,11 @@ line_of number columns = record { number = number; bits = SingleWidthLine; colum
 
 -- a clustered line with no bits
 abbrev pub clustered_line_of : ℕ → Row → LineContent
-clustered_line_of number columns = record { number = number; bits = SingleWidthLine; columns = columns; clustered = true }
+clustered_line_of number columns =
+    record { number = number; bits = SingleWidthLine; columns = columns; clustered = true }
 
--- a line is clustered: its columns are kept as one text, the sizes of its cells, runs of equal attributes and the blanks behind these, as `stored` tells
+-- a line is clustered: its columns are kept as one text, the sizes of its cells, runs of equal attributes and the
+-- blanks behind these, as `stored` tells
 abbrev pub IsClustered : LineContent → Type 0
 IsClustered line = line.clustered ≡ true
 

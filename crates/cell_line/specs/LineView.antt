@@ -11,7 +11,8 @@ columns_kept true a = a.row
 columns_kept false a = row_of_cells a.cells.items
 
 abbrev pub content_of : Inside → LineContent
-content_of a = record { number = a.number; bits = a.bits; columns = columns_kept a.is_clustered a; clustered = a.is_clustered }
+content_of a =
+    record { number = a.number; bits = a.bits; columns = columns_kept a.is_clustered a; clustered = a.is_clustered }
 
 -- beside a clustered row no cells are kept
 abbrev pub IsKeptOnce : Inside → Type 0

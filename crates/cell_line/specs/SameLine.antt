@@ -18,12 +18,19 @@ pub same_line_decides : (a b : LineContent) → Decides (same_line a b) (SameSho
 unfolding same_line
 same_line_decides a b =
     let both = is_same_decides the_row.coded (of_cells a) (of_cells b) in (
-      λ e. let same = both.0 e in record { number = λ i. (same i).number; bits = λ i. (same i).bits; columns = λ i. (same i).columns },
-      λ same. both.1 (λ i. record { number = same.number i; bits = same.bits i; columns = same.columns i; clustered = false }),
+      λ e. let same =
+          both.0 e in record
+          { number = λ i. (same i).number; bits = λ i. (same i).bits; columns = λ i. (same i).columns },
+      λ same. both.1
+          (λ i. record { number = same.number i; bits = same.bits i; columns = same.columns i; clustered = false }),
     )
 
 pub same_line_equivalence : IsEquivalence same_line
 unfolding same_line
 same_line_equivalence =
     let same = is_same_equivalence the_row.coded in
-    record { refl = λ a. same.refl (of_cells a); symm = λ a b. same.symm (of_cells a) (of_cells b); congr = λ a b c. same.congr (of_cells a) (of_cells b) (of_cells c) }
+    record {
+      refl = λ a. same.refl (of_cells a);
+      symm = λ a b. same.symm (of_cells a) (of_cells b);
+      congr = λ a b c. same.congr (of_cells a) (of_cells b) (of_cells c);
+    }

@@ -4,7 +4,7 @@ use Rattle.cell_base.specs.Row.{Row}
 use Rattle.cell_edits.specs.CellList.{cell_columns}
 use Rattle.cell_views.specs.Groups.{groups_by}
 use Rattle.cell_edits.specs.VisibleCells.{VisibleCell, is_space, row_of_visible, row_end_wrapped}
-use Rattle.cell_change.specs.UpToLast.{up_to_last}
+use Rattle.cell_base.specs.UpToLast.{up_to_last}
 
 -- whether a cell begins a new row behind the cells of the last one: the row would pass the width
 abbrev pub begins_row : ℕ → List VisibleCell → VisibleCell → Bool

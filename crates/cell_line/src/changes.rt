@@ -1,21 +1,21 @@
 //! The changes that write a line.
 ghost use Rattle.std.specs.Prelude.{◌≡◌, ◌++◌, [], ◌∷◌, not, map, filter, OnOk, IfOk, Some, if◌then◌else◌};
 ghost use Rattle.cell_base.specs.Attributes.{blank_of};
-ghost use Rattle.cell_change.specs.CellChanges.{cells_written, clear_due, row_written};
-ghost use Rattle.cell_change.specs.CellRuns.{is_blank_of, background_at_end};
-ghost use Rattle.cell_change.specs.ValueOf.{value_of};
-ghost use Rattle.cell_change.specs.Written.{finished, with_cells};
+ghost use Rattle.screen_change.specs.CellChanges.{cells_written, clear_due, row_written};
+ghost use Rattle.screen_change.specs.CellRuns.{is_blank_of, background_at_end};
+ghost use Rattle.screen_change.specs.ValueOf.{value_of};
+ghost use Rattle.screen_change.specs.Written.{finished, with_cells};
 ghost use Rattle.cell_views.specs.CellRefView.{shown_by};
-ghost use Rattle.cell_line.specs.OpenChanges.{background_of, last_beside, written_with_clear};
+ghost use Rattle.cell_line.specs.OpenChanges.{background_of, last_non_blank, written_with_clear};
 ghost use Rattle.cell_views.specs.OpenZones.{is_kept_by};
 ghost use Rattle.cell_views.specs.StoredCells.{stored_row};
 ghost use Rattle.cell_edits.specs.VisibleCells.{visible_cells, contents};
 
 use cell_base::{CellAttributes, ColorAttribute};
-use cell_change::{CellWriter, Change};
 use cell_views::query::is_space;
 use cell_views::zones::is_kept;
 use cell_views::{CellRef, StoredCells, VisibleCellIter};
+use screen_change::{CellWriter, Change};
 use std::alloc::{AllocError, Global};
 
 // Plain attributes on a background.
@@ -28,7 +28,7 @@ fn blank_attrs(color: ColorAttribute) -> CellAttributes
 }
 
 // Whether the cell is one space, plain but for this background.
-#[tactic(auto, unfolding(cell_change::specs::CellRuns::is_blank_of))]
+#[tactic(auto, unfolding(screen_change::specs::CellRuns::is_blank_of))]
 fn is_blank_of(color: ColorAttribute, cell: &CellRef<'_>) -> bool
     ensures { result ≡ is_blank_of color (shown_by cell.now).cell }
 {
@@ -59,7 +59,7 @@ fn background_at_end(cells: StoredCells<'_>) -> Option<ColorAttribute>
 }
 
 // The column of the cell, unless it is a blank of this background.
-fn column_beside(color: ColorAttribute, last: Option<usize>, cell: &CellRef<'_>) -> Option<usize>
+fn later_non_blank(color: ColorAttribute, last: Option<usize>, cell: &CellRef<'_>) -> Option<usize>
     ensures { result ≡ (if is_blank_of color (shown_by cell.now).cell then last else Some (shown_by cell.now).column) }
 {
     if is_blank_of(color, cell) {
@@ -70,12 +70,12 @@ fn column_beside(color: ColorAttribute, last: Option<usize>, cell: &CellRef<'_>)
 }
 
 // The column of the last cell that isn't a blank of this background.
-fn last_beside(cells: StoredCells<'_>, color: ColorAttribute) -> Option<usize>
-    ensures { result ≡ last_beside color (visible_cells (stored_row cells.entry)) }
+fn last_non_blank(cells: StoredCells<'_>, color: ColorAttribute) -> Option<usize>
+    ensures { result ≡ last_non_blank color (visible_cells (stored_row cells.entry)) }
 {
     let mut last = None;
     for cell in VisibleCellIter::new(cells) {
-        last = column_beside(color, last, &cell);
+        last = later_non_blank(color, last, &cell);
     }
     last
 }
@@ -86,7 +86,10 @@ fn write_cells<'a>(
     cells: StoredCells<'a>,
     last: Option<usize>,
 ) -> Result<(), AllocError>
-    ensures { OnOk result (writer.new ≡ with_cells writer.old (contents (filter (λ v. is_kept_by last v.column) (visible_cells (stored_row cells.entry))))) }
+    ensures { OnOk result
+        (writer.new
+        ≡ with_cells writer.old
+        (contents (filter (λ v. is_kept_by last v.column) (visible_cells (stored_row cells.entry))))) }
 {
     for cell in VisibleCellIter::new(cells) {
         if is_kept(last, cell.cell_index()) {
@@ -124,15 +127,41 @@ fn clear_alone(
 }
 
 // All cells.
-fn all_written(
+fn all_written<'a>(
     alloc: Global,
-    cells: StoredCells<'_>,
-    start: &CellAttributes,
+    cells: StoredCells<'a>,
+    start: &'a CellAttributes,
 ) -> Result<Vec<Change>, AllocError>
-    ensures { IfOk result (λ changes. map value_of changes.items ≡ cells_written start.now (contents (visible_cells (stored_row cells.entry)))) }
+    ensures { IfOk result
+        (λ changes. map value_of changes.items
+        ≡ cells_written start.now (contents (visible_cells (stored_row cells.entry)))) }
 {
     let mut writer = CellWriter::new(alloc, start);
     write_cells(&mut writer, cells, None)?;
+    let changes = writer.finish()?;
+    Ok(changes)
+}
+
+// The cells up to a column, and a clear behind them that leaves blanks with these attributes.
+fn written_before<'a>(
+    alloc: Global,
+    cells: StoredCells<'a>,
+    start: &'a CellAttributes,
+    last: usize,
+    color: ColorAttribute,
+    blank: &'a CellAttributes,
+) -> Result<Vec<Change>, AllocError>
+    requires { blank.now ≡ blank_of color }
+    ensures { IfOk result
+        (λ changes. map value_of changes.items
+        ≡ written_with_clear start.now
+        (contents (filter (λ v. is_kept_by (Some last) v.column) (visible_cells (stored_row cells.entry))))
+        color) }
+{
+    let mut writer = CellWriter::new(alloc, start);
+    write_cells(&mut writer, cells, Some(last))?;
+    writer.set_attributes(blank)?;
+    write_clear(&mut writer, color)?;
     let changes = writer.finish()?;
     Ok(changes)
 }
@@ -145,14 +174,14 @@ fn written_with_clear(
     last: usize,
     color: ColorAttribute,
 ) -> Result<Vec<Change>, AllocError>
-    ensures { IfOk result (λ changes. map value_of changes.items ≡ written_with_clear start.now (contents (filter (λ v. is_kept_by (Some last) v.column) (visible_cells (stored_row cells.entry)))) color) }
+    ensures { IfOk result
+        (λ changes. map value_of changes.items
+        ≡ written_with_clear start.now
+        (contents (filter (λ v. is_kept_by (Some last) v.column) (visible_cells (stored_row cells.entry))))
+        color) }
 {
     let blank = blank_attrs(color);
-    let mut writer = CellWriter::new(alloc, start);
-    write_cells(&mut writer, cells, Some(last))?;
-    writer.set_attributes(&blank)?;
-    write_clear(&mut writer, color)?;
-    let changes = writer.finish()?;
+    let changes = written_before(alloc, cells, start, last, color, &blank)?;
     Ok(changes)
 }
 
@@ -162,13 +191,15 @@ pub(crate) fn changes(
     cells: StoredCells<'_>,
     start: &CellAttributes,
 ) -> Result<Vec<Change>, AllocError>
-    ensures { IfOk result (λ changes. map value_of changes.items ≡ row_written start.now (contents (visible_cells (stored_row cells.entry)))) }
+    ensures { IfOk result
+        (λ changes. map value_of changes.items
+        ≡ row_written start.now (contents (visible_cells (stored_row cells.entry)))) }
 {
     let Some(color) = background_at_end(cells) else {
         let changes = all_written(alloc, cells, start)?;
         return Ok(changes);
     };
-    match last_beside(cells, color) {
+    match last_non_blank(cells, color) {
         None => {
             let changes = clear_alone(alloc, start, color)?;
             Ok(changes)

@@ -7,10 +7,15 @@ pub mod laws;
 mod lent_cells;
 mod line;
 mod line_bits;
-mod line_runs;
+mod line_cells;
+mod line_size;
 mod line_storage;
+mod line_views;
+mod line_width;
+pub mod row_writing;
 mod stored_line;
 mod taken_cells;
+mod unequal;
 mod wrap;
 
 pub use cell_views::{CellCluster, CellRef, RegionIter, VisibleCellIter};

@@ -1,5 +1,5 @@
 //! How a line keeps its columns: as cells, or clustered.
-ghost use Rattle.std.specs.Prelude.{◌≡◌, true, length, vec_len, if◌then◌else◌, IfOk, OnOk, OnErr, IsTrue};
+ghost use Rattle.std.specs.Prelude.{◌≡◌, true, length, vec_len, if◌then◌else◌, IfOk, OnOk, OnErr};
 ghost use Rattle.cell_base.specs.CellContent.{row_of_cells};
 ghost use Rattle.cell_edits.specs.ShownCells.{lent_cells};
 ghost use Rattle.cell_views.specs.StoredCells.{stored_row};
@@ -24,8 +24,10 @@ pub(crate) fn settle(
     row: &ClusteredRow,
     cells: &mut Vec<Cell>,
 ) -> Result<(), AllocError>
-    ensures done { OnOk result (cells.new.items ≡ lent_cells (if is_clustered then row.now else row_of_cells cells.old.items)) }
-    ensures row { OnOk result (row_of_cells cells.new.items ≡ (if is_clustered then row.now else row_of_cells cells.old.items)) }
+    ensures done { OnOk result
+        (cells.new.items ≡ lent_cells (if is_clustered then row.now else row_of_cells cells.old.items)) }
+    ensures row { OnOk result
+        (row_of_cells cells.new.items ≡ (if is_clustered then row.now else row_of_cells cells.old.items)) }
     ensures refused { OnErr result (row_of_cells cells.new.items ≡ row_of_cells cells.old.items) }
     ensures clustered { OnErr result (is_clustered ≡ true → cells.new.items ≡ cells.old.items) }
 {
@@ -59,17 +61,6 @@ impl Line {
         } else {
             StoredLine::Cells(&self.cells)
         }
-    }
-
-    /// Whether both lines are clustered and their columns are kept alike, and so are the same. Columns
-    /// that are the same may be kept otherwise.
-    pub fn is_kept_as(&self, other: &Line) -> bool
-        ensures { IsTrue result → self.now.columns ≡ other.now.columns }
-    {
-        if !self.is_clustered || !other.is_clustered {
-            return false;
-        }
-        self.row.is_kept_as(&other.row)
     }
 
     // Takes the columns out as cells. A clustered line stays as it is.

@@ -1,17 +1,19 @@
 //! Parts of a line: its cells in a range, and its cells in rows of a width.
-ghost use Rattle.std.specs.Prelude.{◌≡◌, ◌++◌, [], ◌∷◌, length, map, false, true, vec_len, IfOk, OnOk, filter, if◌then◌else◌};
+ghost use Rattle.std.specs.Prelude.{◌≡◌, ◌++◌, [], ◌∷◌, length, map, false, true, vec_len, IfOk, OnOk, filter};
+ghost use Rattle.std.specs.Prelude.{if◌then◌else◌};
 ghost use Rattle.cell_base.specs.CellContent.{row_of_cells};
 ghost use Rattle.cell_base.specs.Row.{blank};
-ghost use Rattle.cell_edits.specs.CellList.{ends_halved, cell_columns};
+ghost use Rattle.cell_edits.specs.CellList.{ends_split, cell_columns};
 ghost use Rattle.cell_line.specs.LineContent.{line_of};
-ghost use Rattle.cell_edits.specs.VisibleCells.{visible_cells, cells_between, row_of_visible, row_end_wrapped, contents};
+ghost use Rattle.cell_edits.specs.VisibleCells.{visible_cells, cells_between, row_of_visible, row_end_wrapped};
+ghost use Rattle.cell_edits.specs.VisibleCells.{contents};
 ghost use Rattle.cell_views.specs.StoredCells.{stored_row};
 ghost use Rattle.cell_line.specs.OpenRows.{breaks, rows_from, last_text, texts_up_to};
 
 use crate::line::Line;
 use crate::taken_cells::TakenCells;
 use cell_base::{Cell, SequenceNo};
-use cell_edits::row::{close_end, column_count, is_halved, push_cell, set_end_wrapped};
+use cell_edits::row::{close_end, column_count, is_split, push_cell, set_end_wrapped};
 use cell_views::query::is_space;
 use cell_views::zones::is_kept;
 use cell_views::{ReadCells, StoredCells, VisibleCellIter};
@@ -25,7 +27,8 @@ pub(crate) fn between(
     start: usize,
     end: usize,
 ) -> Result<Vec<Cell>, AllocError>
-    ensures { IfOk result (λ kept. row_of_cells kept.items ≡ row_of_visible (cells_between start end (stored_row cells.entry))) }
+    ensures { IfOk result
+        (λ kept. row_of_cells kept.items ≡ row_of_visible (cells_between start end (stored_row cells.entry))) }
 {
     match cells {
         StoredCells::Cells(cells) => read_between(alloc, cells, start, end),
@@ -43,9 +46,10 @@ fn read_between(
     start: usize,
     end: usize,
 ) -> Result<Vec<Cell>, AllocError>
-    ensures { IfOk result (λ kept. row_of_cells kept.items ≡ row_of_visible (cells_between start end (row_of_cells cells.now))) }
+    ensures { IfOk result
+        (λ kept. row_of_cells kept.items ≡ row_of_visible (cells_between start end (row_of_cells cells.now))) }
 {
-    if !is_halved(cells, cells.len()) {
+    if !is_split(cells, cells.len()) {
         return copy_between(alloc, cells, start, end);
     }
     let last = cells.len() - 1;
@@ -58,8 +62,9 @@ fn read_between(
 
 // A blank with the cell's attributes comes behind the columns that are there.
 fn push_blank_for(cells: &mut Vec<Cell>, cell: &Cell) -> Result<(), AllocError>
-    requires { ends_halved cells.old.items ≡ false }
-    ensures { OnOk result (row_of_cells cells.new.items ≡ row_of_cells cells.old.items ++ blank cell.now.attributes ∷ []) }
+    requires { ends_split cells.old.items ≡ false }
+    ensures { OnOk result
+        (row_of_cells cells.new.items ≡ row_of_cells cells.old.items ++ blank cell.now.attributes ∷ []) }
 {
     push_cell(cells, Cell::blank_with_attrs(cell.attrs().try_clone()?))?;
     Ok(())
@@ -72,9 +77,10 @@ fn copy_between(
     start: usize,
     end: usize,
 ) -> Result<Vec<Cell>, AllocError>
-    requires { ends_halved cells.now ≡ false }
-    ensures row { IfOk result (λ kept. row_of_cells kept.items ≡ row_of_visible (cells_between start end (row_of_cells cells.now))) }
-    ensures whole { IfOk result (λ kept. ends_halved kept.items ≡ false) }
+    requires { ends_split cells.now ≡ false }
+    ensures row { IfOk result
+        (λ kept. row_of_cells kept.items ≡ row_of_visible (cells_between start end (row_of_cells cells.now))) }
+    ensures whole { IfOk result (λ kept. ends_split kept.items ≡ false) }
 {
     let mut kept = Vec::new(alloc);
     for (column, cell) in ReadCells::new(cells) {
@@ -112,7 +118,8 @@ fn close_row(
     row: &mut Vec<Cell>,
     seqno: SequenceNo,
 ) -> Result<(), AllocError>
-    ensures lines { OnOk result (lines.new.items ≡ lines.old.items ++ line_of seqno (row_end_wrapped true (row_of_cells row.old.items)) ∷ []) }
+    ensures lines { OnOk result
+        (lines.new.items ≡ lines.old.items ++ line_of seqno (row_end_wrapped true (row_of_cells row.old.items)) ∷ []) }
     ensures row { OnOk result (row.new.items ≡ []) }
 {
     let mut full = mem::replace(row, Vec::new(alloc));
@@ -130,10 +137,17 @@ fn place(
     width: usize,
     seqno: SequenceNo,
 ) -> Result<(), AllocError>
-    requires { ends_halved row.old.items ≡ false }
-    ensures whole { OnOk result (ends_halved row.new.items ≡ false) }
-    ensures lines { OnOk result (lines.new.items ≡ (if breaks width (vec_len row.old) cell then lines.old.items ++ line_of seqno (row_end_wrapped true (row_of_cells row.old.items)) ∷ [] else lines.old.items)) }
-    ensures row { OnOk result (row_of_cells row.new.items ≡ (if breaks width (vec_len row.old) cell then cell_columns cell else row_of_cells row.old.items ++ cell_columns cell)) }
+    requires { ends_split row.old.items ≡ false }
+    ensures whole { OnOk result (ends_split row.new.items ≡ false) }
+    ensures lines { OnOk result
+        (lines.new.items
+        ≡ (if breaks width (vec_len row.old) cell
+        then lines.old.items ++ line_of seqno (row_end_wrapped true (row_of_cells row.old.items)) ∷ []
+        else lines.old.items)) }
+    ensures row { OnOk result
+        (row_of_cells row.new.items
+        ≡ (if breaks width (vec_len row.old) cell then cell_columns cell
+        else row_of_cells row.old.items ++ cell_columns cell)) }
 {
     if breaks(width, row.len(), &cell) {
         close_row(alloc, lines, row, seqno)?;
@@ -151,7 +165,10 @@ pub(crate) fn rows(
     width: usize,
     seqno: SequenceNo,
 ) -> Result<Vec<Line>, AllocError>
-    ensures { IfOk result (λ lines. lines.items ≡ map (line_of seqno) (rows_from width [] (contents (texts_up_to (visible_cells (row_of_cells cells.items)))))) }
+    ensures { IfOk result
+        (λ lines. lines.items
+        ≡ map (line_of seqno)
+        (rows_from width [] (contents (texts_up_to (visible_cells (row_of_cells cells.items)))))) }
 {
     close_end(&mut cells)?;
     fill_rows(alloc, cells, width, seqno)
@@ -163,8 +180,11 @@ fn fill_rows(
     width: usize,
     seqno: SequenceNo,
 ) -> Result<Vec<Line>, AllocError>
-    requires { ends_halved cells.items ≡ false }
-    ensures { IfOk result (λ lines. lines.items ≡ map (line_of seqno) (rows_from width [] (contents (texts_up_to (visible_cells (row_of_cells cells.items)))))) }
+    requires { ends_split cells.items ≡ false }
+    ensures { IfOk result
+        (λ lines. lines.items
+        ≡ map (line_of seqno)
+        (rows_from width [] (contents (texts_up_to (visible_cells (row_of_cells cells.items)))))) }
 {
     let last = last_text(&cells);
     let mut lines = Vec::new(alloc);

@@ -1,3 +1,2 @@
 pub mod CellLemmas
-pub mod SizeLemmas
 pub mod TextLemmas

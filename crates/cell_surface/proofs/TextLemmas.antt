@@ -4,15 +4,15 @@ use Rattle.std.proofs.lemmas.List.{length-replicate, length-take}
 use Rattle.cell_base.specs.Row.{plain_row}
 use Rattle.std.proofs.lemmas.Str.{IsUtf8-string_bytes}
 use Rattle.cell_base.specs.Row.{space}
-use Rattle.cell_change.specs.ChangeValue.{ChangeValue}
-use Rattle.cell_change.specs.ValueOf.{value_of}
-use Rattle.cell_change.specs.declared.change.Change.{Change}
-use Rattle.cell_change.specs.declared.change.Change.TheVariants.{Attribute, AllAttributes, Text, ClearScreen, ClearToEndOfLine, ClearToEndOfScreen, CursorPosition, CursorColor, CursorShape, CursorVisibility, LineAttribute, ScrollRegionUp, ScrollRegionDown, Title}
+use Rattle.screen_change.specs.ChangeValue.{ChangeValue}
+use Rattle.screen_change.specs.ValueOf.{value_of}
+use Rattle.screen_change.specs.declared.change.Change.{Change}
+use Rattle.screen_change.specs.declared.change.Change.TheVariants.{Attribute, AllAttributes, Text, ClearScreen, ClearToEndOfLine, ClearToEndOfScreen, CursorPosition, CursorColor, CursorShape, CursorVisibility, LineAttribute, ScrollRegionUp, ScrollRegionDown, Title}
 use Rattle.screen_effects.specs.Display.{Display, IsDisplay, new_display}
 use Rattle.screen_effects.specs.Effect.{effect}
 use Rattle.screen_effects.specs.Resize.{resized, resized_row}
-use Rattle.screen_replay.specs.WrittenCells.{HasUtf8, IsSoundDisplay}
-use Rattle.screen_replay.proofs.SoundLemmas.{new_is_sound, effect_is_sound, resized_is_sound}
+use Rattle.screen_effects.specs.WrittenCells.{HasUtf8, IsSoundDisplay}
+use Rattle.screen_effects.proofs.SoundLemmas.{new_is_sound, effect_is_sound, resized_is_sound}
 
 pub has_utf8 : (change : Change) → HasUtf8 (value_of change)
 has_utf8 (Attribute change) = tt

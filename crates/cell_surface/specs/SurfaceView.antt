@@ -3,4 +3,4 @@ use Rattle.cell_surface.specs.Surface.{Surface}
 use Rattle.cell_surface.specs.declared.surface.Surface.TheInside.{Inside}
 
 abbrev pub surface_of : {W : Type 0} → Inside W → Surface W
-surface_of a = record { canvas = a.canvas; log = a.log; is_failed = a.is_failed }
+surface_of a = record { grid = a.grid; log = a.log; is_failed = a.is_failed }

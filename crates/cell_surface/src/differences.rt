@@ -1,6 +1,7 @@
 //! Differences between surfaces and lines.
-ghost use Rattle.std.specs.Prelude.{◌≡◌, ◌+◌, ◌-◌, ◌≤◌, ◌^◌, ◌↔◌, [], ◌∷◌, true, false, length, map, IfOk, OnOk, OnErr, IsErrOf};
-ghost use Rattle.cell_change.specs.ValueOf.{value_of};
+ghost use Rattle.std.specs.Prelude.{◌≡◌, ◌+◌, ◌-◌, ◌≤◌, ◌^◌, ◌↔◌, [], ◌∷◌, true, false, length, map, IfOk, OnOk, OnErr};
+ghost use Rattle.std.specs.Prelude.{IsErrOf};
+ghost use Rattle.screen_change.specs.ValueOf.{value_of};
 ghost use Rattle.cell_surface.specs.Surface.{AddsAll, number_of, shown_by};
 ghost use Rattle.cell_surface.specs.Differences.{brought_back, drawn, regions_difference, lines_difference};
 ghost use Rattle.screen_difference.specs.FreshCells.{rows_of};
@@ -8,8 +9,8 @@ ghost use Rattle.screen_difference.specs.FreshCells.{rows_of};
 use crate::error::SurfaceError;
 use crate::surface::Surface;
 use cell_base::{Position, SequenceNo, Widths};
-use cell_change::Change;
 use cell_line::Line;
+use screen_change::Change;
 use std::alloc::AllocError;
 
 impl<W: Widths + Drop> Surface<W> {
@@ -27,17 +28,19 @@ impl<W: Widths + Drop> Surface<W> {
         other_x: usize,
         other_y: usize,
     ) -> Result<Vec<Change>, SurfaceError>
-        ensures changes { IfOk result (λ changes. map value_of changes.items ≡ regions_difference (shown_by self.now) x y width height (shown_by other.now) other_x other_y) }
+        ensures changes { IfOk result
+            (λ changes. map value_of changes.items
+            ≡ regions_difference (shown_by self.now) x y width height (shown_by other.now) other_x other_y) }
         ensures refused { OnErr result (IsErrOf result SurfaceError.Memory) }
     {
         let changes = screen_difference::diff_region(
             self.alloc,
-            self.canvas.lines(),
+            self.grid.lines(),
             x,
             y,
             width,
             height,
-            other.canvas.lines(),
+            other.grid.lines(),
             other_x,
             other_y,
         )?;
@@ -47,12 +50,14 @@ impl<W: Widths + Drop> Surface<W> {
     /// The changes that make the rows of this surface, from the top, show these lines; rows that
     /// either side lacks are left out.
     pub fn diff_lines(&self, other_lines: Vec<&Line>) -> Result<Vec<Change>, SurfaceError>
-        ensures changes { IfOk result (λ changes. map value_of changes.items ≡ lines_difference (shown_by self.now) 0 (rows_of (map (λ line. line.now) other_lines.entry.items))) }
+        ensures changes { IfOk result
+            (λ changes. map value_of changes.items
+            ≡ lines_difference (shown_by self.now) 0 (rows_of (map (λ line. line.now) other_lines.entry.items))) }
         ensures refused { OnErr result (IsErrOf result SurfaceError.Memory) }
     {
         let changes = screen_difference::diff_lines(
             self.alloc,
-            self.canvas.lines(),
+            self.grid.lines(),
             other_lines.as_slice(),
         )?;
         Ok(changes)
@@ -64,12 +69,14 @@ impl<W: Widths + Drop> Surface<W> {
         row_num: usize,
         other_line: &Line,
     ) -> Result<Vec<Change>, SurfaceError>
-        ensures changes { IfOk result (λ changes. map value_of changes.items ≡ lines_difference (shown_by self.now) row_num (rows_of (other_line.now ∷ []))) }
+        ensures changes { IfOk result
+            (λ changes. map value_of changes.items
+            ≡ lines_difference (shown_by self.now) row_num (rows_of (other_line.now ∷ []))) }
         ensures refused { OnErr result (IsErrOf result SurfaceError.Memory) }
     {
         let changes = screen_difference::diff_against_numbered_line(
             self.alloc,
-            self.canvas.lines(),
+            self.grid.lines(),
             row_num,
             other_line,
         )?;
@@ -78,15 +85,18 @@ impl<W: Widths + Drop> Surface<W> {
 
     /// The changes that make this surface show what another one shows, as far as both go.
     pub fn diff_screens(&self, other: &Surface<W>) -> Result<Vec<Change>, SurfaceError>
-        ensures changes { IfOk result (λ changes. map value_of changes.items ≡ regions_difference (shown_by self.now) 0 0 (shown_by self.now).screen.width (length (shown_by self.now).screen.rows) (shown_by other.now) 0 0) }
+        ensures changes { IfOk result
+            (λ changes. map value_of changes.items
+            ≡ regions_difference (shown_by self.now) 0 0 (shown_by self.now).screen.width
+            (length (shown_by self.now).screen.rows) (shown_by other.now) 0 0) }
         ensures refused { OnErr result (IsErrOf result SurfaceError.Memory) }
     {
-        let (width, _height) = self.canvas.dimensions();
+        let (width, _height) = self.grid.dimensions();
         let changes = screen_difference::diff_screens(
             self.alloc,
             width,
-            self.canvas.lines(),
-            other.canvas.lines(),
+            self.grid.lines(),
+            other.grid.lines(),
         )?;
         Ok(changes)
     }
@@ -100,11 +110,16 @@ impl<W: Widths + Drop> Surface<W> {
         x: usize,
         y: usize,
     ) -> Result<SequenceNo, SurfaceError>
-        ensures number { IfOk result (λ n. n ≡ number_of self.old - 1 + length (drawn (shown_by self.old) (shown_by other.now) x y)) }
-        ensures added { OnOk result (AddsAll (W.width_of self.old.canvas.widths) self.old self.new (drawn (shown_by self.old) (shown_by other.now) x y)) }
+        ensures number { IfOk result
+            (λ n. n ≡ number_of self.old - 1 + length (drawn (shown_by self.old) (shown_by other.now) x y)) }
+        ensures added { OnOk result
+            (AddsAll (W.width_of self.old.grid.widths) self.old self.new
+            (drawn (shown_by self.old) (shown_by other.now) x y)) }
         ensures failed { IsErrOf result SurfaceError.Failed ↔ (self.old.is_failed ≡ true) }
         ensures still_failed { IsErrOf result SurfaceError.Failed → self.new ≡ self.old }
-        ensures numbers { IsErrOf result SurfaceError.Number → (2 ^ 64 ≤ number_of self.old + length (drawn (shown_by self.old) (shown_by other.now) x y)) × (self.new ≡ self.old) }
+        ensures numbers { IsErrOf result SurfaceError.Number
+            → (2 ^ 64 ≤ number_of self.old + length (drawn (shown_by self.old) (shown_by other.now) x y))
+            × (self.new ≡ self.old) }
         ensures memory { IsErrOf result SurfaceError.Memory → self.new.is_failed ≡ true }
     {
         if self.is_failed {
@@ -118,26 +133,27 @@ impl<W: Widths + Drop> Surface<W> {
 
     // The difference where another surface is drawn, and the cursor's place and the pen as they are.
     fn drawing(&self, other: &Surface<W>, x: usize, y: usize) -> Result<Vec<Change>, AllocError>
-        ensures { IfOk result (λ changes. map value_of changes.items ≡ drawn (shown_by self.now) (shown_by other.now) x y) }
+        ensures { IfOk result
+            (λ changes. map value_of changes.items ≡ drawn (shown_by self.now) (shown_by other.now) x y) }
     {
-        let (width, height) = other.canvas.dimensions();
+        let (width, height) = other.grid.dimensions();
         let mut changes = screen_difference::diff_region(
             self.alloc,
-            self.canvas.lines(),
+            self.grid.lines(),
             x,
             y,
             width,
             height,
-            other.canvas.lines(),
+            other.grid.lines(),
             0,
             0,
         )?;
-        let (column, row) = self.canvas.cursor_position();
+        let (column, row) = self.grid.cursor_position();
         changes.push(Change::CursorPosition {
             x: Position::Absolute(column),
             y: Position::Absolute(row),
         })?;
-        changes.push(Change::AllAttributes(self.canvas.pen().try_clone()?))?;
+        changes.push(Change::AllAttributes(self.grid.pen().try_clone()?))?;
         Ok(changes)
     }
 
@@ -155,11 +171,23 @@ impl<W: Widths + Drop> Surface<W> {
         dest_x: usize,
         dest_y: usize,
     ) -> Result<SequenceNo, SurfaceError>
-        ensures number { IfOk result (λ n. n ≡ number_of self.old - 1 + length (regions_difference (shown_by self.old) dest_x dest_y width height (shown_by self.old) src_x src_y)) }
-        ensures added { OnOk result (AddsAll (W.width_of self.old.canvas.widths) self.old self.new (regions_difference (shown_by self.old) dest_x dest_y width height (shown_by self.old) src_x src_y)) }
+        ensures number { IfOk result
+            (λ n. n
+            ≡ number_of self.old - 1
+            + length
+            (regions_difference (shown_by self.old) dest_x dest_y width height (shown_by self.old) src_x
+            src_y)) }
+        ensures added { OnOk result
+            (AddsAll (W.width_of self.old.grid.widths) self.old self.new
+            (regions_difference (shown_by self.old) dest_x dest_y width height (shown_by self.old) src_x src_y)) }
         ensures failed { IsErrOf result SurfaceError.Failed ↔ (self.old.is_failed ≡ true) }
         ensures still_failed { IsErrOf result SurfaceError.Failed → self.new ≡ self.old }
-        ensures numbers { IsErrOf result SurfaceError.Number → (2 ^ 64 ≤ number_of self.old + length (regions_difference (shown_by self.old) dest_x dest_y width height (shown_by self.old) src_x src_y)) × (self.new ≡ self.old) }
+        ensures numbers { IsErrOf result SurfaceError.Number
+            → (2 ^ 64
+            ≤ number_of self.old
+            + length
+            (regions_difference (shown_by self.old) dest_x dest_y width height (shown_by self.old) src_x
+            src_y)) × (self.new ≡ self.old) }
         ensures memory { IsErrOf result SurfaceError.Memory → self.new.is_failed ≡ true }
     {
         if self.is_failed {
@@ -168,12 +196,12 @@ impl<W: Widths + Drop> Surface<W> {
         self.is_failed = true;
         let changes = screen_difference::diff_region(
             self.alloc,
-            self.canvas.lines(),
+            self.grid.lines(),
             dest_x,
             dest_y,
             width,
             height,
-            self.canvas.lines(),
+            self.grid.lines(),
             src_x,
             src_y,
         )?;

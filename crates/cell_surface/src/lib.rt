@@ -1,10 +1,10 @@
 //! The surface: a screen with numbered changes; and what stands below it: cells, lines and changes.
 #![tactic(auto)]
 
+mod contents;
 mod differences;
 mod error;
 pub mod laws;
-mod reading;
 mod surface;
 
 pub use cell_base::{
@@ -14,8 +14,8 @@ pub use cell_base::{
     SrgbaTuple, Underline, VerticalAlign, Widths, ZoneRange, grapheme_column_width,
     is_white_space_char, is_white_space_grapheme, unicode_column_width,
 };
-pub use cell_change::Change;
 pub use cell_line::{CellCluster, CellRef, Line, RegionIter, VisibleCellIter};
 pub use change_sequence::ChangeSequence;
 pub use error::SurfaceError;
+pub use screen_change::Change;
 pub use surface::Surface;

@@ -1,22 +1,23 @@
 //! The surface.
-ghost use Rattle.std.specs.Prelude.{◌≡◌, ◌≢◌, ◌≤◌, [], None, OnOk, OnErr, ◌+◌, ◌-◌, ◌<◌, ◌^◌, ◌↔◌, ◌==◌, All, false, true, length, map, not, IsErrOf, IfOk};
+ghost use Rattle.std.specs.Prelude.{◌≡◌, ◌≢◌, ◌≤◌, [], None, OnOk, OnErr, ◌+◌, ◌-◌, ◌<◌, ◌^◌, ◌↔◌, ◌==◌, All, false};
+ghost use Rattle.std.specs.Prelude.{true, length, map, not, IsErrOf, IfOk};
 ghost use Rattle.std.specs.String.{string_bytes};
-ghost use Rattle.cell_change.specs.ValueOf.{value_of};
+ghost use Rattle.screen_change.specs.ValueOf.{value_of};
 ghost use Rattle.cell_line.specs.LineContent.{IsClustered};
 ghost use Rattle.cell_surface.specs.Surface.{Adds, AddsAll, Answers, IsSound, Resizes, number_of, shown_by};
-ghost use Rattle.change_log.specs.Log.{due, most_due, new_log};
-ghost use Rattle.change_log.specs.LogSteps.{Forgotten, step_of_kept};
+ghost use Rattle.screen_log.specs.Log.{due, most_due, new_log};
+ghost use Rattle.screen_log.specs.LogSteps.{Forgotten, step_of_kept};
 ghost use Rattle.screen_effects.specs.Effect.{is_visible};
-ghost use Rattle.screen_canvas.specs.Canvas.{IsDrawn};
+ghost use Rattle.screen_grid.specs.Grid.{IsDrawn};
 ghost use Rattle.screen_effects.specs.Display.{new_display};
 ghost use Rattle.screen_repaint.specs.Repaint.{repaint};
 
 use crate::error::SurfaceError;
 use cell_base::{CellAttributes, CursorShape, CursorVisibility, SequenceNo, Widths};
-use cell_change::Change;
 use cell_line::Line;
-use change_log::ChangeLog;
-use screen_canvas::Canvas;
+use screen_change::Change;
+use screen_grid::Grid;
+use screen_log::ChangeLog;
 use screen_repaint::repaint;
 use std::alloc::{AllocError, Global};
 use std::borrow::CowSlice;
@@ -30,7 +31,7 @@ use std::marker::Model;
 #[derive(Drop)]
 pub struct Surface<W: Widths> {
     pub(crate) alloc: Global,
-    pub(crate) canvas: Canvas<W>,
+    pub(crate) grid: Grid<W>,
     pub(crate) log: ChangeLog,
     pub(crate) is_failed: bool,
 }
@@ -46,7 +47,7 @@ impl<W: Widths> Model for Surface<W> {
 
     ghost use Rattle.cell_surface.specs.Surface.{IsSound};
 
-    ghost invariant = { λ s. IsSound (W.width_of s.canvas.widths) (surface_of s) };
+    ghost invariant = { λ s. IsSound (W.width_of s.grid.widths) (surface_of s) };
 }
 
 // How many changes may be due on a screen of this size.
@@ -66,14 +67,14 @@ impl<W: Widths + Drop> Surface<W> {
         requires width { (0 < width) × (width < 2 ^ 32) }
         requires height { (0 < height) × (height < 2 ^ 32) }
         ensures shown { IfOk result (λ s. shown_by s ≡ new_display width height) }
-        ensures widths { IfOk result (λ s. s.canvas.widths ≡ widths) }
+        ensures widths { IfOk result (λ s. s.grid.widths ≡ widths) }
         ensures log { IfOk result (λ s. s.log.log ≡ new_log) }
         ensures stays { IfOk result (λ s. s.is_failed ≡ false) }
     {
-        let canvas = Canvas::new(alloc, width, height, widths)?;
+        let grid = Grid::new(alloc, width, height, widths)?;
         Ok(Surface {
             alloc,
-            canvas,
+            grid,
             log: ChangeLog::new(alloc, most_due(width, height)),
             is_failed: false,
         })
@@ -81,10 +82,10 @@ impl<W: Widths + Drop> Surface<W> {
 
     /// How many columns and rows there are.
     pub fn dimensions(&self) -> (usize, usize)
-        ensures width { result.0 ≡ self.now.canvas.width }
-        ensures height { result.1 ≡ length self.now.canvas.lines }
+        ensures width { result.0 ≡ self.now.grid.width }
+        ensures height { result.1 ≡ length self.now.grid.lines }
     {
-        self.canvas.dimensions()
+        self.grid.dimensions()
     }
 
     /// The cursor's column and row. The column is the width while a wrap is pending.
@@ -92,35 +93,35 @@ impl<W: Widths + Drop> Surface<W> {
         ensures column { result.0 ≡ (shown_by self.now).screen.column }
         ensures row { result.1 ≡ (shown_by self.now).screen.row }
     {
-        self.canvas.cursor_position()
+        self.grid.cursor_position()
     }
 
     /// The cursor's shape, if one was set.
     pub fn cursor_shape(&self) -> Option<CursorShape>
         ensures { result ≡ (shown_by self.now).shape }
     {
-        self.canvas.cursor_shape()
+        self.grid.cursor_shape()
     }
 
     /// Whether the cursor is shown.
     pub fn cursor_visibility(&self) -> CursorVisibility
         ensures { is_visible result ≡ (shown_by self.now).screen.visible }
     {
-        self.canvas.cursor_visibility()
+        self.grid.cursor_visibility()
     }
 
     /// The title; empty at first.
     pub fn title(&self) -> &str
         ensures { result.now ≡ (shown_by self.now).screen.title }
     {
-        self.canvas.title()
+        self.grid.title()
     }
 
     /// The attributes that the next text gets.
     pub fn pen(&self) -> &CellAttributes
         ensures { result.now ≡ (shown_by self.now).screen.pen }
     {
-        self.canvas.pen()
+        self.grid.pen()
     }
 
     /// The rows as lines, from the top. While the surface hasn't failed each is kept as one text and runs of equal
@@ -131,7 +132,7 @@ impl<W: Widths + Drop> Surface<W> {
         ensures numbers { self.now.is_failed ≡ false → All (λ l. l.number ≡ 0) result.now }
         ensures clustered { self.now.is_failed ≡ false → All IsClustered result.now }
     {
-        self.canvas.lines()
+        self.grid.lines()
     }
 
     /// Whether the number of changes isn't this one.
@@ -151,7 +152,8 @@ impl<W: Widths + Drop> Surface<W> {
 
     /// Drops the changes before a number from the log; none where it lies above the current one.
     pub fn flush_changes_older_than(&mut self, seq: SequenceNo)
-        ensures flushed { self.old.is_failed ≡ false → self.new ≡ record self.old { log = step_of_kept self.old.log (Forgotten seq) } }
+        ensures flushed { self.old.is_failed ≡ false
+            → self.new ≡ record self.old { log = step_of_kept self.old.log (Forgotten seq) } }
         ensures failed { self.old.is_failed ≡ true → self.new ≡ self.old }
     {
         if !self.is_failed {
@@ -172,9 +174,12 @@ impl<W: Widths + Drop> Surface<W> {
         change: C,
     ) -> Result<SequenceNo, SurfaceError>
         ensures number { IfOk result (λ n. n ≡ number_of self.old) }
-        ensures added { IfOk result (λ n. (c : Change) × C.converts change c × Adds (W.width_of self.old.canvas.widths) self.old self.new (value_of c)) }
+        ensures added { IfOk result
+            (λ n. (c : Change) × C.converts change c
+            × Adds (W.width_of self.old.grid.widths) self.old self.new (value_of c)) }
         ensures failed { IsErrOf result SurfaceError.Failed ↔ (self.old.is_failed ≡ true) }
-        ensures numbers { IsErrOf result SurfaceError.Number ↔ ((self.old.is_failed ≡ false) × (number_of self.old ≡ 2 ^ 64 - 1)) }
+        ensures numbers { IsErrOf result SurfaceError.Number
+            ↔ ((self.old.is_failed ≡ false) × (number_of self.old ≡ 2 ^ 64 - 1)) }
         ensures unchanged { IsErrOf result SurfaceError.Number → self.new ≡ self.old }
         ensures still_failed { IsErrOf result SurfaceError.Failed → self.new ≡ self.old }
         ensures memory { IsErrOf result SurfaceError.Memory → self.new.is_failed ≡ true }
@@ -204,11 +209,11 @@ impl<W: Widths + Drop> Surface<W> {
     pub(crate) fn push(&mut self, change: Change) -> Result<(), AllocError>
         requires stays { self.old.is_failed ≡ false }
         requires number { number_of self.old + 1 < 2 ^ 64 }
-        ensures done { OnOk result (Adds (W.width_of self.old.canvas.widths) self.old self.new (value_of change)) }
+        ensures done { OnOk result (Adds (W.width_of self.old.grid.widths) self.old self.new (value_of change)) }
         ensures refused { OnErr result (self.new.is_failed ≡ true) }
     {
         self.is_failed = true;
-        self.canvas.apply(&change)?;
+        self.grid.apply(&change)?;
         self.log.push(change)?;
         self.is_failed = false;
         Ok(())
@@ -218,7 +223,8 @@ impl<W: Widths + Drop> Surface<W> {
     pub(crate) fn push_all(&mut self, changes: Vec<Change>) -> Result<SequenceNo, SurfaceError>
         requires { self.old.is_failed ≡ false }
         ensures number { IfOk result (λ n. n ≡ number_of self.old - 1 + length changes.items) }
-        ensures added { OnOk result (AddsAll (W.width_of self.old.canvas.widths) self.old self.new (map value_of changes.items)) }
+        ensures added { OnOk result
+            (AddsAll (W.width_of self.old.grid.widths) self.old self.new (map value_of changes.items)) }
         ensures never { IsErrOf result SurfaceError.Failed → ⊥ }
         ensures numbers { IsErrOf result SurfaceError.Number ↔ (2 ^ 64 ≤ number_of self.old + length changes.items) }
         ensures unchanged { IsErrOf result SurfaceError.Number → self.new ≡ self.old }
@@ -242,9 +248,11 @@ impl<W: Widths + Drop> Surface<W> {
     /// is refused memory the surface has failed, and those behind it are dropped.
     pub fn add_changes(&mut self, changes: Vec<Change>) -> Result<SequenceNo, SurfaceError>
         ensures number { IfOk result (λ n. n ≡ number_of self.old - 1 + length changes.items) }
-        ensures added { OnOk result (AddsAll (W.width_of self.old.canvas.widths) self.old self.new (map value_of changes.items)) }
+        ensures added { OnOk result
+            (AddsAll (W.width_of self.old.grid.widths) self.old self.new (map value_of changes.items)) }
         ensures failed { IsErrOf result SurfaceError.Failed ↔ (self.old.is_failed ≡ true) }
-        ensures numbers { IsErrOf result SurfaceError.Number ↔ ((self.old.is_failed ≡ false) × (2 ^ 64 ≤ number_of self.old + length changes.items)) }
+        ensures numbers { IsErrOf result SurfaceError.Number
+            ↔ ((self.old.is_failed ≡ false) × (2 ^ 64 ≤ number_of self.old + length changes.items)) }
         ensures unchanged { IsErrOf result SurfaceError.Number → self.new ≡ self.old }
         ensures still_failed { IsErrOf result SurfaceError.Failed → self.new ≡ self.old }
         ensures memory { IsErrOf result SurfaceError.Memory → self.new.is_failed ≡ true }
@@ -264,7 +272,8 @@ impl<W: Widths + Drop> Surface<W> {
         requires height { (0 < height) × (height < 2 ^ 32) }
         ensures resized { OnOk result (Resizes width height self.old self.new) }
         ensures failed { IsErrOf result SurfaceError.Failed ↔ (self.old.is_failed ≡ true) }
-        ensures numbers { IsErrOf result SurfaceError.Number ↔ ((self.old.is_failed ≡ false) × (number_of self.old ≡ 2 ^ 64 - 1) × (self.old.log.log.entries ≢ [])) }
+        ensures numbers { IsErrOf result SurfaceError.Number
+            ↔ ((self.old.is_failed ≡ false) × (number_of self.old ≡ 2 ^ 64 - 1) × (self.old.log.log.entries ≢ [])) }
         ensures unchanged { IsErrOf result SurfaceError.Number → self.new ≡ self.old }
         ensures still_failed { IsErrOf result SurfaceError.Failed → self.new ≡ self.old }
         ensures memory { IsErrOf result SurfaceError.Memory → self.new.is_failed ≡ true }
@@ -276,7 +285,7 @@ impl<W: Widths + Drop> Surface<W> {
             return Err(SurfaceError::Number);
         }
         self.is_failed = true;
-        self.canvas.resize(width, height)?;
+        self.grid.resize(width, height)?;
         self.log.resize(most_due(width, height));
         self.is_failed = false;
         Ok(())
@@ -285,13 +294,15 @@ impl<W: Widths + Drop> Surface<W> {
     /// The current number, and the changes from a number on, lent from the log; or, at 0, before the
     /// first change of the log, above the current number, while that is 0, and where more than
     /// 3 + 6wh/5 changes (rounded down, of w columns and h rows) are due, the repaint: changes which
-    /// paint this screen on any screen of its size. At the current number no change is due. What is lent takes no memory.
+    /// paint this screen on any screen of its size. At the current number no change is due. What is lent takes no
+    /// memory.
     pub fn get_changes(
         &self,
         seq: SequenceNo,
     ) -> Result<(SequenceNo, CowSlice<'_, Change>), SurfaceError>
         ensures number { IfOk result (λ r. r.0 ≡ number_of self.now) }
-        ensures changes { IfOk result (λ r. Answers (due self.now.log.most self.now.log.log seq) (repaint (shown_by self.now)) r.1) }
+        ensures changes { IfOk result
+            (λ r. Answers (due self.now.log.most self.now.log.log seq) (repaint (shown_by self.now)) r.1) }
         ensures failed { IsErrOf result SurfaceError.Failed ↔ (self.now.is_failed ≡ true) }
         ensures numbers { IsErrOf result SurfaceError.Number → ⊥ }
         ensures memory { IsErrOf result SurfaceError.Memory → due self.now.log.most self.now.log.log seq ≡ None }
@@ -303,7 +314,7 @@ impl<W: Widths + Drop> Surface<W> {
         if let Some(changes) = self.log.due(seq) {
             return Ok((number, CowSlice::Borrowed(changes)));
         }
-        let changes = repaint(self.alloc, &self.canvas)?;
+        let changes = repaint(self.alloc, &self.grid)?;
         Ok((number, CowSlice::Owned(changes)))
     }
 }
@@ -315,7 +326,7 @@ impl<W: Widths + Copy + Drop> Surface<W> {
     {
         Ok(Surface {
             alloc: self.alloc,
-            canvas: self.canvas.try_clone()?,
+            grid: self.grid.try_clone()?,
             log: self.log.try_clone(self.alloc)?,
             is_failed: self.is_failed,
         })

@@ -9,7 +9,7 @@ use Rattle.cell_base.specs.SameAttributes.{same_attributes}
 use Rattle.cell_edits.specs.VisibleCells.{VisibleCell, is_space}
 use Rattle.cell_views.specs.Groups.{joined}
 use Rattle.cell_views.specs.Clusters.{ClusterContent, unwrapped, cluster_attributes, ends_in_space, holds_text, begins_cluster, cluster_of}
-use Rattle.cell_views.specs.ClusterView.{grown, last_of, begins_behind, IsMadeOf}
+use Rattle.cell_views.specs.ClusterView.{grown, last_of, begins_after, IsMadeOf}
 use Rattle.cell_views.specs.declared.clusters.Clusters.{Clusters}
 
 -- ---- one cluster
@@ -80,20 +80,20 @@ joined_either (g ∷ []) v (suc k) e = absurd (omega arith)
 joined_either (g ∷ h ∷ groups) v zero e = absurd (omega arith)
 joined_either (g ∷ h ∷ groups) v (suc k) e = ap (λ (gs : List (List VisibleCell)). g ∷ gs) (joined_either (h ∷ groups) v k (omega arith)) ∙ cons_if _ g _ _
 
-pub joined_begins : (groups : List (List VisibleCell)) (v : VisibleCell) → begins_behind groups v ≡ true → joined begins_cluster groups v ≡ groups ++ (v ∷ []) ∷ []
+pub joined_begins : (groups : List (List VisibleCell)) (v : VisibleCell) → begins_after groups v ≡ true → joined begins_cluster groups v ≡ groups ++ (v ∷ []) ∷ []
 joined_begins [] v t = refl
 joined_begins (g ∷ groups) v t =
     joined_either (g ∷ groups) v (length groups) (omega arith)
     ∙ ap (λ b. if b then g ∷ groups ++ (v ∷ []) ∷ [] else set (g ∷ groups) (length groups) (last_of (g ∷ groups) ++ v ∷ [])) t
 
-pub joined_grows : (groups : List (List VisibleCell)) (v : VisibleCell) (k : ℕ) → length groups ≡ suc k → begins_behind groups v ≡ false → joined begins_cluster groups v ≡ set groups k (last_of groups ++ v ∷ [])
+pub joined_grows : (groups : List (List VisibleCell)) (v : VisibleCell) (k : ℕ) → length groups ≡ suc k → begins_after groups v ≡ false → joined begins_cluster groups v ≡ set groups k (last_of groups ++ v ∷ [])
 joined_grows [] v k e t = absurd (omega arith)
 joined_grows (g ∷ groups) v k e t =
     joined_either (g ∷ groups) v k e ∙ ap (λ b. if b then g ∷ groups ++ (v ∷ []) ∷ [] else set (g ∷ groups) k (last_of (g ∷ groups) ++ v ∷ [])) t
 
 -- ---- what is known of the clusters so far
 
-pub made_begun : (groups : List (List VisibleCell)) (s t : Clusters) (v : VisibleCell) → IsMadeOf groups s → begins_behind groups v ≡ true
+pub made_begun : (groups : List (List VisibleCell)) (s t : Clusters) (v : VisibleCell) → IsMadeOf groups s → begins_after groups v ≡ true
     → t.made.items ≡ s.made.items ++ cluster_of (v ∷ []) ∷ [] → t.ends_in_space ≡ is_space v → t.holds_text ≡ not (is_space v) → IsMadeOf (joined begins_cluster groups v) t
 made_begun groups s t v is b made space text =
     let begun = joined_begins groups v b in
@@ -105,7 +105,7 @@ made_begun groups s t v is b made space text =
       holds_cells = λ _. omega (arith, ap length last);
     }
 
-joined_made : (groups : List (List VisibleCell)) (v : VisibleCell) (k : ℕ) (d : ClusterContent) → length groups ≡ suc k → 0 < length (last_of groups) → begins_behind groups v ≡ false
+joined_made : (groups : List (List VisibleCell)) (v : VisibleCell) (k : ℕ) (d : ClusterContent) → length groups ≡ suc k → 0 < length (last_of groups) → begins_after groups v ≡ false
     → set (map cluster_of groups) k (grown (get_or (map cluster_of groups) k d) v) ≡ map cluster_of (joined begins_cluster groups v)
 joined_made groups v k d e h b =
     ap (λ c. set (map cluster_of groups) k (grown c v)) (last_of-is groups k d e)
@@ -113,7 +113,7 @@ joined_made groups v k d e h b =
     ∙ sym (map-set cluster_of groups k (last_of groups ++ v ∷ []))
     ∙ ap (map cluster_of) (sym (joined_grows groups v k e b))
 
-pub made_joined : (groups : List (List VisibleCell)) (s t : Clusters) (v : VisibleCell) (k : ℕ) (d : ClusterContent) → length groups ≡ suc k → IsMadeOf groups s → begins_behind groups v ≡ false
+pub made_joined : (groups : List (List VisibleCell)) (s t : Clusters) (v : VisibleCell) (k : ℕ) (d : ClusterContent) → length groups ≡ suc k → IsMadeOf groups s → begins_after groups v ≡ false
     → t.made.items ≡ set s.made.items k (grown (get_or s.made.items k d) v) → t.ends_in_space ≡ is_space v → t.holds_text ≡ (s.holds_text || not (is_space v)) → IsMadeOf (joined begins_cluster groups v) t
 made_joined groups s t v k d e is b made space text =
     let last : last_of (joined begins_cluster groups v) ≡ last_of groups ++ v ∷ [] = ap last_of (joined_grows groups v k e b) ∙ last_of-set groups k (last_of groups ++ v ∷ []) e in
@@ -126,7 +126,7 @@ made_joined groups s t v k d e is b made space text =
 
 -- the test on the last cluster is the test on its cells
 pub begins_made : (groups : List (List VisibleCell)) (s : Clusters) (v : VisibleCell) (k : ℕ) (d : ClusterContent) → length groups ≡ suc k → IsMadeOf groups s
-    → (not (same_attributes (get_or s.made.items k d).attributes (unwrapped v.cell.attributes)) || not (is_space v) && s.ends_in_space || is_space v && s.ends_in_space && s.holds_text) ≡ begins_behind groups v
+    → (not (same_attributes (get_or s.made.items k d).attributes (unwrapped v.cell.attributes)) || not (is_space v) && s.ends_in_space || is_space v && s.ends_in_space && s.holds_text) ≡ begins_after groups v
 begins_made [] s v k d e is = absurd (omega arith)
 begins_made (g ∷ groups) s v k d e is =
     let last : get_or s.made.items k d ≡ cluster_of (last_of (g ∷ groups)) = ap (λ cs. get_or cs k d) is.made ∙ last_of-is (g ∷ groups) k d e in

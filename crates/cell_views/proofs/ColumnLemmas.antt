@@ -4,7 +4,7 @@ use Rattle.std.specs.Prelude.{nat_le, find, ◌==◌, if◌then◌else◌}
 use Rattle.std.proofs.lemmas.Bool.{false≢true, ne_eqb, eq-eqb}
 use Rattle.cell_base.specs.CellContent.{CellContent, row_of_cells}
 use Rattle.cell_base.specs.Row.{Narrow, LeftHalf, RightHalf, Row, blank, closed_start}
-use Rattle.cell_edits.specs.CellList.{ends_halved}
+use Rattle.cell_edits.specs.CellList.{ends_split}
 use Rattle.cell_edits.specs.VisibleCells.{VisibleCell, visible_from, first_of, cell_at}
 use Rattle.cell_edits.proofs.CellLemmas.{by_test, row_wide, row_narrow, halved_wide, halved_narrow, starts_closed}
 use Rattle.cell_views.proofs.KeptLemmas.{AreInOrder, in_order}
@@ -34,7 +34,7 @@ one_cell c from column e = by_test (nat_le 2 c.width)
     (λ t. ap (λ b. find (λ v. v.column == column) (visible_from from ((if b then blank c.attributes else Narrow c.text c.attributes) ∷ []))) t ∙ miss _ [] column e)
 
 -- a column where a cell begins
-pub cell_found : (cells : List CellContent) (from n column : ℕ) → column ≡ from + n → ends_halved (take n cells) ≡ false
+pub cell_found : (cells : List CellContent) (from n column : ℕ) → column ≡ from + n → ends_split (take n cells) ≡ false
     → find (λ v. v.column == column) (visible_from from (row_of_cells cells)) ≡ first_of (visible_from column (row_of_cells (drop n cells)))
 cell_found [] from zero column e h = refl
 cell_found [] from (suc n) column e h = refl
@@ -54,7 +54,7 @@ cell_found (c ∷ d ∷ cs) from (suc (suc m)) column e h = by_test (nat_le 2 c.
     ∙ cell_found (d ∷ cs) (from + 1) (suc m) column (omega (arith, e)) (sym (halved_narrow c d (take m cs) t) ∙ h))
 
 -- the second column of a wide cell
-pub none_found : (cells : List CellContent) (from n column : ℕ) → column ≡ from + n → ends_halved (take n cells) ≡ true → find (λ v. v.column == column) (visible_from from (row_of_cells cells)) ≡ None
+pub none_found : (cells : List CellContent) (from n column : ℕ) → column ≡ from + n → ends_split (take n cells) ≡ true → find (λ v. v.column == column) (visible_from from (row_of_cells cells)) ≡ None
 none_found [] from zero column e h = absurd (false≢true h)
 none_found [] from (suc n) column e h = absurd (false≢true h)
 none_found (c ∷ cs) from zero column e h = absurd (false≢true h)
@@ -72,14 +72,14 @@ none_found (c ∷ d ∷ cs) from (suc (suc m)) column e h = by_test (nat_le 2 c.
     ∙ miss _ (visible_from (from + 1) (row_of_cells (d ∷ cs))) column (λ f. absurd (omega (arith, e, f)))
     ∙ none_found (d ∷ cs) (from + 1) (suc m) column (omega (arith, e)) (sym (halved_narrow c d (take m cs) t) ∙ h))
 
-nothing_behind : (cells : List CellContent) (n : ℕ) → length cells ≤ n → drop n cells ≡ []
-nothing_behind [] zero h = refl
-nothing_behind [] (suc n) h = refl
-nothing_behind (c ∷ cs) zero h = absurd (omega (arith, h))
-nothing_behind (c ∷ cs) (suc n) h = nothing_behind cs n (omega (arith, h))
+nothing_after : (cells : List CellContent) (n : ℕ) → length cells ≤ n → drop n cells ≡ []
+nothing_after [] zero h = refl
+nothing_after [] (suc n) h = refl
+nothing_after (c ∷ cs) zero h = absurd (omega (arith, h))
+nothing_after (c ∷ cs) (suc n) h = nothing_after cs n (omega (arith, h))
 
 -- past the end
 pub none_past : (cells : List CellContent) (column : ℕ) → length cells ≤ column → None ≡ cell_at column (row_of_cells cells)
-none_past cells column h = by_test (ends_halved (take column cells))
+none_past cells column h = by_test (ends_split (take column cells))
     (λ t. sym (none_found cells 0 column column (omega arith) t))
-    (λ t. sym (cell_found cells 0 column column (omega arith) t ∙ ap (λ (cs : List CellContent). first_of (visible_from column (row_of_cells cs))) (nothing_behind cells column h)))
+    (λ t. sym (cell_found cells 0 column column (omega arith) t ∙ ap (λ (cs : List CellContent). first_of (visible_from column (row_of_cells cs))) (nothing_after cells column h)))

@@ -2,7 +2,7 @@
 use Rattle.std.proofs.Common.{◌≡◌, ◌<◌, Bool, true, false, List, [], ◌∷◌, ◌++◌, length, arith, refl, sym, ap, subst, ◌∙◌, append_assoc}
 use Rattle.std.specs.Prelude.{fold, flat_map, if◌then◌else◌}
 use Rattle.std.proofs.lemmas.List.{append-nil}
-use Rattle.cell_views.specs.Groups.{joined, groups_by, GoOn, AreTogether, BeginBehind, IsCut, AreGroupsOf}
+use Rattle.cell_views.specs.Groups.{joined, groups_by, GoOn, AreTogether, BeginAfter, IsCut, AreGroupsOf}
 use Rattle.cell_edits.proofs.CellLemmas.{by_test}
 
 -- ---- the groups are a cut
@@ -15,9 +15,9 @@ together-one : {A : Type 0} (begins : List A → A → Bool) (xs : List A) (x : 
 together-one begins [] x p b = absurd p
 together-one begins (w ∷ xs) x p b = go_on-one begins (w ∷ []) xs x p b
 
-begin_behind-one : {A : Type 0} (begins : List A → A → Bool) (before xs : List A) (x : A) → BeginBehind begins before xs → BeginBehind begins before (xs ++ x ∷ [])
-begin_behind-one begins before [] x p = absurd p
-begin_behind-one begins before (w ∷ xs) x p = p
+begin_after-one : {A : Type 0} (begins : List A → A → Bool) (before xs : List A) (x : A) → BeginAfter begins before xs → BeginAfter begins before (xs ++ x ∷ [])
+begin_after-one begins before [] x p = absurd p
+begin_after-one begins before (w ∷ xs) x p = p
 
 -- an element that joins the last group, or begins one
 cut_grown : {A : Type 0} (begins : List A → A → Bool) (xs : List A) (x : A) → IsCut begins (xs ∷ []) → IsCut begins (joined begins (xs ∷ []) x)
@@ -27,12 +27,12 @@ cut_grown begins xs x p =
     (λ b. subst (λ t. IsCut begins (if t then xs ∷ (x ∷ []) ∷ [] else (xs ++ x ∷ []) ∷ [])) (sym b) (together-one begins xs x p b))
 
 -- the first group stays, or grows where it is the last
-first_begins : {A : Type 0} (begins : List A → A → Bool) (before xs : List A) (groups : List (List A)) (x : A) → AreTogether begins before → BeginBehind begins before xs → IsCut begins (joined begins (xs ∷ groups) x)
+first_begins : {A : Type 0} (begins : List A → A → Bool) (before xs : List A) (groups : List (List A)) (x : A) → AreTogether begins before → BeginAfter begins before xs → IsCut begins (joined begins (xs ∷ groups) x)
     → IsCut begins (before ∷ joined begins (xs ∷ groups) x)
 first_begins begins before xs [] x a b p =
     by_test (begins xs x)
     (λ e. subst (λ t. IsCut begins (before ∷ (if t then xs ∷ (x ∷ []) ∷ [] else (xs ++ x ∷ []) ∷ []))) (sym e) (a, b, subst (λ t. IsCut begins (if t then xs ∷ (x ∷ []) ∷ [] else (xs ++ x ∷ []) ∷ [])) e p))
-    (λ e. subst (λ t. IsCut begins (before ∷ (if t then xs ∷ (x ∷ []) ∷ [] else (xs ++ x ∷ []) ∷ []))) (sym e) (a, begin_behind-one begins before xs x b, subst (λ t. IsCut begins (if t then xs ∷ (x ∷ []) ∷ [] else (xs ++ x ∷ []) ∷ [])) e p))
+    (λ e. subst (λ t. IsCut begins (before ∷ (if t then xs ∷ (x ∷ []) ∷ [] else (xs ++ x ∷ []) ∷ []))) (sym e) (a, begin_after-one begins before xs x b, subst (λ t. IsCut begins (if t then xs ∷ (x ∷ []) ∷ [] else (xs ++ x ∷ []) ∷ [])) e p))
 first_begins begins before xs (next ∷ groups) x a b p = (a, b, p)
 
 pub cut_joined : {A : Type 0} (begins : List A → A → Bool) (groups : List (List A)) (x : A) → IsCut begins groups → IsCut begins (joined begins groups x)
@@ -72,11 +72,11 @@ pub some_groups : {A : Type 0} (begins : List A → A → Bool) (groups : List (
 some_groups begins groups [] p = p
 some_groups begins groups (x ∷ xs) p = some_groups begins (joined begins groups x) xs (joined_some begins groups x)
 
-pub fold_behind : {A : Type 0} (begins : List A → A → Bool) (first : List A) (groups : List (List A)) (xs : List A) → 0 < length groups
+pub fold_after : {A : Type 0} (begins : List A → A → Bool) (first : List A) (groups : List (List A)) (xs : List A) → 0 < length groups
     → fold (joined begins) (first ∷ groups) xs ≡ first ∷ fold (joined begins) groups xs
-fold_behind begins first groups [] p = refl
-fold_behind begins first [] (x ∷ xs) p = absurd (omega arith)
-fold_behind begins first (next ∷ groups) (x ∷ xs) p = fold_behind begins first (joined begins (next ∷ groups) x) xs (joined_some begins (next ∷ groups) x)
+fold_after begins first groups [] p = refl
+fold_after begins first [] (x ∷ xs) p = absurd (omega arith)
+fold_after begins first (next ∷ groups) (x ∷ xs) p = fold_after begins first (joined begins (next ∷ groups) x) xs (joined_some begins (next ∷ groups) x)
 
 -- ---- no other cut is one
 

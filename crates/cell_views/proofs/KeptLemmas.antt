@@ -5,7 +5,7 @@ use Rattle.std.specs.List.{list_all, list_any}
 use Rattle.std.proofs.lemmas.Bool.{le-leb, false≢true}
 use Rattle.std.proofs.lemmas.Bool.Decides.{leb_tells}
 use Rattle.cell_base.specs.Row.{Narrow, LeftHalf, RightHalf, Row}
-use Rattle.cell_change.specs.UpToLast.{up_to_last}
+use Rattle.cell_base.specs.UpToLast.{up_to_last}
 use Rattle.cell_edits.specs.VisibleCells.{VisibleCell, visible_from}
 use Rattle.cell_views.specs.OpenZones.{is_kept_by}
 use Rattle.cell_edits.proofs.CellLemmas.{by_test}

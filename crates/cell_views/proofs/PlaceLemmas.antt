@@ -10,8 +10,8 @@ map-replicate f zero b = refl
 map-replicate f (suc n) b = ap (λ (xs : List ℕ). f b ∷ xs) (map-replicate f n b)
 
 -- copies behind some places
-pub behind_more : (f : Place → ℕ) (front : List ℕ) (bs cs : List Place) (n : ℕ) (b : Place) → cs ≡ bs ++ replicate n b → front ++ map f cs ≡ (front ++ map f bs) ++ replicate n (f b)
-behind_more f front bs cs n b e =
+pub after_more : (f : Place → ℕ) (front : List ℕ) (bs cs : List Place) (n : ℕ) (b : Place) → cs ≡ bs ++ replicate n b → front ++ map f cs ≡ (front ++ map f bs) ++ replicate n (f b)
+after_more f front bs cs n b e =
     ap (λ xs. front ++ map f xs) e ∙ ap (λ xs. front ++ xs) (map-append f bs (replicate n b)) ∙ ap (λ xs. front ++ (map f bs ++ xs)) (map-replicate f n b) ∙ sym (append_assoc front (map f bs) (replicate n (f b)))
 
 pub range_more : (a n : ℕ) → range_with_len a (n + 1) ≡ range_with_len a n ++ (a + n) ∷ []
@@ -30,6 +30,6 @@ counted_more f front more (b ∷ bs) n x e one is = absurd (omega arith)
 pub at_counted : (front ys : List ℕ) (i : ℕ) → i < length front → get_or (front ++ ys) i 0 ≡ get_or front i 0
 at_counted front ys i h = get_or_append_left front ys 0 i h
 
-pub at_behind : (f : Place → ℕ) (front : List ℕ) (bs : List Place) (i n : ℕ) (d : Place) → length front ≡ n → n ≤ i → i - n < length bs → get_or (front ++ map f bs) i 0 ≡ f (get_or bs (i - n) d)
-at_behind f front bs i n d e h k =
+pub at_after : (f : Place → ℕ) (front : List ℕ) (bs : List Place) (i n : ℕ) (d : Place) → length front ≡ n → n ≤ i → i - n < length bs → get_or (front ++ map f bs) i 0 ≡ f (get_or bs (i - n) d)
+at_after f front bs i n d e h k =
     ap (λ m. get_or (front ++ map f bs) m 0) (omega (arith, e, h)) ∙ get_or-append-add front (map f bs) (i - n) 0 ∙ get_or-map f bs (i - n) d 0 k

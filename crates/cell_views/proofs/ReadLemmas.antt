@@ -2,7 +2,7 @@
 use Rattle.std.proofs.Common.{◌≡◌, ℕ, ◌+◌, ◌<◌, ◌≤◌, Bool, true, false, List, [], ◌∷◌, ◌++◌, drop, refl, sym, ap, ◌∙◌, arith}
 use Rattle.std.specs.Prelude.{nat_le, map, filter, if◌then◌else◌}
 use Rattle.cell_base.specs.CellContent.{CellContent, row_of_cells}
-use Rattle.cell_edits.specs.CellList.{ends_halved, cell_columns}
+use Rattle.cell_edits.specs.CellList.{ends_split, cell_columns}
 use Rattle.cell_views.specs.CellRefView.{one_or_two}
 use Rattle.cell_edits.specs.VisibleCells.{VisibleCell, visible_at, visible_from, visible_cells, row_of_visible}
 use Rattle.cell_views.specs.ReadCells.{read_from}
@@ -20,7 +20,7 @@ row_of_seen [] = refl
 row_of_seen (v ∷ cells) = λ i. seen_columns v i ++ row_of_seen cells i
 
 -- what is read is what is visible, where the last cell that is read isn't halved
-pub read_is_visible : (i : ℕ) (cells : List CellContent) → ends_halved cells ≡ false → map seen (read_from i cells) ≡ visible_from i (row_of_cells cells)
+pub read_is_visible : (i : ℕ) (cells : List CellContent) → ends_split cells ≡ false → map seen (read_from i cells) ≡ visible_from i (row_of_cells cells)
 read_is_visible i [] h = refl
 read_is_visible i (c ∷ []) h = rw h refl
 read_is_visible i (c ∷ n ∷ cs) h = by_test (nat_le 2 c.width)
@@ -45,7 +45,7 @@ picked p [] = refl
 picked p (v ∷ cells) = filter_if seen (p v.column) v (filter (λ w. p w.column) cells) _ (picked p cells)
 
 -- the row of what is picked
-pub row_picked : (p : ℕ → Bool) (cells : List CellContent) → ends_halved cells ≡ false → row_of_visible (filter (λ v. p v.column) (read_from 0 cells)) ≡ row_of_visible (filter (λ v. p v.column) (visible_cells (row_of_cells cells)))
+pub row_picked : (p : ℕ → Bool) (cells : List CellContent) → ends_split cells ≡ false → row_of_visible (filter (λ v. p v.column) (read_from 0 cells)) ≡ row_of_visible (filter (λ v. p v.column) (visible_cells (row_of_cells cells)))
 row_picked p cells h =
     sym (row_of_seen (filter (λ v. p v.column) (read_from 0 cells))) ∙ ap row_of_visible (picked p (read_from 0 cells) ∙ ap (filter (λ v. p v.column)) (read_is_visible 0 cells h))
 

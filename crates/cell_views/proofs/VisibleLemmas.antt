@@ -10,7 +10,7 @@ use Rattle.cell_views.specs.CellRefView.{one_or_two}
 use Rattle.cell_edits.proofs.CellLemmas.{wide_is, narrow_is, row_wide}
 use Rattle.cell_edits.proofs.CutLemmas.{row_narrow_any}
 use Rattle.cell_edits.proofs.RowLaws.{row_again, whole_cells}
-use Rattle.cell_rows.specs.WholeRow.{IsWhole}
+use Rattle.cell_base.specs.WholeRow.{IsWhole}
 
 pub next_narrow : (i : ℕ) (c : CellContent) (cs : List CellContent) → c.width < 2 → visible_from i (row_of_cells (c ∷ cs)) ≡ visible_at i c.text (one_or_two c.width) c.attributes ∷ visible_from (i + 1) (row_of_cells cs)
 next_narrow i c cs h =

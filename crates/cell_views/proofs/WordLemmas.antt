@@ -13,7 +13,7 @@ use Rattle.cell_base.specs.Row.{Narrow, LeftHalf, RightHalf, Row}
 use Rattle.cell_base.specs.declared.ranges.DoubleClickRange.{DoubleClickRange}
 use Rattle.cell_base.specs.declared.ranges.DoubleClickRange.TheVariants.{Range as WithoutWrap}
 use Rattle.cell_edits.specs.VisibleCells.{VisibleCell, visible_from, visible_cells}
-use Rattle.cell_views.specs.Words.{Answers, front_words, word_start, word_end, word_range, columns_between, double_click_range}
+use Rattle.cell_views.specs.Words.{Answers, prefix_words, word_start, word_end, word_range, columns_between, double_click_range}
 use Rattle.cell_edits.proofs.CellLemmas.{by_test}
 
 filter_in : {X : Type 0} (p : X → Bool) (x : X) (xs : List X) → p x ≡ true → filter p (x ∷ xs) ≡ x ∷ filter p xs
@@ -34,21 +34,21 @@ column_below at (LeftHalf t a ∷ row) v cells e = let is : at ≡ v.column = ap
 column_below at (RightHalf a ∷ row) v cells e = let below = column_below (at + 1) row v cells e in omega arith
 
 module _ (test : List ℕ → Bool) where
-  front_more : (v : VisibleCell) (cells : List VisibleCell) → test v.cell.text ≡ true → front_words test (v ∷ cells) ≡ v ∷ front_words test cells
-  front_more v cells e = take_while-cons (λ v. test v.cell.text) v cells ∙ ap (λ b. cond b (v ∷ front_words test cells) []) e
+  front_more : (v : VisibleCell) (cells : List VisibleCell) → test v.cell.text ≡ true → prefix_words test (v ∷ cells) ≡ v ∷ prefix_words test cells
+  front_more v cells e = take_while-cons (λ v. test v.cell.text) v cells ∙ ap (λ b. cond b (v ∷ prefix_words test cells) []) e
 
-  front_none : (v : VisibleCell) (cells : List VisibleCell) → test v.cell.text ≡ false → front_words test (v ∷ cells) ≡ []
-  front_none v cells e = take_while-cons (λ v. test v.cell.text) v cells ∙ ap (λ b. cond b (v ∷ front_words test cells) []) e
+  front_none : (v : VisibleCell) (cells : List VisibleCell) → test v.cell.text ≡ false → prefix_words test (v ∷ cells) ≡ []
+  front_none v cells e = take_while-cons (λ v. test v.cell.text) v cells ∙ ap (λ b. cond b (v ∷ prefix_words test cells) []) e
 
   -- the end of the words, from what it is so far
   abbrev pub end_from : ℕ → ℕ → List VisibleCell → ℕ
-  end_from at now cells = fold (λ _ v. v.column + 1) now (front_words test (filter (λ v. nat_le at v.column) cells))
+  end_from at now cells = fold (λ _ v. v.column + 1) now (prefix_words test (filter (λ v. nat_le at v.column) cells))
 
   pub end_stops : (at now whole : ℕ) (left : List VisibleCell) (v : VisibleCell) (cells : List VisibleCell) (column : ℕ)
       → left ≡ v ∷ cells → column ≡ v.column → at ≤ column → test v.cell.text ≡ false → end_from at now left ≡ whole → now ≡ whole
   end_stops at now whole left v cells column l c h f e =
       let behind : nat_le at v.column ≡ true = ap (nat_le at) (sym c) ∙ le-leb at column h in
-      sym (ap (end_from at now) l ∙ ap (λ xs. fold (λ _ v. v.column + 1) now (front_words test xs)) (filter_in (λ v. nat_le at v.column) v cells behind)
+      sym (ap (end_from at now) l ∙ ap (λ xs. fold (λ _ v. v.column + 1) now (prefix_words test xs)) (filter_in (λ v. nat_le at v.column) v cells behind)
       ∙ ap (λ xs. fold (λ _ v. v.column + 1) now xs) (front_none v (filter (λ v. nat_le at v.column) cells) f))
       ∙ e
 
@@ -57,7 +57,7 @@ module _ (test : List ℕ → Bool) where
   end_goes at now whole left v cells column l c h f e =
       let behind : nat_le at v.column ≡ true = ap (nat_le at) (sym c) ∙ le-leb at column h in
       ap (λ n. end_from at (n + 1) cells) c
-      ∙ sym (ap (end_from at now) l ∙ ap (λ xs. fold (λ _ v. v.column + 1) now (front_words test xs)) (filter_in (λ v. nat_le at v.column) v cells behind)
+      ∙ sym (ap (end_from at now) l ∙ ap (λ xs. fold (λ _ v. v.column + 1) now (prefix_words test xs)) (filter_in (λ v. nat_le at v.column) v cells behind)
       ∙ ap (λ xs. fold (λ _ v. v.column + 1) now xs) (front_more v (filter (λ v. nat_le at v.column) cells) f))
       ∙ e
 
@@ -94,19 +94,19 @@ module _ (test : List ℕ → Bool) where
       ∙ sym (begun_word None v cells e ∙ begun_broken (Some v.column) cells (all_rest v cells false e h)))
       (λ e. begun_other start v cells e ∙ sym (begun_other None v cells e))
 
-  front_all : (cells : List VisibleCell) (v : VisibleCell) → all_words cells ≡ true → test v.cell.text ≡ true → front_words test (cells ++ v ∷ []) ≡ cells ++ v ∷ []
+  front_all : (cells : List VisibleCell) (v : VisibleCell) → all_words cells ≡ true → test v.cell.text ≡ true → prefix_words test (cells ++ v ∷ []) ≡ cells ++ v ∷ []
   front_all [] v h e = front_more v [] e
   front_all (u ∷ cells) v h e = by_test (test u.cell.text)
       (λ f. front_more u (cells ++ v ∷ []) f ∙ ap (λ (xs : List VisibleCell). u ∷ xs) (front_all cells v (all_rest u cells true f h) e))
       (λ f. absurd (false≢true (sym (ap (λ t. t && all_words cells) f) ∙ h)))
 
-  front_broken : (cells : List VisibleCell) (v : VisibleCell) → all_words cells ≡ false → front_words test (cells ++ v ∷ []) ≡ front_words test cells
+  front_broken : (cells : List VisibleCell) (v : VisibleCell) → all_words cells ≡ false → prefix_words test (cells ++ v ∷ []) ≡ prefix_words test cells
   front_broken [] v h = absurd (false≢true (sym h))
   front_broken (u ∷ cells) v h = by_test (test u.cell.text)
       (λ f. front_more u (cells ++ v ∷ []) f ∙ ap (λ (xs : List VisibleCell). u ∷ xs) (front_broken cells v (all_rest u cells false f h)) ∙ sym (front_more u cells f))
       (λ f. front_none u (cells ++ v ∷ []) f ∙ sym (front_none u cells f))
 
-  front_push : (cells : List VisibleCell) (v : VisibleCell) → test v.cell.text ≡ false → front_words test (cells ++ v ∷ []) ≡ front_words test cells
+  front_push : (cells : List VisibleCell) (v : VisibleCell) → test v.cell.text ≡ false → prefix_words test (cells ++ v ∷ []) ≡ prefix_words test cells
   front_push [] v e = front_none v [] e
   front_push (u ∷ cells) v e = by_test (test u.cell.text)
       (λ f. front_more u (cells ++ v ∷ []) f ∙ ap (λ (xs : List VisibleCell). u ∷ xs) (front_push cells v e) ∙ sym (front_more u cells f))
@@ -133,13 +133,13 @@ module _ (test : List ℕ → Bool) where
   last_column at (u ∷ cells) v = last_column u.column cells v
 
   abbrev pub start_back : ℕ → List VisibleCell → ℕ
-  start_back at cells = fold (λ _ v. v.column) at (front_words test (reverse cells))
+  start_back at cells = fold (λ _ v. v.column) at (prefix_words test (reverse cells))
 
   -- read forwards or back, the unbroken words up to the last cell begin at one column
   begun_back : (at : ℕ) (cells : List VisibleCell) → unwrap_or (begun_in None cells) at ≡ start_back at cells
   begun_back at [] = refl
   begun_back at (v ∷ cells) =
-      let last = ap (λ xs. fold (λ _ v. v.column) at (front_words test xs)) (reverse_onto cells v []) in
+      let last = ap (λ xs. fold (λ _ v. v.column) at (prefix_words test xs)) (reverse_onto cells v []) in
       by_test (test v.cell.text)
       (λ e. by_test (all_words cells)
       (λ h. ap (λ o. unwrap_or o at) (begun_word None v cells e ∙ begun_all v.column cells h)

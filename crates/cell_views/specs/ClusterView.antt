@@ -8,7 +8,15 @@ use Rattle.cell_views.specs.declared.clusters.CellCluster.TheInside.{Inside}
 use Rattle.cell_views.specs.declared.clusters.Clusters.{Clusters}
 
 abbrev pub content_of : Inside → ClusterContent
-content_of a = record { attributes = a.attrs; text = string_bytes a.text; width = a.width; first_column = a.first_cell_idx; columns = columns_in a.places; widths = widths_in a.places }
+content_of a =
+    record {
+      attributes = a.attrs;
+      text = string_bytes a.text;
+      width = a.width;
+      first_column = a.first_cell_idx;
+      columns = columns_in a.places;
+      widths = widths_in a.places;
+    }
 
 -- each byte of the text has a column and a width
 pub record IsPlaced (a : Inside) : Type 0 where
@@ -17,7 +25,13 @@ pub record IsPlaced (a : Inside) : Type 0 where
 
 -- a cluster with a cell behind its own
 abbrev pub grown : ClusterContent → VisibleCell → ClusterContent
-grown c v = record c { text = c.text ++ v.cell.text; width = c.width + v.cell.width; columns = c.columns ++ replicate (length v.cell.text) v.column; widths = c.widths ++ replicate (length v.cell.text) v.cell.width }
+grown c v =
+    record c {
+      text = c.text ++ v.cell.text;
+      width = c.width + v.cell.width;
+      columns = c.columns ++ replicate (length v.cell.text) v.column;
+      widths = c.widths ++ replicate (length v.cell.text) v.cell.width;
+    }
 
 -- the cells of the last cluster
 abbrev pub last_of : List (List VisibleCell) → List VisibleCell
@@ -26,9 +40,9 @@ last_of (cells ∷ []) = cells
 last_of (cells ∷ more ∷ groups) = last_of (more ∷ groups)
 
 -- whether a cell begins a cluster behind these
-abbrev pub begins_behind : List (List VisibleCell) → VisibleCell → Bool
-begins_behind [] v = true
-begins_behind (cells ∷ groups) v = begins_cluster (last_of (cells ∷ groups)) v
+abbrev pub begins_after : List (List VisibleCell) → VisibleCell → Bool
+begins_after [] v = true
+begins_after (cells ∷ groups) v = begins_cluster (last_of (cells ∷ groups)) v
 
 -- the clusters that were made are those of these cells, and so is what is known of the last one
 pub record IsMadeOf (groups : List (List VisibleCell)) (s : Clusters) : Type 0 where

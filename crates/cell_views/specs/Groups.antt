@@ -24,14 +24,14 @@ AreTogether begins [] = ⊥
 AreTogether begins (x ∷ xs) = GoOn begins (x ∷ []) xs
 
 -- the first of the next elements begins a group
-abbrev pub BeginBehind : {A : Type 0} → (List A → A → Bool) → List A → List A → Type 0
-BeginBehind begins before [] = ⊥
-BeginBehind begins before (x ∷ xs) = begins before x ≡ true
+abbrev pub BeginAfter : {A : Type 0} → (List A → A → Bool) → List A → List A → Type 0
+BeginAfter begins before [] = ⊥
+BeginAfter begins before (x ∷ xs) = begins before x ≡ true
 
 abbrev pub IsCut : {A : Type 0} → (List A → A → Bool) → List (List A) → Type 0
 IsCut begins [] = ⊤
 IsCut begins (xs ∷ []) = AreTogether begins xs
-IsCut begins (xs ∷ next ∷ groups) = AreTogether begins xs × BeginBehind begins xs next × IsCut begins (next ∷ groups)
+IsCut begins (xs ∷ next ∷ groups) = AreTogether begins xs × BeginAfter begins xs next × IsCut begins (next ∷ groups)
 
 -- the groups, joined, are the list, and they are cut by the rule
 pub record AreGroupsOf {A : Type 0} (begins : List A → A → Bool) (xs : List A) (groups : List (List A)) : Type 0 where

@@ -1,5 +1,6 @@
 -- The columns that a double click takes.
-use Rattle.std.specs.Prelude.{◌≡◌, ℕ, ◌+◌, Bool, ◌&&◌, nat_lt, nat_le, List, length, reverse, fold, filter, take_while, if◌then◌else◌}
+use Rattle.std.specs.Prelude.{◌≡◌, ℕ, ◌+◌, Bool, ◌&&◌, nat_lt, nat_le, List, length, reverse, fold, filter, take_while}
+use Rattle.std.specs.Prelude.{if◌then◌else◌}
 use Rattle.std.specs.Borrow.{Bor}
 use Rattle.std.specs.Fn.{Shared, FnReturnsAt}
 use Rattle.std.specs.Str.{IsUtf8}
@@ -14,16 +15,20 @@ abbrev pub Answers : {F : Type 0} → Shared F (Bor (List ℕ) × Unit {0}) Bool
 Answers g f test = (text : List ℕ) (answer : Bool) → IsUtf8 text → FnReturnsAt g f text answer → answer ≡ test text
 
 -- the words at the front of cells
-abbrev pub front_words : (List ℕ → Bool) → List VisibleCell → List VisibleCell
-front_words is_word cells = take_while (λ v. is_word v.cell.text) cells
+abbrev pub prefix_words : (List ℕ → Bool) → List VisibleCell → List VisibleCell
+prefix_words is_word cells = take_while (λ v. is_word v.cell.text) cells
 
--- from the first cell at or behind a column on: one past the first column of the last unbroken word, or that column if there is none
+-- from the first cell at or behind a column on: one past the first column of the last unbroken word, or that column if
+-- there is none
 abbrev pub word_end : (List ℕ → Bool) → ℕ → List VisibleCell → ℕ
-word_end is_word at cells = fold (λ _ v. v.column + 1) at (front_words is_word (filter (λ v. nat_le at v.column) cells))
+word_end is_word at cells =
+    fold (λ _ v. v.column + 1) at (prefix_words is_word (filter (λ v. nat_le at v.column) cells))
 
--- from the last cell at or before a column back: the first column of the first unbroken word, or that column if there is none
+-- from the last cell at or before a column back: the first column of the first unbroken word, or that column if there
+-- is none
 abbrev pub word_start : (List ℕ → Bool) → ℕ → List VisibleCell → ℕ
-word_start is_word at cells = fold (λ _ v. v.column) at (front_words is_word (reverse (filter (λ v. nat_le v.column at) cells)))
+word_start is_word at cells =
+    fold (λ _ v. v.column) at (prefix_words is_word (reverse (filter (λ v. nat_le v.column at) cells)))
 
 -- whether a range reaches to the end of a row that goes on behind it
 abbrev pub goes_on : Row → ℕ → ℕ → Bool
@@ -33,7 +38,8 @@ abbrev pub columns_between : ℕ → ℕ → Range ℕ
 columns_between start end = record { start = start; «end» = end }
 
 abbrev pub word_range : Row → ℕ → ℕ → DoubleClickRange
-word_range row start end = if goes_on row start end then RangeWithWrap (columns_between start end) else WithoutWrap (columns_between start end)
+word_range row start end =
+    if goes_on row start end then RangeWithWrap (columns_between start end) else WithoutWrap (columns_between start end)
 
 -- nothing at and past the end of the row
 abbrev pub double_click_range : (List ℕ → Bool) → ℕ → Row → DoubleClickRange

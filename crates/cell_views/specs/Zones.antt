@@ -8,7 +8,7 @@ use Rattle.cell_base.specs.Attributes.{plain}
 use Rattle.cell_base.specs.CellContent.{blank_cell}
 use Rattle.cell_base.specs.SameCell.{same_cell}
 use Rattle.cell_views.specs.Groups.{groups_by}
-use Rattle.cell_change.specs.UpToLast.{up_to_last}
+use Rattle.cell_base.specs.UpToLast.{up_to_last}
 use Rattle.cell_edits.specs.VisibleCells.{VisibleCell, first_column, last_column}
 
 abbrev pub same_type : SemanticType → SemanticType → Bool
@@ -32,7 +32,11 @@ begins_zone cells v = not (same_type (type_of cells) v.cell.attributes.semantic_
 
 -- a zone reaches from its first cell's column to its last one's
 abbrev pub zone_of : List VisibleCell → ZoneRange
-zone_of cells = record { semantic_type = type_of cells; range = record { start = zone_column (first_column cells); «end» = zone_column (last_column cells) } }
+zone_of cells =
+    record {
+      semantic_type = type_of cells;
+      range = record { start = zone_column (first_column cells); «end» = zone_column (last_column cells) };
+    }
 
 -- a space of one column with plain attributes
 abbrev pub is_plain_cell : VisibleCell → Bool

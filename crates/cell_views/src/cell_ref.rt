@@ -73,7 +73,8 @@ impl<'a> CellRef<'a> {
     pub fn as_cell(&self, alloc: Global) -> Result<Cell, AllocError>
         ensures copy { IfOk result (λ cell. cell ≡ copied_by self.now) }
         ensures shown { IfOk result (λ cell. cell ≡ copy_of (shown_by self.now).cell) }
-        ensures same { IfOk result (λ cell. shows_as_space (shown_by self.now).cell.text ≡ false → cell ≡ (shown_by self.now).cell) }
+        ensures same { IfOk result
+            (λ cell. shows_as_space (shown_by self.now).cell.text ≡ false → cell ≡ (shown_by self.now).cell) }
     {
         match self {
             CellRef::CellRef { cell, .. } => {

@@ -1,12 +1,13 @@
 //! Clusters of a line: neighbouring cells that are shown together.
-ghost use Rattle.std.specs.Prelude.{◌≡◌, ◌<◌, ◌-◌, List, [], ◌∷◌, length, map, true, false, not, ◌&&◌, ◌||◌, slice_index, slice_set, slice_index_or, vec_len, IfOk, OnOk};
+ghost use Rattle.std.specs.Prelude.{◌≡◌, ◌<◌, ◌-◌, List, [], ◌∷◌, length, map, true, false, not, ◌&&◌, ◌||◌};
+ghost use Rattle.std.specs.Prelude.{slice_index, slice_set, slice_index_or, vec_len, IfOk, OnOk};
 ghost use Rattle.std.specs.Iterator.{IsFinite, Drains};
 ghost use Rattle.cell_base.specs.SameAttributes.{same_attributes};
 ghost use Rattle.cell_views.specs.CellRefView.{shown_by};
 ghost use Rattle.cell_edits.specs.VisibleCells.{VisibleCell};
 ghost use Rattle.cell_views.specs.Groups.{joined};
 ghost use Rattle.cell_views.specs.Clusters.{ClusterContent, unwrapped, cluster_of, begins_cluster, cell_clusters};
-ghost use Rattle.cell_views.specs.ClusterView.{grown, begins_behind, IsMadeOf};
+ghost use Rattle.cell_views.specs.ClusterView.{grown, begins_after, IsMadeOf};
 ghost use Rattle.cell_views.specs.declared.cell_ref.CellRef.{CellRef};
 
 use crate::cell_ref::CellRef;
@@ -63,7 +64,9 @@ impl CellCluster {
     ) -> Result<Vec<CellCluster>, AllocError>
         requires can { I.can_next iter }
         requires ends { IsFinite (I.remaining iter) }
-        ensures { IfOk result (λ clusters. (cells : List CellRef) × Drains I.next_gives iter cells × (clusters.items ≡ cell_clusters (map shown_by cells))) }
+        ensures { IfOk result
+            (λ clusters. (cells : List CellRef) × Drains I.next_gives iter cells
+            × (clusters.items ≡ cell_clusters (map shown_by cells))) }
     {
         let mut clusters = Clusters::new(alloc, hint);
         for cell in iter {
@@ -103,7 +106,8 @@ impl CellCluster {
 
     // Whether the cell has the attributes of the cluster.
     fn has_attrs_of(&self, cell: &CellRef<'_>) -> Result<bool, AllocError>
-        ensures { IfOk result (λ same. same ≡ same_attributes self.now.attributes (unwrapped (shown_by cell.now).cell.attributes)) }
+        ensures { IfOk result
+            (λ same. same ≡ same_attributes self.now.attributes (unwrapped (shown_by cell.now).cell.attributes)) }
     {
         let attrs = cell.attrs();
         if !attrs.wrapped() {
@@ -144,7 +148,11 @@ impl CellCluster {
 // The cell goes behind those of the last cluster.
 fn grow_last(clusters: &mut Vec<CellCluster>, cell: &CellRef<'_>) -> Result<(), AllocError>
     requires { 0 < vec_len clusters.old }
-    ensures { (d : ClusterContent) → OnOk result (clusters.new.items ≡ slice_set clusters.old.items (vec_len clusters.old - 1) (grown (slice_index_or clusters.old.items (vec_len clusters.old - 1) d) (shown_by cell.now))) }
+    ensures { (d : ClusterContent)
+        → OnOk result
+        (clusters.new.items
+        ≡ slice_set clusters.old.items (vec_len clusters.old - 1)
+        (grown (slice_index_or clusters.old.items (vec_len clusters.old - 1) d) (shown_by cell.now))) }
 {
     let last = clusters.len() - 1;
     clusters[last].grow(cell)
@@ -186,7 +194,9 @@ impl Clusters {
 
     // Whether the cell begins a cluster.
     fn begins(&self, cell: &CellRef<'_>) -> Result<bool, AllocError>
-        ensures exact { IfOk result (λ begins. (groups : List (List VisibleCell)) → IsMadeOf groups self.now → begins ≡ begins_behind groups (shown_by cell.now)) }
+        ensures exact { IfOk result
+            (λ begins. (groups : List (List VisibleCell)) → IsMadeOf groups self.now
+            → begins ≡ begins_after groups (shown_by cell.now)) }
         ensures first { IfOk result (λ begins. begins ≡ false → 0 < vec_len self.now.made) }
     {
         match self.made.last() {
@@ -201,7 +211,9 @@ impl Clusters {
 
     // The cell begins a cluster.
     fn begin(&mut self, cell: &CellRef<'_>) -> Result<(), AllocError>
-        ensures { (groups : List (List VisibleCell)) → IsMadeOf groups self.old → begins_behind groups (shown_by cell.now) ≡ true → OnOk result (IsMadeOf (joined begins_cluster groups (shown_by cell.now)) self.new) }
+        ensures { (groups : List (List VisibleCell)) → IsMadeOf groups self.old
+            → begins_after groups (shown_by cell.now) ≡ true
+            → OnOk result (IsMadeOf (joined begins_cluster groups (shown_by cell.now)) self.new) }
     {
         let space = is_space(cell.str());
         self.made
@@ -214,7 +226,9 @@ impl Clusters {
     // The cell joins the last cluster.
     fn join(&mut self, cell: &CellRef<'_>) -> Result<(), AllocError>
         requires { 0 < vec_len self.old.made }
-        ensures { (groups : List (List VisibleCell)) → IsMadeOf groups self.old → begins_behind groups (shown_by cell.now) ≡ false → OnOk result (IsMadeOf (joined begins_cluster groups (shown_by cell.now)) self.new) }
+        ensures { (groups : List (List VisibleCell)) → IsMadeOf groups self.old
+            → begins_after groups (shown_by cell.now) ≡ false
+            → OnOk result (IsMadeOf (joined begins_cluster groups (shown_by cell.now)) self.new) }
     {
         let space = is_space(cell.str());
         grow_last(&mut self.made, cell)?;
@@ -225,7 +239,8 @@ impl Clusters {
 
     // The cell joins the last cluster, or begins one.
     fn push_cell(&mut self, cell: &CellRef<'_>) -> Result<(), AllocError>
-        ensures { (groups : List (List VisibleCell)) → IsMadeOf groups self.old → OnOk result (IsMadeOf (joined begins_cluster groups (shown_by cell.now)) self.new) }
+        ensures { (groups : List (List VisibleCell)) → IsMadeOf groups self.old
+            → OnOk result (IsMadeOf (joined begins_cluster groups (shown_by cell.now)) self.new) }
     {
         if self.begins(cell)? {
             return self.begin(cell);

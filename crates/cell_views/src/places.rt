@@ -1,5 +1,6 @@
 //! Where the cells of a text's bytes stand.
-ghost use Rattle.std.specs.Prelude.{◌≡◌, ◌+◌, ◌<◌, ◌≤◌, ◌^◌, ◌++◌, [], length, replicate, slice_index, IsTrue, OnOk, IfOk};
+ghost use Rattle.std.specs.Prelude.{◌≡◌, ◌+◌, ◌<◌, ◌≤◌, ◌^◌, ◌++◌, [], length, replicate, slice_index, IsTrue, OnOk};
+ghost use Rattle.std.specs.Prelude.{IfOk};
 
 use std::alloc::{AllocError, Global};
 
@@ -84,7 +85,8 @@ impl Places {
 
     // The bytes of a cell come behind.
     pub(crate) fn push(&mut self, text: &str, column: usize, width: u8) -> Result<(), AllocError>
-        ensures columns { OnOk result (columns_in self.new ≡ columns_in self.old ++ replicate (length text.now) column) }
+        ensures columns { OnOk result
+            (columns_in self.new ≡ columns_in self.old ++ replicate (length text.now) column) }
         ensures widths { OnOk result (widths_in self.new ≡ widths_in self.old ++ replicate (length text.now) width) }
         ensures column_count { length (columns_in self.old) ≤ length (columns_in self.new) }
         ensures width_count { length (widths_in self.old) ≤ length (widths_in self.new) }

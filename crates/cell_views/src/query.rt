@@ -7,7 +7,8 @@ ghost use Rattle.cell_base.specs.Attributes.{plain};
 ghost use Rattle.cell_base.specs.CellContent.{row_of_cells};
 ghost use Rattle.cell_base.specs.Row.{space};
 ghost use Rattle.cell_base.specs.SameAttributes.{same_attributes};
-ghost use Rattle.cell_edits.specs.VisibleCells.{visible_cells, visible_from, first_of, contents, cell_at, cells_between, texts_joined, has_link, is_whitespace_row, ends_wrapped};
+ghost use Rattle.cell_edits.specs.VisibleCells.{visible_cells, visible_from, first_of, contents, cell_at};
+ghost use Rattle.cell_edits.specs.VisibleCells.{cells_between, texts_joined, has_link, is_whitespace_row, ends_wrapped};
 ghost use Rattle.cell_views.specs.CellRefView.{shown_by};
 ghost use Rattle.cell_edits.specs.Links.{has_implicit_link};
 ghost use Rattle.cell_views.specs.StoredCells.{stored_row};
@@ -16,7 +17,7 @@ use crate::cell_ref::CellRef;
 use crate::stored_cells::StoredCells;
 use crate::visible_cells::VisibleCellIter;
 use cell_base::Cell;
-use cell_edits::row::{has_implicit, is_halved, last_read};
+use cell_edits::row::{has_implicit, is_split, last_read};
 use clustered_row::ClusteredRow;
 use std::alloc::AllocError;
 
@@ -43,13 +44,13 @@ fn cell_read_at(cells: &[Cell], column: usize) -> Option<CellRef<'_>>
     if cells.len() <= column {
         return None;
     }
-    if is_halved(cells, column) {
+    if is_split(cells, column) {
         return None;
     }
     first_from(cells, column)
 }
 
-// The same of a clustered row.
+// The cell that begins at the column, of a clustered row.
 fn clustered_cell_at(row: &ClusteredRow, column: usize) -> Option<CellRef<'_>>
     ensures { option_map shown_by result ≡ cell_at column row.now }
 {

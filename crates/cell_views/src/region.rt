@@ -9,8 +9,8 @@ use crate::cell_ref::CellRef;
 use crate::half::Half;
 use crate::stored_cells::StoredCells;
 use crate::visible_cells::VisibleCellIter;
-use cell_base::Cell;
-use cell_edits::row::is_halved;
+use cell_base::{Cell, CellAttributes};
+use cell_edits::row::is_split;
 use clustered_row::ClusteredRow;
 
 /// The visible cells of some columns of a row, in the order of their columns. A cell that an edge
@@ -35,7 +35,7 @@ fn start_edge(row: &ClusteredRow, start: usize) -> Edge<'_>
     ensures column { result.column ≡ inner_start start row.now }
     ensures half { half_left result.half ≡ start_half start row.now }
 {
-    if row.is_halved(start) {
+    if row.is_split(start) {
         return Edge {
             column: start + 1,
             half: Some(Half {
@@ -56,7 +56,7 @@ fn end_edge(row: &ClusteredRow, end: usize) -> Edge<'_>
     ensures column { result.column ≡ inner_end «end» row.now }
     ensures half { half_left result.half ≡ end_half «end» row.now }
 {
-    if row.is_halved(end) {
+    if row.is_split(end) {
         return Edge {
             column: end - 1,
             half: Some(Half {
@@ -92,7 +92,7 @@ impl<'a> RegionIter<'a> {
         requires within { «end» ≤ length cells.now }
         ensures { region_left result ≡ region start «end» (row_of_cells cells.now) }
     {
-        if start < end && is_halved(cells, start) {
+        if start < end && is_split(cells, start) {
             return RegionIter {
                 half: Some(Half {
                     cell_index: start,
@@ -134,6 +134,30 @@ impl<'a> RegionIter<'a> {
             half: first.half,
             cells: VisibleCellIter::of_clustered(cells, last.half),
         }
+    }
+}
+
+impl<'a> RegionIter<'a> {
+    ghost use Rattle.std.specs.Prelude.{◌≤◌, true, ◌++◌, IfSome, MatchOption};
+    ghost use Rattle.std.specs.List.{list_all};
+    ghost use Rattle.text_clusters.specs.Plain.{is_printable};
+    ghost use Rattle.cell_edits.specs.VisibleCells.{first_column, visible_each};
+    ghost use Rattle.cell_views.specs.Region.{region_left};
+
+    /// The printable ASCII characters (20h to 7Eh) that are left first, at most so many, as far as each is a cell of
+    /// one column, all have the same attributes, and they are kept side by side. They are left no more. `None`: the
+    /// next cell is another one, or none is asked for or left.
+    pub fn pass_plain(&mut self, most: usize) -> Option<(&'a str, &'a CellAttributes)>
+        ensures left { MatchOption result (region_left self.new ≡ region_left self.old)
+            (λ run. region_left self.old
+            ≡ visible_each (first_column (region_left self.old)) run.0.now run.1.now ++ region_left self.new) }
+        ensures some { IfSome result (λ run. (0 < length run.0.now) × (length run.0.now ≤ most)) }
+        ensures printable { IfSome result (λ run. list_all is_printable run.0.now ≡ true) }
+    {
+        if self.half.is_some() {
+            return None;
+        }
+        self.cells.pass_plain(most)
     }
 }
 

@@ -1,6 +1,6 @@
 //! What a row is kept as.
 ghost use Rattle.std.specs.Prelude.{◌≡◌, length};
-ghost use Rattle.cell_rows.specs.WholeRow.{IsWhole};
+ghost use Rattle.cell_base.specs.WholeRow.{IsWhole};
 ghost use Rattle.cell_views.specs.StoredCells.{stored_row};
 
 use cell_base::Cell;

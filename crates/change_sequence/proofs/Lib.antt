@@ -1,3 +1,4 @@
 pub mod AddLemmas
 pub mod MoveLemmas
 pub mod PushLemmas
+mod ScreenLemmas

@@ -6,7 +6,7 @@ use Rattle.std.proofs.lemmas.Grind.{flat_map-append}
 use Rattle.std.proofs.lemmas.List.Sums.{fold-append}
 use Rattle.text_clusters.proofs.PlainLemmas.{graphemes-nil}
 use Rattle.cell_base.specs.Cluster.{clusters, read_cluster}
-use Rattle.screen_canvas.specs.Parts.{plain_part}
+use Rattle.screen_effects.specs.Parts.{plain_part}
 use Rattle.screen_effects.specs.Strokes.{Stroke, TextPart, Control, Cluster, part_strokes, text_parts}
 use Rattle.change_sequence.specs.Sequence.{Place}
 

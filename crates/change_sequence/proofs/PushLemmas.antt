@@ -2,7 +2,7 @@
 use Rattle.std.proofs.Common.{◌≡◌, ℕ, Bool, true, false, List, [], ◌∷◌, ◌++◌, sym, ap, ◌∙◌}
 use Rattle.std.specs.Prelude.{ℤ, if◌then◌else◌}
 use Rattle.std.specs.Int.{int_max, int_min}
-use Rattle.cell_change.specs.ChangeValue.{ChangeValue}
+use Rattle.screen_change.specs.ChangeValue.{ChangeValue}
 use Rattle.change_sequence.specs.Places.{place_of}
 use Rattle.change_sequence.specs.Sequence.{Place, Sequence, change_moved, is_drawn, with_change}
 

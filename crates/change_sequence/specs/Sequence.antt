@@ -1,10 +1,13 @@
--- Where changes leave a cursor that doesn't scroll. Columns count from 0; rows count from where the first change stood, and may be negative.
-use Rattle.std.specs.Prelude.{◌≡◌, ℕ, ◌+◌, ◌-◌, ◌%◌, ◌<◌, min, ℤ, pos, negsuc, ◌+ℤ◌, ◌-ℤ◌, neg_ℤ, Bool, true, false, ◌&&◌, nat_lt, nat_le, ◌^◌, List, [], ◌∷◌, ◌++◌, fold, length, take, if◌then◌else◌}
+-- Where changes leave a cursor that doesn't scroll. Columns count from 0; rows count from where the first change stood,
+-- and may be negative.
+use Rattle.std.specs.Prelude.{◌≡◌, ℕ, ◌+◌, ◌-◌, ◌%◌, ◌<◌, min, ℤ, pos, negsuc, ◌+ℤ◌, ◌-ℤ◌, neg_ℤ, Bool, true, false}
+use Rattle.std.specs.Prelude.{◌&&◌, nat_lt, nat_le, ◌^◌, List, [], ◌∷◌, ◌++◌, fold, length, take, if◌then◌else◌}
 use Rattle.std.specs.List.{flat_map}
 use Rattle.std.specs.Int.{int_max, int_min, saturate_signed, w64}
 use Rattle.cell_base.specs.declared.attributes.Position.{Position}
 use Rattle.cell_base.specs.declared.attributes.Position.TheVariants.{Relative, Absolute, EndRelative}
-use Rattle.cell_change.specs.ChangeValue.{ChangeValue, Text, ClearScreen, CursorPosition, ScrollRegionUp, ScrollRegionDown}
+use Rattle.screen_change.specs.ChangeValue.{ChangeValue, Text, ClearScreen, CursorPosition, ScrollRegionUp}
+use Rattle.screen_change.specs.ChangeValue.{ScrollRegionDown}
 use Rattle.screen_effects.specs.Strokes.{Stroke, CarriageReturn, LineFeed, Cluster, TextPart, part_strokes, strokes}
 
 -- a column and a row; sums of rows stay in 64 bits
@@ -67,7 +70,8 @@ row_moved rows from (Relative way) = signed_rest (saturate_signed w64 (from +ℤ
 
 abbrev pub change_moved : (List ℕ → ℕ) → ℕ → ℕ → Place → ChangeValue → Place
 change_moved width_of columns rows place (Text text) = text_moved width_of columns place text
-change_moved width_of columns rows place (CursorPosition x y) = record { column = column_moved columns place.column x; row = row_moved rows place.row y }
+change_moved width_of columns rows place (CursorPosition x y) =
+    record { column = column_moved columns place.column x; row = row_moved rows place.row y }
 change_moved width_of columns rows place (ClearScreen color) = home
 change_moved width_of columns rows place (ScrollRegionUp first size count) = home
 change_moved width_of columns rows place (ScrollRegionDown first size count) = home
@@ -81,7 +85,8 @@ is_drawn (Text text) = true
 is_drawn (CursorPosition x y) = true
 is_drawn _ = false
 
--- the width values, the columns and rows of the screen, where the changes leave the cursor, the least and the greatest row, and the changes
+-- the width values, the columns and rows of the screen, where the changes leave the cursor, the least and the greatest
+-- row, and the changes
 pub record Sequence (W : Type 0) : Type 0 where
   pub widths : W
   pub columns : ℕ
@@ -106,11 +111,14 @@ abbrev pub with_changes : {W : Type 0} → (List ℕ → ℕ) → Sequence W →
 with_changes width_of s changes = fold (with_change width_of) s changes
 
 -- the first of some changes were added, but not all
-pub record HasSome {W : Type 0} (width_of : List ℕ → ℕ) (before after : Sequence W) (changes : List ChangeValue) : Type 0 where
+pub record HasSome {W : Type 0} (width_of : List ℕ → ℕ) (before after : Sequence W) (changes : List ChangeValue) : Type
+    0 where
   pub count : ℕ
   pub fewer : count < length changes
   pub added : after ≡ with_changes width_of before (take count changes)
 
 -- from one place to another, as far as numbers of 64 bits go
 abbrev pub move_to : Place → ℕ → ℤ → ChangeValue
-move_to place column row = CursorPosition (Relative (saturate_signed w64 (pos column -ℤ pos place.column))) (Relative (saturate_signed w64 (row -ℤ place.row)))
+move_to place column row =
+    CursorPosition (Relative (saturate_signed w64 (pos column -ℤ pos place.column)))
+    (Relative (saturate_signed w64 (row -ℤ place.row)))

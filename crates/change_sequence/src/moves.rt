@@ -2,21 +2,23 @@
 ghost use Rattle.std.specs.Prelude.{◌≡◌, ◌≤◌, ◌<◌, min, pos, [], ◌∷◌, fold, map};
 ghost use Rattle.cell_base.specs.Cluster.{clusters};
 ghost use Rattle.screen_effects.specs.Strokes.{Cluster, Control};
-ghost use Rattle.change_sequence.specs.Sequence.{column_moved, most_signed, parts_moved, row_moved, signed_rest, stroke_moved, text_moved};
+ghost use Rattle.change_sequence.specs.Sequence.{column_moved, most_signed, parts_moved, row_moved, signed_rest};
+ghost use Rattle.change_sequence.specs.Sequence.{stroke_moved, text_moved};
 ghost use Rattle.change_sequence.specs.Places.{place_of};
 
 use cell_base::{Position, Widths};
-use screen_canvas::{split_at_control, split_control};
+use screen_effects::{split_at_control, split_control};
 use unicode_segmentation::UnicodeSegmentation;
 
 /// A column and a row.
 pub(crate) type Place = (usize, isize);
 
 // Behind a cluster.
-fn behind_cluster<W: Widths>(widths: &W, columns: usize, place: Place, cluster: &str) -> Place
+fn after_cluster<W: Widths>(widths: &W, columns: usize, place: Place, cluster: &str) -> Place
     requires within { place.0 ≤ columns }
     requires some { 0 < columns }
-    ensures moved { place_of result ≡ stroke_moved (W.width_of widths.now) columns (place_of place) (Cluster cluster.now) }
+    ensures moved { place_of result
+        ≡ stroke_moved (W.width_of widths.now) columns (place_of place) (Cluster cluster.now) }
     ensures within { result.0 ≤ columns }
 {
     let (column, row) = place;
@@ -34,47 +36,49 @@ fn behind_cluster<W: Widths>(widths: &W, columns: usize, place: Place, cluster: 
 
 // Behind the clusters of a text.
 #[tactic(auto, using(cell_base::proofs::PlainClusters::clusters_are))]
-fn behind_run<W: Widths>(widths: &W, columns: usize, place: Place, text: &str) -> Place
+fn after_run<W: Widths>(widths: &W, columns: usize, place: Place, text: &str) -> Place
     requires within { place.0 ≤ columns }
     requires some { 0 < columns }
-    ensures moved { place_of result ≡ fold (stroke_moved (W.width_of widths.now) columns) (place_of place) (map Cluster (clusters text.now)) }
+    ensures moved { place_of result
+        ≡ fold (stroke_moved (W.width_of widths.now) columns) (place_of place) (map Cluster (clusters text.now)) }
     ensures within { result.0 ≤ columns }
 {
     let mut place = place;
     for cluster in text.graphemes(true) {
-        place = behind_cluster(widths, columns, place, cluster);
+        place = after_cluster(widths, columns, place, cluster);
     }
     place
 }
 
 // Behind a control in a text.
-fn behind_control<W: Widths>(widths: &W, columns: usize, place: Place, control: u8) -> Place
+fn after_control<W: Widths>(widths: &W, columns: usize, place: Place, control: u8) -> Place
     requires within { place.0 ≤ columns }
     requires some { 0 < columns }
-    ensures moved { place_of result ≡ parts_moved (W.width_of widths.now) columns (place_of place) (Control control ∷ []) }
+    ensures moved { place_of result
+        ≡ parts_moved (W.width_of widths.now) columns (place_of place) (Control control ∷ []) }
     ensures within { result.0 ≤ columns }
 {
     let (column, row) = place;
     match control {
         b'\r' => (0, row),
         b'\n' => (column, row.saturating_add(1)),
-        _ => behind_cluster(widths, columns, place, " "),
+        _ => after_cluster(widths, columns, place, " "),
     }
 }
 
 /// Behind a text, as on a screen of so many columns that doesn't scroll.
-pub(crate) fn behind_text<W: Widths>(widths: &W, columns: usize, place: Place, text: &str) -> Place
+pub(crate) fn after_text<W: Widths>(widths: &W, columns: usize, place: Place, text: &str) -> Place
     requires within { place.0 ≤ columns }
     requires some { 0 < columns }
     ensures moved { place_of result ≡ text_moved (W.width_of widths.now) columns (place_of place) text.now }
     ensures within { result.0 ≤ columns }
 {
     let (front, mut rest) = split_at_control(text);
-    let mut place = behind_run(widths, columns, place, front);
+    let mut place = after_run(widths, columns, place, front);
     while let Some((control, behind)) = split_control(rest) {
-        place = behind_control(widths, columns, place, control);
+        place = after_control(widths, columns, place, control);
         let (front, others) = split_at_control(behind);
-        place = behind_run(widths, columns, place, front);
+        place = after_run(widths, columns, place, front);
         rest = others;
     }
     place

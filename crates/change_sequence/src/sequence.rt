@@ -1,13 +1,14 @@
 //! The sequence.
 ghost use Rattle.std.specs.Prelude.{◌≡◌, ◌≤◌, ◌<◌, ◌-ℤ◌, [], pos, map, unsigned_abs, IfOk, OnOk, OnErr};
 ghost use Rattle.std.specs.Int.{saturate_signed, w64};
-ghost use Rattle.cell_change.specs.ValueOf.{value_of};
+ghost use Rattle.screen_change.specs.ValueOf.{value_of};
 ghost use Rattle.change_sequence.specs.Places.{place_of};
-ghost use Rattle.change_sequence.specs.Sequence.{HasSome, change_moved, home, is_drawn, move_to, with_change, with_changes};
+ghost use Rattle.change_sequence.specs.Sequence.{HasSome, change_moved, home, is_drawn, move_to, with_change};
+ghost use Rattle.change_sequence.specs.Sequence.{with_changes};
 
-use crate::moves::{Place, as_row, behind_text, column_of, row_of};
+use crate::moves::{Place, after_text, as_row, column_of, row_of};
 use cell_base::{Position, Widths};
-use cell_change::{Change, cloned_changes};
+use screen_change::{Change, cloned_changes};
 use std::alloc::{AllocError, Global};
 use std::marker::Model;
 
@@ -57,11 +58,12 @@ fn behind<W: Widths>(
     requires within { place.0 ≤ columns }
     requires some_columns { 0 < columns }
     requires some_rows { 0 < rows }
-    ensures moved { place_of result ≡ change_moved (W.width_of widths.now) columns rows (place_of place) (value_of change.now) }
+    ensures moved { place_of result
+        ≡ change_moved (W.width_of widths.now) columns rows (place_of place) (value_of change.now) }
     ensures within { result.0 ≤ columns }
 {
     match change {
-        Change::Text(text) => behind_text(widths, columns, place, text.as_str()),
+        Change::Text(text) => after_text(widths, columns, place, text.as_str()),
         Change::CursorPosition { x, y } => {
             (column_of(columns, place.0, *x), row_of(rows, place.1, *y))
         }
@@ -77,7 +79,16 @@ impl<W: Widths + Drop> ChangeSequence<W> {
     pub fn new(alloc: Global, rows: usize, cols: usize, widths: W) -> ChangeSequence<W>
         requires rows { 0 < rows }
         requires cols { 0 < cols }
-        ensures { result ≡ record { widths = widths; columns = cols; rows = rows; place = home; lowest = pos 0; highest = pos 0; changes = [] } }
+        ensures { result
+            ≡ record {
+              widths = widths;
+              columns = cols;
+              rows = rows;
+              place = home;
+              lowest = pos 0;
+              highest = pos 0;
+              changes = [];
+            } }
     {
         ChangeSequence {
             widths,
@@ -117,7 +128,9 @@ impl<W: Widths + Drop> ChangeSequence<W> {
     /// Adds a change; a text moves the cursor as on a screen, but that nothing scrolls. A refused call
     /// changes nothing, and drops the change.
     pub fn add<C: Into<Change> + Drop>(&mut self, change: C) -> Result<(), AllocError>
-        ensures added { OnOk result ((c : Change) × C.converts change c × (self.new ≡ with_change (W.width_of self.old.widths) self.old (value_of c))) }
+        ensures added { OnOk result
+            ((c : Change) × C.converts change c
+            × (self.new ≡ with_change (W.width_of self.old.widths) self.old (value_of c))) }
         ensures refused { OnErr result (self.new ≡ self.old) }
     {
         self.push(change.into())
@@ -143,8 +156,10 @@ impl<W: Widths + Drop> ChangeSequence<W> {
 
     /// Adds changes in turn. Where memory is refused the ones before are added.
     pub fn add_changes(&mut self, changes: Vec<Change>) -> Result<(), AllocError>
-        ensures added { OnOk result (self.new ≡ with_changes (W.width_of self.old.widths) self.old (map value_of changes.items)) }
-        ensures refused { OnErr result (HasSome (W.width_of self.old.widths) self.old self.new (map value_of changes.items)) }
+        ensures added { OnOk result
+            (self.new ≡ with_changes (W.width_of self.old.widths) self.old (map value_of changes.items)) }
+        ensures refused { OnErr result
+            (HasSome (W.width_of self.old.widths) self.old self.new (map value_of changes.items)) }
     {
         self.push_all(changes)
     }
@@ -152,8 +167,10 @@ impl<W: Widths + Drop> ChangeSequence<W> {
     // Adds changes in turn.
     #[tactic(auto, using(crate::proofs::AddLemmas::one_added))]
     fn push_all(&mut self, changes: Vec<Change>) -> Result<(), AllocError>
-        ensures added { OnOk result (self.new ≡ with_changes (W.width_of self.old.widths) self.old (map value_of changes.items)) }
-        ensures refused { OnErr result (HasSome (W.width_of self.old.widths) self.old self.new (map value_of changes.items)) }
+        ensures added { OnOk result
+            (self.new ≡ with_changes (W.width_of self.old.widths) self.old (map value_of changes.items)) }
+        ensures refused { OnErr result
+            (HasSome (W.width_of self.old.widths) self.old self.new (map value_of changes.items)) }
     {
         for change in changes {
             self.push(change)?;
@@ -163,7 +180,8 @@ impl<W: Widths + Drop> ChangeSequence<W> {
 
     /// Adds the position that leads from the current place to another one, by how far it is away.
     pub fn move_to(&mut self, place: (usize, isize)) -> Result<(), AllocError>
-        ensures added { OnOk result (self.new ≡ with_change (W.width_of self.old.widths) self.old (move_to self.old.place place.0 place.1)) }
+        ensures added { OnOk result
+            (self.new ≡ with_change (W.width_of self.old.widths) self.old (move_to self.old.place place.0 place.1)) }
         ensures refused { OnErr result (self.new ≡ self.old) }
     {
         let x = way(self.column, place.0);

@@ -6,14 +6,14 @@ use Rattle.std.proofs.lemmas.List.{drop_more, drop_all, length-drop, length-repl
 use Rattle.std.proofs.Math.Seq.{drop-append-add}
 use Rattle.cell_base.specs.Attributes.{Attributes}
 use Rattle.cell_base.specs.Row.{Column, Narrow, LeftHalf, RightHalf, Row, space, blank}
-use Rattle.cell_rows.specs.WholeRow.{IsWhole}
-use Rattle.cell_rows.proofs.RowLemmas.{whole-append, whole-blanks}
+use Rattle.cell_base.specs.WholeRow.{IsWhole}
+use Rattle.cell_base.proofs.RowLemmas.{whole-append, whole-blanks}
 use Rattle.cell_edits.specs.VisibleCells.{VisibleCell, visible_at, visible_from, visible_cells, cell_at, ends_wrapped}
 use Rattle.clustered_row.specs.declared.lent_text.LentText.{LentText}
 use Rattle.clustered_row.specs.Faces.{Face, Own, Left, Right, column, first_face, row_of, starts_right}
 use Rattle.clustered_row.specs.LentTexts.{IsLentAt}
 use Rattle.clustered_row.specs.Sizes.{width_of}
-use Rattle.clustered_row.specs.VisibleColumns.{starts_halved, is_halved, column_attributes}
+use Rattle.clustered_row.specs.VisibleColumns.{starts_split, is_split, column_attributes}
 use Rattle.clustered_row.proofs.RowLemmas.{row_of-drop}
 
 -- ---- the second column of a wide text
@@ -34,38 +34,38 @@ lent_starts fs at None false h e s = absurd (cc)
 lent_starts fs at (Some cell) false h e s = sym (lent_some fs at cell.is_wide cell.text.now h e)
 lent_starts fs at (Some cell) true h e s = absurd (cc)
 
-starts_halved-row_of : (fs : List Face) (ats : List Attributes) → length fs ≡ length ats → starts_halved (row_of fs ats) ≡ starts_right fs
-starts_halved-row_of [] ats e = refl
-starts_halved-row_of (f ∷ fs) [] e = absurd (omega arith)
-starts_halved-row_of (Own text ∷ fs) (a ∷ ats) e = refl
-starts_halved-row_of (Left text ∷ fs) (a ∷ ats) e = refl
-starts_halved-row_of (Right ∷ fs) (a ∷ ats) e = refl
+starts_split-row_of : (fs : List Face) (ats : List Attributes) → length fs ≡ length ats → starts_split (row_of fs ats) ≡ starts_right fs
+starts_split-row_of [] ats e = refl
+starts_split-row_of (f ∷ fs) [] e = absurd (omega arith)
+starts_split-row_of (Own text ∷ fs) (a ∷ ats) e = refl
+starts_split-row_of (Left text ∷ fs) (a ∷ ats) e = refl
+starts_split-row_of (Right ∷ fs) (a ∷ ats) e = refl
 
-pub halved_face : (fs : List Face) (ats : List Attributes) (at : ℕ) → length fs ≡ length ats → is_halved at (row_of fs ats) ≡ starts_right (drop at fs)
+pub halved_face : (fs : List Face) (ats : List Attributes) (at : ℕ) → length fs ≡ length ats → is_split at (row_of fs ats) ≡ starts_right (drop at fs)
 halved_face fs ats at e =
-    ap starts_halved (row_of-drop at fs ats) ∙ starts_halved-row_of (drop at fs) (drop at ats) (let n = length-drop at fs in let m = length-drop at ats in omega (arith, n, m, e))
+    ap starts_split (row_of-drop at fs ats) ∙ starts_split-row_of (drop at fs) (drop at ats) (let n = length-drop at fs in let m = length-drop at ats in omega (arith, n, m, e))
 
-starts_before : (xs ys : Row) → 0 < length xs → starts_halved (xs ++ ys) ≡ starts_halved xs
+starts_before : (xs ys : Row) → 0 < length xs → starts_split (xs ++ ys) ≡ starts_split xs
 starts_before [] ys h = absurd (omega arith)
 starts_before (Narrow text a ∷ xs) ys h = refl
 starts_before (LeftHalf text a ∷ xs) ys h = refl
 starts_before (RightHalf a ∷ xs) ys h = refl
 
-pub halved_before : (xs ys : Row) (at : ℕ) → at < length xs → is_halved at (xs ++ ys) ≡ is_halved at xs
+pub halved_before : (xs ys : Row) (at : ℕ) → at < length xs → is_split at (xs ++ ys) ≡ is_split at xs
 halved_before xs ys at h =
-    ap starts_halved (drop-append-le at xs ys (omega arith)) ∙ starts_before (drop at xs) ys (let n = length-drop at xs in omega (arith, n, h))
+    ap starts_split (drop-append-le at xs ys (omega arith)) ∙ starts_before (drop at xs) ys (let n = length-drop at xs in omega (arith, n, h))
 
-blanks_start : (n k : ℕ) (a : Attributes) → is_halved k (replicate n (blank a)) ≡ false
+blanks_start : (n k : ℕ) (a : Attributes) → is_split k (replicate n (blank a)) ≡ false
 blanks_start zero zero a = refl
 blanks_start zero (suc k) a = refl
 blanks_start (suc n) zero a = refl
 blanks_start (suc n) (suc k) a = blanks_start n k a
 
-pub halved_behind : (xs : Row) (n at : ℕ) (a : Attributes) → length xs ≤ at → is_halved at (xs ++ replicate n (blank a)) ≡ false
-halved_behind xs n at a h =
+pub halved_after : (xs : Row) (n at : ℕ) (a : Attributes) → length xs ≤ at → is_split at (xs ++ replicate n (blank a)) ≡ false
+halved_after xs n at a h =
     let k = at - length xs in
     let on : at ≡ length xs + k = omega arith in
-    ap (λ m. is_halved m (xs ++ replicate n (blank a))) on ∙ ap starts_halved (drop-append-add xs (replicate n (blank a)) k) ∙ blanks_start n k a
+    ap (λ m. is_split m (xs ++ replicate n (blank a))) on ∙ ap starts_split (drop-append-add xs (replicate n (blank a)) k) ∙ blanks_start n k a
 
 -- ---- attributes
 
@@ -169,15 +169,15 @@ first_blank zero k at a h = absurd (omega arith)
 first_blank (suc n) zero at a h = refl
 first_blank (suc n) (suc k) at a h = first_blank n k at a (omega arith)
 
-pub blank_behind : (xs : Row) (n at : ℕ) (a : Attributes) → length xs ≤ at → at < length xs + n → Some (visible_at at space 1 a) ≡ cell_at at (xs ++ replicate n (blank a))
-blank_behind xs n at a h k =
+pub blank_after : (xs : Row) (n at : ℕ) (a : Attributes) → length xs ≤ at → at < length xs + n → Some (visible_at at space 1 a) ≡ cell_at at (xs ++ replicate n (blank a))
+blank_after xs n at a h k =
     let j = at - length xs in
     let on : at ≡ length xs + j = omega arith in
     sym (cell_at-first (xs ++ replicate n (blank a)) at ∙ ap (λ m. first_at at (drop m (xs ++ replicate n (blank a)))) on ∙ ap (first_at at) (drop-append-add xs (replicate n (blank a)) j)
     ∙ first_blank n j at a (omega arith))
 
-pub none_behind : (row : Row) (at : ℕ) → length row ≤ at → None ≡ cell_at at row
-none_behind row at h = sym (cell_at-first row at ∙ ap (first_at at) (drop_all at row h))
+pub none_after : (row : Row) (at : ℕ) → length row ≤ at → None ≡ cell_at at row
+none_after row at h = sym (cell_at-first row at ∙ ap (first_at at) (drop_all at row h))
 
 -- ---- the last cell
 

@@ -10,13 +10,13 @@ use Rattle.cell_base.specs.Row.{Column, Row}
 use Rattle.clustered_row.specs.declared.cell_size.CellSize.{CellSize}
 use Rattle.clustered_row.specs.declared.place.Place.{Place}
 use Rattle.clustered_row.specs.Faces.{Face, column, plain_faces, row_of, starts_right}
-use Rattle.clustered_row.specs.Place.{IsPlace, IsHalved, IsBefore}
+use Rattle.clustered_row.specs.Place.{IsPlace, IsSplit, IsBefore}
 use Rattle.clustered_row.specs.Sizes.{bytes_of, columns_of, faces_of, is_cut}
-use Rattle.clustered_row.specs.VisibleColumns.{starts_halved, is_halved}
+use Rattle.clustered_row.specs.VisibleColumns.{starts_split, is_split}
 use Rattle.clustered_row.proofs.AskedLemmas.{lent_none, halved_before}
 use Rattle.clustered_row.proofs.RowLemmas.{row_of-take, row_of-drop}
 use Rattle.clustered_row.proofs.SizeLemmas.{bytes_split, cut_more}
-use Rattle.clustered_row.proofs.TextLemmas.{Placed, IsBehind, take_front, drop_front, cut_parts, behind_front, behind_parted, behind_taken}
+use Rattle.clustered_row.proofs.TextLemmas.{Placed, IsAfter, take_front, drop_front, cut_parts, after_front, after_parted, after_taken}
 use Rattle.clustered_row.proofs.StepLemmas.{IsSized, fits, a_size, lent_right, sized_columns_within}
 
 -- ---- places before cells
@@ -71,7 +71,7 @@ bytes_before t s sb sc p m at h q order b e = elim (cases_lt p.index (length s))
 
 -- where no cell is cut the cell that was found begins
 pub found_whole : (t : List ℕ) (s : List CellSize) (sb sc : ℕ) (p : Place) (at : ℕ) → IsSized t s sb sc → IsPlace s p → p.columns ≤ at → at < sc
-    → ((d : CellSize) → p.columns < at → IsHalved s p at d) → starts_right (drop at (faces_of t s)) ≡ false → p.columns ≡ at
+    → ((d : CellSize) → p.columns < at → IsSplit s p at d) → starts_right (drop at (faces_of t s)) ≡ false → p.columns ≡ at
 found_whole t s sb sc p at h q order less half whole = elim (cases_lt p.columns at) [
   | inl cut ↦ (
       let many = sized_columns_within t s sb sc h in
@@ -108,30 +108,30 @@ parted_in t s p h q less =
       rest_text = record { bytes = omega (arith, m, all, bytes, most); parts = cuts.1 };
     }
 
-parted_behind : (t : List ℕ) (s : List CellSize) (p : Place) → IsText t s → IsBefore t s p → length s ≤ p.index → IsParted t s p
-parted_behind t s p h q past =
+parted_after : (t : List ℕ) (s : List CellSize) (p : Place) → IsText t s → IsBefore t s p → length s ≤ p.index → IsParted t s p
+parted_after t s p h q past =
     let all : take p.index s ≡ s = take_all p.index s past in
     let none : drop p.index s ≡ [] = drop_all p.index s past in
     let bytes = ap bytes_of all in
     let columns = ap columns_of all in
     let some = q.bytes in
     let sum = q.columns in
-    let at : IsBehind t s p.bytes p.columns = record { sized = omega (arith, bytes, some); within = q.within; column = omega (arith, bytes, columns, sum) } in
+    let at : IsAfter t s p.bytes p.columns = record { sized = omega (arith, bytes, some); within = q.within; column = omega (arith, bytes, columns, sum) } in
     let n = length-take-le p.bytes t q.within in
     let sized = at.sized in
     let both = and_parts (is_cut (take p.bytes t) s) (list_all is_printable (drop p.bytes t))
     (sym (ap (λ (text : List ℕ). is_cut text s) (sym (take-append-drop p.bytes t)) ∙ cut_more (take p.bytes t) (drop p.bytes t) s (omega (arith, n, sized))) ∙ h.parts) in
     record {
-      front = behind_taken t s p.bytes p.columns at ∙ ap (faces_of (take p.bytes t)) (sym all);
-      rest = ap (drop p.columns) (behind_parted t s p.bytes p.columns at)
-          ∙ drop_at (faces_of (take p.bytes t) s) (plain_faces (drop p.bytes t)) p.columns (behind_front t s p.bytes p.columns at)
+      front = after_taken t s p.bytes p.columns at ∙ ap (faces_of (take p.bytes t)) (sym all);
+      rest = ap (drop p.columns) (after_parted t s p.bytes p.columns at)
+          ∙ drop_at (faces_of (take p.bytes t) s) (plain_faces (drop p.bytes t)) p.columns (after_front t s p.bytes p.columns at)
           ∙ ap (faces_of (drop p.bytes t)) (sym none);
       front_text = record { bytes = omega (arith, n, bytes, some); parts = ap (is_cut (take p.bytes t)) all ∙ both.0 };
       rest_text = record { bytes = (let no_bytes = ap bytes_of none in omega (arith, no_bytes)); parts = ap (is_cut (drop p.bytes t)) none ∙ both.1 };
     }
 
 pub parted_before : (t : List ℕ) (s : List CellSize) (p : Place) → IsText t s → IsBefore t s p → IsParted t s p
-parted_before t s p h q = elim (cases_lt p.index (length s)) [ inl less ↦ parted_in t s p h q less | inr past ↦ parted_behind t s p h q past ]
+parted_before t s p h q = elim (cases_lt p.index (length s)) [ inl less ↦ parted_in t s p h q less | inr past ↦ parted_after t s p h q past ]
 
 -- a place in front of another
 before_in_front : (t : List ℕ) (s : List CellSize) (p q : Place) → IsBefore t s p → IsBefore t s q → p.index ≤ q.index → p.bytes ≤ q.bytes → IsBefore (take q.bytes t) (take q.index s) p
@@ -197,14 +197,14 @@ length_between xs ys from to o w e =
     let m = length-take-le to xs w in
     omega (arith, n, m, o)
 
-pub not_behind : (xs : Row) (at : ℕ) → length xs ≤ at → is_halved at xs ≡ false
-not_behind xs at h = ap starts_halved (drop_all at xs h)
+pub not_after : (xs : Row) (at : ℕ) → length xs ≤ at → is_split at xs ≡ false
+not_after xs at h = ap starts_split (drop_all at xs h)
 
 -- a column of the row, or the end of the columns that were written
-pub halved_within : (xs ys : Row) (at k : ℕ) → k ≡ min at (length xs) → is_halved at (xs ++ ys) ≡ false → is_halved k xs ≡ false
+pub halved_within : (xs ys : Row) (at k : ℕ) → k ≡ min at (length xs) → is_split at (xs ++ ys) ≡ false → is_split k xs ≡ false
 halved_within xs ys at k e h = elim (cases_lt at (length xs)) [
-  | inl less ↦ ap (λ n. is_halved n xs) (omega (arith, e, less)) ∙ sym (halved_before xs ys at less) ∙ h
-  | inr past ↦ not_behind xs k (omega (arith, e, past))
+  | inl less ↦ ap (λ n. is_split n xs) (omega (arith, e, less)) ∙ sym (halved_before xs ys at less) ∙ h
+  | inr past ↦ not_after xs k (omega (arith, e, past))
 ]
 
 written_front : (xs : Row) (n stop : ℕ) (b : Column) → length xs ≤ stop → stop ≤ length xs + n → take stop (xs ++ replicate n b) ≡ xs ++ replicate (stop - length xs) b
@@ -212,8 +212,8 @@ written_front xs n stop b past w =
     let on : stop ≡ length xs + (stop - length xs) = omega (arith, past) in
     ap (λ m. take m (xs ++ replicate n b)) on ∙ take-append-add xs (replicate n b) (stop - length xs) ∙ ap (λ (r : Row). xs ++ r) (take-replicate (stop - length xs) n b (omega (arith, w, past)))
 
-pub written_behind : (xs : Row) (n start : ℕ) (b : Column) → length xs ≤ start → drop start (xs ++ replicate n b) ≡ replicate (n - (start - length xs)) b
-written_behind xs n start b past =
+pub written_after : (xs : Row) (n start : ℕ) (b : Column) → length xs ≤ start → drop start (xs ++ replicate n b) ≡ replicate (n - (start - length xs)) b
+written_after xs n start b past =
     let on : start ≡ length xs + (start - length xs) = omega (arith, past) in
     ap (λ m. drop m (xs ++ replicate n b)) on ∙ drop-append-add xs (replicate n b) (start - length xs) ∙ drop-replicate (start - length xs) n b
 
@@ -241,7 +241,7 @@ module _ (xs : Row) (n start stop from to k : ℕ) (b : Column) (o : start ≤ s
   in_blanks past behind =
       let count : k ≡ (stop - length xs) - (start - length xs) = omega (arith, e, f, g, behind, past) in
       (λ i. all_before xs from to (omega (arith, f, past)) (omega (arith, e, behind)) i ++ replicate (count i) b)
-      ∙ sym (ap (drop start) (written_front xs n stop b past w) ∙ written_behind xs (stop - length xs) start b behind)
+      ∙ sym (ap (drop start) (written_front xs n stop b past w) ∙ written_after xs (stop - length xs) start b behind)
 
   -- columns that were written, and blanks behind them
   pub blanks_between : drop from (take to xs) ++ replicate k b ≡ drop start (take stop (xs ++ replicate n b))

@@ -7,8 +7,8 @@ use Rattle.cell_base.specs.Attributes.{Attributes, plain}
 use Rattle.cell_base.specs.CellContent.{CellContent, blank_cell, cell_of, row_of_cells}
 use Rattle.cell_base.specs.LawfulCell.{IsCell}
 use Rattle.cell_base.specs.Row.{Row, Narrow, LeftHalf, RightHalf, blank, closed_end, closed_start, plain_row, set_columns}
-use Rattle.cell_rows.specs.WholeRow.{IsWhole}
-use Rattle.cell_rows.proofs.RowLemmas.{length-set_columns, set_columns-again, whole_ends, whole-append, whole-blanks, whole-set_columns}
+use Rattle.cell_base.specs.WholeRow.{IsWhole}
+use Rattle.cell_base.proofs.RowLemmas.{length-set_columns, set_columns-again, whole_ends, whole-append, whole-blanks, whole-set_columns}
 use Rattle.cell_edits.specs.CellList.{cell_columns}
 use Rattle.cell_edits.specs.ShownCells.{lent_cells}
 use Rattle.cell_edits.specs.VisibleCells.{VisibleCell, row_of_visible, visible_from}

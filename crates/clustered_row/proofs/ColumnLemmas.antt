@@ -6,8 +6,8 @@ use Rattle.text_clusters.specs.Plain.{is_printable}
 use Rattle.cell_base.specs.Attributes.{Attributes}
 use Rattle.cell_base.specs.Row.{Row, space, blank, set_columns}
 use Rattle.cell_base.specs.Row as rows
-use Rattle.cell_rows.specs.WholeRow.{IsWhole}
-use Rattle.cell_rows.proofs.RowLemmas.{whole_ends, whole-append, whole-blanks, whole-front, whole-set_columns}
+use Rattle.cell_base.specs.WholeRow.{IsWhole}
+use Rattle.cell_base.proofs.RowLemmas.{whole_ends, whole-append, whole-blanks, whole-front, whole-set_columns}
 use Rattle.clustered_row.specs.declared.cell_size.CellSize.{CellSize}
 use Rattle.clustered_row.specs.Ends.{EndsAt}
 use Rattle.clustered_row.specs.Faces.{Face, Own, Left, Right, cell_faces, plain_faces, row_of, closed_end, padded, set_faces}

@@ -1,27 +1,27 @@
 -- Columns in which rows are the same.
 use Rattle.std.proofs.Common.{◌≡◌, ℕ, zero, suc, ◌+◌, ◌-◌, ◌<◌, ◌≤◌, Bool, true, false, List, [], ◌∷◌, ◌++◌, length, take, drop, replicate, slice_index_or, refl, sym, ap, ◌∙◌, inl, inr, arith}
 use Rattle.std.proofs.lemmas.Bool.{cases_lt}
-use Rattle.std.proofs.lemmas.List.{drop_all, take-take, take-append-le, length-replicate, length-append}
+use Rattle.std.proofs.lemmas.List.{drop_all, drop-append-le, take-take, take-append-le, length-replicate, length-append}
 use Rattle.cell_base.specs.Attributes.{Attributes}
 use Rattle.cell_base.specs.Row.{Row, blank}
-use Rattle.cell_rows.specs.WholeRow.{IsWhole}
-use Rattle.cell_rows.proofs.RowLemmas.{whole-append, whole-blanks}
+use Rattle.cell_base.specs.WholeRow.{IsWhole}
+use Rattle.cell_base.proofs.RowLemmas.{whole-append, whole-blanks, whole_starts}
 use Rattle.clustered_row.specs.declared.cell_size.CellSize.{CellSize}
 use Rattle.clustered_row.specs.declared.cut_text.CutText.{CutText}
 use Rattle.clustered_row.specs.declared.place.Place.{Place}
 use Rattle.clustered_row.specs.declared.run.Run.{Run}
-use Rattle.clustered_row.specs.EqualColumns.{AreEqualAround}
+use Rattle.clustered_row.specs.EqualColumns.{AreEqualAround, IsWholeAt}
 use Rattle.clustered_row.specs.Faces.{Face, cell_faces, plain_faces, row_of, starts_right}
 use Rattle.clustered_row.specs.Place.{IsPlace, IsBefore}
 use Rattle.clustered_row.specs.Runs.{spread}
 use Rattle.clustered_row.specs.RunSteps.{counted}
 use Rattle.clustered_row.specs.Sizes.{bytes_of, columns_of, faces_of}
-use Rattle.clustered_row.specs.VisibleColumns.{is_halved}
-use Rattle.clustered_row.proofs.AskedLemmas.{halved_before, halved_behind}
-use Rattle.clustered_row.proofs.BetweenLemmas.{IsText, parted_before, written_behind}
+use Rattle.clustered_row.specs.VisibleColumns.{is_split}
+use Rattle.clustered_row.proofs.AskedLemmas.{halved_before, halved_after}
+use Rattle.clustered_row.proofs.BetweenLemmas.{IsText, not_after, parted_before, written_after}
 use Rattle.clustered_row.proofs.PartLemmas.{start_closed, end_closed}
 use Rattle.clustered_row.proofs.RowLemmas.{row_of-take}
-use Rattle.clustered_row.proofs.RunLists.{around, cut_front, length_next, length_parts, spread_last, whole_front}
+use Rattle.clustered_row.proofs.RunLists.{around, cut_prefix, length_next, length_parts, spread_last, whole_front}
 use Rattle.clustered_row.proofs.ShownLemmas.{shown}
 use Rattle.clustered_row.proofs.StepLemmas.{fits, sized_of}
 
@@ -35,9 +35,9 @@ fewer xs ys i n h e = sym (take-take i n xs h) ∙ ap (take i) e ∙ take-take i
 run_columns : (xs : List Run) (i : ℕ) (run : Run) (k : ℕ) → i < length xs → run ≡ slice_index_or xs i run → k ≤ run.count
     → take (length (spread (take i xs)) + k) (spread xs) ≡ spread (take i xs) ++ replicate k run.attributes
 run_columns xs i run k h e f =
-    ap (λ (ys : List Run). take (length (spread (take i xs)) + k) (spread ys)) (around xs i run h e) ∙ cut_front (take i xs) run (drop (i + 1) xs) k f ∙ spread_last (take i xs) (counted run k)
+    ap (λ (ys : List Run). take (length (spread (take i xs)) + k) (spread ys)) (around xs i run h e) ∙ cut_prefix (take i xs) run (drop (i + 1) xs) k f ∙ spread_last (take i xs) (counted run k)
 
-same_copies : (k : ℕ) (a b : Attributes) → (0 < k → a ≡ b) → replicate k a ≡ replicate k b
+pub same_copies : (k : ℕ) (a b : Attributes) → (0 < k → a ≡ b) → replicate k a ≡ replicate k b
 same_copies zero a b h = refl
 same_copies (suc k) a b h = ap (replicate (suc k)) (h (omega arith))
 
@@ -91,7 +91,7 @@ starts_cell : (wide : Bool) (text : List ℕ) (fs : List Face) → starts_right 
 starts_cell true text fs = refl
 starts_cell false text fs = refl
 
-starts_plain : (bytes : List ℕ) → starts_right (plain_faces bytes) ≡ false
+pub starts_plain : (bytes : List ℕ) → starts_right (plain_faces bytes) ≡ false
 starts_plain [] = refl
 starts_plain (b ∷ bytes) = refl
 
@@ -115,36 +115,60 @@ same_columns fs gs ats bs n most h e f =
     row_of-take n fs ats ∙ (λ i. row_of (e i) (fewer ats bs n most h f i)) ∙ sym (row_of-take n gs bs)
 
 -- no cell is cut behind columns where none is cut in the columns that were written
-halved_front : (c : Row) (n k : ℕ) (a : Attributes) → is_halved n c ≡ false → is_halved n (c ++ replicate k (blank a)) ≡ false
+halved_front : (c : Row) (n k : ℕ) (a : Attributes) → is_split n c ≡ false → is_split n (c ++ replicate k (blank a)) ≡ false
 halved_front c n k a h = elim (cases_lt n (length c)) [
   | inl less ↦ halved_before c (replicate k (blank a)) n less ∙ h
-  | inr past ↦ halved_behind c k n a past
+  | inr past ↦ halved_after c k n a past
 ]
+
+-- no cell is cut there, then, in a row that is whole
+whole_at : (n : ℕ) (row : Row) → IsWhole row → is_split n row ≡ false → IsWholeAt n row
+whole_at n row w h = record { ending = end_closed n row w h; beginning = start_closed n row h }
 
 -- columns that were written, and blanks behind them
 module _ (c d : Row) (n m w v : ℕ) (a b : Attributes) (whole : IsWhole c) (other_whole : IsWhole d) where
-  pub around_columns : n ≤ length c → n ≤ length d → take n c ≡ take n d → is_halved n c ≡ false → is_halved n d ≡ false → length c ≤ m → length d ≤ m
+  all_whole : IsWhole (shown c w a)
+  all_whole = whole-append c (replicate (w - length c) (blank a)) whole (whole-blanks (w - length c) a)
+
+  other_all_whole : IsWhole (shown d v b)
+  other_all_whole = whole-append d (replicate (v - length d) (blank b)) other_whole (whole-blanks (v - length d) b)
+
+  pub around_columns : n ≤ length c → n ≤ length d → take n c ≡ take n d → is_split n c ≡ false → is_split n d ≡ false → length c ≤ m → length d ≤ m
       → drop m (shown c w a) ≡ drop m (shown d v b) → AreEqualAround n m (shown c w a) (shown d v b)
   around_columns i j e h k p q back =
       record {
         order = omega (arith, i, p);
         front = take-append-le n c (replicate (w - length c) (blank a)) i ∙ e ∙ sym (take-append-le n d (replicate (v - length d) (blank b)) j);
-        first = start_closed n (shown c w a) (halved_front c n (w - length c) a h);
-        other_first = start_closed n (shown d v b) (halved_front d n (v - length d) b k);
-        last = end_closed m (shown c w a) (whole-append c (replicate (w - length c) (blank a)) whole (whole-blanks (w - length c) a)) (halved_behind c (w - length c) m a p);
-        other_last = end_closed m (shown d v b) (whole-append d (replicate (v - length d) (blank b)) other_whole (whole-blanks (v - length d) b)) (halved_behind d (v - length d) m b q);
         back = back;
+        first = whole_at n (shown c w a) all_whole (halved_front c n (w - length c) a h);
+        other_first = whole_at n (shown d v b) other_all_whole (halved_front d n (v - length d) b k);
+        last = whole_at m (shown c w a) all_whole (halved_after c (w - length c) m a p);
+        other_last = whole_at m (shown d v b) other_all_whole (halved_after d (v - length d) m b q);
+      }
+
+  -- the last columns that were written are the same, and so are the blanks behind them
+  pub around_parts : n ≤ m → n ≤ length d → take n c ≡ take n d → is_split n c ≡ false → is_split n d ≡ false → m ≤ length c → length c ≡ length d → drop m c ≡ drop m d
+      → is_split m c ≡ false → is_split m d ≡ false → w ≡ v → a ≡ b → AreEqualAround n m (shown c w a) (shown d v b)
+  around_parts i j e h k p q back f g x y =
+      record {
+        order = i;
+        front = take-append-le n c (replicate (w - length c) (blank a)) (omega (arith, i, p)) ∙ e ∙ sym (take-append-le n d (replicate (v - length d) (blank b)) j);
+        back = drop-append-le m c (replicate (w - length c) (blank a)) p ∙ (λ i. back i ++ replicate (x i - q i) (blank (y i))) ∙ sym (drop-append-le m d (replicate (v - length d) (blank b)) (omega (arith, p, q)));
+        first = whole_at n (shown c w a) all_whole (halved_front c n (w - length c) a h);
+        other_first = whole_at n (shown d v b) other_all_whole (halved_front d n (v - length d) b k);
+        last = whole_at m (shown c w a) all_whole (halved_front c m (w - length c) a f);
+        other_last = whole_at m (shown d v b) other_all_whole (halved_front d m (v - length d) b g);
       }
 
 -- blanks alone are left behind all columns that were written
-pub same_behind : (c d : Row) (m w v : ℕ) (a b : Attributes) → length c ≤ m → length d ≤ m → w ≡ v → a ≡ b → drop m (shown c w a) ≡ drop m (shown d v b)
-same_behind c d m w v a b p q e f =
+pub same_after : (c d : Row) (m w v : ℕ) (a b : Attributes) → length c ≤ m → length d ≤ m → w ≡ v → a ≡ b → drop m (shown c w a) ≡ drop m (shown d v b)
+same_after c d m w v a b p q e f =
     let count : w - length c - (m - length c) ≡ v - length d - (m - length d) = omega (arith, p, q, e) in
-    written_behind c (w - length c) m (blank a) p ∙ (λ i. replicate (count i) (blank (f i))) ∙ sym (written_behind d (v - length d) m (blank b) q)
+    written_after c (w - length c) m (blank a) p ∙ (λ i. replicate (count i) (blank (f i))) ∙ sym (written_after d (v - length d) m (blank b) q)
 
 -- nothing is left behind both rows
-pub none_behind : (c d : Row) (m w v : ℕ) (a b : Attributes) → length c ≤ w → length d ≤ v → w ≤ m → v ≤ m → drop m (shown c w a) ≡ drop m (shown d v b)
-none_behind c d m w v a b p q h k =
+pub none_after : (c d : Row) (m w v : ℕ) (a b : Attributes) → length c ≤ w → length d ≤ v → w ≤ m → v ≤ m → drop m (shown c w a) ≡ drop m (shown d v b)
+none_after c d m w v a b p q h k =
     let one = length-append c (replicate (w - length c) (blank a)) in
     let two = length-append d (replicate (v - length d) (blank b)) in
     let more = length-replicate (w - length c) (blank a) in
@@ -155,3 +179,18 @@ none_behind c d m w v a b p q h k =
 
 pub text_of_cut : (cut : CutText) → IsText cut.text.items cut.sizes.items
 text_of_cut cut = record { bytes = fits cut.text.items cut.sizes.items cut.sized_bytes cut.sized_columns (sized_of cut); parts = cut.parts }
+
+-- ---- all columns
+
+-- whole rows that are looked at nowhere
+pub all_unequal : (row other : Row) (m : ℕ) → IsWhole row → IsWhole other → length row ≤ m → length other ≤ m → AreEqualAround 0 m row other
+all_unequal row other m w v h k =
+    record {
+      order = omega arith;
+      front = refl;
+      back = drop_all m row h ∙ sym (drop_all m other k);
+      first = record { ending = refl; beginning = whole_starts row w };
+      other_first = record { ending = refl; beginning = whole_starts other v };
+      last = whole_at m row w (not_after row m h);
+      other_last = whole_at m other v (not_after other m k);
+    }

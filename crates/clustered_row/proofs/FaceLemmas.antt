@@ -89,8 +89,8 @@ take-opened at fs h = take_at (closed_end (take at fs)) (closed_start (drop at f
 drop-opened : (at : ℕ) (fs : List Face) → at ≤ length fs → drop at (opened at fs) ≡ closed_start (drop at fs)
 drop-opened at fs h = drop_at (closed_end (take at fs)) (closed_start (drop at fs)) at (length-closed_end (take at fs) ∙ length-take-le at fs h)
 
-take-opened_behind : (a b : ℕ) (fs : List Face) → a < b → b ≤ length fs → take a (opened b fs) ≡ take a fs
-take-opened_behind a b fs l h =
+take-opened_after : (a b : ℕ) (fs : List Face) → a < b → b ≤ length fs → take a (opened b fs) ≡ take a fs
+take-opened_after a b fs l h =
     let n = length-take-le b fs h in
     let m = length-closed_end (take b fs) in
     take-append-le a (closed_end (take b fs)) (closed_start (drop b fs)) (omega arith) ∙ take-closed_end a (take b fs) (omega arith) ∙ take-take a b fs (omega arith)
@@ -115,16 +115,16 @@ spliced_there fs new a h =
     drop-opened a once (omega arith) ∙ ap closed_start (drop-opened a fs h) ∙ closed_start_twice (drop a fs) in
     (λ i. front i ++ (new ++ behind i)) ∙ sym (append_assoc (closed_end (take a fs)) new (closed_start (drop a fs)))
 
-spliced_behind : (fs new : List Face) (a j : ℕ) → a + suc j ≤ length fs
+spliced_after : (fs new : List Face) (a j : ℕ) → a + suc j ≤ length fs
     → take a (opened (a + suc j) (opened a fs)) ++ (new ++ drop (a + suc j) (opened (a + suc j) (opened a fs)))
     ≡ closed_end (take a fs) ++ new ++ closed_start (drop (a + suc j) fs)
-spliced_behind fs new a j h =
+spliced_after fs new a j h =
     let b = a + suc j in
     let once = opened a fs in
     let within : a ≤ length fs = omega arith in
     let n = length-opened a fs within in
     let front : take a (opened b once) ≡ closed_end (take a fs) =
-    take-opened_behind a b once (omega arith) (omega arith) ∙ take-opened a fs within in
+    take-opened_after a b once (omega arith) (omega arith) ∙ take-opened a fs within in
     let behind : drop b (opened b once) ≡ closed_start (drop b fs) =
     drop-opened b once (omega arith) ∙ ap closed_start (drop-opened_before a j fs within) in
     (λ i. front i ++ (new ++ behind i)) ∙ sym (append_assoc (closed_end (take a fs)) new (closed_start (drop b fs)))
@@ -139,7 +139,7 @@ spliced_by fs new a b e h (inr (inl less)) =
     let j : ℕ = b - a - 1 in
     let is : b ≡ a + suc j = omega arith in
     ap (λ n. take a (opened n (opened a fs)) ++ (new ++ drop n (opened n (opened a fs)))) is
-    ∙ spliced_behind fs new a j (omega arith)
+    ∙ spliced_after fs new a j (omega arith)
     ∙ ap (λ n. closed_end (take a fs) ++ new ++ closed_start (drop n fs)) (sym is ∙ sym e)
 spliced_by fs new a b e h (inr (inr more)) = absurd (omega arith)
 

@@ -1,5 +1,5 @@
 -- What is left of runs and of texts behind columns that were lent.
-use Rattle.std.proofs.Common.{◌≡◌, ℕ, zero, suc, ◌+◌, ◌-◌, ◌<◌, true, List, [], ◌∷◌, ◌++◌, length, take, drop, replicate, get_or, refl, sym, ap, subst, ◌∙◌, arith, IsUtf8}
+use Rattle.std.proofs.Common.{◌≡◌, ℕ, zero, suc, ◌+◌, ◌-◌, ◌<◌, true, List, [], ◌∷◌, length, take, drop, get_or, refl, sym, ap, subst, ◌∙◌, arith, IsUtf8}
 use Rattle.std.specs.Prelude.{nat_lt}
 use Rattle.std.specs.List.{list_all}
 use Rattle.std.proofs.lemmas.Bool.{and_parts, and_from, ltb-true, lt-ltb}
@@ -12,22 +12,9 @@ use Rattle.clustered_row.specs.Runs.{spread, AreMaximal, is_begun}
 use Rattle.clustered_row.specs.RunSteps.{column_at, IsPlace}
 use Rattle.clustered_row.specs.Sizes.{is_text, is_cut}
 use Rattle.clustered_row.proofs.SizeLemmas.{IsUtf8-cell, IsUtf8-cut}
-use Rattle.clustered_row.proofs.RunLists.{drop_maximal, behind_front}
+use Rattle.clustered_row.proofs.RunLists.{drop_maximal, after_front}
 
 -- ---- runs
-
-first_copy : {X : Type 0} (n : ℕ) (x : X) (ys : List X) (k : ℕ) → k < n → drop k (replicate n x ++ ys) ≡ x ∷ drop (suc k) (replicate n x ++ ys)
-first_copy zero x ys k h = absurd (omega arith)
-first_copy (suc n) x ys zero h = refl
-first_copy (suc n) x ys (suc k) h = first_copy n x ys k (omega arith)
-
--- the next column's attributes are the first run's
-pub first_column : (used : ℕ) (runs : List Run) (d : Run) → 0 < length runs → is_begun used runs ≡ true → drop used (spread runs) ≡ (get_or runs 0 d).attributes ∷ drop (used + 1) (spread runs)
-first_column used [] d h b = absurd (omega arith)
-first_column used (r ∷ runs) d h b =
-    let more : used < r.count = ltb-true used r.count (and_parts (nat_lt used r.count) (is_begun 0 runs) b).0 in
-    let next : suc used ≡ used + 1 = omega arith in
-    first_copy r.count r.attributes (spread runs) used more ∙ ap (λ n. r.attributes ∷ drop n (spread (r ∷ runs))) next
 
 pub run_has : (used : ℕ) (runs : List Run) (d : Run) → 0 < length runs → is_begun used runs ≡ true → used < (get_or runs 0 d).count
 run_has used [] d h b = absurd (omega arith)
@@ -73,7 +60,7 @@ pub left_there : (bs cs xs : List Run) (place : Place) (column : ℕ) → bs ≡
     → drop place.offset (spread (take (length bs - place.index) (drop place.index bs))) ≡ drop column (spread xs)
 left_there bs cs xs place column p q e =
     let at : column_at xs place ≡ column = ap (λ (ys : List Run). column_at ys place) (sym q) ∙ e ∙ omega arith in
-    ap (λ (ys : List Run). drop place.offset (spread ys)) (rest_of place.index bs ∙ ap (drop place.index) p) ∙ sym (behind_front xs place.index place.offset) ∙ ap (λ n. drop n (spread xs)) at
+    ap (λ (ys : List Run). drop place.offset (spread ys)) (rest_of place.index bs ∙ ap (drop place.index) p) ∙ sym (after_front xs place.index place.offset) ∙ ap (λ n. drop n (spread xs)) at
 
 -- ---- texts
 

@@ -3,12 +3,14 @@ pub mod BetweenLemmas
 pub mod BlankLemmas
 pub mod CellRows
 pub mod ColumnLemmas
-mod EqualLemmas
+mod EqualAtEndLemmas
+pub mod EqualLemmas
 pub mod FaceLemmas
 pub mod ItemLemmas
 pub mod LeftLemmas
-pub mod LoneLemmas
+pub mod SingleLemmas
 pub mod PartLemmas
+pub mod PlainLemmas
 pub mod RowLemmas
 mod RunLists
 mod RunSteps

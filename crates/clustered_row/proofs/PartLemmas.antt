@@ -4,25 +4,25 @@ use Rattle.std.proofs.lemmas.Bool.{false≢true}
 use Rattle.std.proofs.lemmas.List.{drop-drop, length-replicate}
 use Rattle.cell_base.specs.Attributes.{Attributes}
 use Rattle.cell_base.specs.Row.{Column, Narrow, LeftHalf, RightHalf, Row, blank, closed_end, closed_start}
-use Rattle.cell_rows.specs.WholeRow.{IsWhole}
-use Rattle.cell_rows.proofs.RowLemmas.{whole-behind}
-use Rattle.cell_edits.specs.RowEdits.{cut, cut_front}
+use Rattle.cell_base.specs.WholeRow.{IsWhole}
+use Rattle.cell_base.proofs.RowLemmas.{whole-behind}
+use Rattle.cell_edits.specs.RowEdits.{cut, cut_prefix}
 use Rattle.clustered_row.specs.declared.visible.ClusteredCells.{ClusteredCells}
 use Rattle.clustered_row.specs.Faces.{Face, row_of}
 use Rattle.clustered_row.specs.VisibleCells.{row_left, next_column}
-use Rattle.clustered_row.specs.VisibleColumns.{starts_halved, is_halved, column_attributes}
+use Rattle.clustered_row.specs.VisibleColumns.{starts_split, is_split, column_attributes}
 use Rattle.clustered_row.specs.VisibleRuns.{attributes_left}
 use Rattle.clustered_row.specs.VisibleTexts.{faces_left}
 use Rattle.clustered_row.proofs.BetweenLemmas.{part_is}
 
-closed_start-same : (row : Row) → starts_halved row ≡ false → closed_start row ≡ row
+closed_start-same : (row : Row) → starts_split row ≡ false → closed_start row ≡ row
 closed_start-same [] h = refl
 closed_start-same (Narrow text a ∷ row) h = refl
 closed_start-same (LeftHalf text a ∷ row) h = refl
 closed_start-same (RightHalf a ∷ row) h = absurd (false≢true (sym h))
 
 -- where no wide text is cut, nothing is closed
-pub end_closed : (n : ℕ) (row : Row) → IsWhole row → is_halved n row ≡ false → closed_end (take n row) ≡ take n row
+pub end_closed : (n : ℕ) (row : Row) → IsWhole row → is_split n row ≡ false → closed_end (take n row) ≡ take n row
 end_closed zero row w h = refl
 end_closed (suc n) [] w h = refl
 end_closed (suc n) (RightHalf a ∷ row) w h = absurd w
@@ -37,25 +37,25 @@ end_closed (suc (suc zero)) (LeftHalf text a ∷ RightHalf b ∷ row) w h = refl
 end_closed (suc (suc (suc n))) (LeftHalf text a ∷ RightHalf b ∷ []) w h = refl
 end_closed (suc (suc (suc n))) (LeftHalf text a ∷ RightHalf b ∷ c ∷ row) w h = ap (λ (r : Row). LeftHalf text a ∷ RightHalf b ∷ r) (end_closed (suc n) (c ∷ row) w.1 h)
 
-pub start_closed : (n : ℕ) (row : Row) → is_halved n row ≡ false → cut_front n row ≡ drop n row
+pub start_closed : (n : ℕ) (row : Row) → is_split n row ≡ false → cut_prefix n row ≡ drop n row
 start_closed n row h = closed_start-same (drop n row) h
 
 -- a part between two columns at which no wide text is cut
-pub part_closed : (row : Row) (start stop : ℕ) → IsWhole row → start ≤ stop → is_halved start row ≡ false → is_halved stop row ≡ false → cut (stop - start) (cut_front start row) ≡ drop start (take stop row)
+pub part_closed : (row : Row) (start stop : ℕ) → IsWhole row → start ≤ stop → is_split start row ≡ false → is_split stop row ≡ false → cut (stop - start) (cut_prefix start row) ≡ drop start (take stop row)
 part_closed row start stop w o h k =
     let front = start_closed start row h in
     let whole : IsWhole (drop start row) = subst IsWhole front (whole-behind start row w) in
-    let there : is_halved (stop - start) (drop start row) ≡ false = ap starts_halved (drop-drop (stop - start) start row) ∙ ap (λ n. is_halved n row) (omega (arith, o)) ∙ k in
+    let there : is_split (stop - start) (drop start row) ≡ false = ap starts_split (drop-drop (stop - start) start row) ∙ ap (λ n. is_split n row) (omega (arith, o)) ∙ k in
     ap (cut (stop - start)) front ∙ end_closed (stop - start) (drop start row) whole there ∙ sym (part_is row start stop o)
 
-half_starts : (row : Row) (d : Column) → starts_halved row ≡ true → closed_start row ≡ blank (column_attributes (get_or row 0 d)) ∷ drop 1 row
+half_starts : (row : Row) (d : Column) → starts_split row ≡ true → closed_start row ≡ blank (column_attributes (get_or row 0 d)) ∷ drop 1 row
 half_starts [] d h = absurd (false≢true h)
 half_starts (Narrow text a ∷ row) d h = absurd (false≢true h)
 half_starts (LeftHalf text a ∷ row) d h = absurd (false≢true h)
 half_starts (RightHalf a ∷ row) d h = refl
 
 -- the second half of a wide text at the start is a blank with its attributes
-pub start_halved : (n : ℕ) (row : Row) (d : Column) → is_halved n row ≡ true → cut_front n row ≡ blank (column_attributes (get_or row n d)) ∷ drop (n + 1) row
+pub start_halved : (n : ℕ) (row : Row) (d : Column) → is_split n row ≡ true → cut_prefix n row ≡ blank (column_attributes (get_or row n d)) ∷ drop (n + 1) row
 start_halved zero row d h = half_starts row d h
 start_halved (suc n) [] d h = absurd (false≢true h)
 start_halved (suc n) (c ∷ row) d h =
@@ -63,10 +63,10 @@ start_halved (suc n) (c ∷ row) d h =
     start_halved n row d h ∙ ap (λ k. blank (column_attributes (get_or row n d)) ∷ drop k (c ∷ row)) more
 
 -- the first half of a wide text at the end is a blank with its attributes
-pub end_halved : (n : ℕ) (row : Row) (d : Column) → IsWhole row → is_halved (n + 1) row ≡ true → closed_end (take (n + 1) row) ≡ take n row ++ blank (column_attributes (get_or row (n + 1) d)) ∷ []
+pub end_halved : (n : ℕ) (row : Row) (d : Column) → IsWhole row → is_split (n + 1) row ≡ true → closed_end (take (n + 1) row) ≡ take n row ++ blank (column_attributes (get_or row (n + 1) d)) ∷ []
 end_halved n row d w h = at_suc n (n + 1) row d (omega arith) w h
   where
-    at_suc : (n m : ℕ) (row : Row) (d : Column) → m ≡ suc n → IsWhole row → is_halved m row ≡ true → closed_end (take m row) ≡ take n row ++ blank (column_attributes (get_or row m d)) ∷ []
+    at_suc : (n m : ℕ) (row : Row) (d : Column) → m ≡ suc n → IsWhole row → is_split m row ≡ true → closed_end (take m row) ≡ take n row ++ blank (column_attributes (get_or row m d)) ∷ []
     at_suc n zero row d e w h = absurd (omega (arith, e))
     at_suc n (suc m) [] d e w h = absurd (false≢true h)
     at_suc n (suc m) (RightHalf a ∷ row) d e w h = absurd w

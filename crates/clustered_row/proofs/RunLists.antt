@@ -44,8 +44,8 @@ pub whole_front : (xs : List Run) (i : ℕ) → take (length (spread (take i xs)
 whole_front xs i = ap (λ ys. take (length (spread (take i xs))) ys) (spread_parts xs i) ∙ take_at (spread (take i xs)) (spread (drop i xs)) (length (spread (take i xs))) refl
 
 -- the columns so many behind whole runs
-pub behind_front : (xs : List Run) (i k : ℕ) → drop (length (spread (take i xs)) + k) (spread xs) ≡ drop k (spread (drop i xs))
-behind_front xs i k =
+pub after_front : (xs : List Run) (i k : ℕ) → drop (length (spread (take i xs)) + k) (spread xs) ≡ drop k (spread (drop i xs))
+after_front xs i k =
     ap (λ ys. drop (length (spread (take i xs)) + k) ys) (spread_parts xs i) ∙ drop-append-add (spread (take i xs)) (spread (drop i xs)) k
 
 within_run : (k : ℕ) (run : Run) → k ≤ run.count → k ≤ length (columns_of run)
@@ -54,8 +54,8 @@ within_run k run fits =
     omega arith
 
 -- whole runs and so many columns of the next one
-pub cut_front : (before : List Run) (run : Run) (behind : List Run) (k : ℕ) → k ≤ run.count → take (length (spread before) + k) (spread (before ++ run ∷ behind)) ≡ spread (before ++ counted run k ∷ [])
-cut_front before run behind k fits =
+pub cut_prefix : (before : List Run) (run : Run) (behind : List Run) (k : ℕ) → k ≤ run.count → take (length (spread before) + k) (spread (before ++ run ∷ behind)) ≡ spread (before ++ counted run k ∷ [])
+cut_prefix before run behind k fits =
     ap (λ xs. take (length (spread before) + k) xs) (spread-append before (run ∷ behind)) ∙ take-append-add (spread before) (columns_of run ++ spread behind) k ∙
     ap (λ xs. spread before ++ xs) (take-append-le k (columns_of run) (spread behind) (within_run k run fits) ∙ take-replicate k run.count run.attributes fits) ∙ sym (spread_last before (counted run k))
 

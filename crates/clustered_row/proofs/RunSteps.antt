@@ -11,7 +11,7 @@ use Rattle.clustered_row.specs.declared.run.Run.{Run}
 use Rattle.clustered_row.specs.declared.run.Place.{Place}
 use Rattle.clustered_row.specs.Runs.{columns_of, spread, AreMaximal}
 use Rattle.clustered_row.specs.RunSteps.{counted, column_at, IsPlace, IsParted}
-use Rattle.clustered_row.proofs.RunLists.{around, take_next, drop_next, spread-append, spread_last, length_parts, length_columns, length_next, whole_front, behind_front, cut_front, cut_run, take_maximal, drop_maximal, other_last, some_last, one_more, other_first}
+use Rattle.clustered_row.proofs.RunLists.{around, take_next, drop_next, spread-append, spread_last, length_parts, length_columns, length_next, whole_front, after_front, cut_prefix, cut_run, take_maximal, drop_maximal, other_last, some_last, one_more, other_first}
 
 -- a number is below another that isn't at most it
 pub below : (m n : ℕ) → (n ≤ m → ⊥) → m < n
@@ -104,7 +104,7 @@ shorter_columns xs n by last long is less =
     let k = last.count - by in
     let whole = length_last xs n last long is in
     let counts : length (spread (take n xs)) + k ≡ length (spread xs) - by = omega arith in
-    ap spread (set_last xs n (counted last k) long) ∙ sym (cut_front (take n xs) last [] k (omega arith)) ∙ ap (λ ys. take (length (spread (take n xs)) + k) (spread ys)) (sym (last_of xs n last long is)) ∙ ap (λ m. take m (spread xs)) counts
+    ap spread (set_last xs n (counted last k) long) ∙ sym (cut_prefix (take n xs) last [] k (omega arith)) ∙ ap (λ ys. take (length (spread (take n xs)) + k) (spread ys)) (sym (last_of xs n last long is)) ∙ ap (λ m. take m (spread xs)) counts
 
 -- Between two places
 
@@ -115,8 +115,8 @@ held xs i l n run within is fits =
     let front = take i xs in
     let behind = drop (i + 1) xs in
     let whole : spread xs ≡ spread (front ++ run ∷ behind) = ap spread (around xs i run within is) in
-    let some : take (at + l) (spread xs) ≡ spread front ++ replicate l run.attributes = ap (λ ys. take (at + l) ys) whole ∙ cut_front front run behind l (omega arith) ∙ spread_last front (counted run l) in
-    let more : take (at + (l + n)) (spread xs) ≡ spread front ++ replicate (l + n) run.attributes = ap (λ ys. take (at + (l + n)) ys) whole ∙ cut_front front run behind (l + n) fits ∙ spread_last front (counted run (l + n)) in
+    let some : take (at + l) (spread xs) ≡ spread front ++ replicate l run.attributes = ap (λ ys. take (at + l) ys) whole ∙ cut_prefix front run behind l (omega arith) ∙ spread_last front (counted run l) in
+    let more : take (at + (l + n)) (spread xs) ≡ spread front ++ replicate (l + n) run.attributes = ap (λ ys. take (at + (l + n)) ys) whole ∙ cut_prefix front run behind (l + n) fits ∙ spread_last front (counted run (l + n)) in
     sym (take-append-drop (at + (l + n)) (spread xs)) ∙ ap (λ ys. ys ++ drop (at + (l + n)) (spread xs))
     (more ∙ ap (λ ys. spread front ++ ys) (sym (replicate-append-replicate l n run.attributes)) ∙ sym (append_assoc (spread front) (replicate l run.attributes) (replicate n run.attributes)) ∙ ap (λ ys. ys ++ replicate n run.attributes) (sym some))
 
@@ -140,17 +140,17 @@ parted_whole xs from to at order none h =
     let long = length_parts xs to.index in
     record {
       front = sym (whole_front xs from.index) ∙ ap (λ n. take n (spread xs)) here;
-      behind = sym (behind_front xs to.index to.offset);
+      behind = sym (after_front xs to.index to.offset);
       order = order;
       at = at;
       fewer = omega (arith, long);
       front_maximal = take_maximal from.index xs h;
-      behind_maximal = drop_maximal to.index xs h;
+      after_maximal = drop_maximal to.index xs h;
     }
 
 -- a place behind a run that has another count
-pub place_behind : (xs : List Run) (i : ℕ) (s : Run) (place : Place) → i < place.index → IsPlace xs place → IsPlace (slice_set xs i s) place
-place_behind xs i s place less at =
+pub place_after : (xs : List Run) (i : ℕ) (s : Run) (place : Place) → i < place.index → IsPlace xs place → IsPlace (slice_set xs i s) place
+place_after xs i s place less at =
     let long = length-set xs i s in
     record {
       within = omega (arith, long, at.within);
@@ -170,13 +170,13 @@ parted_run xs from to run here there less some within is h =
     let long = length_parts xs to.index in
     let same : length (spread (drop to.index new)) ≡ length (spread (drop to.index xs)) = ap (λ ys. length (spread ys)) last in
     record {
-      front = ap spread first ∙ sym (cut_front (take i xs) run (drop (i + 1) xs) from.offset (omega arith)) ∙ ap (λ ys. take (column_at xs from) (spread ys)) (sym (around xs i run within is));
-      behind = ap (λ ys. drop to.offset (spread ys)) last ∙ sym (behind_front xs to.index to.offset);
+      front = ap spread first ∙ sym (cut_prefix (take i xs) run (drop (i + 1) xs) from.offset (omega arith)) ∙ ap (λ ys. take (column_at xs from) (spread ys)) (sym (around xs i run within is));
+      behind = ap (λ ys. drop to.offset (spread ys)) last ∙ sym (after_front xs to.index to.offset);
       order = omega arith;
-      at = place_behind xs i s to less there;
+      at = place_after xs i s to less there;
       fewer = omega (arith, long, same);
       front_maximal = subst AreMaximal (sym first) (other_last (take i xs) run s refl some (subst AreMaximal (take_next xs i run within is) (take_maximal (i + 1) xs h)));
-      behind_maximal = subst AreMaximal (sym last) (drop_maximal to.index xs h);
+      after_maximal = subst AreMaximal (sym last) (drop_maximal to.index xs h);
     }
 
 pub length_first : (run : Run) (behind : List Run) → length (spread (run ∷ behind)) ≡ run.count + length (spread behind)
@@ -205,8 +205,8 @@ two_front xs i k run within =
     let long = length-append front (counted run (run.count - k) ∷ drop (i + 1) xs) in
     take_more_set all i (counted run k) (omega arith) ∙ ap (λ ys. ys ++ counted run k ∷ []) (take-append-le i front (counted run (run.count - k) ∷ drop (i + 1) xs) (omega arith) ∙ take-take i (i + 1) xs (omega arith))
 
-two_behind : (xs : List Run) (i k : ℕ) (run : Run) → i < length xs → drop (i + 1) (in_two xs i run k) ≡ counted run (run.count - k) ∷ drop (i + 1) xs
-two_behind xs i k run within =
+two_after : (xs : List Run) (i k : ℕ) (run : Run) → i < length xs → drop (i + 1) (in_two xs i run k) ≡ counted run (run.count - k) ∷ drop (i + 1) xs
+two_after xs i k run within =
     drop-set-lt (i + 1) (take (i + 1) xs ++ counted run (run.count - k) ∷ drop (i + 1) xs) i (counted run k) (omega arith) ∙ drop_at (take (i + 1) xs) (counted run (run.count - k) ∷ drop (i + 1) xs) (i + 1) (length-take-le (i + 1) xs (omega arith))
 
 two_length : (xs : List Run) (i k : ℕ) (run : Run) → i < length xs → length (in_two xs i run k) ≡ length xs + 1
@@ -221,7 +221,7 @@ two_length xs i k run within =
 two_second : (xs : List Run) (i k : ℕ) (run d : Run) → i < length xs → slice_index_or (in_two xs i run k) (i + 1) d ≡ counted run (run.count - k)
 two_second xs i k run d within =
     let long = two_length xs i k run within in
-    let e : counted run (run.count - k) ∷ drop (i + 1) xs ≡ slice_index_or (in_two xs i run k) (i + 1) d ∷ drop (i + 1 + 1) (in_two xs i run k) = sym (two_behind xs i k run within) ∙ drop_more (in_two xs i run k) (i + 1) d (omega arith) in
+    let e : counted run (run.count - k) ∷ drop (i + 1) xs ≡ slice_index_or (in_two xs i run k) (i + 1) d ∷ drop (i + 1 + 1) (in_two xs i run k) = sym (two_after xs i k run within) ∙ drop_more (in_two xs i run k) (i + 1) d (omega arith) in
     cc
 
 -- what stands before the second part of a run
@@ -239,15 +239,15 @@ parted_two xs i k m run within is some less inside fits h =
     let new = in_two xs i run k in
     let at = length (spread (take i xs)) in
     let first = two_front xs i k run within in
-    let second = two_behind xs i k run within in
+    let second = two_after xs i k run within in
     let grown = two_length xs i k run within in
     let long = length_parts xs i in
     let part : length (spread (drop (i + 1) new)) ≡ run.count - k + length (spread behind) = ap (λ ys. length (spread ys)) second ∙ length_first rest behind in
     let whole : length (spread (drop i xs)) ≡ run.count + length (spread behind) = ap (λ ys. length (spread ys)) (drop_next xs i run within is) ∙ length_first run behind in
     let left : run.count - k - (m - k) ≡ run.count - m = omega arith in
     record {
-      front = ap spread first ∙ sym (cut_front (take i xs) run behind k (omega arith)) ∙ ap (λ ys. take (at + k) (spread ys)) (sym (around xs i run within is));
-      behind = ap (λ ys. drop (m - k) (spread ys)) second ∙ cut_run rest behind (m - k) (omega arith) ∙ ap (λ n. spread (counted run n ∷ behind)) left ∙ rest_columns xs i m run within is (omega arith) ∙ sym (behind_front xs i m);
+      front = ap spread first ∙ sym (cut_prefix (take i xs) run behind k (omega arith)) ∙ ap (λ ys. take (at + k) (spread ys)) (sym (around xs i run within is));
+      behind = ap (λ ys. drop (m - k) (spread ys)) second ∙ cut_run rest behind (m - k) (omega arith) ∙ ap (λ n. spread (counted run n ∷ behind)) left ∙ rest_columns xs i m run within is (omega arith) ∙ sym (after_front xs i m);
       order = omega arith;
       at = record {
         within = omega (arith, grown);
@@ -256,7 +256,7 @@ parted_two xs i k m run within is some less inside fits h =
       };
       fewer = omega (arith, long, part, whole);
       front_maximal = subst AreMaximal (sym first) (other_last (take i xs) run s refl some (subst AreMaximal (take_next xs i run within is) (take_maximal (i + 1) xs h)));
-      behind_maximal = subst AreMaximal (sym second) (rest_maximal xs i k run within is (omega arith) (omega (arith, long)) (drop_maximal i xs h));
+      after_maximal = subst AreMaximal (sym second) (rest_maximal xs i k run within is (omega arith) (omega (arith, long)) (drop_maximal i xs h));
     }
 
 -- Runs are removed
@@ -274,8 +274,8 @@ moved_front xs old from to k d less within long done left =
     ap (λ n. take n (swap xs i j)) next ∙ ap (λ ys. take (i + 1) ys) (sym (swap_is xs i j d (omega arith) within)) ∙ take-set-le (i + 1) (slice_set xs i y) j z (omega arith) ∙ take_more_set xs i y (omega arith) ∙
     ap (λ ys. ys ++ y ∷ []) done ∙ append_assoc (take from old) (take k (drop to old)) (y ∷ []) ∙ ap (λ (x : Run). take from old ++ (take k (drop to old) ++ x ∷ [])) same ∙ ap (λ ys. take from old ++ ys) (sym (take_more (drop to old) k d (omega arith)))
 
-pub moved_behind : (xs old : List Run) (from to k : ℕ) (d : Run) → from < to → to + k < length xs → drop (to + k) xs ≡ drop (to + k) old → drop (to + (k + 1)) (swap xs (from + k) (to + k)) ≡ drop (to + (k + 1)) old
-moved_behind xs old from to k d less within left =
+pub moved_after : (xs old : List Run) (from to k : ℕ) (d : Run) → from < to → to + k < length xs → drop (to + k) xs ≡ drop (to + k) old → drop (to + (k + 1)) (swap xs (from + k) (to + k)) ≡ drop (to + (k + 1)) old
+moved_after xs old from to k d less within left =
     let i = from + k in
     let j = to + k in
     let y = slice_index_or xs j d in
@@ -306,8 +306,8 @@ apart_front xs n last s within is differ some h =
     subst AreMaximal (sym (append_assoc (take n xs) (last ∷ []) (s ∷ [])) ∙ ap (λ ys. ys ++ s ∷ []) (sym e)) (one_more (take n xs) last s (subst AreMaximal e h) (λ same. absurd (differ same)) some)
 
 -- a run is counted to the one in front of it
-pub joined_behind_columns : (xs : List Run) (n : ℕ) (next run : Run) → n < length xs → next ≡ slice_index_or xs n next → next.attributes ≡ run.attributes → columns_of (counted run (run.count + next.count)) ++ spread (drop (n + 1) xs) ≡ columns_of run ++ spread (drop n xs)
-joined_behind_columns xs n next run within is same =
+pub joined_after_columns : (xs : List Run) (n : ℕ) (next run : Run) → n < length xs → next ≡ slice_index_or xs n next → next.attributes ≡ run.attributes → columns_of (counted run (run.count + next.count)) ++ spread (drop (n + 1) xs) ≡ columns_of run ++ spread (drop n xs)
+joined_after_columns xs n next run within is same =
     ap (λ ys. ys ++ spread (drop (n + 1) xs)) (sym (replicate-append-replicate run.count next.count run.attributes)) ∙ append_assoc (columns_of run) (replicate next.count run.attributes) (spread (drop (n + 1) xs)) ∙
     ap (λ a. columns_of run ++ (replicate next.count a ++ spread (drop (n + 1) xs))) (sym same) ∙ ap (λ ys. columns_of run ++ spread ys) (sym (drop_next xs n next within is))
 

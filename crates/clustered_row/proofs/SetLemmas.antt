@@ -13,7 +13,7 @@ use Rattle.text_clusters.specs.Plain.{is_printable}
 use Rattle.cell_base.specs.Attributes.{Attributes}
 use Rattle.cell_base.specs.CellContent.{CellContent, cell_of, shows_as_space}
 use Rattle.cell_base.specs.Row.{Row, Narrow, blank, set_columns}
-use Rattle.cell_rows.proofs.RowLemmas.{set_columns-again, whole-blanks}
+use Rattle.cell_base.proofs.RowLemmas.{set_columns-again, whole-blanks}
 use Rattle.cell_edits.specs.CellList.{cell_columns}
 use Rattle.cell_edits.specs.RowEdits.{overlaid}
 use Rattle.cell_edits.specs.TextRuns.{Leads, plain_cells}
@@ -29,7 +29,7 @@ use Rattle.clustered_row.proofs.ColumnLemmas.{plain_are}
 use Rattle.clustered_row.proofs.RowLemmas.{length-row_of}
 use Rattle.clustered_row.proofs.SizeLemmas.{columns_many, IsUtf8-cut, plain_narrow as plain_narrow_size}
 use Rattle.clustered_row.proofs.StepLemmas.{length-cells}
-use Rattle.clustered_row.proofs.WalkLemmas.{bytes_behind, one_cut, take_all}
+use Rattle.clustered_row.proofs.WalkLemmas.{following_bytes, one_cut, take_all}
 
 -- ---- cells of sizes
 
@@ -44,7 +44,7 @@ pub cells_row : (front : List ℕ) (sizes : List CellSize) (a : Attributes) → 
 cells_row [] [] a e = refl
 cells_row (b ∷ front) [] a e = absurd (omega (arith, e))
 cells_row front (size ∷ rest) a e =
-    ap (λ (r : Row). cell_columns (record { text = take size.len front; width = width_of size.is_wide; attributes = a }) ++ r) (cells_row (drop size.len front) rest a (bytes_behind size rest front e))
+    ap (λ (r : Row). cell_columns (record { text = take size.len front; width = width_of size.is_wide; attributes = a }) ++ r) (cells_row (drop size.len front) rest a (following_bytes size rest front e))
     ∙ first_row size.is_wide (take size.len front) (faces_of (drop size.len front) rest) (columns_of rest) a
 
 some_cells : (front : List ℕ) (sizes : List CellSize) (a : Attributes) → 0 < columns_of sizes → 0 < length (cells_of front sizes a)

@@ -5,8 +5,8 @@ use Rattle.std.proofs.lemmas.Bool.Decides.{leb_tells}
 use Rattle.std.proofs.lemmas.List.{length-replicate, length-take-le, replicate-append-replicate, take_at}
 use Rattle.cell_base.specs.Attributes.{Attributes, plain}
 use Rattle.cell_base.specs.Row.{Row, blank, closed_end, plain_row, set_columns}
-use Rattle.cell_rows.specs.WholeRow.{IsWhole}
-use Rattle.cell_rows.proofs.RowLemmas.{length-closed_end, length-set_columns, whole-append, whole-blanks, whole_ends}
+use Rattle.cell_base.specs.WholeRow.{IsWhole}
+use Rattle.cell_base.proofs.RowLemmas.{length-closed_end, length-set_columns, whole-append, whole-blanks, whole_ends}
 use Rattle.cell_edits.specs.RowEdits.{cut, padded, resized}
 use Rattle.clustered_row.specs.Ends.{EndsAt}
 use Rattle.clustered_row.specs.Faces.{Face, row_of}
@@ -52,9 +52,9 @@ module _ (columns : Row) (width : ℕ) (rest : Attributes) (most : length column
 
   module _ (whole : IsWhole columns) where
     -- columns are set behind what was written, and behind blanks that are written before them
-    pub set_behind_shows : (first new g : Row) (at : ℕ) → first ≡ columns ++ replicate (at - length columns) (blank rest) → new ≡ first ++ g → length columns ≤ at → at + length g ≤ width
+    pub set_after_shows : (first new g : Row) (at : ℕ) → first ≡ columns ++ replicate (at - length columns) (blank rest) → new ≡ first ++ g → length columns ≤ at → at + length g ≤ width
         → Shows new width rest (set_columns (shown columns width rest) at g)
-    set_behind_shows first new g at e f o w =
+    set_after_shows first new g at e f o w =
         let count = ap length e ∙ length-append columns (replicate (at - length columns) (blank rest)) in
         let blanks = length-replicate (at - length columns) (blank rest) in
         let front : length first ≡ at = omega (arith, count, blanks, o) in
@@ -84,7 +84,7 @@ pub set_end_shows : (columns first new g : Row) (at width : ℕ) (rest : Attribu
     → Shows new width rest (set_columns (shown columns width rest) at g)
 set_end_shows columns first new g at width rest whole most ends e h w = elim (leb_tells at (length columns)) [
   | inl p ↦ set_over_shows columns width rest most first new g at (ends.cut p.1) e p.1 h w
-  | inr p ↦ set_behind_shows columns width rest most whole first new g at (ends.padded (omega (arith, p.1))) e (omega (arith, p.1)) w
+  | inr p ↦ set_after_shows columns width rest most whole first new g at (ends.padded (omega (arith, p.1))) e (omega (arith, p.1)) w
 ]
 
 pub length-ended : (columns first : Row) (at : ℕ) (rest : Attributes) → EndsAt columns first at rest → length first ≡ at

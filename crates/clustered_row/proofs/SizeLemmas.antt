@@ -142,7 +142,7 @@ pub plain_narrow : (wide : Bool) (len : ℕ) → (not wide && (len == 1)) ≡ tr
 plain_narrow true len h = absurd cc
 plain_narrow false len h = (refl, eqb-true len 1 h)
 
-plain_cell : (s : CellSize) (b : ℕ) (text : List ℕ) → is_plain s ≡ true
+pub plain_cell : (s : CellSize) (b : ℕ) (text : List ℕ) → is_plain s ≡ true
     → (cell_faces s.is_wide (take s.len (b ∷ text)) ≡ Own (b ∷ []) ∷ []) × (is_text s (take s.len (b ∷ text)) ≡ is_printable b) × (drop s.len (b ∷ text) ≡ text)
 plain_cell s b text h =
     let p = plain_narrow s.is_wide s.len h in

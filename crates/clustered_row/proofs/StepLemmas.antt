@@ -13,10 +13,10 @@ use Rattle.clustered_row.specs.declared.cell_size.CellSize.{CellSize}
 use Rattle.clustered_row.specs.declared.cut_text.CutText.{CutText}
 use Rattle.clustered_row.specs.declared.place.Place.{Place}
 use Rattle.clustered_row.specs.Faces.{Own, Right, first_face, plain_faces, closed_end, opened, set_faces, padded}
-use Rattle.clustered_row.specs.Place.{IsPlace, IsHalved}
+use Rattle.clustered_row.specs.Place.{IsPlace, IsSplit}
 use Rattle.clustered_row.specs.Sizes.{width_of, bytes_of, columns_of, is_plain, ends_plain, faces_of, is_cut}
 use Rattle.clustered_row.proofs.SizeLemmas.{bytes_of-append, columns_of-append, bytes_split, columns_split, bytes_next, columns_next, columns_few, columns_many, join, cut_join, width_bounds, IsUtf8-cut, length-faces, faces_more, cut_more, plain_sizes, plain_sums, plain_copies, ends_plain-push, second_column}
-use Rattle.clustered_row.proofs.TextLemmas.{Placed, IsBehind, replaced, replaced_cut, replaced_bytes, replaced_columns, halved_at, closed_at_place, closed_in_wide, cut_in_wide, cut_parts, opened_at_place, behind_cut, behind_stays_cut, behind_set, behind_set_cut, face_at_place, face_in_wide, cell_kept, cell_utf8}
+use Rattle.clustered_row.proofs.TextLemmas.{Placed, IsAfter, replaced, replaced_cut, replaced_bytes, replaced_columns, halved_at, closed_at_place, closed_in_wide, cut_in_wide, cut_parts, opened_at_place, after_cut, after_stays_cut, after_set, after_set_cut, face_at_place, face_in_wide, cell_kept, cell_utf8}
 
 -- the sizes of the first cells of a text, with their sums
 pub record IsSized (t : List ℕ) (s : List CellSize) (bytes columns : ℕ) : Type 0 where
@@ -72,10 +72,10 @@ pub padded_faces : (t now : List ℕ) (s : List CellSize) (sb sc to n : ℕ) →
 padded_faces t now s sb sc to n e k h =
     pushed_faces t (replicate n 32) now s sb sc e h ∙ ap (λ fs. faces_of t s ++ fs) (plain_spaces n) ∙ ap (λ m. faces_of t s ++ replicate m (Own space)) k
 
-pub behind : (t : List ℕ) (s : List CellSize) (sb sc m at : ℕ) → IsSized t s sb sc → sb ≤ m → m ≤ length t → m + sc ≡ sb + at → IsBehind t s m at
+pub behind : (t : List ℕ) (s : List CellSize) (sb sc m at : ℕ) → IsSized t s sb sc → sb ≤ m → m ≤ length t → m + sc ≡ sb + at → IsAfter t s m at
 behind t s sb sc m at h k l e = record { sized = omega arith; within = l; column = omega arith }
 
-pub set_sized : (t u now : List ℕ) (s : List CellSize) (sb sc m at : ℕ) → now ≡ take m t ++ (u ++ drop (m + length u) t) → IsSized t s sb sc → IsBehind t s m at
+pub set_sized : (t u now : List ℕ) (s : List CellSize) (sb sc m at : ℕ) → now ≡ take m t ++ (u ++ drop (m + length u) t) → IsSized t s sb sc → IsAfter t s m at
     → m + length u ≤ length t → list_all is_printable u ≡ true → IsSized now s sb sc
 set_sized t u now s sb sc m at e h p l k =
     let one = length-take-le m t p.within in
@@ -87,14 +87,14 @@ set_sized t u now s sb sc m at e h p l k =
       bytes_are = h.bytes_are;
       columns_are = h.columns_are;
       within = omega (arith, one, two, three, four, all);
-      parts = behind_set_cut t u s m at p l k h.parts;
+      parts = after_set_cut t u s m at p l k h.parts;
     })
 
-pub set_shown : (t u now : List ℕ) (s : List CellSize) (m at : ℕ) → now ≡ take m t ++ (u ++ drop (m + length u) t) → IsBehind t s m at
+pub set_shown : (t u now : List ℕ) (s : List CellSize) (m at : ℕ) → now ≡ take m t ++ (u ++ drop (m + length u) t) → IsAfter t s m at
     → faces_of now s ≡ set_faces (faces_of t s) at (plain_faces u)
-set_shown t u now s m at e p = ap (λ x. faces_of x s) e ∙ behind_set t u s m at p
+set_shown t u now s m at e p = ap (λ x. faces_of x s) e ∙ after_set t u s m at p
 
-pub cut_sized : (t now : List ℕ) (s : List CellSize) (sb sc m at : ℕ) → now ≡ take m t → IsSized t s sb sc → IsBehind t s m at → IsSized now s sb sc
+pub cut_sized : (t now : List ℕ) (s : List CellSize) (sb sc m at : ℕ) → now ≡ take m t → IsSized t s sb sc → IsAfter t s m at → IsSized now s sb sc
 cut_sized t now s sb sc m at e h p =
     let one = length-take-le m t p.within in
     let sized = p.sized in
@@ -103,11 +103,11 @@ cut_sized t now s sb sc m at e h p =
       bytes_are = h.bytes_are;
       columns_are = h.columns_are;
       within = omega (arith, one, sized, bytes);
-      parts = behind_stays_cut t s m at p h.parts;
+      parts = after_stays_cut t s m at p h.parts;
     })
 
-pub cut_shown : (t now : List ℕ) (s : List CellSize) (m at : ℕ) → now ≡ take m t → IsBehind t s m at → faces_of now s ≡ closed_end (take at (faces_of t s))
-cut_shown t now s m at e p = ap (λ x. faces_of x s) e ∙ behind_cut t s m at p
+pub cut_shown : (t now : List ℕ) (s : List CellSize) (m at : ℕ) → now ≡ take m t → IsAfter t s m at → faces_of now s ≡ closed_end (take at (faces_of t s))
+cut_shown t now s m at e p = ap (λ x. faces_of x s) e ∙ after_cut t s m at p
 
 -- ---- a cut at a place
 
@@ -147,7 +147,7 @@ cut_in_wide_sized t now s sizes sb sc p e k h q =
     }))
 
 pub cut_in_wide_shown : (t now : List ℕ) (s sizes : List CellSize) (sb sc : ℕ) (p : Place) (at : ℕ) (d : CellSize) → now ≡ take p.bytes t ++ 32 ∷ [] → sizes ≡ take p.index s
-    → IsSized t s sb sc → IsPlace s p → IsHalved s p at d → faces_of now sizes ≡ closed_end (take at (faces_of t s))
+    → IsSized t s sb sc → IsPlace s p → IsSplit s p at d → faces_of now sizes ≡ closed_end (take at (faces_of t s))
 cut_in_wide_shown t now s sizes sb sc p at d e k h q w =
     (λ i. faces_of (e i) (k i))
     ∙ closed_in_wide t s p.index p.bytes p.columns d (placed t s sb sc p h q) w.within w.wide
@@ -264,7 +264,7 @@ next_fits s p d a l =
     (omega (arith, bytes, one), omega (arith, columns, two))
 
 -- a column that is not behind the cell is its first one, or the second one of a wide cell
-pub found_halved : (s : List CellSize) (p : Place) (at : ℕ) (d : CellSize) → p.index < length s → p.columns < at → at < p.columns + width_of (get_or s p.index d).is_wide → IsHalved s p at d
+pub found_halved : (s : List CellSize) (p : Place) (at : ℕ) (d : CellSize) → p.index < length s → p.columns < at → at < p.columns + width_of (get_or s p.index d).is_wide → IsSplit s p at d
 found_halved s p at d l less more =
     let w = second_column (get_or s p.index d).is_wide p.columns at less more in
     record { within = l; wide = w.0; column = w.1 }
@@ -274,7 +274,7 @@ place_past s p a l = a.columns ∙ ap columns_of (take_all p.index s l)
 
 -- ---- a wide cell that becomes two spaces
 
-pub halved_shown : (t : List ℕ) (s : List CellSize) (sb sc : ℕ) (p : Place) (at : ℕ) (d : CellSize) → IsSized t s sb sc → IsPlace s p → IsHalved s p at d
+pub halved_shown : (t : List ℕ) (s : List CellSize) (sb sc : ℕ) (p : Place) (at : ℕ) (d : CellSize) → IsSized t s sb sc → IsPlace s p → IsSplit s p at d
     → take p.columns (faces_of t s) ++ (Own space ∷ Own space ∷ drop (p.columns + 2) (faces_of t s)) ≡ opened at (faces_of t s)
 halved_shown t s sb sc p at d h a w =
     halved_at t s p.index p.bytes p.columns d (placed t s sb sc p h a) w.within w.wide ∙ ap (λ n. opened n (faces_of t s)) (sym w.column)
@@ -313,8 +313,8 @@ pub sized_of : (cut : CutText) → IsSized cut.text.items cut.sizes.items cut.si
 sized_of cut = record { bytes_are = cut.bytes; columns_are = cut.columns; within = cut.within; parts = cut.parts }
 
 -- the byte of a plain cell is one of the text
-pub behind_byte : (t : List ℕ) (s : List CellSize) (sb sc at : ℕ) → IsSized t s sb sc → sc ≤ at → at ≤ length (faces_of t s) → sb + (at - sc) ≤ length t
-behind_byte t s sb sc at h l k = let n = column_count t s sb sc (length t) h refl in omega (arith, n)
+pub after_byte : (t : List ℕ) (s : List CellSize) (sb sc at : ℕ) → IsSized t s sb sc → sc ≤ at → at ≤ length (faces_of t s) → sb + (at - sc) ≤ length t
+after_byte t s sb sc at h l k = let n = column_count t s sb sc (length t) h refl in omega (arith, n)
 
 pub sized_columns_within : (t : List ℕ) (s : List CellSize) (sb sc : ℕ) → IsSized t s sb sc → sc ≤ length (faces_of t s)
 sized_columns_within t s sb sc h = let n = column_count t s sb sc (length t) h refl in omega (arith, n)
@@ -362,7 +362,7 @@ place_order s p q a b le =
 pub place_within : (t : List ℕ) (s : List CellSize) (sb sc : ℕ) (p : Place) → IsSized t s sb sc → IsPlace s p → p.bytes ≤ sb
 place_within t s sb sc p h a = let k = place_bytes s p a in omega (arith, k)
 
-pub half_bytes : (s : List CellSize) (p : Place) (at : ℕ) (d : CellSize) → IsPlace s p → IsHalved s p at d → p.bytes + 1 ≤ bytes_of s
+pub half_bytes : (s : List CellSize) (p : Place) (at : ℕ) (d : CellSize) → IsPlace s p → IsSplit s p at d → p.bytes + 1 ≤ bytes_of s
 half_bytes s p at d a w =
     let k = (next_fits s p d a w.within).0 in
     let some = (get_or s p.index d).some in
@@ -379,7 +379,7 @@ pub next_place_read : (s : List CellSize) (p q : Place) (x : CellSize) → IsPla
 next_place_read s p q x a l e i b c =
     next_place s p q x a l i (b ∙ ap (λ (y : CellSize). p.bytes + y.len) e) (c ∙ ap (λ (y : CellSize). p.columns + width_of y.is_wide) e)
 
-pub found_halved_read : (s : List CellSize) (p : Place) (at : ℕ) (x d : CellSize) → p.index < length s → p.columns < at → at < p.columns + width_of x.is_wide → x ≡ get_or s p.index x → IsHalved s p at d
+pub found_halved_read : (s : List CellSize) (p : Place) (at : ℕ) (x d : CellSize) → p.index < length s → p.columns < at → at < p.columns + width_of x.is_wide → x ≡ get_or s p.index x → IsSplit s p at d
 found_halved_read s p at x d l less more e =
     let same : x ≡ get_or s p.index d = e ∙ get_or_default s p.index x d l in
     found_halved s p at d l less (subst (λ (y : CellSize). at < p.columns + width_of y.is_wide) same more)
@@ -517,7 +517,7 @@ lent_kept t s sb sc p x h a l e =
     subst (λ n. shows_as_space (take n (drop p.bytes t)) ≡ false) len
     (subst (λ (y : CellSize). shows_as_space (take y.len (drop p.bytes t)) ≡ false) (sym e) (cell_kept t s p.index p.bytes p.columns x (placed t s sb sc p h a) l h.parts))
 
-pub lent_right : (t : List ℕ) (s : List CellSize) (sb sc : ℕ) (p : Place) (at : ℕ) (d : CellSize) → IsSized t s sb sc → IsPlace s p → IsHalved s p at d → get_or (faces_of t s) at Right ≡ Right
+pub lent_right : (t : List ℕ) (s : List CellSize) (sb sc : ℕ) (p : Place) (at : ℕ) (d : CellSize) → IsSized t s sb sc → IsPlace s p → IsSplit s p at d → get_or (faces_of t s) at Right ≡ Right
 lent_right t s sb sc p at d h a w =
     ap (λ n. get_or (faces_of t s) n Right) w.column ∙ face_in_wide t s p.index p.bytes p.columns d (placed t s sb sc p h a) w.within w.wide
 

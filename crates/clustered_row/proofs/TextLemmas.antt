@@ -152,64 +152,64 @@ all-take (suc n) (b ∷ bytes) h =
     and_from (is_printable b) (list_all is_printable (take n bytes)) p.0 (all-take n bytes p.1)
 
 -- a column among these, and its byte
-pub record IsBehind (t : List ℕ) (s : List CellSize) (m at : ℕ) : Type 0 where
+pub record IsAfter (t : List ℕ) (s : List CellSize) (m at : ℕ) : Type 0 where
   pub sized : bytes_of s ≤ m
   pub within : m ≤ length t
   pub column : m + columns_of s ≡ bytes_of s + at
 
-pub behind_front : (t : List ℕ) (s : List CellSize) (m at : ℕ) → IsBehind t s m at → length (faces_of (take m t) s) ≡ at
-behind_front t s m at p =
+pub after_front : (t : List ℕ) (s : List CellSize) (m at : ℕ) → IsAfter t s m at → length (faces_of (take m t) s) ≡ at
+after_front t s m at p =
     let sized = p.sized in
     let column = p.column in
     let n = length-take-le m t p.within in
     let k = length-faces (take m t) s (omega (arith, n, sized)) in
     omega (arith, n, k, column, sized)
 
-pub behind_parted : (t : List ℕ) (s : List CellSize) (m at : ℕ) → IsBehind t s m at → faces_of t s ≡ faces_of (take m t) s ++ plain_faces (drop m t)
-behind_parted t s m at p =
+pub after_parted : (t : List ℕ) (s : List CellSize) (m at : ℕ) → IsAfter t s m at → faces_of t s ≡ faces_of (take m t) s ++ plain_faces (drop m t)
+after_parted t s m at p =
     let sized = p.sized in
     let n = length-take-le m t p.within in
     ap (λ text. faces_of text s) (sym (take-append-drop m t)) ∙ faces_more (take m t) (drop m t) s (omega (arith, n, sized))
 
-pub behind_taken : (t : List ℕ) (s : List CellSize) (m at : ℕ) → IsBehind t s m at → take at (faces_of t s) ≡ faces_of (take m t) s
-behind_taken t s m at p = ap (take at) (behind_parted t s m at p) ∙ take_at (faces_of (take m t) s) (plain_faces (drop m t)) at (behind_front t s m at p)
+pub after_taken : (t : List ℕ) (s : List CellSize) (m at : ℕ) → IsAfter t s m at → take at (faces_of t s) ≡ faces_of (take m t) s
+after_taken t s m at p = ap (take at) (after_parted t s m at p) ∙ take_at (faces_of (take m t) s) (plain_faces (drop m t)) at (after_front t s m at p)
 
-pub behind_cut : (t : List ℕ) (s : List CellSize) (m at : ℕ) → IsBehind t s m at → faces_of (take m t) s ≡ closed_end (take at (faces_of t s))
-behind_cut t s m at p = sym (ap closed_end (behind_taken t s m at p) ∙ closed_end-faces (take m t) s)
+pub after_cut : (t : List ℕ) (s : List CellSize) (m at : ℕ) → IsAfter t s m at → faces_of (take m t) s ≡ closed_end (take at (faces_of t s))
+after_cut t s m at p = sym (ap closed_end (after_taken t s m at p) ∙ closed_end-faces (take m t) s)
 
-pub behind_stays_cut : (t : List ℕ) (s : List CellSize) (m at : ℕ) → IsBehind t s m at → is_cut t s ≡ true → is_cut (take m t) s ≡ true
-behind_stays_cut t s m at p h =
+pub after_stays_cut : (t : List ℕ) (s : List CellSize) (m at : ℕ) → IsAfter t s m at → is_cut t s ≡ true → is_cut (take m t) s ≡ true
+after_stays_cut t s m at p h =
     let sized = p.sized in
     let n = length-take-le m t p.within in
     (and_parts (is_cut (take m t) s) (list_all is_printable (drop m t))
     (sym (ap (λ text. is_cut text s) (sym (take-append-drop m t)) ∙ cut_more (take m t) (drop m t) s (omega (arith, n, sized))) ∙ h)).0
 
-pub behind_set : (t u : List ℕ) (s : List CellSize) (m at : ℕ) → IsBehind t s m at
+pub after_set : (t u : List ℕ) (s : List CellSize) (m at : ℕ) → IsAfter t s m at
     → faces_of (take m t ++ (u ++ drop (m + length u) t)) s ≡ set_faces (faces_of t s) at (plain_faces u)
-behind_set t u s m at p =
+after_set t u s m at p =
     let sized = p.sized in
     let n = length-take-le m t p.within in
     let fs = faces_of t s in
     let front = faces_of (take m t) s in
     let rest = plain_faces (drop (m + length u) t) in
-    let k = behind_front t s m at p in
+    let k = after_front t s m at p in
     let count : length (plain_faces u) ≡ length u = length-map u (λ byte. Own (byte ∷ [])) in
     let dropped : drop (at + length (plain_faces u)) fs ≡ rest =
     ap (λ x. drop (at + x) fs) count
-    ∙ ap (drop (at + length u)) (behind_parted t s m at p)
+    ∙ ap (drop (at + length u)) (after_parted t s m at p)
     ∙ ap (λ x. drop (x + length u) (front ++ plain_faces (drop m t))) (sym k)
     ∙ drop-append-add front (plain_faces (drop m t)) (length u)
     ∙ drop-map (λ byte. Own (byte ∷ [])) (length u) (drop m t)
     ∙ ap plain_faces (drop-drop (length u) m t) in
-    let first = sym (behind_cut t s m at p) in
+    let first = sym (after_cut t s m at p) in
     let last : closed_start (drop (at + length (plain_faces u)) fs) ≡ rest = ap closed_start dropped ∙ closed_start-plain (drop (m + length u) t) in
     faces_more (take m t) (u ++ drop (m + length u) t) s (omega (arith, n, sized))
     ∙ ap (λ x. front ++ x) (map-append (λ byte. Own (byte ∷ [])) u (drop (m + length u) t))
     ∙ sym ((λ i. first i ++ plain_faces u ++ last i) ∙ append_assoc front (plain_faces u) rest)
 
-pub behind_set_cut : (t u : List ℕ) (s : List CellSize) (m at : ℕ) → IsBehind t s m at → m + length u ≤ length t → list_all is_printable u ≡ true → is_cut t s ≡ true
+pub after_set_cut : (t u : List ℕ) (s : List CellSize) (m at : ℕ) → IsAfter t s m at → m + length u ≤ length t → list_all is_printable u ≡ true → is_cut t s ≡ true
     → is_cut (take m t ++ (u ++ drop (m + length u) t)) s ≡ true
-behind_set_cut t u s m at p l h k =
+after_set_cut t u s m at p l h k =
     let sized = p.sized in
     let n = length-take-le m t p.within in
     let both = and_parts (is_cut (take m t) s) (list_all is_printable (drop m t)) (sym (ap (λ text. is_cut text s) (sym (take-append-drop m t)) ∙ cut_more (take m t) (drop m t) s (omega (arith, n, sized))) ∙ k) in
@@ -264,14 +264,14 @@ first_byte : (bytes : List ℕ) (b : ℕ) (rest : List ℕ) (n : ℕ) → bytes 
 first_byte bytes b rest n e one = (λ i. take (one i) (e i))
 
 -- a plain cell
-pub face_behind : (t : List ℕ) (s : List CellSize) (m at n : ℕ) → IsBehind t s m at → m < length t → n ≡ 1 → get_or (faces_of t s) at Right ≡ Own (take n (drop m t))
-face_behind t s m at n p l one =
+pub face_after : (t : List ℕ) (s : List CellSize) (m at n : ℕ) → IsAfter t s m at → m < length t → n ≡ 1 → get_or (faces_of t s) at Right ≡ Own (take n (drop m t))
+face_after t s m at n p l one =
     let first = drop_more t m 0 l in
-    ap (λ fs. get_or fs at Right) (behind_parted t s m at p ∙ ap (λ bytes. faces_of (take m t) s ++ plain_faces bytes) first)
-    ∙ get_or_at (faces_of (take m t) s) (Own (get_or t m 0 ∷ [])) (plain_faces (drop (m + 1) t)) Right at (behind_front t s m at p)
+    ap (λ fs. get_or fs at Right) (after_parted t s m at p ∙ ap (λ bytes. faces_of (take m t) s ++ plain_faces bytes) first)
+    ∙ get_or_at (faces_of (take m t) s) (Own (get_or t m 0 ∷ [])) (plain_faces (drop (m + 1) t)) Right at (after_front t s m at p)
     ∙ ap Own (sym (first_byte (drop m t) (get_or t m 0) (drop (m + 1) t) n first one))
 
-pub plain_utf8 : (t : List ℕ) (s : List CellSize) (m at n : ℕ) → IsBehind t s m at → m < length t → n ≡ 1 → is_cut t s ≡ true → IsUtf8 (take n (drop m t))
+pub plain_utf8 : (t : List ℕ) (s : List CellSize) (m at n : ℕ) → IsAfter t s m at → m < length t → n ≡ 1 → is_cut t s ≡ true → IsUtf8 (take n (drop m t))
 plain_utf8 t s m at n p l one h =
     let sized = p.sized in
     let k = length-take-le m t p.within in
@@ -279,7 +279,7 @@ plain_utf8 t s m at n p l one h =
     (sym (ap (λ text. is_cut text s) (sym (take-append-drop m t)) ∙ cut_more (take m t) (drop m t) s (omega (arith, k, sized))) ∙ h) in
     IsUtf8-cut (take n (drop m t)) [] (all-take n (drop m t) both.1)
 
-pub plain_kept : (t : List ℕ) (s : List CellSize) (m at n : ℕ) → IsBehind t s m at → m < length t → n ≡ 1 → is_cut t s ≡ true → shows_as_space (take n (drop m t)) ≡ false
+pub plain_kept : (t : List ℕ) (s : List CellSize) (m at n : ℕ) → IsAfter t s m at → m < length t → n ≡ 1 → is_cut t s ≡ true → shows_as_space (take n (drop m t)) ≡ false
 plain_kept t s m at n p l one h =
     let sized = p.sized in
     let k = length-take-le m t p.within in

@@ -8,7 +8,7 @@ use Rattle.std.proofs.lemmas.Bool.{and_from, and_parts, eqb-true}
 use Rattle.std.proofs.lemmas.Bool.Decides.{eqb_tells, nat_tests}
 use Rattle.std.proofs.lemmas.Str.{is_utf8-from_IsUtf8}
 use Rattle.std.proofs.lemmas.List.{take-append-drop, drop_all, length-drop, length-take-le}
-use Rattle.text_clusters.specs.Apart.{begins_apart, stands_apart}
+use Rattle.text_clusters.specs.Independent.{begins_independent, is_independent}
 use Rattle.text_clusters.specs.Plain.{is_printable}
 use Rattle.text_clusters.proofs.ApartLemmas.{cut_before}
 use Rattle.text_clusters.proofs.TextLemmas.{first_alone, joined_clusters}
@@ -16,11 +16,11 @@ use Rattle.cell_base.specs.Attributes.{Attributes, plain}
 use Rattle.cell_base.specs.CellContent.{CellContent, cell_of, shows_as_space}
 use Rattle.cell_base.specs.Row.{Row}
 use Rattle.cell_edits.specs.CellList.{cell_columns}
-use Rattle.clustered_row.specs.LoneText.{BeginsLone}
+use Rattle.clustered_row.specs.SingleText.{BeginsSingle}
 use Rattle.cell_edits.specs.RowEdits.{overlaid}
 use Rattle.cell_edits.specs.TextRuns.{Leads}
 use Rattle.cell_edits.proofs.CellLemmas.{by_test}
-use Rattle.clustered_row.proofs.LoneLemmas.{first_bytes, first_inside, first_kept, first_utf8, lone_cell, lone_count}
+use Rattle.clustered_row.proofs.SingleLemmas.{first_bytes, first_inside, first_kept, first_utf8, single_cell, single_count}
 use Rattle.cell_edits.proofs.RowLaws.{length-overlaid, set_within}
 use Rattle.cell_edits.proofs.RunLemmas.{leads_first, leads_same, overlaid-append, rest_first}
 use Rattle.clustered_row.specs.declared.cell_size.CellSize.{CellSize}
@@ -51,13 +51,13 @@ front_of zero front more h = refl
 front_of (suc n) [] more h = absurd (omega (arith, h))
 front_of (suc n) (b ∷ front) more h = ap (λ (bs : List ℕ). b ∷ bs) (front_of n front more (omega (arith, h)))
 
-behind_of : (n : ℕ) (front more : List ℕ) → n ≤ length front → drop n (front ++ more) ≡ drop n front ++ more
-behind_of zero front more h = refl
-behind_of (suc n) [] more h = absurd (omega (arith, h))
-behind_of (suc n) (b ∷ front) more h = behind_of n front more (omega (arith, h))
+after_of : (n : ℕ) (front more : List ℕ) → n ≤ length front → drop n (front ++ more) ≡ drop n front ++ more
+after_of zero front more h = refl
+after_of (suc n) [] more h = absurd (omega (arith, h))
+after_of (suc n) (b ∷ front) more h = after_of n front more (omega (arith, h))
 
-pub bytes_behind : (size : CellSize) (sizes : List CellSize) (front : List ℕ) → bytes_of (size ∷ sizes) ≡ length front → bytes_of sizes ≡ length (drop size.len front)
-bytes_behind size sizes front e = omega (arith, e, length-drop size.len front)
+pub following_bytes : (size : CellSize) (sizes : List CellSize) (front : List ℕ) → bytes_of (size ∷ sizes) ≡ length front → bytes_of sizes ≡ length (drop size.len front)
+following_bytes size sizes front e = omega (arith, e, length-drop size.len front)
 
 pub take_all : (bs : List ℕ) → take (length bs) bs ≡ bs
 take_all [] = refl
@@ -69,7 +69,7 @@ cells-more [] more [] size a e l = ap (λ (t : List ℕ). record { text = t; wid
 cells-more (b ∷ front) more [] size a e l = absurd (omega (arith, e))
 cells-more front more (first ∷ sizes) size a e l =
     (λ i. record { text = front_of first.len front more (omega (arith, e)) i; width = width_of first.is_wide; attributes = a }
-    ∷ (ap (λ t. cells_of t (sizes ++ size ∷ []) a) (behind_of first.len front more (omega (arith, e))) ∙ cells-more (drop first.len front) more sizes size a (bytes_behind first sizes front e) l) i)
+    ∷ (ap (λ t. cells_of t (sizes ++ size ∷ []) a) (after_of first.len front more (omega (arith, e))) ∙ cells-more (drop first.len front) more sizes size a (following_bytes first sizes front e) l) i)
 
 -- one cell
 pub one_cut : (more : List ℕ) (size : CellSize) → size.len ≡ length more → is_text size more ≡ true → is_cut more (size ∷ []) ≡ true
@@ -84,8 +84,8 @@ some_bytes c = by_test (nat_lt c 128) (λ t. rw t (omega arith))
     (λ t. by_test (nat_lt c 2048) (λ u. rw (t, u) (omega arith)) (λ u. by_test (nat_lt c 65536) (λ v. rw (t, u, v) (omega arith)) (λ v. rw (t, u, v) (omega arith))))
 
 -- of one byte it is printable ASCII
-one_byte : (c : ℕ) → length (encode_utf8 c) ≡ 1 → stands_apart c ≡ true → list_all is_printable (encode_utf8 c) ≡ true
-unfolding encode_utf8 stands_apart
+one_byte : (c : ℕ) → length (encode_utf8 c) ≡ 1 → is_independent c ≡ true → list_all is_printable (encode_utf8 c) ≡ true
+unfolding encode_utf8 is_independent
 one_byte c l h = grind (arith, nat_tests)
 
 -- the size of a character of so many bytes and columns
@@ -93,9 +93,9 @@ pub record IsSizeOf (n width : ℕ) (size : CellSize) : Type 0 where
   len : size.len ≡ n
   wide : size.is_wide ≡ (width == 2)
 
-module _ (f : List ℕ → ℕ) (text : List ℕ) (n width : ℕ) (lone : BeginsLone f text n width) (u : IsUtf8 text) (size : CellSize) (is : IsSizeOf n width size) where
-  lone_text : is_text size (take n text) ≡ true
-  lone_text = by_plain (is_plain size) refl
+module _ (f : List ℕ → ℕ) (text : List ℕ) (n width : ℕ) (lone : BeginsSingle f text n width) (u : IsUtf8 text) (size : CellSize) (is : IsSizeOf n width size) where
+  single_text : is_text size (take n text) ≡ true
+  single_text = by_plain (is_plain size) refl
     where
       by_plain : (b : Bool) → is_plain size ≡ b → (if b then list_all is_printable (take n text) else is_utf8 (take n text) && not (shows_as_space (take n text))) ≡ true
       by_plain false e =
@@ -108,8 +108,8 @@ module _ (f : List ℕ → ℕ) (text : List ℕ) (n width : ℕ) (lone : Begins
           ap (list_all is_printable) (first_bytes text lone.character n lone.first) ∙ one_byte lone.character (omega (arith, one, long, bytes)) lone.first.stands
 
   module _ (a : Attributes) where
-    lone_is : record { text = take n text; width = width_of size.is_wide; attributes = a } ≡ cell_of (take n text) width a
-    lone_is =
+    single_is : record { text = take n text; width = width_of size.is_wide; attributes = a } ≡ cell_of (take n text) width a
+    single_is =
         let kept : shows_as_space (take n text) ≡ false = first_kept text lone.character n lone.first in
         let some = lone.some in
         let most = lone.most in
@@ -121,17 +121,17 @@ module _ (f : List ℕ → ℕ) (text : List ℕ) (n width : ℕ) (lone : Begins
         by_two (inr p) = let some = lone.some in let most = lone.most in ap width_of p.0 ∙ omega (arith, p.1, some, most)
 
     -- it is set where it fits
-    lone_leads : (row : Row) (at end : ℕ) → at + width ≤ end → end ≤ length row → begins_apart (drop n text) ≡ true
+    single_leads : (row : Row) (at end : ℕ) → at + width ≤ end → end ≤ length row → begins_independent (drop n text) ≡ true
         → Leads f end a row at text (overlaid row at (cell_of (take n text) width a ∷ [])) (at + width) (drop n text)
-    lone_leads row at end fits within apart =
+    single_leads row at end fits within apart =
         let cluster = take n text in
         let rest = drop n text in
         let cell = cell_of cluster width a in
         let is = first_bytes text lone.character n lone.first in
         let columns : width ≡ max 1 (f cluster) = lone.columns ∙ ap (λ k. max 1 (f k)) (sym is) in
-        let made : cell ≡ cell_of cluster (f cluster) a = ap (λ k. cell_of cluster k a) columns ∙ lone_cell cluster (f cluster) a in
+        let made : cell ≡ cell_of cluster (f cluster) a = ap (λ k. cell_of cluster k a) columns ∙ single_cell cluster (f cluster) a in
         let kept : shows_as_space cluster ≡ false = first_kept text lone.character n lone.first in
-        let count = lone_count cluster width a kept lone.some lone.most in
+        let count = single_count cluster width a kept lone.some lone.most in
         let cut = cut_before text cluster rest lone.character n u lone.first refl refl apart in
         subst (λ k. Leads f end a row at text (overlaid row at (cell ∷ [])) (at + k) rest) count
         (leads_first f a row (overlaid row at (cell ∷ [])) at end text cluster rest cell (omega arith) within (omega (arith, count))
@@ -152,19 +152,19 @@ walk_none f room text u = record {
 }
 
 -- one character more
-pub walk_more : (f : List ℕ → ℕ) (room : ℕ) (text : List ℕ) (sizes : List CellSize) (count : ℕ) (left : List ℕ) (n width : ℕ) (size : CellSize) → IsWalked f room text sizes count left → BeginsLone f left n width → IsUtf8 left
-    → size.len ≡ n → size.is_wide ≡ (width == 2) → begins_apart (drop n left) ≡ true → count + width ≤ room → IsWalked f room text (sizes ++ size ∷ []) (count + width) (drop n left)
+pub walk_more : (f : List ℕ → ℕ) (room : ℕ) (text : List ℕ) (sizes : List CellSize) (count : ℕ) (left : List ℕ) (n width : ℕ) (size : CellSize) → IsWalked f room text sizes count left → BeginsSingle f left n width → IsUtf8 left
+    → size.len ≡ n → size.is_wide ≡ (width == 2) → begins_independent (drop n left) ≡ true → count + width ≤ room → IsWalked f room text (sizes ++ size ∷ []) (count + width) (drop n left)
 walk_more f room text sizes count left n width size w lone u len wide apart fits =
     let is : IsSizeOf n width size = record { len = len; wide = wide } in
     let bytes = w.bytes in
     let columns = w.columns in
     let inside = first_inside left lone.character n lone.first in
     let long : size.len ≡ length (take n left) = len ∙ sym (length-take-le n left inside) in
-    let two : width_of size.is_wide ≡ width = ap (λ (c : CellContent). c.width) (lone_is f left n width lone u size is plain) ∙ width_kept in
+    let two : width_of size.is_wide ≡ width = ap (λ (c : CellContent). c.width) (single_is f left n width lone u size is plain) ∙ width_kept in
     record {
       front = w.front ++ take n left;
       whole = w.whole ∙ ap (λ l. w.front ++ l) (sym (take-append-drop n left)) ∙ sym (append_assoc w.front (take n left) (drop n left));
-      cut = cut_join w.front (take n left) sizes (size ∷ []) bytes ∙ (λ i. w.cut i && one_cut (take n left) size long (lone_text f left n width lone u size is) i);
+      cut = cut_join w.front (take n left) sizes (size ∷ []) bytes ∙ (λ i. w.cut i && one_cut (take n left) size long (single_text f left n width lone u size is) i);
       bytes = bytes_of-append sizes (size ∷ []) ∙ omega (arith, bytes, long, length-append w.front (take n left));
       columns = columns_of-append sizes (size ∷ []) ∙ omega (arith, columns, two);
       within = fits;
@@ -174,13 +174,13 @@ walk_more f room text sizes count left n width size w lone u len wide apart fits
           let count_of : length (flat_map cell_columns cells) ≡ count = count_cells w.front sizes a ∙ columns in
           let wide_as : length middle ≡ length row = length-overlaid row at cells (omega (arith, count_of, fits, h)) in
           let all : overlaid row at (cells_of (w.front ++ take n left) (sizes ++ size ∷ []) a) ≡ overlaid middle (at + count) (cell_of (take n left) width a ∷ [])
-          = ap (overlaid row at) (cells-more w.front (take n left) sizes size a bytes long ∙ ap (λ c. cells ++ c ∷ []) (lone_is f left n width lone u size is a))
+          = ap (overlaid row at) (cells-more w.front (take n left) sizes size a bytes long ∙ ap (λ c. cells ++ c ∷ []) (single_is f left n width lone u size is a))
           ∙ overlaid-append row at cells (cell_of (take n left) width a ∷ []) ∙ ap (λ k. overlaid middle (at + k) (cell_of (take n left) width a ∷ [])) count_of in
           let on : at + count + width ≡ at + (count + width) = omega arith in
           subst (λ (r : Row). Leads f (at + room) a row at text r (at + (count + width)) (drop n left)) (sym all)
           (subst (λ k. Leads f (at + room) a row at text (overlaid middle (at + count) (cell_of (take n left) width a ∷ [])) k (drop n left)) on
           (leads_on f (at + room) a row middle (overlaid middle (at + count) (cell_of (take n left) width a ∷ [])) at (at + count) (at + count + width) text left (drop n left) (w.leads a row at h)
-          (lone_leads f left n width lone u size is a middle (at + count) (at + room) (omega (arith, fits)) (omega (arith, wide_as, h)) apart)));
+          (single_leads f left n width lone u size is a middle (at + count) (at + room) (omega (arith, fits)) (omega (arith, wide_as, h)) apart)));
     }
   where
     width_kept : (cell_of (take n left) width plain).width ≡ width
@@ -200,5 +200,5 @@ walk_more f room text sizes count left n width size w lone u len wide apart fits
         let first = count_one size.is_wide (take size.len front) a in
         length-append (cell_columns (record { text = take size.len front; width = width_of size.is_wide; attributes = a })) (flat_map cell_columns (cells_of (drop size.len front) sizes a)) ∙ omega (arith, rest, first)
 
-pub lone_some : (f : List ℕ → ℕ) (text : List ℕ) (n width : ℕ) → BeginsLone f text n width → 1 ≤ n
-lone_some f text n width lone = let bytes = lone.first.bytes in let some = some_bytes lone.character in omega (arith, bytes, some)
+pub single_some : (f : List ℕ → ℕ) (text : List ℕ) (n width : ℕ) → BeginsSingle f text n width → 1 ≤ n
+single_some f text n width lone = let bytes = lone.first.bytes in let some = some_bytes lone.character in omega (arith, bytes, some)

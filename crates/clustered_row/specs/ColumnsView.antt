@@ -1,7 +1,7 @@
 -- What the columns of a row show that were written.
 use Rattle.std.specs.Prelude.{◌≡◌, length}
 use Rattle.cell_base.specs.Row.{Row}
-use Rattle.cell_rows.specs.WholeRow.{IsWhole}
+use Rattle.cell_base.specs.WholeRow.{IsWhole}
 use Rattle.clustered_row.specs.declared.columns.Columns.TheInside.{Inside}
 use Rattle.clustered_row.specs.Faces.{row_of}
 use Rattle.clustered_row.specs.TextsShown.{faces}

@@ -5,7 +5,7 @@ pub mod EqualColumns
 pub mod Faces
 pub mod FirstCells
 pub mod LentTexts
-pub mod LoneText
+pub mod SingleText
 pub mod Place
 pub mod RowView
 pub mod RunSteps

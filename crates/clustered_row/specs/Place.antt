@@ -11,7 +11,7 @@ pub record IsPlace (sizes : List CellSize) (place : Place) : Type 0 where
   pub columns : place.columns ≡ columns_of (take place.index sizes)
 
 -- a column is the second one of the wide cell that begins there
-pub record IsHalved (sizes : List CellSize) (place : Place) (at : ℕ) (default : CellSize) : Type 0 where
+pub record IsSplit (sizes : List CellSize) (place : Place) (at : ℕ) (default : CellSize) : Type 0 where
   pub within : place.index < length sizes
   pub wide : (slice_index_or sizes place.index default).is_wide ≡ true
   pub column : at ≡ place.columns + 1

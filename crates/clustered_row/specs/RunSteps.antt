@@ -34,8 +34,8 @@ pub record IsPlace (runs : List Run) (place : Place) : Type 0 where
   pub inside : (run : Run) → place.index < length runs → IsAt runs place.index run → place.offset < run.count
   pub behind : length runs ≤ place.index → place.offset ≡ 0
 
--- the first runs hold the columns before `a`, and those from a place on the columns from `b` on, all of them at most the
--- columns of before
+-- the first runs hold the columns before `a`, and those from a place on the columns from `b` on, all of them at most
+-- the columns of before
 pub record IsParted (a b : ℕ) (old new : List Run) (kept : ℕ) (place : Place) : Type 0 where
   pub front : spread (take kept new) ≡ take a (spread old)
   pub behind : drop place.offset (spread (drop place.index new)) ≡ drop b (spread old)
@@ -43,4 +43,4 @@ pub record IsParted (a b : ℕ) (old new : List Run) (kept : ℕ) (place : Place
   pub at : IsPlace new place
   pub fewer : length (spread (drop place.index new)) ≤ length (spread old)
   pub front_maximal : AreMaximal (take kept new)
-  pub behind_maximal : AreMaximal (drop place.index new)
+  pub after_maximal : AreMaximal (drop place.index new)

@@ -30,3 +30,8 @@ attributes_set a b attributes columns = take a columns ++ replicate (b - a) attr
 abbrev pub is_begun : ℕ → List Run → Bool
 is_begun used [] = true
 is_begun used (run ∷ runs) = nat_lt used run.count && is_begun 0 runs
+
+-- how many columns of the first run are left behind so many of them
+abbrev pub first_left : ℕ → List Run → ℕ
+first_left used [] = 0
+first_left used (run ∷ runs) = run.count - used

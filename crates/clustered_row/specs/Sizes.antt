@@ -1,5 +1,6 @@
 -- A text with the sizes of its first cells; behind these each byte is a plain cell.
-use Rattle.std.specs.Prelude.{ℕ, ◌+◌, Bool, true, false, ◌&&◌, not, ◌==◌, List, [], ◌∷◌, ◌++◌, take, drop, if◌then◌else◌}
+use Rattle.std.specs.Prelude.{ℕ, ◌+◌, Bool, true, false, ◌&&◌, not, ◌==◌, List, [], ◌∷◌, ◌++◌, take, drop}
+use Rattle.std.specs.Prelude.{if◌then◌else◌}
 use Rattle.std.specs.List.{list_all}
 use Rattle.std.specs.Str.{is_utf8}
 use Rattle.text_clusters.specs.Plain.{is_printable}

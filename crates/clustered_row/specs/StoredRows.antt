@@ -10,7 +10,9 @@ use Rattle.clustered_row.specs.Sizes.{faces_of, is_cut, ends_plain}
 -- attributes behind these
 pub record IsStored (stored : StoredRow) (row : Row) : Type 0 where
   -- the row shows these
-  pub shows : row ≡ row_of (faces_of stored.text.now stored.sizes.now) (spread stored.runs.now) ++ replicate stored.blanks (blank stored.rest.now)
+  pub shows : row
+      ≡ row_of (faces_of stored.text.now stored.sizes.now) (spread stored.runs.now)
+      ++ replicate stored.blanks (blank stored.rest.now)
   -- each cell has its text, and each column its attributes
   pub cut : is_cut stored.text.now stored.sizes.now ≡ true
   pub even : length (spread stored.runs.now) ≡ length (faces_of stored.text.now stored.sizes.now)

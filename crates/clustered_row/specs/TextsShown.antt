@@ -35,6 +35,6 @@ HasRoomFor texts to text sizes =
     (length text + 3 ≤ room texts) × ((to - plain_from texts) + (length sizes + 3) ≤ room_sizes texts)
 
 -- room for other cells behind all, and for the size of each column that isn't kept
-abbrev pub HasRoomBehind : Texts → List ℕ → List CellSize → Type 0
-HasRoomBehind texts text sizes =
+abbrev pub HasRoomAfter : Texts → List ℕ → List CellSize → Type 0
+HasRoomAfter texts text sizes =
     (length text ≤ room texts) × ((length (faces texts) - plain_from texts) + length sizes ≤ room_sizes texts)

@@ -4,15 +4,15 @@ use Rattle.cell_base.specs.Attributes.{Attributes}
 use Rattle.cell_base.specs.Row.{Column, Narrow, LeftHalf, RightHalf, Row}
 
 -- whether the first column is the right half of a wide text
-abbrev pub starts_halved : Row → Bool
-starts_halved [] = false
-starts_halved (Narrow text attributes ∷ row) = false
-starts_halved (LeftHalf text attributes ∷ row) = false
-starts_halved (RightHalf attributes ∷ row) = true
+abbrev pub starts_split : Row → Bool
+starts_split [] = false
+starts_split (Narrow text attributes ∷ row) = false
+starts_split (LeftHalf text attributes ∷ row) = false
+starts_split (RightHalf attributes ∷ row) = true
 
 -- whether a column is the second one of a wide text
-abbrev pub is_halved : ℕ → Row → Bool
-is_halved at row = starts_halved (drop at row)
+abbrev pub is_split : ℕ → Row → Bool
+is_split at row = starts_split (drop at row)
 
 -- what a column has beside its text
 abbrev pub column_attributes : Column → Attributes

@@ -1,9 +1,13 @@
 -- Attributes of columns that are left to be lent.
-use Rattle.std.specs.Prelude.{List, drop}
+use Rattle.std.specs.Prelude.{ℕ, List, drop}
 use Rattle.cell_base.specs.Attributes.{Attributes}
 use Rattle.clustered_row.specs.declared.runs_left.RunsLeft.{RunsLeft}
-use Rattle.clustered_row.specs.Runs.{spread}
+use Rattle.clustered_row.specs.Runs.{spread, first_left}
 
 -- those of the runs that are left, behind the columns of the first one that were lent already
 abbrev pub attributes_left : RunsLeft → List Attributes
 attributes_left left = drop left.used (spread left.runs.now)
+
+-- how many columns of the next run are left
+abbrev pub run_left : RunsLeft → ℕ
+run_left left = first_left left.used left.runs.now

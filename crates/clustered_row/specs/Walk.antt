@@ -12,11 +12,13 @@ use Rattle.clustered_row.specs.Sizes.{bytes_of, columns_of, is_cut, width_of}
 abbrev pub cells_of : List ℕ → List CellSize → Attributes → List CellContent
 cells_of text [] attributes = []
 cells_of text (size ∷ sizes) attributes =
-    record { text = take size.len text; width = width_of size.is_wide; attributes = attributes } ∷ cells_of (drop size.len text) sizes attributes
+    record { text = take size.len text; width = width_of size.is_wide; attributes = attributes }
+    ∷ cells_of (drop size.len text) sizes attributes
 
--- Cells with these sizes, which take so many columns, stand at the front of a text and fit in so much room. Where they are set on a row, what is left of
--- the text leads to where the whole does.
-pub record IsWalked (columns_for : List ℕ → ℕ) (room : ℕ) (text : List ℕ) (sizes : List CellSize) (count : ℕ) (rest : List ℕ) : Type 0 where
+-- Cells with these sizes, which take so many columns, stand at the front of a text and fit in so much room. Where they
+-- are set on a row, what is left of the text leads to where the whole does.
+pub record IsWalked (columns_for : List ℕ → ℕ) (room : ℕ) (text : List ℕ) (sizes : List CellSize) (count : ℕ)
+    (rest : List ℕ) : Type 0 where
   pub front : List ℕ
   pub whole : text ≡ front ++ rest
   pub cut : is_cut front sizes ≡ true
@@ -24,4 +26,5 @@ pub record IsWalked (columns_for : List ℕ → ℕ) (room : ℕ) (text : List �
   pub columns : columns_of sizes ≡ count
   pub within : count ≤ room
   pub leads : (attributes : Attributes) (row : Row) (at : ℕ) → at + room ≤ length row
-      → Leads columns_for (at + room) attributes row at text (overlaid row at (cells_of front sizes attributes)) (at + count) rest
+      → Leads columns_for (at + room) attributes row at text (overlaid row at (cells_of front sizes attributes))
+      (at + count) rest

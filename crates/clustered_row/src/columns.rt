@@ -1,9 +1,10 @@
 //! The columns of a row up to the last one that was written.
-ghost use Rattle.std.specs.Prelude.{◌≡◌, ◌+◌, ◌-◌, ◌<◌, ◌≤◌, ◌^◌, ◌++◌, [], true, length, take, replicate, IfOk, OnOk, OnErr, false};
+ghost use Rattle.std.specs.Prelude.{◌≡◌, ◌+◌, ◌-◌, ◌<◌, ◌≤◌, ◌^◌, ◌++◌, [], true, length, take, replicate, IfOk, OnOk};
+ghost use Rattle.std.specs.Prelude.{OnErr, false};
 ghost use Rattle.std.specs.List.{list_all};
 ghost use Rattle.text_clusters.specs.Plain.{is_printable};
 ghost use Rattle.cell_base.specs.Row.{blank, closed_end, set_columns};
-ghost use Rattle.cell_rows.specs.WholeRow.{IsWhole};
+ghost use Rattle.cell_base.specs.WholeRow.{IsWhole};
 ghost use Rattle.clustered_row.specs.Ends.{EndsAt};
 ghost use Rattle.clustered_row.specs.Faces.{plain_faces, row_of};
 ghost use Rattle.clustered_row.specs.Sizes.{bytes_of, columns_of, faces_of, is_cut};
@@ -113,7 +114,8 @@ impl Columns {
     ) -> Result<(), AllocError>
         requires printable { list_all is_printable text.now ≡ true }
         requires small { length self.old + length text.now < 2 ^ 64 }
-        ensures done { OnOk result (self.new ≡ self.old ++ row_of (plain_faces text.now) (replicate (length text.now) attrs.now)) }
+        ensures done { OnOk result
+            (self.new ≡ self.old ++ row_of (plain_faces text.now) (replicate (length text.now) attrs.now)) }
         ensures refused { OnErr result (self.new ≡ self.old) }
     {
         self.texts.reserve(text.len(), 0)?;
@@ -134,7 +136,8 @@ impl Columns {
         requires bytes { bytes_of sizes.now ≡ length text.now }
         requires count { count ≡ columns_of sizes.now }
         requires small { length self.old + count < 2 ^ 64 }
-        ensures done { OnOk result (self.new ≡ self.old ++ row_of (faces_of text.now sizes.now) (replicate count attrs.now)) }
+        ensures done { OnOk result
+            (self.new ≡ self.old ++ row_of (faces_of text.now sizes.now) (replicate count attrs.now)) }
         ensures refused { OnErr result (self.new ≡ self.old) }
     {
         let covered = self.texts.columns() - self.texts.plain_from();
@@ -152,8 +155,8 @@ impl Columns {
         self.texts.plain_from()
     }
 
-    // A column for each byte of printable ASCII from one on. Answers whether that was done, which it is where each cell there
-    // is such a character.
+    // A column for each byte of printable ASCII from one on. Answers whether that was done, which it is where each cell
+    // there is such a character.
     #[inline(always)]
     fn overwrite(
         &mut self,
@@ -164,7 +167,10 @@ impl Columns {
         requires printable { list_all is_printable text.now ≡ true }
         requires within { at + length text.now ≤ length self.old }
         requires small { at + length text.now < 2 ^ 64 }
-        ensures done { IfOk result (λ is_done. is_done ≡ true → self.new ≡ set_columns self.old at (row_of (plain_faces text.now) (replicate (length text.now) attrs.now))) }
+        ensures done { IfOk result
+            (λ is_done. is_done ≡ true
+            → self.new
+            ≡ set_columns self.old at (row_of (plain_faces text.now) (replicate (length text.now) attrs.now))) }
         ensures not_done { IfOk result (λ is_done. is_done ≡ false → self.new ≡ self.old) }
         ensures refused { OnErr result (self.new ≡ self.old) }
     {
@@ -190,7 +196,8 @@ impl Columns {
         requires count { count ≡ columns_of sizes.now }
         requires within { at + count ≤ length self.old }
         requires small { at + count < 2 ^ 64 }
-        ensures done { OnOk result (self.new ≡ set_columns self.old at (row_of (faces_of text.now sizes.now) (replicate count attrs.now))) }
+        ensures done { OnOk result
+            (self.new ≡ set_columns self.old at (row_of (faces_of text.now sizes.now) (replicate count attrs.now))) }
         ensures refused { OnErr result (self.new ≡ self.old) }
     {
         let end = at + count;
@@ -213,7 +220,9 @@ impl Columns {
         requires printable { list_all is_printable text.now ≡ true }
         requires within { at + length text.now ≤ length self.old }
         requires small { at + length text.now < 2 ^ 64 }
-        ensures done { OnOk result (self.new ≡ set_columns self.old at (row_of (plain_faces text.now) (replicate (length text.now) attrs.now))) }
+        ensures done { OnOk result
+            (self.new
+            ≡ set_columns self.old at (row_of (plain_faces text.now) (replicate (length text.now) attrs.now))) }
         ensures refused { OnErr result (self.new ≡ self.old) }
     {
         if self.overwrite(at, text, attrs)? {

@@ -1,5 +1,6 @@
 //! A text that is cut into cells.
-ghost use Rattle.std.specs.Prelude.{◌≡◌, ◌+◌, ◌-◌, ◌<◌, ◌≤◌, ◌++◌, true, false, [], length, take, drop, OnOk, OnErr, IfOk, IsOk};
+ghost use Rattle.std.specs.Prelude.{◌≡◌, ◌+◌, ◌-◌, ◌<◌, ◌≤◌, ◌++◌, true, false, [], length, take, drop, OnOk, OnErr};
+ghost use Rattle.std.specs.Prelude.{IfOk, IsOk};
 ghost use Rattle.std.specs.List.{list_all, splice};
 ghost use Rattle.std.specs.Str.{IsUtf8};
 ghost use Rattle.std.specs.Vec.{vec_len};
@@ -7,7 +8,7 @@ ghost use Rattle.text_clusters.specs.Plain.{is_printable};
 ghost use Rattle.clustered_row.specs.declared.cell_size.CellSize.{CellSize};
 ghost use Rattle.clustered_row.specs.Faces.{plain_faces, padded, opened, closed_end, set_faces};
 ghost use Rattle.clustered_row.specs.LentTexts.{IsLentAt};
-ghost use Rattle.clustered_row.specs.Place.{IsPlace, IsHalved, KeepsPlaces, HasPlainCell};
+ghost use Rattle.clustered_row.specs.Place.{IsPlace, IsSplit, KeepsPlaces, HasPlainCell};
 ghost use Rattle.clustered_row.specs.Sizes.{bytes_of, columns_of, faces_of, is_cut, ends_plain};
 
 use crate::cell_size::{CellSize, PLAIN};
@@ -68,7 +69,7 @@ impl CutText {
 
     // The place behind the cells whose sizes are kept.
     #[inline(always)]
-    fn place_behind(&self) -> Place
+    pub(crate) fn place_after(&self) -> Place
         ensures place { IsPlace self.now.sizes.items result }
         ensures columns { result.columns ≡ self.now.sized_columns }
     {
@@ -138,10 +139,10 @@ impl CutText {
         ensures place { IsPlace self.now.sizes.items result }
         ensures order { from.index ≤ result.index }
         ensures columns { result.columns ≤ at }
-        ensures cell { (d : CellSize) → result.columns < at → IsHalved self.now.sizes.items result at d }
+        ensures cell { (d : CellSize) → result.columns < at → IsSplit self.now.sizes.items result at d }
     {
         if self.sized_columns - at < at - from.columns {
-            return find_back(&self.sizes, self.place_behind(), from, at);
+            return find_back(&self.sizes, self.place_after(), from, at);
         }
         find(&self.sizes, from, at)
     }
@@ -335,9 +336,9 @@ impl CutText {
     // The wide cell at a place becomes two spaces.
     #[cold]
     #[inline(never)]
-    fn halve(&mut self, place: Place)
+    fn split_wide_cell(&mut self, place: Place)
         requires place { IsPlace self.old.sizes.items place }
-        requires wide { (d : CellSize) → IsHalved self.old.sizes.items place (place.columns + 1) d }
+        requires wide { (d : CellSize) → IsSplit self.old.sizes.items place (place.columns + 1) d }
         requires room { 2 ≤ bytes_left self.old }
         requires room_sizes { 2 ≤ sizes_left self.old }
         ensures faces { shown self.new ≡ opened (place.columns + 1) (shown self.old) }
@@ -373,7 +374,7 @@ impl CutText {
         if place.columns == at {
             return place;
         }
-        self.halve(place);
+        self.split_wide_cell(place);
         Place {
             index: place.index + 1,
             bytes: place.bytes + 1,

@@ -6,12 +6,11 @@ ghost use Rattle.clustered_row.specs.Place.{IsPlace, IsBefore};
 ghost use Rattle.clustered_row.specs.Runs.{spread};
 ghost use Rattle.clustered_row.specs.Sizes.{width_of};
 ghost use Rattle.clustered_row.specs.TextsShown.{faces};
-ghost use Rattle.clustered_row.specs.VisibleColumns.{is_halved};
+ghost use Rattle.clustered_row.specs.VisibleColumns.{is_split};
 
 use crate::cell_size::CellSize;
 use crate::columns::Columns;
 use crate::cut_text::CutText;
-use crate::kept_alike::{same_run, same_size};
 use crate::place::{Place, START};
 use crate::row::ClusteredRow;
 use crate::run::Run;
@@ -19,12 +18,38 @@ use crate::runs::Runs;
 use crate::texts::Texts;
 use cell_base::CellAttributes;
 
+// Whether bytes are the same.
+fn same_bytes(bytes: &[u8], others: &[u8]) -> bool
+    ensures { IsTrue result → bytes.now ≡ others.now }
+{
+    bytes == others
+}
+
+// Whether two sizes are the same.
+#[inline(always)]
+fn same_size(size: &CellSize, other: &CellSize) -> bool
+    ensures { IsTrue result → size.now ≡ other.now }
+{
+    size.len == other.len && size.is_wide == other.is_wide
+}
+
+// Whether two runs are the same.
+#[inline(always)]
+pub(crate) fn same_run(run: &Run, other: &Run) -> bool
+    ensures { IsTrue result → run.now ≡ other.now }
+{
+    run.count == other.count && run.attributes == other.attributes
+}
+
 // How many bytes at the front of both are the same.
 fn equal_bytes(bytes: &[u8], others: &[u8]) -> usize
     ensures within { result ≤ length bytes.now }
     ensures other_within { result ≤ length others.now }
     ensures equal { take result bytes.now ≡ take result others.now }
 {
+    if same_bytes(bytes, others) {
+        return bytes.len();
+    }
     let most = bytes.len().min(others.len());
     for at in 0..most {
         if bytes[at] != others[at] {
@@ -49,8 +74,8 @@ fn equal_sizes(sizes: &[CellSize], others: &[CellSize]) -> usize
     most
 }
 
-// How many columns at the front of two runs have the same attributes.
-fn equal_part(run: &Run, other: &Run) -> usize
+// How many columns two runs have in common, side by side.
+pub(crate) fn equal_part(run: &Run, other: &Run) -> usize
     ensures within { result ≤ run.now.count }
     ensures other_within { result ≤ other.now.count }
     ensures equal { 0 < result → run.now.attributes ≡ other.now.attributes }
@@ -120,6 +145,21 @@ impl Runs {
 }
 
 impl CutText {
+    // The place behind the first cells, of so many as many as have at most so many bytes and columns.
+    fn place_within(&self, count: usize, bytes: usize, columns: usize) -> Place
+        requires { count ≤ length self.now.sizes.items }
+        ensures place { IsPlace self.now.sizes.items result }
+        ensures index { result.index ≤ count }
+        ensures bytes { result.bytes ≤ bytes }
+        ensures columns { result.columns ≤ columns }
+    {
+        let all = self.place_after();
+        if all.index <= count && all.bytes <= bytes && all.columns <= columns {
+            return all;
+        }
+        place_within(&self.sizes, count, bytes, columns)
+    }
+
     // The place behind the cells at the front that are the same in both texts, in at most so many columns.
     fn equal_place(&self, other: &CutText, most: usize) -> Place
         ensures place { IsBefore self.now.text.items self.now.sizes.items result }
@@ -130,7 +170,7 @@ impl CutText {
     {
         let bytes = equal_bytes(&self.text, &other.text);
         let count = equal_sizes(&self.sizes, &other.sizes);
-        let place = place_within(&self.sizes, count, bytes, most);
+        let place = self.place_within(count, bytes, most);
         if place.index < self.sizes.len().max(other.sizes.len()) {
             return place;
         }
@@ -161,8 +201,8 @@ impl Columns {
         ensures within { result ≤ length self.now }
         ensures other_within { result ≤ length other.now }
         ensures equal { take result self.now ≡ take result other.now }
-        ensures whole { is_halved result self.now ≡ false }
-        ensures other_whole { is_halved result other.now ≡ false }
+        ensures whole { is_split result self.now ≡ false }
+        ensures other_whole { is_split result other.now ≡ false }
     {
         let most = self.runs.equal_columns(&other.runs);
         self.texts.equal_columns(&other.texts, most)
@@ -185,16 +225,23 @@ impl ClusteredRow {
     ghost use Rattle.clustered_row.specs.EqualColumns.{AreEqualAround};
 
     /// Columns outside of which two rows are the same: those from the first of these on and before the second. No cell
-    /// is cut at either. Rows that are kept otherwise may be the same in some of them.
+    /// is cut at either. Of rows that are kept alike there are none; rows that are kept otherwise may be the same in
+    /// some of them.
     pub fn unequal_columns(&self, other: &ClusteredRow) -> (usize, usize)
         ensures { AreEqualAround result.0 result.1 self.now other.now }
     {
         let start = self.columns.equal_columns(&other.columns);
         let len = self.columns.len();
         let other_len = other.columns.len();
-        if same_blanks(self.width, &self.rest, other.width, &other.rest) {
+        if !same_blanks(self.width, &self.rest, other.width, &other.rest) {
+            return (start, self.width.max(other.width));
+        }
+        if start == len || len != other_len {
             return (start, len.max(other_len));
         }
-        (start, self.width.max(other.width))
+        let behind = self
+            .columns
+            .equal_columns_at_end(&other.columns, len - start);
+        (start, len - behind)
     }
 }

@@ -1,7 +1,7 @@
 //! Places between cells.
 ghost use Rattle.std.specs.Prelude.{◌≡◌, ◌+◌, ◌<◌, ◌≤◌, ◌^◌};
 ghost use Rattle.clustered_row.specs.declared.cell_size.CellSize.{CellSize};
-ghost use Rattle.clustered_row.specs.Place.{IsPlace, IsHalved};
+ghost use Rattle.clustered_row.specs.Place.{IsPlace, IsSplit};
 ghost use Rattle.clustered_row.specs.Sizes.{bytes_of, columns_of, width_of};
 
 use crate::cell_size::CellSize;
@@ -68,7 +68,7 @@ pub(crate) fn find(sizes: &[CellSize], from: Place, at: usize) -> Place
     ensures place { IsPlace sizes.now result }
     ensures order { from.index ≤ result.index }
     ensures columns { result.columns ≤ at }
-    ensures cell { (d : CellSize) → result.columns < at → IsHalved sizes.now result at d }
+    ensures cell { (d : CellSize) → result.columns < at → IsSplit sizes.now result at d }
 {
     let mut index = from.index;
     let mut bytes = from.bytes;
@@ -98,7 +98,7 @@ pub(crate) fn find_back(sizes: &[CellSize], end: Place, from: Place, at: usize) 
     ensures place { IsPlace sizes.now result }
     ensures order { from.index ≤ result.index }
     ensures columns { result.columns ≤ at }
-    ensures cell { (d : CellSize) → result.columns < at → IsHalved sizes.now result at d }
+    ensures cell { (d : CellSize) → result.columns < at → IsSplit sizes.now result at d }
 {
     let mut place = end;
     while at < place.columns {

@@ -13,8 +13,8 @@ use cell_base::CellAttributes;
 use std::alloc::{AllocError, Global};
 use std::marker::Model;
 
-/// A row of columns, kept as one text, the lengths and widths of its cells, and runs of equal attributes. Behind the last
-/// column that was written stand blanks with the same attributes. Columns count from 0.
+/// A row of columns, kept as one text, the lengths and widths of its cells, and runs of equal attributes. Behind the
+/// last column that was written stand blanks with the same attributes. Columns count from 0.
 ///
 /// A call that is refused memory leaves the count of columns as it was; of what they show nothing is said.
 #[derive(Debug, Drop)]
@@ -71,7 +71,8 @@ impl ClusteredRow {
     pub fn set_blanks_from(&mut self, at: usize, attrs: &CellAttributes) -> Result<(), AllocError>
         requires { at ≤ length self.old }
         ensures len { length self.new ≡ length self.old }
-        ensures done { OnOk result (self.new ≡ set_columns self.old at (replicate (length self.old - at) (blank attrs.now))) }
+        ensures done { OnOk result
+            (self.new ≡ set_columns self.old at (replicate (length self.old - at) (blank attrs.now))) }
     {
         let rest = attrs.try_clone()?;
         self.columns.end_at(at, &self.rest)?;
@@ -90,7 +91,9 @@ impl ClusteredRow {
         requires printable { list_all is_printable text.now ≡ true }
         requires within { at + length text.now ≤ length self.old }
         ensures len { length self.new ≡ length self.old }
-        ensures done { OnOk result (self.new ≡ set_columns self.old at (row_of (plain_faces text.now) (replicate (length text.now) attrs.now))) }
+        ensures done { OnOk result
+            (self.new
+            ≡ set_columns self.old at (row_of (plain_faces text.now) (replicate (length text.now) attrs.now))) }
     {
         if at != self.columns.len() {
             self.set_plain_elsewhere(at, text, attrs)?;
@@ -111,7 +114,9 @@ impl ClusteredRow {
         requires printable { list_all is_printable text.now ≡ true }
         requires within { at + length text.now ≤ length self.old }
         ensures len { length self.new ≡ length self.old }
-        ensures done { OnOk result (self.new ≡ set_columns self.old at (row_of (plain_faces text.now) (replicate (length text.now) attrs.now))) }
+        ensures done { OnOk result
+            (self.new
+            ≡ set_columns self.old at (row_of (plain_faces text.now) (replicate (length text.now) attrs.now))) }
     {
         let len = self.columns.len();
         if at + text.len() < len {
@@ -137,7 +142,8 @@ impl ClusteredRow {
         requires count { count ≡ columns_of sizes.now }
         requires within { at + count ≤ length self.old }
         ensures len { length self.new ≡ length self.old }
-        ensures done { OnOk result (self.new ≡ set_columns self.old at (row_of (faces_of text.now sizes.now) (replicate count attrs.now))) }
+        ensures done { OnOk result
+            (self.new ≡ set_columns self.old at (row_of (faces_of text.now sizes.now) (replicate count attrs.now))) }
     {
         let len = self.columns.len();
         if at + count < len {

@@ -2,7 +2,7 @@
 ghost use Rattle.std.specs.Prelude.{◌≡◌, ◌+◌, ◌-◌, ◌<◌, ◌++◌, length, IfOk, OnOk};
 ghost use Rattle.cell_base.specs.CellContent.{row_of_cells};
 ghost use Rattle.cell_base.specs.Row.{set_columns};
-ghost use Rattle.cell_rows.specs.WholeRow.{IsWhole};
+ghost use Rattle.cell_base.specs.WholeRow.{IsWhole};
 ghost use Rattle.cell_edits.specs.CellList.{cell_columns};
 ghost use Rattle.cell_edits.specs.ShownCells.{lent_cells};
 ghost use Rattle.clustered_row.specs.FirstCells.{first_columns};

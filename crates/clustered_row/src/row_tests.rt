@@ -1,6 +1,7 @@
 //! Edits of a row against the same edits of a vector of cells.
 use crate::row::ClusteredRow;
 use crate::runs_tests::{Numbers, palette};
+use crate::visible::ClusteredCell;
 use cell_base::{Cell, CellAttributes, ProgramWidth};
 use cell_edits::{row, runs};
 use std::alloc::Global;
@@ -171,6 +172,46 @@ fn edit(
     }
 }
 
+// Whether both are the same cell.
+fn are_same(cell: &ClusteredCell<'_>, other: &ClusteredCell<'_>) -> bool {
+    cell.column == other.column
+        && cell.text == other.text
+        && cell.is_wide == other.is_wide
+        && *cell.attributes == *other.attributes
+}
+
+// Whether a cell is this byte with these attributes.
+fn is_byte(cell: &ClusteredCell<'_>, byte: u8, attributes: &CellAttributes) -> bool {
+    !cell.is_wide && cell.text.as_bytes() == [byte].as_slice() && *cell.attributes == *attributes
+}
+
+// Whether runs of plain cells, and the cells between them, are what the row shows cell by cell.
+fn passes_what_it_shows(row: &ClusteredRow, most: usize) -> bool {
+    let mut others = row.visible_cells();
+    let mut run: &[u8] = &[];
+    let mut attributes = &row.rest;
+    for cell in row.visible_cells() {
+        if run.is_empty() {
+            if let Some((text, of_text)) = others.pass_plain(most) {
+                run = text.as_bytes();
+                attributes = of_text;
+            }
+        }
+        if let Some((byte, rest)) = run.split_first() {
+            if !is_byte(&cell, *byte, attributes) {
+                return false;
+            }
+            run = rest;
+        } else {
+            match others.next() {
+                Some(other) if are_same(&cell, &other) => {}
+                _ => return false,
+            }
+        }
+    }
+    run.is_empty() && others.next().is_none()
+}
+
 #[test]
 fn edits_show_what_cells_show(rt: HostRuntime) {
     let palette = palette(&rt);
@@ -185,6 +226,7 @@ fn edits_show_what_cells_show(rt: HostRuntime) {
         };
         assert!(rt; taken);
         assert!(rt; shows(&row, &cells));
+        assert!(rt; passes_what_it_shows(&row, numbers.below(5)));
     }
     let copy = ClusteredRow::from_cells(rt.alloc(), &cells).expect(&rt, "memory");
     assert!(rt; shows(&copy, &cells));

@@ -7,10 +7,10 @@ ghost use Rattle.cell_base.specs.CellContent as cells;
 ghost use Rattle.cell_base.specs.Row.{blank, set_columns};
 ghost use Rattle.cell_edits.specs.CellList.{cell_columns};
 ghost use Rattle.cell_edits.specs.RowEdits.{overlaid};
-ghost use Rattle.cell_edits.specs.TextRuns.{place_behind, plain_cells, text_on, text_left, Leads, Stops};
+ghost use Rattle.cell_edits.specs.TextRuns.{place_after, plain_cells, text_on, text_left, Leads, Stops};
 
 use crate::row::ClusteredRow;
-use crate::text_cells::{lone_cells, size_of};
+use crate::text_cells::{single_cells, size_of};
 use cell_base::{Cell, CellAttributes, Widths};
 use std::alloc::AllocError;
 use std::mem;
@@ -29,7 +29,7 @@ fn shows_as_space(text: &str) -> bool
 
 // So many spaces.
 #[inline(always)]
-fn spaces(count: usize) -> &'static str
+pub(crate) fn spaces(count: usize) -> &'static str
     requires { count ≤ 64 }
     ensures { result.now ≡ replicate count 32 }
 {
@@ -144,7 +144,7 @@ impl ClusteredRow {
     }
 
     // Sets the printable front of a text as far as it fits before `end`; answers the next column and the rest.
-    fn set_plain_front<'a, W: Widths>(
+    fn set_plain_prefix<'a, W: Widths>(
         &mut self,
         at: usize,
         end: usize,
@@ -171,7 +171,7 @@ impl ClusteredRow {
 
     // Sets the characters at the front of a text that are clusters by themselves, as far as they fit before `end`;
     // answers the next column and the rest.
-    fn set_lone_front<'a, W: Widths>(
+    fn set_single_prefix<'a, W: Widths>(
         &mut self,
         at: usize,
         end: usize,
@@ -186,7 +186,7 @@ impl ClusteredRow {
             (λ next. Leads (W.width_of w.now) end attrs.now self.old at text.now self.new next.0 next.1.now) }
     {
         let mut sizes = mem::try_take(&mut self.sizes)?;
-        let (count, rest) = lone_cells(&mut sizes, end - at, text, w)?;
+        let (count, rest) = single_cells(&mut sizes, end - at, text, w)?;
         if count > 0 {
             let (front, _) = text.split_at(text.len() - rest.len());
             self.set(at, front, &sizes, count, attrs)?;
@@ -244,14 +244,14 @@ impl ClusteredRow {
         ensures len { length self.new ≡ length self.old }
         ensures row { OnOk result
             (self.new ≡ text_on (W.width_of w.now) end attrs.now self.old start text.now) }
-        ensures behind { IfOk result (λ r. r.0 ≡ place_behind (W.width_of w.now) end attrs.now start text.now) }
+        ensures behind { IfOk result (λ r. r.0 ≡ place_after (W.width_of w.now) end attrs.now start text.now) }
         ensures left { IfOk result (λ r. r.1.now ≡ text_left (W.width_of w.now) end attrs.now start text.now) }
     {
         let mut at = start;
         let mut left = text;
         while at < end {
-            let (place, rest) = self.set_plain_front(at, end, left, attrs, w)?;
-            let (place, rest) = self.set_lone_front(place, end, rest, attrs, w)?;
+            let (place, rest) = self.set_plain_prefix(at, end, left, attrs, w)?;
+            let (place, rest) = self.set_single_prefix(place, end, rest, attrs, w)?;
             match self.set_first_cluster(place, end, rest, attrs, w)? {
                 None => return Ok((place, rest)),
                 Some((next, behind)) => {

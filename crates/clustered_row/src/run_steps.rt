@@ -1,5 +1,6 @@
 //! Steps of edits of runs.
-ghost use Rattle.std.specs.Prelude.{◌≡◌, [], ◌∷◌, ◌++◌, ◌+◌, ◌-◌, ◌<◌, ◌≤◌, ◌↔◌, length, take, drop, replicate, slice_index_or, slice_set, vec_len, vec_capacity, IfOk, OnOk, OnErr, IsTrue};
+ghost use Rattle.std.specs.Prelude.{◌≡◌, [], ◌∷◌, ◌++◌, ◌+◌, ◌-◌, ◌<◌, ◌≤◌, ◌↔◌, length, take, drop, replicate};
+ghost use Rattle.std.specs.Prelude.{slice_index_or, slice_set, vec_len, vec_capacity, IfOk, OnOk, OnErr, IsTrue};
 ghost use Rattle.std.specs.List.{insert};
 ghost use Rattle.clustered_row.specs.Runs.{columns_of, spread, AreMaximal, attributes_set};
 ghost use Rattle.clustered_row.specs.RunSteps.{counted, column_at, IsAt, IsLast, IsRoom, IsPlace, IsParted};
@@ -95,7 +96,7 @@ pub(crate) fn at(runs: &[Run], columns: usize, column: usize) -> &CellAttributes
 
 // How many columns with these attributes the last run can count more.
 #[inline(always)]
-fn room_behind(runs: &[Run], attributes: &CellAttributes) -> u32
+fn room_after(runs: &[Run], attributes: &CellAttributes) -> u32
     ensures { IsRoom runs.now attributes.now result }
 {
     let len = runs.len();
@@ -125,7 +126,7 @@ pub(crate) fn push(
     if count == 0 {
         return Ok(());
     }
-    let room = room_behind(runs, attributes);
+    let room = room_after(runs, attributes);
     if count <= room {
         grow_last(runs, count);
         return Ok(());
@@ -301,7 +302,7 @@ fn begin_at(runs: &mut Vec<Run>, place: Place)
 }
 
 // Counts the run in front to a run that has its attributes. Answers how many runs are left in front.
-fn join_front(runs: &[Run], kept: usize, run: &mut Run) -> usize
+fn join_before(runs: &[Run], kept: usize, run: &mut Run) -> usize
     requires within { kept ≤ length runs.now }
     requires some { 0 < run.old.count }
     requires fits { length (spread (take kept runs.now)) + run.old.count ≤ 4294967295 }
@@ -324,7 +325,7 @@ fn join_front(runs: &[Run], kept: usize, run: &mut Run) -> usize
 }
 
 // Counts the run behind to a run that has its attributes. Answers where the runs begin that are left behind.
-fn join_behind(runs: &[Run], from: usize, run: &mut Run) -> usize
+fn join_after(runs: &[Run], from: usize, run: &mut Run) -> usize
     requires within { from ≤ length runs.now }
     requires some { 0 < run.old.count }
     requires fits { run.old.count + length (spread (drop from runs.now)) ≤ 4294967295 }
@@ -413,8 +414,8 @@ fn put_between(runs: &mut Vec<Run>, kept: usize, place: Place, run: Run)
 {
     let mut run = run;
     begin_at(runs, place);
-    let from = join_front(runs, kept, &mut run);
-    let to = join_behind(runs, place.index, &mut run);
+    let from = join_before(runs, kept, &mut run);
+    let to = join_after(runs, place.index, &mut run);
     replace(runs, from, to, run);
 }
 

@@ -1,5 +1,5 @@
 //! Attributes of columns that are left to be lent.
-ghost use Rattle.std.specs.Prelude.{◌≡◌, ◌<◌, ◌≤◌, ◌∷◌, true, length, drop, slice_index_or};
+ghost use Rattle.std.specs.Prelude.{◌≡◌, ◌<◌, ◌≤◌, ◌∷◌, ◌++◌, true, length, drop, replicate, slice_index_or};
 ghost use Rattle.clustered_row.specs.Runs.{is_begun};
 ghost use Rattle.clustered_row.specs.Sizes.{width_of};
 
@@ -17,7 +17,36 @@ pub(crate) struct RunsLeft<'a> {
 }
 
 impl<'a> RunsLeft<'a> {
-    ghost use Rattle.clustered_row.specs.VisibleRuns.{attributes_left};
+    ghost use Rattle.clustered_row.specs.VisibleRuns.{attributes_left, run_left};
+
+    // How many columns of the next run are left; none where no run is.
+    pub(crate) fn run_len(&self) -> usize
+        ensures { result ≡ run_left self.now }
+    {
+        match self.runs.first() {
+            None => 0,
+            Some(run) => run.count as usize - self.used,
+        }
+    }
+
+    // The attributes of so many columns of the next run, which are left no more.
+    #[inline(always)]
+    pub(crate) fn pass_columns(&mut self, count: usize) -> &'a CellAttributes
+        requires some { 0 < count }
+        requires within { count ≤ run_left self.old }
+        ensures { attributes_left self.old ≡ replicate count result.now ++ attributes_left self.new }
+    {
+        let run = &self.runs[0];
+        let columns = run.count;
+        let used = self.used + count;
+        if used < columns as usize {
+            self.used = used;
+            return &run.attributes;
+        }
+        self.runs = &self.runs[1..];
+        self.used = 0;
+        &run.attributes
+    }
 
     // The attributes of the next column, which is left no more.
     #[inline(always)]
@@ -25,16 +54,7 @@ impl<'a> RunsLeft<'a> {
         requires { 0 < length (attributes_left self.old) }
         ensures { attributes_left self.old ≡ result.now ∷ attributes_left self.new }
     {
-        let run = &self.runs[0];
-        let count = run.count;
-        let used = self.used + 1;
-        if used < count as usize {
-            self.used = used;
-            return &run.attributes;
-        }
-        self.runs = &self.runs[1..];
-        self.used = 0;
-        &run.attributes
+        self.pass_columns(1)
     }
 
     // The attributes of the next cell's first column. Its columns are left no more.

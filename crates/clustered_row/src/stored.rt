@@ -17,8 +17,8 @@ use cell_base::CellAttributes;
 pub struct StoredRow<'a> {
     /// The texts of the cells that were written, side by side.
     pub text: &'a str,
-    /// The sizes of the first cells, up to the last one that isn't plain. Each byte behind these cells is a plain one: a
-    /// printable ASCII character in one column.
+    /// The sizes of the first cells, up to the last one that isn't plain. Each byte behind these cells is a plain one:
+    /// a printable ASCII character in one column.
     pub sizes: &'a [CellSize],
     /// The attributes of these columns.
     pub runs: &'a [Run],

@@ -2,15 +2,15 @@
 ghost use Rattle.std.specs.Prelude.{◌≡◌, ◌≤◌, ◌==◌, true, drop, length, IfOk, IfSome, OnOk};
 ghost use Rattle.std.specs.List.{list_all};
 ghost use Rattle.std.specs.Str.{IsCharBoundary};
-ghost use Rattle.text_clusters.specs.Apart.{begins_apart};
-ghost use Rattle.clustered_row.specs.LoneText.{BeginsLone};
+ghost use Rattle.text_clusters.specs.Independent.{begins_independent};
+ghost use Rattle.clustered_row.specs.SingleText.{BeginsSingle};
 ghost use Rattle.clustered_row.specs.Sizes.{is_plain};
 ghost use Rattle.clustered_row.specs.Walk.{IsWalked};
 
 use crate::cell_size::{CellSize, PLAIN};
 use cell_base::Widths;
 use std::alloc::AllocError;
-use text_clusters::{begins_apart, begins_printable, first_character, stands_apart};
+use text_clusters::{begins_independent, begins_printable, first_character, is_independent};
 
 // The size of a cell of so many bytes, which takes one column or two.
 #[inline(always)]
@@ -25,13 +25,13 @@ pub(crate) fn size_of(len: usize, columns: usize) -> CellSize
     }
 }
 
-// The first character of a text, where it stands apart: of how many bytes it is, and how many columns it takes by
+// The first character of a text, where it is independent: of how many bytes it is, and how many columns it takes by
 // itself, of which none count as one.
 #[inline(always)]
-fn first_lone<W: Widths>(text: &str, w: &W) -> Option<(usize, usize)>
-    ensures lone { IfSome result (λ first. BeginsLone (W.width_of w.now) text.now first.0 first.1) }
+fn first_single<W: Widths>(text: &str, w: &W) -> Option<(usize, usize)>
+    ensures lone { IfSome result (λ first. BeginsSingle (W.width_of w.now) text.now first.0 first.1) }
     ensures cut { IfSome result (λ first. IsCharBoundary text.now first.0) }
-    ensures apart { IfSome result (λ first. begins_apart text.now ≡ true) }
+    ensures apart { IfSome result (λ first. begins_independent text.now ≡ true) }
 {
     if begins_printable(text) && w.has_narrow_ascii() {
         return Some((1, 1));
@@ -40,7 +40,7 @@ fn first_lone<W: Widths>(text: &str, w: &W) -> Option<(usize, usize)>
     if let Some(columns) = w.letter_columns(character) {
         return Some((len, usize::from(columns)));
     }
-    if stands_apart(character) {
+    if is_independent(character) {
         return Some((len, usize::from(w.character_width(character)).max(1)));
     }
     None
@@ -56,9 +56,10 @@ fn behind(text: &str, len: usize) -> &str
     rest
 }
 
-// The sizes of the cells at the front of a text, of which each is one character that is a cluster by itself, as far as they fit
-// in so many columns. Answers how many columns they take, and the text that is left. Each character is decoded once.
-pub(crate) fn lone_cells<'a, W: Widths>(
+// The sizes of the cells at the front of a text, of which each is one character that is a cluster by itself, as far as
+// they fit in so many columns. Answers how many columns they take, and the text that is left. Each character is decoded
+// once.
+pub(crate) fn single_cells<'a, W: Widths>(
     sizes: &mut Vec<CellSize>,
     room: usize,
     text: &'a str,
@@ -67,14 +68,14 @@ pub(crate) fn lone_cells<'a, W: Widths>(
     ensures { IfOk result (λ r. IsWalked (W.width_of w.now) room text.now sizes.new.items r.0 r.1.now) }
 {
     sizes.clear();
-    let Some(one) = first_lone(text, w) else {
+    let Some(one) = first_single(text, w) else {
         return Ok((0, text));
     };
     let mut columns = 0;
     let mut left = text;
     let mut first = one;
     let mut rest = behind(left, first.0);
-    while let Some(next) = first_lone(rest, w) {
+    while let Some(next) = first_single(rest, w) {
         if room - columns < first.1 {
             return Ok((columns, left));
         }
@@ -84,7 +85,7 @@ pub(crate) fn lone_cells<'a, W: Widths>(
         first = next;
         rest = behind(left, first.0);
     }
-    if !begins_apart(rest) {
+    if !begins_independent(rest) {
         return Ok((columns, left));
     }
     if room - columns < first.1 {

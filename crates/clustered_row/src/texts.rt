@@ -1,5 +1,6 @@
 //! The texts of a row's cells.
-ghost use Rattle.std.specs.Prelude.{◌≡◌, ◌+◌, ◌-◌, ◌<◌, ◌≤◌, ◌++◌, true, false, [], length, take, OnOk, OnErr, IfOk, IsOk};
+ghost use Rattle.std.specs.Prelude.{◌≡◌, ◌+◌, ◌-◌, ◌<◌, ◌≤◌, ◌++◌, true, false, [], length, take, OnOk, OnErr, IfOk};
+ghost use Rattle.std.specs.Prelude.{IsOk};
 ghost use Rattle.std.specs.List.{list_all};
 ghost use Rattle.text_clusters.specs.Plain.{is_printable};
 ghost use Rattle.clustered_row.specs.Faces.{plain_faces, padded, closed_end, set_faces};
@@ -20,7 +21,8 @@ pub struct Texts {
 }
 
 impl Texts {
-    ghost use Rattle.clustered_row.specs.TextsShown.{text_of, sizes_of, faces, plain_from, room, room_sizes, HasRoomFor, HasRoomBehind};
+    ghost use Rattle.clustered_row.specs.TextsShown.{text_of, sizes_of, faces, plain_from, room, room_sizes};
+    ghost use Rattle.clustered_row.specs.TextsShown.{HasRoomFor, HasRoomAfter};
 
     /// No cell.
     pub fn new(alloc: Global) -> Texts
@@ -126,7 +128,7 @@ impl Texts {
         requires columns { columns_of sizes.now ≡ columns }
         ensures done { OnOk result (faces self.new ≡ faces self.old ++ faces_of text.now sizes.now) }
         ensures refused { OnErr result (faces self.new ≡ faces self.old) }
-        ensures succeeds { HasRoomBehind self.old text.now sizes.now → IsOk result }
+        ensures succeeds { HasRoomAfter self.old text.now sizes.now → IsOk result }
     {
         let covered = self.columns() - self.cut.sized_columns;
         self.reserve(text.len(), covered + sizes.len())?;

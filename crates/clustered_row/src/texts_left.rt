@@ -1,8 +1,10 @@
 //! Texts of cells that are left to be lent.
-ghost use Rattle.std.specs.Prelude.{◌≡◌, ◌≤◌, ◌++◌, true, false, [], length, take, drop, MatchOption};
-ghost use Rattle.clustered_row.specs.Faces.{cell_faces, starts_right};
+ghost use Rattle.std.specs.Prelude.{◌≡◌, ◌≤◌, ◌++◌, ◌↔◌, true, false, [], length, take, drop, IsTrue, MatchOption};
+ghost use Rattle.std.specs.List.{list_all, prefix_len};
+ghost use Rattle.text_clusters.specs.Plain.{is_printable};
+ghost use Rattle.clustered_row.specs.Faces.{cell_faces, plain_faces, starts_right};
 ghost use Rattle.clustered_row.specs.Place.{IsBefore};
-ghost use Rattle.clustered_row.specs.Sizes.{bytes_of, is_cut};
+ghost use Rattle.clustered_row.specs.Sizes.{bytes_of, is_cut, is_plain};
 
 use crate::cell_size::CellSize;
 use crate::cut_text::CutText;
@@ -18,6 +20,13 @@ pub(crate) struct TextsLeft<'a> {
     pub(crate) sizes: &'a [CellSize],
     ghost bytes: { bytes_of sizes.now ≤ length text.now },
     ghost parts: { is_cut text.now sizes.now ≡ true },
+}
+
+// How many sizes of plain cells are first.
+fn plain_sizes(sizes: &[CellSize]) -> usize
+    ensures { result ≡ prefix_len is_plain sizes.now }
+{
+    sizes.iter().take_while(|size| size.is_plain()).count()
 }
 
 impl<'a> TextsLeft<'a> {
@@ -48,6 +57,40 @@ impl<'a> TextsLeft<'a> {
             text: unsafe { str::from_utf8_unchecked(text) },
             is_wide: false,
         })
+    }
+
+    // Whether no cell is left.
+    pub(crate) fn is_empty(&self) -> bool
+        ensures { IsTrue result ↔ (faces_left self.now ≡ []) }
+    {
+        self.text.is_empty()
+    }
+
+    // How many plain cells are left first, of `most` at the most.
+    fn plain_len(&self, most: usize) -> usize
+        ensures most { result ≤ most }
+        ensures within { result ≤ length self.now.text.now }
+        ensures plain { list_all is_plain (take result self.now.sizes.now) ≡ true }
+    {
+        let sizes = &self.sizes[..most.min(self.sizes.len())];
+        let plain = plain_sizes(sizes);
+        if plain < sizes.len() {
+            return plain;
+        }
+        most.min(self.text.len())
+    }
+
+    // The texts of the plain cells that are left first, of `most` at the most. They are left no more.
+    pub(crate) fn pass_plain(&mut self, most: usize) -> &'a str
+        ensures left { faces_left self.old ≡ plain_faces result.now ++ faces_left self.new }
+        ensures most { length result.now ≤ most }
+        ensures printable { list_all is_printable result.now ≡ true }
+    {
+        let count = self.plain_len(most);
+        let text = &self.text[..count];
+        self.text = &self.text[count..];
+        self.sizes = &self.sizes[count.min(self.sizes.len())..];
+        unsafe { str::from_utf8_unchecked(text) }
     }
 }
 

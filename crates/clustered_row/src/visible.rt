@@ -1,14 +1,18 @@
 //! The visible cells of a row.
-ghost use Rattle.std.specs.Prelude.{◌≡◌, ◌+◌, ◌<◌, ◌≤◌, ◌^◌, false, length, take, drop};
+ghost use Rattle.std.specs.Prelude.{◌≡◌, ◌+◌, ◌<◌, ◌≤◌, ◌^◌, ◌++◌, true, false, length, take, drop, IfSome};
+ghost use Rattle.std.specs.Prelude.{MatchOption};
+ghost use Rattle.std.specs.List.{list_all};
+ghost use Rattle.text_clusters.specs.Plain.{is_printable};
 ghost use Rattle.cell_base.specs.CellContent.{shows_as_space};
 ghost use Rattle.clustered_row.specs.Faces.{row_of};
 ghost use Rattle.clustered_row.specs.Sizes.{width_of};
-ghost use Rattle.clustered_row.specs.VisibleColumns.{is_halved};
+ghost use Rattle.clustered_row.specs.VisibleColumns.{is_split};
 ghost use Rattle.clustered_row.specs.VisibleRuns.{attributes_left};
 ghost use Rattle.clustered_row.specs.VisibleTexts.{faces_left};
 
 use crate::columns::Columns;
 use crate::row::ClusteredRow;
+use crate::row_texts::spaces;
 use crate::runs_left::RunsLeft;
 use crate::texts_left::TextsLeft;
 use cell_base::CellAttributes;
@@ -96,6 +100,49 @@ impl<'a> Iterator for ClusteredCells<'a> {
     }
 }
 
+impl<'a> ClusteredCells<'a> {
+    ghost use Rattle.cell_edits.specs.VisibleCells.{visible_each};
+    ghost use Rattle.clustered_row.specs.VisibleCells.{cells_left, next_column};
+
+    /// The printable ASCII characters (20h to 7Eh) that are left first, at most so many, as far as each is a cell of
+    /// one column and all have the same attributes; a blank counts as a space. They are left no more. `None`: the next
+    /// cell is another one, or none is asked for or left.
+    pub fn pass_plain(&mut self, most: usize) -> Option<(&'a str, &'a CellAttributes)>
+        ensures left { MatchOption result (cells_left self.new ≡ cells_left self.old) (λ run.
+            cells_left self.old ≡ visible_each (next_column self.old) run.0.now run.1.now ++ cells_left self.new) }
+        ensures some { IfSome result (λ run. (0 < length run.0.now) × (length run.0.now ≤ most)) }
+        ensures printable { IfSome result (λ run. list_all is_printable run.0.now ≡ true) }
+    {
+        let alike = most.min(self.runs.run_len());
+        let text = self.texts.pass_plain(alike);
+        if text.is_empty() {
+            return self.pass_blanks(most);
+        }
+        let attributes = self.runs.pass_columns(text.len());
+        self.column += text.len();
+        Some((text, attributes))
+    }
+
+    // As many blanks, where no written cell is left.
+    fn pass_blanks(&mut self, most: usize) -> Option<(&'a str, &'a CellAttributes)>
+        ensures left { MatchOption result (cells_left self.new ≡ cells_left self.old) (λ run.
+            cells_left self.old ≡ visible_each (next_column self.old) run.0.now run.1.now ++ cells_left self.new) }
+        ensures some { IfSome result (λ run. (0 < length run.0.now) × (length run.0.now ≤ most)) }
+        ensures printable { IfSome result (λ run. list_all is_printable run.0.now ≡ true) }
+    {
+        if !self.texts.is_empty() {
+            return None;
+        }
+        let count = self.blanks.min(most).min(64);
+        if count == 0 {
+            return None;
+        }
+        self.blanks -= count;
+        self.column += count;
+        Some((spaces(count), self.rest))
+    }
+}
+
 impl Columns {
     // All cells.
     #[inline(always)]
@@ -111,8 +158,8 @@ impl Columns {
     fn between(&self, from: usize, to: usize) -> (TextsLeft<'_>, RunsLeft<'_>)
         requires order { from ≤ to }
         requires within { to ≤ length self.now }
-        requires first { is_halved from self.now ≡ false }
-        requires last { is_halved to self.now ≡ false }
+        requires first { is_split from self.now ≡ false }
+        requires last { is_split to self.now ≡ false }
         ensures row { row_of (faces_left result.0) (attributes_left result.1) ≡ drop from (take to self.now) }
         ensures texts { length (faces_left result.0) + from ≡ to }
         ensures covered { length (faces_left result.0) ≤ length (attributes_left result.1) }
@@ -142,12 +189,12 @@ impl ClusteredRow {
     }
 
     /// The visible cells from a column on and before another; neither may be the second one of a wide cell, which
-    /// `is_halved` tells.
+    /// `is_split` tells.
     pub fn cells_between(&self, start: usize, stop: usize) -> ClusteredCells<'_>
         requires order { start ≤ stop }
         requires within { stop ≤ length self.now }
-        requires first { is_halved start self.now ≡ false }
-        requires last { is_halved stop self.now ≡ false }
+        requires first { is_split start self.now ≡ false }
+        requires last { is_split stop self.now ≡ false }
         ensures row { row_left result ≡ drop start (take stop self.now) }
         ensures column { next_column result ≡ start }
     {

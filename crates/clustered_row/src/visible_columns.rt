@@ -4,7 +4,7 @@ ghost use Rattle.cell_base.specs.Row.{blank};
 ghost use Rattle.cell_edits.specs.VisibleCells.{visible_cells, cell_at, ends_wrapped};
 ghost use Rattle.clustered_row.specs.Faces.{starts_right};
 ghost use Rattle.clustered_row.specs.VisibleCells.{shown_by};
-ghost use Rattle.clustered_row.specs.VisibleColumns.{is_halved, column_attributes};
+ghost use Rattle.clustered_row.specs.VisibleColumns.{is_split, column_attributes};
 
 use crate::columns::Columns;
 use crate::row::ClusteredRow;
@@ -17,7 +17,7 @@ impl Texts {
 
     // Whether a column is the second one of a wide text.
     #[inline(always)]
-    fn is_halved(&self, at: usize) -> bool
+    fn is_split(&self, at: usize) -> bool
         requires { at < length (faces self.now) }
         ensures { result ≡ starts_right (drop at (faces self.now)) }
     {
@@ -28,11 +28,11 @@ impl Texts {
 impl Columns {
     // Whether a column is the second one of a wide text.
     #[inline(always)]
-    fn is_halved(&self, at: usize) -> bool
+    fn is_split(&self, at: usize) -> bool
         requires { at < length self.now }
-        ensures { result ≡ is_halved at self.now }
+        ensures { result ≡ is_split at self.now }
     {
-        self.texts.is_halved(at)
+        self.texts.is_split(at)
     }
 
     // The attributes of a column.
@@ -63,10 +63,10 @@ impl Columns {
 
 impl ClusteredRow {
     /// Whether a column is the second one of a wide text.
-    pub fn is_halved(&self, column: usize) -> bool
-        ensures { result ≡ is_halved column self.now }
+    pub fn is_split(&self, column: usize) -> bool
+        ensures { result ≡ is_split column self.now }
     {
-        column < self.columns.len() && self.columns.is_halved(column)
+        column < self.columns.len() && self.columns.is_split(column)
     }
 
     /// The attributes of a column.

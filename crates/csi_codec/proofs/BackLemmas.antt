@@ -13,7 +13,7 @@ use Rattle.csi_codec.specs.Cursors.{cursor_reading}
 use Rattle.csi_codec.specs.Edits.{edit_reading}
 use Rattle.csi_codec.specs.Devices.{device_reading}
 use Rattle.csi_codec.specs.Laws.{begins_with_question}
-use Rattle.csi_codec.specs.Actions.{Action, cursor, edit, device, unspecified, lone_reading, standard_reading, other_reading, csi_reading}
+use Rattle.csi_codec.specs.Actions.{Action, cursor, edit, device, unspecified, single_reading, standard_reading, other_reading, csi_reading}
 
 -- ---- Places and counts
 
@@ -56,13 +56,13 @@ standard_is truncated final (Integer z ∷ ts) h = refl
 standard_is truncated final (P b ∷ ts) h = rw h refl
 
 -- finals under which one spelling covers the whole list
-pub record IsLone (final : ℕ) : Type 0 where
+pub record IsSingle (final : ℕ) : Type 0 where
   pub other : eqb final 109 ≡ false
   pub no_modes : (eqb final 104 || eqb final 108) ≡ false
 
-pub lone_back : (truncated : Bool) (final : ℕ) (ts : List CsiParam) (a : Action) → IsLone final → begins_with_question ts ≡ false → lone_reading final ts ≡ Some a → csi_reading ts truncated final ≡ a ∷ []
+pub single_back : (truncated : Bool) (final : ℕ) (ts : List CsiParam) (a : Action) → IsSingle final → begins_with_question ts ≡ false → single_reading final ts ≡ Some a → csi_reading ts truncated final ≡ a ∷ []
 unfolding csi_reading
-lone_back truncated final ts a l p e =
+single_back truncated final ts a l p e =
     rw l.other (standard_is truncated final ts p
     ∙ rw l.no_modes (ap (λ found. option_map_or (λ known. known ∷ []) found (unspecified ts truncated final ∷ [])) e))
 
@@ -105,10 +105,10 @@ slots_plain (spaced n) = refl
 
 -- ---- Cursor sequences
 
-pub cursor_found : (final : ℕ) (ts : List CsiParam) (c : Cursor) → cursor_reading final ts ≡ Some c → lone_reading final ts ≡ Some (cursor c)
+pub cursor_found : (final : ℕ) (ts : List CsiParam) (c : Cursor) → cursor_reading final ts ≡ Some c → single_reading final ts ≡ Some (cursor c)
 cursor_found final ts c e = ap (λ found. option_or (option_map cursor found) (option_or (option_map edit (edit_reading final ts)) (option_map device (device_reading final ts)))) e
 
-pub edit_found : (final : ℕ) (ts : List CsiParam) (e : Edit) → cursor_reading final ts ≡ None → edit_reading final ts ≡ Some e → lone_reading final ts ≡ Some (edit e)
+pub edit_found : (final : ℕ) (ts : List CsiParam) (e : Edit) → cursor_reading final ts ≡ None → edit_reading final ts ≡ Some e → single_reading final ts ≡ Some (edit e)
 edit_found final ts e p q = ap (λ found. option_or (option_map cursor found) (option_or (option_map edit (edit_reading final ts)) (option_map device (device_reading final ts)))) p
     ∙ ap (λ found. option_or (option_map edit found) (option_map device (device_reading final ts))) q
 

@@ -11,7 +11,10 @@ use Rattle.csi_codec.specs.Tokens.{Parameters, is_parameter, no_parameters, with
 use Rattle.csi_codec.proofs.TokenLemmas.{Keeps, keeps_tokens}
 use Rattle.csi_codec.specs.Texts.{tokens_of, all_parameter_bytes}
 use Rattle.csi_codec.specs.Fronts.{most_tokens, Front, IsSequence, HasFront, HasNoFront, OneFront}
-use Rattle.csi_codec.specs.FrontView.{parameter_len}
+
+-- how many parameter bytes stand at the front
+abbrev parameter_len : List ℕ → ℕ
+parameter_len bytes = prefix_len (is_between 32 63) bytes
 
 not_parameter : (b : ℕ) → 64 ≤ b → is_between 32 63 b ≡ false
 not_parameter b h = grind (arith, nat_tests)
@@ -53,9 +56,9 @@ others-sequence bytes behind body control rest e s =
     ∙ drop-append_seam body (control ∷ rest)
 
 -- what stands behind the parameter bytes that are read
-behind_parameters : (len : ℕ) (behind : List ℕ) → len ≡ prefix_len is_parameter behind → take (length behind - len) (drop len behind) ≡ drop (parameter_len behind) behind
+after_parameters : (len : ℕ) (behind : List ℕ) → len ≡ prefix_len is_parameter behind → take (length behind - len) (drop len behind) ≡ drop (parameter_len behind) behind
 unfolding is_parameter
-behind_parameters len behind e = take_rest behind len ∙ ap (λ n. drop n behind) e
+after_parameters len behind e = take_rest behind len ∙ ap (λ n. drop n behind) e
 
 module _ (bytes behind : List ℕ) (len : ℕ) (text : bytes ≡ 27 ∷ 91 ∷ behind) (count : len ≡ prefix_len is_parameter behind) where
   abbrev others : List ℕ
@@ -63,12 +66,12 @@ module _ (bytes behind : List ℕ) (len : ℕ) (text : bytes ≡ 27 ∷ 91 ∷ b
 
   pub no_final : length others ≡ 0 → HasNoFront bytes
   no_final z body control rest s =
-      let q : others ≡ control ∷ rest = behind_parameters len behind count ∙ others-sequence bytes behind body control rest text s in
+      let q : others ≡ control ∷ rest = after_parameters len behind count ∙ others-sequence bytes behind body control rest text s in
       absurd (omega (arith, ap length q))
 
   pub other_final : (b : ℕ) (bs : List ℕ) → others ≡ b ∷ bs → (64 ≤ b → b ≤ 126 → ⊥) → HasNoFront bytes
   other_final b bs q none body control rest s =
-      let q' : control ∷ rest ≡ b ∷ bs = sym (others-sequence bytes behind body control rest text s) ∙ sym (behind_parameters len behind count) ∙ q in
+      let q' : control ∷ rest ≡ b ∷ bs = sym (others-sequence bytes behind body control rest text s) ∙ sym (after_parameters len behind count) ∙ q in
       let c : control ≡ b = cc in
       none (omega (arith, s.low, c)) (omega (arith, s.high, c))
 
@@ -81,7 +84,7 @@ module _ (bytes behind : List ℕ) (len : ℕ) (text : bytes ≡ 27 ∷ 91 ∷ b
       record {
         body = take len behind;
         sequence = record {
-          text = text ∙ ap (λ (x : List ℕ). 27 ∷ 91 ∷ x) (sym (take-append-drop len behind) ∙ ap (λ (x : List ℕ). take len behind ++ x) (ap (λ n. drop n behind) count ∙ sym (behind_parameters len behind count) ∙ q));
+          text = text ∙ ap (λ (x : List ℕ). 27 ∷ 91 ∷ x) (sym (take-append-drop len behind) ∙ ap (λ (x : List ℕ). take len behind ++ x) (ap (λ n. drop n behind) count ∙ sym (after_parameters len behind count) ∙ q));
           parameters = ap (λ n. all_parameter_bytes (take n behind)) count ∙ parameters-front behind;
           low = final.0;
           high = final.1;

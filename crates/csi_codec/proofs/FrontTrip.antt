@@ -2,6 +2,7 @@
 use Rattle.std.proofs.Common.{◌≡◌, ℕ, zero, suc, ◌<◌, ◌≤◌, ◌^◌, ltb, pos, negsuc, false, true, List, [], ◌∷◌, ◌++◌, length, length-append, take, drop, inl, inr, arith, refl, ap, sym, ◌∙◌, subst}
 use Rattle.std.specs.Prelude.{flat_map, encode_utf8}
 use Rattle.std.specs.Fmt.{decimal}
+use Rattle.std.specs.List.{AllByRecursion}
 use Rattle.std.proofs.lemmas.List.{take_all, length-drop}
 use Rattle.std.proofs.lemmas.Bool.{and_parts, leb-true}
 use Rattle.std.proofs.lemmas.Bool.Decides.{nat_tests}
@@ -12,7 +13,7 @@ use Rattle.csi_codec.specs.Parameters.{token_text}
 use Rattle.csi_codec.specs.Actions.{Action, unspecified, csi_reading, spelling_of}
 use Rattle.csi_codec.specs.Sequences.{csi_text}
 use Rattle.csi_codec.specs.Texts.{largest_number, is_sign, is_written_number, is_spellable, tokens_of}
-use Rattle.csi_codec.specs.Fronts.{most_tokens, HasFront, whole_front, EachTextIsFront, TextsAreFronts}
+use Rattle.csi_codec.specs.Fronts.{most_tokens, HasFront, whole_front, TextsAreFronts}
 use Rattle.csi_codec.specs.Writable.{WritableTextsAreFronts}
 use Rattle.csi_codec.proofs.RoundTrip.{Each, reading-each}
 use Rattle.csi_codec.proofs.SizeLemmas.{actions_are_short}
@@ -81,8 +82,8 @@ texts_are_fronts-lem ts truncated final h few low high = by (csi_reading ts trun
     rest : (n : ℕ) → IsFront (unspecified (drop n ts) truncated final)
     rest n = text_front (unspecified (drop n ts) truncated final) (record { params = spellable-drop ts n h; low = low; high = high }) (omega (arith, few, length-drop n ts))
 
-    by : (actions : List Action) → Each ts truncated final actions → EachTextIsFront actions
+    by : (actions : List Action) → Each ts truncated final actions → AllByRecursion IsFront actions
     by [] e = tt
     by (a ∷ others) (inl e) = (writable_texts_are_fronts-lem a e.0, by others e.1)
     by (a ∷ others) (inr r) =
-        (subst IsFront (sym (r.1 ∙ ap (λ us. unspecified us truncated final) r.3.suffix.1)) (rest r.3.suffix.0), subst EachTextIsFront (sym r.2) tt)
+        (subst IsFront (sym (r.1 ∙ ap (λ us. unspecified us truncated final) r.3.suffix.1)) (rest r.3.suffix.0), subst (AllByRecursion IsFront) (sym r.2) tt)

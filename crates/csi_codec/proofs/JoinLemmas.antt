@@ -1,6 +1,7 @@
 -- SGR lists joined by a `;`.
 use Rattle.std.proofs.Common.{◌≡◌, ℕ, zero, suc, ◌+◌, ◌-◌, ◌<◌, ◌≤◌, ℤ, pos, negsuc, eqb, Bool, true, false, not, cond, ◌&&◌, List, [], ◌∷◌, ◌++◌, length, drop, get_or, Option, Some, None, IfSome, option_map, option_and_then, slice_get, arith, refl, sym, ap, ◌∙◌, subst}
 use Rattle.std.specs.Prelude.{is_some}
+use Rattle.std.specs.List.{list_all}
 use Rattle.std.specs.Option.{option_map_or}
 use Rattle.std.proofs.lemmas.Option.{slice_get_past}
 use Rattle.std.proofs.lemmas.Bool.{cond_both, eqb-true, false≢true, and_parts, and_right, not-true}
@@ -13,9 +14,10 @@ use Rattle.csi_codec.specs.declared.parameters.CsiParam.TheVariants.{Integer, P}
 use Rattle.csi_codec.specs.declared.rendition.Sgr.{Sgr}
 use Rattle.csi_codec.specs.declared.rendition.Sgr.TheVariants as value
 use Rattle.csi_codec.specs.Parameters.{semicolon_count, semicolon_at, with_semicolon}
-use Rattle.csi_codec.specs.Rendition.{Part, byte_part, number_part, any_number, is_part, stands, byte_of, byte_at, palette_at, opaque_at, colour_at, taking, Form, first_form, colour_forms, colour_form, colour_shape, underline_shape, numbered_shape, sgr_shape, sgr_piece}
-use Rattle.csi_codec.specs.Actions.{Action, sgr, unspecified, rendition_piece, pieces_from, pieces, all_sgr_tokens, is_sgr_token, csi_reading}
-use Rattle.csi_codec.specs.Laws.{is_semicolon, ends_in_semicolon, all_known, SgrListsJoin}
+use Rattle.csi_codec.specs.Rendition.{Part, byte_part, number_part, any_number, is_part, stands, byte_of, byte_at, palette_at, opaque_at, colour_at, taking, Form, first_form, colour_forms, colour_form, colour_shape, underline_shape, numbered_shape, sgr_shape, sgr_group}
+use Rattle.csi_codec.specs.Actions.{Action, sgr, unspecified, groups_from, groups, all_sgr_tokens, is_sgr_token, csi_reading}
+use Rattle.csi_codec.specs.Laws.{is_known, SgrListsJoin}
+use Rattle.csi_codec.proofs.PieceLemmas.{rendition_group}
 use Rattle.csi_codec.proofs.ShapeLemmas.{first_form-each, numbered_shape-by}
 use Rattle.csi_codec.proofs.SgrLemmas.{stands-length, sgr_shape_takes, Takes}
 use Rattle.csi_codec.proofs.PieceLemmas.{semicolon_count-le}
@@ -189,48 +191,39 @@ sgr_shape-stable [] x h = cc
 sgr_shape-stable (P b ∷ ts) x h = refl
 sgr_shape-stable (Integer z ∷ ts) x h = numbered_shape-stable z ts x h
 
--- ---- Pieces
+-- ---- Groups
 
-abbrev ones : Bool → ℕ
-ones v = cond v 1 0
+-- what stands at the end of a list
+abbrev last_semicolon : List CsiParam → ℕ
+last_semicolon ts = semicolon_at ts (length ts - 1)
 
-one_only_if : (v : Bool) → ones v ≡ 1 → v ≡ true
-one_only_if true m = refl
-one_only_if false m = absurd (omega arith)
+last-tail : (t : CsiParam) (ts : List CsiParam) → 0 < length ts → last_semicolon (t ∷ ts) ≡ 0 → last_semicolon ts ≡ 0
+last-tail t [] h e = absurd (omega arith)
+last-tail t (u ∷ ts) h e =
+    let here : length (u ∷ ts) - 1 ≡ length ts = omega arith in
+    let behind : length (t ∷ u ∷ ts) - 1 ≡ suc (length ts) = omega arith in
+    ap (semicolon_at (u ∷ ts)) here ∙ sym (ap (semicolon_at (t ∷ u ∷ ts)) behind) ∙ e
 
-one_is_semicolon : (t : CsiParam) → semicolon_count (Some t) ≡ 1 → is_semicolon t ≡ true
-one_is_semicolon (Integer z) k = absurd (omega arith)
-one_is_semicolon (P b) k = one_only_if (eqb b 59) k
-
-semicolon_last : (ts : List CsiParam) (n : ℕ) → n + 1 ≡ length ts → semicolon_at ts n ≡ 1 → ends_in_semicolon ts ≡ true
-semicolon_last [] n e h = absurd (omega arith)
-semicolon_last (t ∷ []) zero e h = one_is_semicolon t h
-semicolon_last (t ∷ []) (suc n) e h = absurd (omega arith)
-semicolon_last (t ∷ u ∷ ts) zero e h = absurd (omega arith)
-semicolon_last (t ∷ u ∷ ts) (suc n) e h = semicolon_last (u ∷ ts) n (omega arith) h
-
-ends-tail : (t : CsiParam) (ts : List CsiParam) → 0 < length ts → ends_in_semicolon (t ∷ ts) ≡ false → ends_in_semicolon ts ≡ false
-ends-tail t [] h e = absurd (omega arith)
-ends-tail t (u ∷ ts) h e = e
+abbrev all_known : List Action → Bool
+all_known actions = list_all is_known actions
 
 -- a list's actions are used up with its tokens
-from-behind : (piece : List CsiParam → Option (Action × ℕ)) (unread : List CsiParam → Action) (ts b : List CsiParam) → pieces_from piece unread (suc (length ts)) (ts ++ P 59 ∷ b) ≡ pieces_from piece unread 0 b
-from-behind piece unread [] b = refl
-from-behind piece unread (t ∷ ts) b = from-behind piece unread ts b
+from-behind : (group : List CsiParam → Option (Action × ℕ)) (unread : List CsiParam → Action) (ts b : List CsiParam) → groups_from group unread (suc (length ts)) (ts ++ P 59 ∷ b) ≡ groups_from group unread 0 b
+from-behind group unread [] b = refl
+from-behind group unread (t ∷ ts) b = from-behind group unread ts b
 
-from-all : (piece : List CsiParam → Option (Action × ℕ)) (unread : List CsiParam → Action) (ts : List CsiParam) → pieces_from piece unread (length ts) ts ≡ []
-from-all piece unread [] = refl
-from-all piece unread (t ∷ ts) = from-all piece unread ts
+from-all : (group : List CsiParam → Option (Action × ℕ)) (unread : List CsiParam → Action) (ts : List CsiParam) → groups_from group unread (length ts) ts ≡ []
+from-all group unread [] = refl
+from-all group unread (t ∷ ts) = from-all group unread ts
 
-shorter_by : (ts : List CsiParam) (n s : ℕ) → semicolon_at ts n ≡ s → s ≤ 1 → n < length ts → ends_in_semicolon ts ≡ false → n + s < length ts
-shorter_by ts n zero q l h e = omega arith
-shorter_by ts n (suc zero) q l h e = elim (eqb_tells (n + 1) (length ts))
-    [ inl p ↦ let k : true ≡ false = sym (semicolon_last ts n p.1 q) ∙ e in absurd (false≢true (sym k)) | inr p ↦ omega (arith, p.1) ]
-shorter_by ts n (suc (suc s)) q l h e = absurd (omega arith)
-
--- a piece whose shape ends inside the list does so too, where no `;` ends the list
-shorter : (ts : List CsiParam) (n : ℕ) → n < length ts → ends_in_semicolon ts ≡ false → n + semicolon_at ts n < length ts
-shorter ts n h e = shorter_by ts n (semicolon_at ts n) refl (semicolon_count-le (slice_get ts n)) h e
+-- a group whose shape ends inside the list does so too, where no `;` ends the list
+shorter : (ts : List CsiParam) (n : ℕ) → n < length ts → last_semicolon ts ≡ 0 → n + semicolon_at ts n < length ts
+shorter ts n h e = elim (eqb_tells (n + 1) (length ts)) [
+  | inl p ↦
+      let at : n ≡ length ts - 1 = omega (arith, p.1) in
+      let none : semicolon_at ts n ≡ 0 = ap (semicolon_at ts) at ∙ e in omega arith
+  | inr p ↦ let s : semicolon_count (slice_get ts n) ≤ 1 = semicolon_count-le (slice_get ts n) in omega (arith, p.1)
+]
 
 slice_get-behind : (ts b : List CsiParam) (t : CsiParam) → slice_get (ts ++ t ∷ b) (length ts) ≡ Some t
 slice_get-behind [] b t = refl
@@ -248,7 +241,7 @@ module _ (truncated : Bool) where
   rest_action rest = unspecified rest truncated 109
 
   abbrev from : ℕ → List CsiParam → List Action
-  from = pieces_from rendition_piece rest_action
+  from = groups_from rendition_group rest_action
 
   abbrev follow : List CsiParam → Action × ℕ → List Action
   follow ts f = f.0 ∷ from (f.1 - 1) ts
@@ -258,14 +251,14 @@ module _ (truncated : Bool) where
   step found all ts = option_map_or (follow ts) (as_actions (with_semicolon all found)) (rest_action all ∷ [])
 
   from-step : (t : CsiParam) (ts : List CsiParam) → from 0 (t ∷ ts) ≡ step (sgr_shape (t ∷ ts)) (t ∷ ts) ts
-  unfolding sgr_piece
+  unfolding sgr_group
   from-step t ts = refl
 
   abbrev Joins : List CsiParam → List CsiParam → Type 0
-  Joins ts b = (k : ℕ) → k < length ts → ends_in_semicolon ts ≡ false → all_known (from k ts) ≡ true → from k (ts ++ P 59 ∷ b) ≡ from k ts ++ from 0 b
+  Joins ts b = (k : ℕ) → k < length ts → last_semicolon ts ≡ 0 → all_known (from k ts) ≡ true → from k (ts ++ P 59 ∷ b) ≡ from k ts ++ from 0 b
 
   -- a shape that ends inside the list
-  ends_inside : (t : CsiParam) (ts b : List CsiParam) (f : Sgr × ℕ) → 0 < f.1 → f.1 < length (t ∷ ts) → ends_in_semicolon (t ∷ ts) ≡ false → Joins ts b
+  ends_inside : (t : CsiParam) (ts b : List CsiParam) (f : Sgr × ℕ) → 0 < f.1 → f.1 < length (t ∷ ts) → last_semicolon (t ∷ ts) ≡ 0 → Joins ts b
       → all_known (step (Some f) (t ∷ ts) ts) ≡ true
       → step (Some f) ((t ∷ ts) ++ P 59 ∷ b) (ts ++ P 59 ∷ b) ≡ step (Some f) (t ∷ ts) ts ++ from 0 b
   ends_inside t ts b f some h e ih known =
@@ -273,7 +266,7 @@ module _ (truncated : Bool) where
       let short : f.1 + semicolon_at (t ∷ ts) f.1 < length (t ∷ ts) = shorter (t ∷ ts) f.1 h e in
       let positive : 0 < length ts = omega (arith, some, short) in
       ap (λ s. sgr f.0 ∷ from (f.1 + s - 1) (ts ++ P 59 ∷ b)) same
-      ∙ ap (λ others. sgr f.0 ∷ others) (ih (f.1 + semicolon_at (t ∷ ts) f.1 - 1) (omega arith) (ends-tail t ts positive e) known)
+      ∙ ap (λ others. sgr f.0 ∷ others) (ih (f.1 + semicolon_at (t ∷ ts) f.1 - 1) (omega arith) (last-tail t ts positive e) known)
 
   -- a shape that ends with the list
   ends_with : (t : CsiParam) (ts b : List CsiParam) (f : Sgr × ℕ) → f.1 ≡ suc (length ts)
@@ -284,10 +277,10 @@ module _ (truncated : Bool) where
       let long : f.1 + semicolon_at ((t ∷ ts) ++ P 59 ∷ b) f.1 - 1 ≡ suc (length ts) = omega arith in
       let whole : f.1 + semicolon_at (t ∷ ts) f.1 - 1 ≡ length ts = omega arith in
       ap (λ k. sgr f.0 ∷ from k (ts ++ P 59 ∷ b)) long
-      ∙ ap (λ others. sgr f.0 ∷ others) (from-behind rendition_piece rest_action ts b)
-      ∙ sym (ap (λ others. sgr f.0 ∷ others ++ from 0 b) (ap (λ k. from k ts) whole ∙ from-all rendition_piece rest_action ts))
+      ∙ ap (λ others. sgr f.0 ∷ others) (from-behind rendition_group rest_action ts b)
+      ∙ sym (ap (λ others. sgr f.0 ∷ others ++ from 0 b) (ap (λ k. from k ts) whole ∙ from-all rendition_group rest_action ts))
 
-  join-step : (t : CsiParam) (ts b : List CsiParam) (found : Option (Sgr × ℕ)) → sgr_shape (t ∷ ts) ≡ found → ends_in_semicolon (t ∷ ts) ≡ false → Joins ts b
+  join-step : (t : CsiParam) (ts b : List CsiParam) (found : Option (Sgr × ℕ)) → sgr_shape (t ∷ ts) ≡ found → last_semicolon (t ∷ ts) ≡ 0 → Joins ts b
       → all_known (step found (t ∷ ts) ts) ≡ true
       → step (sgr_shape ((t ∷ ts) ++ P 59 ∷ b)) ((t ∷ ts) ++ P 59 ∷ b) (ts ++ P 59 ∷ b) ≡ step found (t ∷ ts) ts ++ from 0 b
   join-step t ts b None q e ih known = absurd (false≢true known)
@@ -299,9 +292,9 @@ module _ (truncated : Bool) where
       ∙ elim (eqb_tells f.1 (suc (length ts)))
       [ inl p ↦ ends_with t ts b f p.1 | inr p ↦ ends_inside t ts b f takes.0 (omega (arith, takes.1, p.1)) e ih known ]
 
-  join-from : (k : ℕ) (ts b : List CsiParam) → k < length ts → ends_in_semicolon ts ≡ false → all_known (from k ts) ≡ true → from k (ts ++ P 59 ∷ b) ≡ from k ts ++ from 0 b
+  join-from : (k : ℕ) (ts b : List CsiParam) → k < length ts → last_semicolon ts ≡ 0 → all_known (from k ts) ≡ true → from k (ts ++ P 59 ∷ b) ≡ from k ts ++ from 0 b
   join-from k [] b h e known = absurd (omega arith)
-  join-from (suc k) (t ∷ ts) b h e known = join-from k ts b (omega arith) (ends-tail t ts (omega arith) e) known
+  join-from (suc k) (t ∷ ts) b h e known = join-from k ts b (omega arith) (last-tail t ts (omega arith) e) known
   join-from zero (t ∷ ts) b h e known =
       let Q : List Action → Type 0 = λ actions. all_known actions ≡ true in
       from-step t (ts ++ P 59 ∷ b)
@@ -309,7 +302,7 @@ module _ (truncated : Bool) where
       ∙ ap (λ actions. actions ++ from 0 b) (sym (from-step t ts))
 
 pub sgr_lists_join-lem : SgrListsJoin
-unfolding csi_reading pieces
+unfolding csi_reading groups
 sgr_lists_join-lem [] b truncated h = absurd (omega (arith, h.first_some))
 sgr_lists_join-lem (t ∷ a) [] truncated h = absurd (omega (arith, h.other_some))
 sgr_lists_join-lem (t ∷ a) (u ∷ b) truncated h =

@@ -20,7 +20,6 @@ mod TextTrip
 pub mod TokenLemmas
 mod FrontLemmas
 mod FrontTrip
-mod PairTrip
 mod SizeLemmas
 mod LongestLemmas
 mod ColourLemmas

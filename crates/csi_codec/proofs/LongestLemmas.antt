@@ -14,7 +14,7 @@ use Rattle.csi_codec.specs.declared.rendition.Sgr.{Sgr}
 use Rattle.csi_codec.specs.declared.rendition.Sgr.TheVariants as value
 use Rattle.csi_codec.specs.Parameters.{begins_with_number, is_number}
 use Rattle.csi_codec.specs.Rendition.{Part, byte_part, number_part, any_number, is_part, stands, colon, Form, first_form, colour_forms, colour_form, colour_shape, taking, plain_code, single_code, underline_numbered, underline_or_single, underline_shape, numbered_shape, sgr_shape}
-use Rattle.csi_codec.specs.Longest.{counted, lone_numbers, underline_shapes, colour_shapes, sgr_shapes, NoneIsLonger, OneStands, NoneStands, OneNamesNone, IsNoColour, LongestShapeDecides}
+use Rattle.csi_codec.specs.Longest.{counted, single_numbers, underline_shapes, colour_shapes, sgr_shapes, NoneIsLonger, OneStands, NoneStands, OneNamesNone, IsNoColour, LongestShapeDecides}
 use Rattle.csi_codec.proofs.ShapeLemmas.{number_is, numbered_shape-by, Target, foreground, background, underline_colour, set_to}
 use Rattle.csi_codec.proofs.SgrForms.{number_of}
 
@@ -123,7 +123,7 @@ ones_none read (k ∷ numbers) z ts h e =
     by true p q = absurd (false≢true (sym (ap is_some (sym (ap read (number_is k z p)) ∙ e)) ∙ q))
     by false p q = rw p refl
 
-each_named : list_all (λ k. is_some (plain_code (pos k))) lone_numbers ≡ true
+each_named : list_all (λ k. is_some (plain_code (pos k))) single_numbers ≡ true
 unfolding single_code
 each_named = refl
 
@@ -137,13 +137,13 @@ all_below test first (suc n) m h l u = by (eqb first m) refl (all_below test (fi
     by false e others = others (grind (arith, nat_tests)) (omega arith)
 
 abbrev is_listed : ℕ → Bool
-is_listed n = not (is_some (single_code n)) || list_any (λ k. is_number k (pos n)) lone_numbers
+is_listed n = not (is_some (single_code n)) || list_any (λ k. is_number k (pos n)) single_numbers
 
 each_listed : list_all is_listed (counted 0 256) ≡ true
 unfolding single_code
 each_listed = refl
 
-named_listed : (z : ℤ) (v : Sgr) → plain_code z ≡ Some v → list_any (λ k. is_number k z) lone_numbers ≡ true
+named_listed : (z : ℤ) (v : Sgr) → plain_code z ≡ Some v → list_any (λ k. is_number k z) single_numbers ≡ true
 named_listed (negsuc m) v e = cc
 named_listed (pos m) v e = by (leb m 255) refl e
   where
@@ -151,8 +151,8 @@ named_listed (pos m) v e = by (leb m 255) refl e
     from true c h e = h
     from false c h e = cc
 
-    by : (b : Bool) → leb m 255 ≡ b → option_and_then single_code (cond b (Some m) None) ≡ Some v → list_any (λ k. is_number k (pos m)) lone_numbers ≡ true
-    by true p q = from (is_some (single_code m)) (list_any (λ k. is_number k (pos m)) lone_numbers)
+    by : (b : Bool) → leb m 255 ≡ b → option_and_then single_code (cond b (Some m) None) ≡ Some v → list_any (λ k. is_number k (pos m)) single_numbers ≡ true
+    by true p q = from (is_some (single_code m)) (list_any (λ k. is_number k (pos m)) single_numbers)
         (all_below is_listed 0 256 m each_listed (omega arith) (let small : m ≤ 255 = leb-true m 255 p in omega arith)) (ap is_some q)
     by false p q = cc
 
@@ -217,7 +217,7 @@ abbrev all_colours : List (List Part)
 all_colours = colour_shapes 38 ++ (colour_shapes 48 ++ colour_shapes 58)
 
 abbrev all_numbered : List (List Part)
-all_numbered = ones lone_numbers ++ (underline_shapes ++ all_colours)
+all_numbered = ones single_numbers ++ (underline_shapes ++ all_colours)
 
 not_four : (t : Target) → is_number 4 (pos (number_of t)) ≡ false
 not_four foreground = refl
@@ -232,8 +232,8 @@ module _ (z : ℤ) (ts : List CsiParam) where
   abbrev whole : List CsiParam
   whole = Integer z ∷ ts
 
-  no_alone : plain_code z ≡ None → NoneStands (ones lone_numbers) whole
-  no_alone e = ones_none plain_code lone_numbers z ts each_named e
+  no_alone : plain_code z ≡ None → NoneStands (ones single_numbers) whole
+  no_alone e = ones_none plain_code single_numbers z ts each_named e
 
   no_line : is_number 4 z ≡ false → NoneStands underline_shapes whole
   no_line h = led_none (number_part 4) (Integer z) ts (led colon (ones kinds)) h
@@ -244,8 +244,8 @@ module _ (z : ℤ) (ts : List CsiParam) where
   no_colours : is_number 38 z ≡ false → is_number 48 z ≡ false → is_number 58 z ≡ false → NoneStands all_colours whole
   no_colours p q r = none-both (colour_shapes 38) (colour_shapes 48 ++ colour_shapes 58) whole (no_colour 38 p) (none-both (colour_shapes 48) (colour_shapes 58) whole (no_colour 48 q) (no_colour 58 r))
 
-  nothing : NoneStands (ones lone_numbers) whole → NoneStands underline_shapes whole → NoneStands all_colours whole → NoneStands sgr_shapes whole
-  nothing lone lines colours = (refl, none-both (ones lone_numbers) (underline_shapes ++ all_colours) whole lone (none-both underline_shapes all_colours whole lines colours))
+  nothing : NoneStands (ones single_numbers) whole → NoneStands underline_shapes whole → NoneStands all_colours whole → NoneStands sgr_shapes whole
+  nothing lone lines colours = (refl, none-both (ones single_numbers) (underline_shapes ++ all_colours) whole lone (none-both underline_shapes all_colours whole lines colours))
 
   numbered : (n : ℕ) → Longest all_numbered whole n → Longest sgr_shapes whole n
   numbered n l = (inr l.0, (λ s. cc, l.1))
@@ -268,7 +268,7 @@ module _ (z : ℤ) (ts : List CsiParam) where
   unfolding colour_form
   coloured t p = by (first_form colour_forms ts) (first_decides colour_forms ts refl)
     where
-      alone : NoneStands (ones lone_numbers) whole
+      alone : NoneStands (ones single_numbers) whole
       alone = no_alone (ap plain_code p ∙ not_alone t)
 
       lines : NoneStands underline_shapes whole
@@ -283,7 +283,7 @@ module _ (z : ℤ) (ts : List CsiParam) where
 
       longest : (n : ℕ) → Longest (shapes_of colour_forms) ts n → Longest sgr_shapes whole (n + 1)
       longest n l =
-          numbered (n + 1) (in_back (ones lone_numbers) (underline_shapes ++ all_colours) whole (n + 1) alone (in_back underline_shapes all_colours whole (n + 1) lines
+          numbered (n + 1) (in_back (ones single_numbers) (underline_shapes ++ all_colours) whole (n + 1) alone (in_back underline_shapes all_colours whole (n + 1) lines
           (colour_longest t (n + 1) p (led_longest (number_part (number_of t)) (Integer z) ts (shapes_of colour_forms) n is l))))
 
       by : (found : Option (ColorSpec × ℕ)) → Decided colour_forms ts found → Decides whole (option_map (λ form. (set_to t form.0, form.1 + 1)) found)
@@ -298,7 +298,7 @@ module _ (z : ℤ) (ts : List CsiParam) where
       by : (found : Option Sgr) → plain_code z ≡ found → Decides whole (taking 1 found)
       by None e = inl (nothing (no_alone e) (no_line s) (no_colours p q r))
       by (Some v) e =
-          numbered 1 (in_front (ones lone_numbers) (underline_shapes ++ all_colours) whole 1 (ones_longest lone_numbers z ts (named_listed z v e)) (none-both underline_shapes all_colours whole (no_line s) (no_colours p q r)))
+          numbered 1 (in_front (ones single_numbers) (underline_shapes ++ all_colours) whole 1 (ones_longest single_numbers z ts (named_listed z v e)) (none-both underline_shapes all_colours whole (no_line s) (no_colours p q r)))
 
 -- ---- Underlines
 
@@ -319,7 +319,7 @@ some_kind w u e = by (is_number 0 w) (is_number 1 w) (is_number 2 w) (is_number 
 single : (ts : List CsiParam) → NoneStands (led colon (ones kinds)) ts → Longest sgr_shapes (Integer (pos 4) ∷ ts) 1
 single ts none =
     let lines : NoneStands underline_shapes (Integer (pos 4) ∷ ts) = led_nothing (number_part 4) (Integer (pos 4)) ts (led colon (ones kinds)) none in
-    numbered (pos 4) ts 1 (in_front (ones lone_numbers) (underline_shapes ++ all_colours) (Integer (pos 4) ∷ ts) 1 (ones_longest lone_numbers (pos 4) ts refl)
+    numbered (pos 4) ts 1 (in_front (ones single_numbers) (underline_shapes ++ all_colours) (Integer (pos 4) ∷ ts) 1 (ones_longest single_numbers (pos 4) ts refl)
     (none-both underline_shapes all_colours (Integer (pos 4) ∷ ts) lines (no_colours (pos 4) ts refl refl refl)))
 
 -- 4 and a kind
@@ -329,7 +329,7 @@ lined w us u e =
     let line : Longest underline_shapes (Integer (pos 4) ∷ ts) 3 =
     led_longest (number_part 4) (Integer (pos 4)) ts (led colon (ones kinds)) 2 refl (led_longest colon (P 58) (Integer w ∷ us) (ones kinds) 1 refl (ones_longest kinds w us (some_kind w u e))) in
     let rest : Longest (underline_shapes ++ all_colours) (Integer (pos 4) ∷ ts) 3 = in_front underline_shapes all_colours (Integer (pos 4) ∷ ts) 3 line (no_colours (pos 4) ts refl refl refl) in
-    numbered (pos 4) ts 3 (one-back (ones lone_numbers) (underline_shapes ++ all_colours) (Integer (pos 4) ∷ ts) 3 rest.0, longer-both (ones lone_numbers) (underline_shapes ++ all_colours) (Integer (pos 4) ∷ ts) 3 (short lone_numbers) rest.1)
+    numbered (pos 4) ts 3 (one-back (ones single_numbers) (underline_shapes ++ all_colours) (Integer (pos 4) ∷ ts) 3 rest.0, longer-both (ones single_numbers) (underline_shapes ++ all_colours) (Integer (pos 4) ∷ ts) 3 (short single_numbers) rest.1)
   where
     short : (numbers : List ℕ) → NoneIsLonger (ones numbers) (Integer (pos 4) ∷ P 58 ∷ Integer w ∷ us) 3
     short [] = tt

@@ -1,6 +1,7 @@
 -- Each mode that can be written reads back from what is written for it.
 use Rattle.std.proofs.Common.{◌≡◌, ℕ, ℤ, pos, negsuc, eqb, leb, Bool, true, false, cond, ◌||◌, [], ◌∷◌, Option, Some, None, option_and_then, refl, ap, ◌∙◌}
 use Rattle.std.specs.Prelude.{is_some}
+use Rattle.std.specs.Option.{option_map_or}
 use Rattle.std.proofs.lemmas.Bool.{le-leb}
 use Rattle.csi_codec.specs.declared.modes.DecPrivateModeCode.{DecPrivateModeCode}
 use Rattle.csi_codec.specs.declared.modes.DecPrivateModeCode.TheVariants as dec
@@ -13,8 +14,8 @@ use Rattle.csi_codec.specs.declared.modes.TerminalMode.TheVariants as standard
 use Rattle.csi_codec.specs.declared.modes.Mode.{Mode}
 use Rattle.csi_codec.specs.declared.modes.Mode.TheVariants as does
 use Rattle.csi_codec.specs.Parameters.{number_tokens, private_tokens}
-use Rattle.csi_codec.specs.Modes.{dec_private_mode_number, dec_mode_by, dec_mode_of, dec_mode_code, terminal_mode_number, ansi_mode_by, ansi_mode_of, ansi_mode_code, private_step, standard_step, private_mode_reading, mode_reading, mode_spelling}
-use Rattle.csi_codec.specs.Actions.{mode, mode_piece, pieces, csi_reading}
+use Rattle.csi_codec.specs.Modes.{dec_private_mode_number, dec_mode_of, dec_mode_code, terminal_mode_number, ansi_mode_of, ansi_mode_code, private_step, standard_step, private_mode_reading, mode_reading, mode_spelling}
+use Rattle.csi_codec.specs.Actions.{mode, mode_group, groups, csi_reading}
 use Rattle.csi_codec.specs.Laws.{ReadsBack}
 use Rattle.csi_codec.specs.Writable.{IsWritablePrivateMode, IsWritableStandardMode, IsWritableMode}
 
@@ -30,7 +31,7 @@ dec_small _ = refl
 
 private_named : (m : DecPrivateMode) → IsWritablePrivateMode m → dec_mode_of (dec_mode_code m) ≡ m
 private_named (private.Code known) h = dec_named known
-private_named (private.Unspecified n) h = ap (dec_mode_by n) h.1
+private_named (private.Unspecified n) h = ap (λ found. option_map_or private.Code found (private.Unspecified n)) h.1
 
 pub private_within : (m : DecPrivateMode) → IsWritablePrivateMode m → leb (dec_mode_code m) 65535 ≡ true
 private_within (private.Code known) h = dec_small known
@@ -46,7 +47,7 @@ ansi_small _ = refl
 
 standard_named : (m : TerminalMode) → IsWritableStandardMode m → ansi_mode_of (ansi_mode_code m) ≡ m
 standard_named (standard.Code known) h = ansi_named known
-standard_named (standard.Unspecified n) h = ap (ansi_mode_by n) h.1
+standard_named (standard.Unspecified n) h = ap (λ found. option_map_or standard.Code found (standard.Unspecified n)) h.1
 
 pub standard_within : (m : TerminalMode) → IsWritableStandardMode m → leb (ansi_mode_code m) 65535 ≡ true
 standard_within (standard.Code known) h = ansi_small known
@@ -59,7 +60,7 @@ module _ (truncated : Bool) where
   -- ---- Private modes
 
   private_back : (final n : ℕ) (m : Mode) → eqb final 109 ≡ false → private_mode_reading final (pos n) ≡ Some m → csi_reading (private_tokens n) truncated final ≡ mode m ∷ []
-  unfolding csi_reading pieces mode_piece
+  unfolding csi_reading groups mode_group
   private_back final n m q e = rw (q, e) refl
 
   private_read : (final n : ℕ) (m : Mode) → leb n 65535 ≡ true → private_step final (dec_mode_of n) ≡ Some m → private_mode_reading final (pos n) ≡ Some m
@@ -74,7 +75,7 @@ module _ (truncated : Bool) where
   -- ---- Modes of the standard
 
   standard_back : (final n : ℕ) (m : Mode) → eqb final 109 ≡ false → (eqb final 104 || eqb final 108) ≡ true → mode_reading final (pos n) ≡ Some m → csi_reading (number_tokens n) truncated final ≡ mode m ∷ []
-  unfolding csi_reading pieces mode_piece
+  unfolding csi_reading groups mode_group
   standard_back final n m q r e = rw (q, r, e) refl
 
   standard_read : (final n : ℕ) (m : Mode) → leb n 65535 ≡ true → standard_step final (ansi_mode_of n) ≡ Some m → mode_reading final (pos n) ≡ Some m

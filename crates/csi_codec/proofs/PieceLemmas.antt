@@ -1,4 +1,4 @@
--- Pieces: how many tokens one takes, and what the actions of a list are by its first piece.
+-- Groups: how many tokens one takes, and what the actions of a list are by its first group.
 use Rattle.std.proofs.Common.{◌≡◌, ℕ, zero, suc, ◌+◌, ◌-◌, ◌<◌, ◌≤◌, ℤ, eqb, Bool, true, false, cond, List, [], ◌∷◌, length, length-drop, drop, Option, Some, None, option_map, arith, refl, ap, ◌∙◌, subst}
 use Rattle.std.specs.Option.{option_map_or}
 use Rattle.csi_codec.specs.declared.parameters.CsiParam.{CsiParam}
@@ -7,11 +7,11 @@ use Rattle.csi_codec.specs.declared.rendition.Sgr.{Sgr}
 use Rattle.csi_codec.specs.declared.modes.Mode.{Mode}
 use Rattle.csi_codec.specs.Parameters.{semicolon_count, semicolon_at, with_semicolon}
 use Rattle.csi_codec.specs.Modes.{private_mode_reading, mode_reading}
-use Rattle.csi_codec.specs.Rendition.{taking, sgr_shape, sgr_piece}
-use Rattle.csi_codec.specs.Actions.{Kind, sgr_pieces, private_mode_pieces, standard_mode_pieces, Action, sgr, mode, unspecified, rendition_piece, mode_piece, piece_of, pieces_from, pieces}
+use Rattle.csi_codec.specs.Rendition.{taking, sgr_shape, sgr_group}
+use Rattle.csi_codec.specs.Actions.{Kind, sgr_groups, private_mode_groups, standard_mode_groups, Action, sgr, mode, unspecified, mode_group, group_of, groups_from, groups}
 use Rattle.csi_codec.proofs.SgrLemmas.{Takes, taking-takes, sgr_shape_takes}
 
--- ---- How many tokens a piece takes
+-- ---- How many tokens a group takes
 
 pub semicolon_count-le : (t : Option CsiParam) → semicolon_count t ≤ 1
 semicolon_count-le None = omega arith
@@ -31,64 +31,68 @@ as_action : (n : ℕ) (found : Option (Sgr × ℕ)) → Takes n found → Takes 
 as_action n None h = tt
 as_action n (Some f) h = h
 
-rendition_piece-takes : (ts : List CsiParam) → Takes (length ts) (rendition_piece ts)
-unfolding sgr_piece
-rendition_piece-takes ts = as_action (length ts) (sgr_piece ts) (with_semicolon-takes ts (sgr_shape ts) (sgr_shape_takes ts))
+-- an SGR group, as an action
+abbrev pub rendition_group : List CsiParam → Option (Action × ℕ)
+rendition_group ts = option_map (λ found. (sgr found.0, found.1)) (sgr_group ts)
 
-mode_piece-takes : (read : ℤ → Option Mode) (ts : List CsiParam) → Takes (length ts) (mode_piece read ts)
-unfolding mode_piece
-mode_piece-takes read [] = tt
-mode_piece-takes read (P b ∷ ts) = tt
-mode_piece-takes read (Integer z ∷ ts) =
+rendition_group-takes : (ts : List CsiParam) → Takes (length ts) (rendition_group ts)
+unfolding sgr_group
+rendition_group-takes ts = as_action (length ts) (sgr_group ts) (with_semicolon-takes ts (sgr_shape ts) (sgr_shape_takes ts))
+
+mode_group-takes : (read : ℤ → Option Mode) (ts : List CsiParam) → Takes (length ts) (mode_group read ts)
+unfolding mode_group
+mode_group-takes read [] = tt
+mode_group-takes read (P b ∷ ts) = tt
+mode_group-takes read (Integer z ∷ ts) =
     with_semicolon-takes (Integer z ∷ ts) (taking 1 (option_map mode (read z))) (taking-takes (length (Integer z ∷ ts)) (option_map mode (read z)) (omega arith))
 
--- a piece takes at least one token, and no more than there are
-pub piece_of-takes : (k : Kind) (final : ℕ) (ts : List CsiParam) → Takes (length ts) (piece_of k final ts)
-piece_of-takes sgr_pieces final ts = rendition_piece-takes ts
-piece_of-takes private_mode_pieces final ts = mode_piece-takes (private_mode_reading final) ts
-piece_of-takes standard_mode_pieces final ts = mode_piece-takes (mode_reading final) ts
+-- a group takes at least one token, and no more than there are
+pub group_of-takes : (k : Kind) (final : ℕ) (ts : List CsiParam) → Takes (length ts) (group_of k final ts)
+group_of-takes sgr_groups final ts = rendition_group-takes ts
+group_of-takes private_mode_groups final ts = mode_group-takes (private_mode_reading final) ts
+group_of-takes standard_mode_groups final ts = mode_group-takes (mode_reading final) ts
 
-pub piece_of_takes : (k : Kind) (final : ℕ) (ts : List CsiParam) (a : Action) (n : ℕ) → piece_of k final ts ≡ Some (a, n) → (0 < n) × (n ≤ length ts)
-piece_of_takes k final ts a n e = let P : Option (Action × ℕ) → Type 0 = λ found. Takes (length ts) found in subst P e (piece_of-takes k final ts)
+pub group_of_takes : (k : Kind) (final : ℕ) (ts : List CsiParam) (a : Action) (n : ℕ) → group_of k final ts ≡ Some (a, n) → (0 < n) × (n ≤ length ts)
+group_of_takes k final ts a n e = let P : Option (Action × ℕ) → Type 0 = λ found. Takes (length ts) found in subst P e (group_of-takes k final ts)
 
--- ---- The first piece
+-- ---- The first group
 
 -- used up tokens are as good as dropped
-pub pieces_from-drop : (piece : List CsiParam → Option (Action × ℕ)) (unread : List CsiParam → Action) (k : ℕ) (ts : List CsiParam) → pieces_from piece unread k ts ≡ pieces_from piece unread 0 (drop k ts)
-pieces_from-drop piece unread zero ts = refl
-pieces_from-drop piece unread (suc k) [] = refl
-pieces_from-drop piece unread (suc k) (t ∷ ts) = pieces_from-drop piece unread k ts
+pub groups_from-drop : (group : List CsiParam → Option (Action × ℕ)) (unread : List CsiParam → Action) (k : ℕ) (ts : List CsiParam) → groups_from group unread k ts ≡ groups_from group unread 0 (drop k ts)
+groups_from-drop group unread zero ts = refl
+groups_from-drop group unread (suc k) [] = refl
+groups_from-drop group unread (suc k) (t ∷ ts) = groups_from-drop group unread k ts
 
--- where a piece stands it is the first action, and the others are those of what follows
-pub pieces_found : (k : Kind) (truncated : Bool) (final : ℕ) (ts : List CsiParam) (a : Action) (n : ℕ) → piece_of k final ts ≡ Some (a, n) → pieces k truncated final ts ≡ a ∷ pieces k truncated final (drop n ts)
-unfolding pieces
-pieces_found k truncated final [] a n e = let t : (0 < n) × (n ≤ 0) = piece_of_takes k final [] a n e in absurd (omega (arith, t.0, t.1))
-pieces_found k truncated final (t ∷ ts) a zero e = let h : (0 < 0) × (0 ≤ length (t ∷ ts)) = piece_of_takes k final (t ∷ ts) a zero e in absurd (omega (arith, h.0))
-pieces_found k truncated final (t ∷ ts) a (suc n) e =
+-- where a group stands it is the first action, and the others are those of what follows
+pub groups_found : (k : Kind) (truncated : Bool) (final : ℕ) (ts : List CsiParam) (a : Action) (n : ℕ) → group_of k final ts ≡ Some (a, n) → groups k truncated final ts ≡ a ∷ groups k truncated final (drop n ts)
+unfolding groups
+groups_found k truncated final [] a n e = let t : (0 < n) × (n ≤ 0) = group_of_takes k final [] a n e in absurd (omega (arith, t.0, t.1))
+groups_found k truncated final (t ∷ ts) a zero e = let h : (0 < 0) × (0 ≤ length (t ∷ ts)) = group_of_takes k final (t ∷ ts) a zero e in absurd (omega (arith, h.0))
+groups_found k truncated final (t ∷ ts) a (suc n) e =
     let unread : List CsiParam → Action = λ rest. unspecified rest truncated final in
-    let piece : List CsiParam → Option (Action × ℕ) = piece_of k final in
-    ap (λ found. option_map_or (λ f. f.0 ∷ pieces_from piece unread (f.1 - 1) ts) found (unread (t ∷ ts) ∷ [])) e
-    ∙ ap (λ m. a ∷ pieces_from piece unread m ts) (sub_one n)
-    ∙ ap (λ rest. a ∷ rest) (pieces_from-drop piece unread n ts)
+    let group : List CsiParam → Option (Action × ℕ) = group_of k final in
+    ap (λ found. option_map_or (λ f. f.0 ∷ groups_from group unread (f.1 - 1) ts) found (unread (t ∷ ts) ∷ [])) e
+    ∙ ap (λ m. a ∷ groups_from group unread m ts) (sub_one n)
+    ∙ ap (λ rest. a ∷ rest) (groups_from-drop group unread n ts)
   where
     sub_one : (n : ℕ) → suc n - 1 ≡ n
     sub_one n = omega arith
 
 -- where none stands the list remains
-pub pieces_rest : (k : Kind) (truncated : Bool) (final : ℕ) (ts : List CsiParam) → piece_of k final ts ≡ None → 0 < length ts → pieces k truncated final ts ≡ unspecified ts truncated final ∷ []
-unfolding pieces
-pieces_rest k truncated final [] e h = absurd (omega arith)
-pieces_rest k truncated final (t ∷ ts) e h =
+pub groups_rest : (k : Kind) (truncated : Bool) (final : ℕ) (ts : List CsiParam) → group_of k final ts ≡ None → 0 < length ts → groups k truncated final ts ≡ unspecified ts truncated final ∷ []
+unfolding groups
+groups_rest k truncated final [] e h = absurd (omega arith)
+groups_rest k truncated final (t ∷ ts) e h =
     let unread : List CsiParam → Action = λ rest. unspecified rest truncated final in
-    let piece : List CsiParam → Option (Action × ℕ) = piece_of k final in
-    ap (λ found. option_map_or (λ f. f.0 ∷ pieces_from piece unread (f.1 - 1) ts) found (unread (t ∷ ts) ∷ [])) e
+    let group : List CsiParam → Option (Action × ℕ) = group_of k final in
+    ap (λ found. option_map_or (λ f. f.0 ∷ groups_from group unread (f.1 - 1) ts) found (unread (t ∷ ts) ∷ [])) e
 
 -- an empty list has no actions
-pub pieces_none : (k : Kind) (truncated : Bool) (final : ℕ) (ts : List CsiParam) → length ts ≡ 0 → pieces k truncated final ts ≡ []
-unfolding pieces
-pieces_none k truncated final [] h = refl
-pieces_none k truncated final (t ∷ ts) h = absurd (omega arith)
+pub groups_none : (k : Kind) (truncated : Bool) (final : ℕ) (ts : List CsiParam) → length ts ≡ 0 → groups k truncated final ts ≡ []
+unfolding groups
+groups_none k truncated final [] h = refl
+groups_none k truncated final (t ∷ ts) h = absurd (omega arith)
 
 -- and so has what stands behind the end of a list
-pub pieces_ended : (k : Kind) (truncated : Bool) (final : ℕ) (ts : List CsiParam) (n : ℕ) → length ts ≤ n → pieces k truncated final (drop n ts) ≡ []
-pieces_ended k truncated final ts n h = pieces_none k truncated final (drop n ts) (omega (arith, length-drop n ts))
+pub groups_ended : (k : Kind) (truncated : Bool) (final : ℕ) (ts : List CsiParam) (n : ℕ) → length ts ≤ n → groups k truncated final (drop n ts) ≡ []
+groups_ended k truncated final ts n h = groups_none k truncated final (drop n ts) (omega (arith, length-drop n ts))

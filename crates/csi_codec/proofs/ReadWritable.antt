@@ -1,5 +1,7 @@
 -- What the readings give can be written.
 use Rattle.std.proofs.Common.{◌≡◌, ℕ, ◌≤◌, ℤ, pos, negsuc, eqb, leb, Bool, true, false, cond, List, [], ◌∷◌, Option, Some, None, IfSome, option_map, option_and_then, slice_get, arith, refl, subst}
+use Rattle.std.specs.Option.{option_map_or}
+use Rattle.std.specs.List.{AllByRecursion}
 use Rattle.std.proofs.lemmas.Bool.{leb-true, and_parts, cond_both}
 use Rattle.cell_base.specs.declared.color.ColorSpec.{ColorSpec}
 use Rattle.cell_base.specs.declared.color.ColorSpec.TheVariants as color
@@ -11,6 +13,8 @@ use Rattle.csi_codec.specs.declared.edits.Edit.{Edit}
 use Rattle.csi_codec.specs.declared.edits.Edit.TheVariants as change
 use Rattle.csi_codec.specs.declared.modes.DecPrivateModeCode.{DecPrivateModeCode}
 use Rattle.csi_codec.specs.declared.modes.TerminalModeCode.{TerminalModeCode}
+use Rattle.csi_codec.specs.declared.modes.DecPrivateMode.TheVariants as private
+use Rattle.csi_codec.specs.declared.modes.TerminalMode.TheVariants as standard
 use Rattle.csi_codec.specs.declared.modes.Mode.{Mode}
 use Rattle.csi_codec.specs.declared.modes.Mode.TheVariants as does
 use Rattle.csi_codec.specs.declared.rendition.Sgr.{Sgr}
@@ -18,8 +22,8 @@ use Rattle.csi_codec.specs.Parameters.{is_number, word_max, number_within, count
 use Rattle.csi_codec.specs.Slots.{IsPlace}
 use Rattle.csi_codec.specs.Cursors.{cursor_style_named, tabulation_clear_named, tabulation_control_named, cursor_lines, cursor_reading, save_or_margins, restore, position_request}
 use Rattle.csi_codec.specs.Edits.{erase_in_line_named, erase_in_display_named, edit_lines, edit_reading}
-use Rattle.csi_codec.specs.Modes.{dec_private_mode_named, dec_mode_by, dec_mode_of, terminal_mode_named, ansi_mode_by, ansi_mode_of, private_step, standard_step, private_mode_reading, mode_reading}
-use Rattle.csi_codec.specs.Rendition.{byte_of, byte_at, palette_at, opaque_at, colour_at, colour, colour_forms, listed_or, single_codes, ranged_code, single_code, is_between, sgr_shape}
+use Rattle.csi_codec.specs.Modes.{dec_private_mode_named, dec_mode_of, terminal_mode_named, ansi_mode_of, private_step, standard_step, private_mode_reading, mode_reading}
+use Rattle.csi_codec.specs.Rendition.{byte_of, byte_at, palette_at, opaque_at, colour_at, colour, colour_forms, is_alone, listed_or, sgr_tokens, single_codes, ranged_code, single_code, is_between, sgr_shape}
 use Rattle.csi_codec.specs.Writable.{IsWritableCursor, IsWritableEdit, IsWritablePrivateMode, IsWritableStandardMode, IsWritableMode, IsColour, IsWritableSgr}
 use Rattle.csi_codec.proofs.BackLemmas.{EachLine, read_by-each, made, count_valid, pair_valid}
 use Rattle.csi_codec.proofs.ShapeLemmas.{EachForm, EachShape, Target, foreground, background, underline_colour, set_to, sgr_shape-each}
@@ -27,9 +31,9 @@ use Rattle.csi_codec.proofs.ShapeLemmas.{EachForm, EachShape, Target, foreground
 same_value : {A : Type 0} (Q : A → Type 0) (x y : A) → Some x ≡ Some y → Q x → Q y
 same_value Q x y e h = let q : x ≡ y = cc in subst Q q h
 
-lone_if : {A : Type 0} (Q : A → Type 0) (b : Bool) (x y : A) → cond b (Some x) None ≡ Some y → Q x → Q y
-lone_if Q true x y e h = same_value Q x y e h
-lone_if Q false x y e h = cc
+single_if : {A : Type 0} (Q : A → Type 0) (b : Bool) (x y : A) → cond b (Some x) None ≡ Some y → Q x → Q y
+single_if Q true x y e h = same_value Q x y e h
+single_if Q false x y e h = cc
 
 -- ---- Cursor sequences
 
@@ -62,10 +66,10 @@ position_request-writable : (ts : List CsiParam) (x : Cursor) → position_reque
 position_request-writable [] x e = cc
 position_request-writable (P b ∷ ts) x e = cc
 position_request-writable (Integer z ∷ t ∷ ts) x e = cc
-position_request-writable (Integer z ∷ []) x e = lone_if IsWritableCursor (is_number 6 z) variant.RequestActivePositionReport x e tt
+position_request-writable (Integer z ∷ []) x e = single_if IsWritableCursor (is_number 6 z) variant.RequestActivePositionReport x e tt
 
 cursor_lines-writable : EachLine IsWritableCursor cursor_lines
-cursor_lines-writable = (by_count variant.Up (λ n h. h), (by_count variant.Down (λ n h. h), (by_count variant.Right (λ n h. h), (by_count variant.Left (λ n h. h), (by_count variant.NextLine (λ n h. h), (by_count variant.PrecedingLine (λ n h. h), (by_count variant.CharacterAbsolute (λ n h. h), (by_count variant.CharacterPositionAbsolute (λ n h. h), (by_count variant.LinePositionAbsolute (λ n h. h), (by_count variant.CharacterPositionForward (λ n h. h), (by_count variant.CharacterPositionBackward (λ n h. h), (by_count variant.LinePositionForward (λ n h. h), (by_count variant.LinePositionBackward (λ n h. h), (by_pair 1 first_place variant.Position (λ a b h k. (h, k)), (by_pair 1 first_place variant.CharacterAndLinePosition (λ a b h k. (h, k)), (by_pair 1 first_place variant.ActivePositionReport (λ a b h k. (h, k)), (by_count variant.ForwardTabulation (λ n h. h), (by_count variant.BackwardTabulation (λ n h. h), (by_count variant.LineTabulation (λ n h. h), (λ ts x e. by_name variant.TabulationClear (λ known. tt) (option_and_then (λ slot. tabulation_clear_named (slot_number slot)) (one_slot ts)) x e, (λ ts x e. by_name variant.TabulationControl (λ known. tt) (option_and_then (λ slot. tabulation_control_named (slot_number slot)) (one_slot ts)) x e, (by_pair word_max last_place variant.SetTopAndBottomMargins (λ a b h k. (h, k)), (save_or_margins-writable, (restore-writable, (position_request-writable, (λ ts x e. by_name variant.CursorStyle (λ known. tt) (option_and_then (λ slot. cursor_style_named (slot_number slot)) (slot_and_space ts)) x e, tt))))))))))))))))))))))))))
+cursor_lines-writable = (by_count variant.Up (λ n h. h), (by_count variant.Down (λ n h. h), (by_count variant.Right (λ n h. h), (by_count variant.Left (λ n h. h), (by_count variant.NextLine (λ n h. h), (by_count variant.PrecedingLine (λ n h. h), (by_count variant.CharacterAbsolute (λ n h. h), (by_count variant.CharacterPositionAbsolute (λ n h. h), (by_count variant.LinePositionAbsolute (λ n h. h), (by_count variant.CharacterPositionForward (λ n h. h), (by_count variant.CharacterPositionBackward (λ n h. h), (by_count variant.LinePositionForward (λ n h. h), (by_count variant.LinePositionBackward (λ n h. h), (by_count variant.ForwardTabulation (λ n h. h), (by_count variant.BackwardTabulation (λ n h. h), (by_count variant.LineTabulation (λ n h. h), (by_pair 1 first_place variant.Position (λ a b h k. (h, k)), (by_pair 1 first_place variant.CharacterAndLinePosition (λ a b h k. (h, k)), (by_pair 1 first_place variant.ActivePositionReport (λ a b h k. (h, k)), (λ ts x e. by_name variant.TabulationClear (λ known. tt) (option_and_then (λ slot. tabulation_clear_named (slot_number slot)) (one_slot ts)) x e, (λ ts x e. by_name variant.TabulationControl (λ known. tt) (option_and_then (λ slot. tabulation_control_named (slot_number slot)) (one_slot ts)) x e, (by_pair word_max last_place variant.SetTopAndBottomMargins (λ a b h k. (h, k)), (save_or_margins-writable, (restore-writable, (position_request-writable, (λ ts x e. by_name variant.CursorStyle (λ known. tt) (option_and_then (λ slot. cursor_style_named (slot_number slot)) (slot_and_space ts)) x e, tt))))))))))))))))))))))))))
 
 pub cursor_reading-writable : (final : ℕ) (ts : List CsiParam) (x : Cursor) → cursor_reading final ts ≡ Some x → IsWritableCursor x
 unfolding cursor_reading
@@ -88,14 +92,14 @@ edit_reading-writable final ts x e = read_by-each IsWritableEdit edit_lines fina
 
 -- ---- Modes
 
-private_by : (n : ℕ) (found : Option DecPrivateModeCode) → dec_private_mode_named (pos n) ≡ found → n ≤ 65535 → IsWritablePrivateMode (dec_mode_by n found)
+private_by : (n : ℕ) (found : Option DecPrivateModeCode) → dec_private_mode_named (pos n) ≡ found → n ≤ 65535 → IsWritablePrivateMode (option_map_or private.Code found (private.Unspecified n))
 private_by n None e h = (h, e)
 private_by n (Some known) e h = tt
 
 private_of : (n : ℕ) → leb n 65535 ≡ true → IsWritablePrivateMode (dec_mode_of n)
 private_of n h = private_by n (dec_private_mode_named (pos n)) refl (leb-true n 65535 h)
 
-standard_by : (n : ℕ) (found : Option TerminalModeCode) → terminal_mode_named (pos n) ≡ found → n ≤ 65535 → IsWritableStandardMode (ansi_mode_by n found)
+standard_by : (n : ℕ) (found : Option TerminalModeCode) → terminal_mode_named (pos n) ≡ found → n ≤ 65535 → IsWritableStandardMode (option_map_or standard.Code found (standard.Unspecified n))
 standard_by n None e h = (h, e)
 standard_by n (Some known) e h = tt
 
@@ -191,19 +195,15 @@ forms-valid = (λ ts c s. at_colour 4 6 8 10 ts c, (λ ts c s. at_opaque 5 7 9 t
 
 -- ---- Numbers and shapes of SGR
 
-abbrev EachListed : List (ℕ × Sgr) → Type 0
-EachListed [] = Unit {0}
-EachListed (line ∷ lines) = IsWritableSgr line.1 × EachListed lines
-
-listed-writable : EachListed single_codes
+listed-writable : AllByRecursion IsWritableSgr single_codes
 listed-writable = (tt, (tt, (tt, (tt, (tt, (tt, (tt, (tt, (tt, (tt, (tt, (tt, (tt, (tt, (tt, (tt, (tt, (tt, (tt, (tt, (tt, (tt, (tt, (tt, (tt, (tt, (tt, tt)))))))))))))))))))))))))))
 
 abbrev WritableIfSome : Option Sgr → Type 0
 WritableIfSome found = IfSome found (λ v. IsWritableSgr v)
 
-listed_or-writable : (lines : List (ℕ × Sgr)) (n : ℕ) (other : Option Sgr) → EachListed lines → WritableIfSome other → WritableIfSome (listed_or lines n other)
+listed_or-writable : (values : List Sgr) (n : ℕ) (other : Option Sgr) → AllByRecursion IsWritableSgr values → WritableIfSome other → WritableIfSome (listed_or values n other)
 listed_or-writable [] n other h k = k
-listed_or-writable (line ∷ lines) n other h k = cond_both (eqb line.0 n) (Some line.1) (listed_or lines n other) WritableIfSome (λ e. h.0) (λ e. listed_or-writable lines n other h.1 k)
+listed_or-writable (value ∷ values) n other h k = cond_both (is_alone n (sgr_tokens value)) (Some value) (listed_or values n other) WritableIfSome (λ e. h.0) (λ e. listed_or-writable values n other h.1 k)
 
 between-writable : (low high n : ℕ) (v : Sgr) (other : Option Sgr) → (low ≤ n → n ≤ high → IsWritableSgr v) → WritableIfSome other → WritableIfSome (cond (is_between low high n) (Some v) other)
 between-writable low high n v other h k =

@@ -2,6 +2,7 @@
 use Rattle.std.proofs.Common.{◌≡◌, ◌⊎◌, ℕ, zero, suc, ◌+◌, ◌-◌, ◌<◌, ◌≤◌, ℤ, eqb, Bool, true, false, cond, ◌||◌, List, [], ◌∷◌, length, length-drop, drop, drop-drop, Option, Some, None, option_map, inl, inr, arith, refl, sym, ap, ◌∙◌, subst}
 use Rattle.std.specs.Prelude.{is_some}
 use Rattle.std.specs.Option.{option_map_or, option_or}
+use Rattle.std.specs.List.{AllByRecursion}
 use Rattle.std.proofs.lemmas.Bool.{eqb-true, le-leb, false≢true, and_parts, or_parts, or_cases, or_left}
 use Rattle.csi_codec.specs.declared.parameters.CsiParam.{CsiParam}
 use Rattle.csi_codec.specs.declared.parameters.CsiParam.TheVariants.{Integer, P}
@@ -15,12 +16,12 @@ use Rattle.csi_codec.specs.Cursors.{cursor_reading}
 use Rattle.csi_codec.specs.Edits.{edit_reading}
 use Rattle.csi_codec.specs.Devices.{device_reading}
 use Rattle.csi_codec.specs.Modes.{private_mode_reading, mode_reading}
-use Rattle.csi_codec.specs.Rendition.{taking, sgr_shape, sgr_piece}
-use Rattle.csi_codec.specs.Actions.{Kind, sgr_pieces, private_mode_pieces, standard_mode_pieces, Action, sgr, cursor, edit, mode, device, unspecified, mode_piece, piece_of, pieces_from, pieces, is_sgr_token, all_sgr_tokens, sgr_reading, modes_or, lone_or, standard_reading, other_reading, csi_reading}
+use Rattle.csi_codec.specs.Rendition.{taking, sgr_shape, sgr_group}
+use Rattle.csi_codec.specs.Actions.{Kind, sgr_groups, private_mode_groups, standard_mode_groups, Action, sgr, cursor, edit, mode, device, unspecified, mode_group, group_of, groups_from, groups, is_sgr_token, all_sgr_tokens, sgr_reading, modes_or, single_or, standard_reading, other_reading, csi_reading}
 use Rattle.csi_codec.specs.Writable.{IsWritable, IsWritableMode, IsWritableSgr, WritableActionsReadBack}
-use Rattle.csi_codec.specs.Laws.{IsSuffix, KeepsRests, ReadsBack, is_exempt, begins_with_question, EachReadsBack, ActionsReadBack}
+use Rattle.csi_codec.specs.Laws.{IsSuffix, KeepsRests, ReadsBack, is_exempt, begins_with_question, ActionsReadBack}
 use Rattle.csi_codec.proofs.BackLemmas.{standard_is}
-use Rattle.csi_codec.proofs.PieceLemmas.{piece_of_takes, pieces_found, pieces_rest}
+use Rattle.csi_codec.proofs.PieceLemmas.{group_of_takes, groups_found, groups_rest}
 use Rattle.csi_codec.proofs.ReadWritable.{cursor_reading-writable, edit_reading-writable, private_mode-writable, standard_mode-writable, sgr_shape-writable}
 use Rattle.csi_codec.proofs.TableBack.{cursor_back, edit_back, device_back}
 use Rattle.csi_codec.proofs.SgrBack.{sgr_back}
@@ -43,13 +44,13 @@ Each whole truncated final (a ∷ others) =
 suffix_tail : (whole : List CsiParam) (t : CsiParam) (ts : List CsiParam) → IsSuffix (t ∷ ts) whole → IsSuffix ts whole
 suffix_tail whole t ts s = (s.0 + 1, ap (drop 1) s.1 ∙ drop-drop 1 s.0 whole)
 
--- ---- Pieces
+-- ---- Groups
 
--- pieces that are modes
+-- groups that are modes
 abbrev IsModes : Kind → Type 0
-IsModes sgr_pieces = ⊥
-IsModes private_mode_pieces = Unit {0}
-IsModes standard_mode_pieces = Unit {0}
+IsModes sgr_groups = ⊥
+IsModes private_mode_groups = Unit {0}
+IsModes standard_mode_groups = Unit {0}
 
 abbrev first_of : Action → Option (Action × ℕ) → Action
 first_of a None = a
@@ -65,41 +66,41 @@ moded-writable : (found : Option Mode) (ts : List CsiParam) → ((m : Mode) → 
 moded-writable None ts h a n e = cc
 moded-writable (Some m) ts h a n e = subst IsWritable (ap (first_of a) e) (h m refl)
 
-mode_piece-writable : (read : ℤ → Option Mode) → ((z : ℤ) (m : Mode) → read z ≡ Some m → IsWritableMode m) → (ts : List CsiParam) (a : Action) (n : ℕ) → mode_piece read ts ≡ Some (a, n) → IsWritable a
-unfolding mode_piece
-mode_piece-writable read h [] a n e = cc
-mode_piece-writable read h (P b ∷ ts) a n e = cc
-mode_piece-writable read h (Integer z ∷ ts) a n e = moded-writable (read z) (Integer z ∷ ts) (h z) a n e
+mode_group-writable : (read : ℤ → Option Mode) → ((z : ℤ) (m : Mode) → read z ≡ Some m → IsWritableMode m) → (ts : List CsiParam) (a : Action) (n : ℕ) → mode_group read ts ≡ Some (a, n) → IsWritable a
+unfolding mode_group
+mode_group-writable read h [] a n e = cc
+mode_group-writable read h (P b ∷ ts) a n e = cc
+mode_group-writable read h (Integer z ∷ ts) a n e = moded-writable (read z) (Integer z ∷ ts) (h z) a n e
 
-piece-writable : (k : Kind) (final : ℕ) (ts : List CsiParam) (a : Action) (n : ℕ) → piece_of k final ts ≡ Some (a, n) → IsWritable a
-unfolding sgr_piece
-piece-writable sgr_pieces final ts a n e = rendition-writable (sgr_shape ts) ts (λ f q. sgr_shape-writable ts f q) a n e
-piece-writable private_mode_pieces final ts a n e = mode_piece-writable (private_mode_reading final) (λ z m q. private_mode-writable final z m q) ts a n e
-piece-writable standard_mode_pieces final ts a n e = mode_piece-writable (mode_reading final) (λ z m q. standard_mode-writable final z m q) ts a n e
+group-writable : (k : Kind) (final : ℕ) (ts : List CsiParam) (a : Action) (n : ℕ) → group_of k final ts ≡ Some (a, n) → IsWritable a
+unfolding sgr_group
+group-writable sgr_groups final ts a n e = rendition-writable (sgr_shape ts) ts (λ f q. sgr_shape-writable ts f q) a n e
+group-writable private_mode_groups final ts a n e = mode_group-writable (private_mode_reading final) (λ z m q. private_mode-writable final z m q) ts a n e
+group-writable standard_mode_groups final ts a n e = mode_group-writable (mode_reading final) (λ z m q. standard_mode-writable final z m q) ts a n e
 
 module _ (truncated : Bool) where
-  -- ---- A list of pieces
+  -- ---- A list of groups
 
   module _ (k : Kind) (final : ℕ) (whole : List CsiParam) (Keeps : List CsiParam → Type 0) (tail : (t : CsiParam) (ts : List CsiParam) → Keeps (t ∷ ts) → Keeps ts)
-      (unread : (t : CsiParam) (ts : List CsiParam) → Keeps (t ∷ ts) → piece_of k final (t ∷ ts) ≡ None → is_exempt whole final (unspecified (t ∷ ts) truncated final) ≡ false → ReadsBack truncated (unspecified (t ∷ ts) truncated final)) where
+      (unread : (t : CsiParam) (ts : List CsiParam) → Keeps (t ∷ ts) → group_of k final (t ∷ ts) ≡ None → is_exempt whole final (unspecified (t ∷ ts) truncated final) ≡ false → ReadsBack truncated (unspecified (t ∷ ts) truncated final)) where
     abbrev from : ℕ → List CsiParam → List Action
-    from = pieces_from (piece_of k final) (λ rest. unspecified rest truncated final)
+    from = groups_from (group_of k final) (λ rest. unspecified rest truncated final)
 
-    from_found : (t : CsiParam) (ts : List CsiParam) (others : ℕ → List Action) (found : Option (Action × ℕ)) → piece_of k final (t ∷ ts) ≡ found → Keeps (t ∷ ts) → IsSuffix (t ∷ ts) whole
+    from_found : (t : CsiParam) (ts : List CsiParam) (others : ℕ → List Action) (found : Option (Action × ℕ)) → group_of k final (t ∷ ts) ≡ found → Keeps (t ∷ ts) → IsSuffix (t ∷ ts) whole
         → ((j : ℕ) → Each whole truncated final (others j))
         → Each whole truncated final (option_map_or (λ f. f.0 ∷ others (f.1 - 1)) found (unspecified (t ∷ ts) truncated final ∷ []))
     from_found t ts others None e h s each = inr (t ∷ ts, refl, refl, record { suffix = s; back = unread t ts h e })
-    from_found t ts others (Some f) e h s each = inl (piece-writable k final (t ∷ ts) f.0 f.1 e, each (f.1 - 1))
+    from_found t ts others (Some f) e h s each = inl (group-writable k final (t ∷ ts) f.0 f.1 e, each (f.1 - 1))
 
     from-each : (j : ℕ) (ts : List CsiParam) → Keeps ts → IsSuffix ts whole → Each whole truncated final (from j ts)
     from-each zero [] h s = tt
     from-each (suc j) [] h s = tt
     from-each (suc j) (t ∷ ts) h s = from-each j ts (tail t ts h) (suffix_tail whole t ts s)
-    from-each zero (t ∷ ts) h s = from_found t ts (λ j. from j ts) (piece_of k final (t ∷ ts)) refl h s (λ j. from-each j ts (tail t ts h) (suffix_tail whole t ts s))
+    from-each zero (t ∷ ts) h s = from_found t ts (λ j. from j ts) (group_of k final (t ∷ ts)) refl h s (λ j. from-each j ts (tail t ts h) (suffix_tail whole t ts s))
 
-    pieces-each : (ts : List CsiParam) → Keeps ts → IsSuffix ts whole → Each whole truncated final (pieces k truncated final ts)
-    unfolding pieces
-    pieces-each ts h s = from-each 0 ts h s
+    groups-each : (ts : List CsiParam) → Keeps ts → IsSuffix ts whole → Each whole truncated final (groups k truncated final ts)
+    unfolding groups
+    groups-each ts h s = from-each 0 ts h s
 
   -- a list that stays whole reads back as it is
   whole-each : (ts : List CsiParam) (final : ℕ) → csi_reading ts truncated final ≡ unspecified ts truncated final ∷ [] → Each ts truncated final (unspecified ts truncated final ∷ [])
@@ -110,17 +111,17 @@ module _ (truncated : Bool) where
   abbrev AreSgr : List CsiParam → Type 0
   AreSgr ts = all_sgr_tokens ts ≡ true
 
-  sgr_rest : (t : CsiParam) (ts : List CsiParam) → AreSgr (t ∷ ts) → piece_of sgr_pieces 109 (t ∷ ts) ≡ None → ReadsBack truncated (unspecified (t ∷ ts) truncated 109)
+  sgr_rest : (t : CsiParam) (ts : List CsiParam) → AreSgr (t ∷ ts) → group_of sgr_groups 109 (t ∷ ts) ≡ None → ReadsBack truncated (unspecified (t ∷ ts) truncated 109)
   unfolding csi_reading
   sgr_rest t ts h e =
-      ap (λ b. cond b (pieces sgr_pieces truncated 109 (t ∷ ts)) (unspecified (t ∷ ts) truncated 109 ∷ [])) h
-      ∙ pieces_rest sgr_pieces truncated 109 (t ∷ ts) e (omega arith)
+      ap (λ b. cond b (groups sgr_groups truncated 109 (t ∷ ts)) (unspecified (t ∷ ts) truncated 109 ∷ [])) h
+      ∙ groups_rest sgr_groups truncated 109 (t ∷ ts) e (omega arith)
 
   sgr_by : (t : CsiParam) (ts : List CsiParam) (b : Bool) → all_sgr_tokens (t ∷ ts) ≡ b
-      → Each (t ∷ ts) truncated 109 (cond b (pieces sgr_pieces truncated 109 (t ∷ ts)) (unspecified (t ∷ ts) truncated 109 ∷ []))
+      → Each (t ∷ ts) truncated 109 (cond b (groups sgr_groups truncated 109 (t ∷ ts)) (unspecified (t ∷ ts) truncated 109 ∷ []))
   unfolding csi_reading
-  sgr_by t ts true h = pieces-each sgr_pieces 109 (t ∷ ts) AreSgr (λ u us h. (and_parts (is_sgr_token u) (all_sgr_tokens us) h).1) (λ u us r e x. sgr_rest u us r e) (t ∷ ts) h (0, refl)
-  sgr_by t ts false h = whole-each (t ∷ ts) 109 (ap (λ b. cond b (pieces sgr_pieces truncated 109 (t ∷ ts)) (unspecified (t ∷ ts) truncated 109 ∷ [])) h)
+  sgr_by t ts true h = groups-each sgr_groups 109 (t ∷ ts) AreSgr (λ u us h. (and_parts (is_sgr_token u) (all_sgr_tokens us) h).1) (λ u us r e x. sgr_rest u us r e) (t ∷ ts) h (0, refl)
+  sgr_by t ts false h = whole-each (t ∷ ts) 109 (ap (λ b. cond b (groups sgr_groups truncated 109 (t ∷ ts)) (unspecified (t ∷ ts) truncated 109 ∷ [])) h)
 
   sgr-each : (ts : List CsiParam) → Each ts truncated 109 (sgr_reading truncated 109 ts)
   sgr-each [] = inl (tt, tt)
@@ -131,8 +132,8 @@ module _ (truncated : Bool) where
   abbrev Shorter : List CsiParam → List CsiParam → Type 0
   Shorter whole ts = length ts < length whole
 
-  no_standard : (final : ℕ) (ts : List CsiParam) → (eqb final 104 || eqb final 108) ≡ true → piece_of private_mode_pieces final ts ≡ None → piece_of standard_mode_pieces final ts ≡ None
-  unfolding mode_piece
+  no_standard : (final : ℕ) (ts : List CsiParam) → (eqb final 104 || eqb final 108) ≡ true → group_of private_mode_groups final ts ≡ None → group_of standard_mode_groups final ts ≡ None
+  unfolding mode_group
   no_standard final [] h e = refl
   no_standard final (P b ∷ ts) h e = refl
   no_standard final (Integer z ∷ ts) h e =
@@ -142,17 +143,17 @@ module _ (truncated : Bool) where
       none_from None us q = refl
       none_from (Some m) us q = cc
 
-  no_standard_of : (k : Kind) (final : ℕ) (ts : List CsiParam) → IsModes k → (eqb final 104 || eqb final 108) ≡ true → piece_of k final ts ≡ None → piece_of standard_mode_pieces final ts ≡ None
-  no_standard_of sgr_pieces final ts m h e = absurd m
-  no_standard_of private_mode_pieces final ts m h e = no_standard final ts h e
-  no_standard_of standard_mode_pieces final ts m h e = e
+  no_standard_of : (k : Kind) (final : ℕ) (ts : List CsiParam) → IsModes k → (eqb final 104 || eqb final 108) ≡ true → group_of k final ts ≡ None → group_of standard_mode_groups final ts ≡ None
+  no_standard_of sgr_groups final ts m h e = absurd m
+  no_standard_of private_mode_groups final ts m h e = no_standard final ts h e
+  no_standard_of standard_mode_groups final ts m h e = e
 
   -- a list without a `?` that no mode begins stays as it is under h and l
-  standard_whole : (final : ℕ) (ts : List CsiParam) → eqb final 109 ≡ false → (eqb final 104 || eqb final 108) ≡ true → begins_with_question ts ≡ false → piece_of standard_mode_pieces final ts ≡ None
+  standard_whole : (final : ℕ) (ts : List CsiParam) → eqb final 109 ≡ false → (eqb final 104 || eqb final 108) ≡ true → begins_with_question ts ≡ false → group_of standard_mode_groups final ts ≡ None
       → csi_reading ts truncated final ≡ unspecified ts truncated final ∷ []
   unfolding csi_reading
   standard_whole final ts o h q e =
-      rw o (standard_is truncated final ts q ∙ rw h (ap (λ found. cond (is_some found) (pieces standard_mode_pieces truncated final ts) (unspecified ts truncated final ∷ [])) e))
+      rw o (standard_is truncated final ts q ∙ rw h (ap (λ found. cond (is_some found) (groups standard_mode_groups truncated final ts) (unspecified ts truncated final ∷ [])) e))
 
   exempt_not : (final : ℕ) (whole rest : List CsiParam) → length rest < length whole → eqb final 109 ≡ false → is_exempt whole final (unspecified rest truncated final) ≡ false
       → (begins_with_question rest || (eqb final 115 || eqb final 114)) ≡ false
@@ -165,7 +166,7 @@ module _ (truncated : Bool) where
   ]
 
   modes_rest : (k : Kind) (final : ℕ) (whole : List CsiParam) → IsModes k → eqb final 109 ≡ false → ((eqb final 104 || eqb final 108) || (eqb final 115 || eqb final 114)) ≡ true
-      → (t : CsiParam) (ts : List CsiParam) → Shorter whole (t ∷ ts) → piece_of k final (t ∷ ts) ≡ None → is_exempt whole final (unspecified (t ∷ ts) truncated final) ≡ false
+      → (t : CsiParam) (ts : List CsiParam) → Shorter whole (t ∷ ts) → group_of k final (t ∷ ts) ≡ None → is_exempt whole final (unspecified (t ∷ ts) truncated final) ≡ false
       → ReadsBack truncated (unspecified (t ∷ ts) truncated final)
   modes_rest k final whole m o h t ts s e x =
       let not_exempt : (begins_with_question (t ∷ ts) || (eqb final 115 || eqb final 114)) ≡ false = exempt_not final whole (t ∷ ts) s o x in
@@ -174,23 +175,23 @@ module _ (truncated : Bool) where
       standard_whole final (t ∷ ts) o standard parts.0 (no_standard_of k final (t ∷ ts) m standard e)
 
   modes-each : (k : Kind) (final : ℕ) (whole ts : List CsiParam) → IsModes k → eqb final 109 ≡ false → ((eqb final 104 || eqb final 108) || (eqb final 115 || eqb final 114)) ≡ true
-      → Shorter whole ts → IsSuffix ts whole → Each whole truncated final (pieces k truncated final ts)
-  modes-each k final whole ts m o h l s = pieces-each k final whole (Shorter whole) (λ t us r. omega arith) (modes_rest k final whole m o h) ts l s
+      → Shorter whole ts → IsSuffix ts whole → Each whole truncated final (groups k truncated final ts)
+  modes-each k final whole ts m o h l s = groups-each k final whole (Shorter whole) (λ t us r. omega arith) (modes_rest k final whole m o h) ts l s
 
   -- the first mode stands, and so the others are those of a shorter list
   standing-each : (k : Kind) (final : ℕ) (whole ts : List CsiParam) (found : Option (Action × ℕ)) → IsModes k → eqb final 109 ≡ false
       → ((eqb final 104 || eqb final 108) || (eqb final 115 || eqb final 114)) ≡ true → IsSuffix ts whole
-      → piece_of k final ts ≡ found → is_some found ≡ true → Each whole truncated final (pieces k truncated final ts)
+      → group_of k final ts ≡ found → is_some found ≡ true → Each whole truncated final (groups k truncated final ts)
   standing-each k final whole ts None m o h s e x = cc
   standing-each k final whole ts (Some f) m o h s e x =
-      let takes : (0 < f.1) × (f.1 ≤ length ts) = piece_of_takes k final ts f.0 f.1 e in
+      let takes : (0 < f.1) × (f.1 ≤ length ts) = group_of_takes k final ts f.0 f.1 e in
       let shorter : length (drop f.1 ts) < length whole = omega (arith, length-drop f.1 ts, takes.0, takes.1, ap length s.1, length-drop s.0 whole) in
       let behind : IsSuffix (drop f.1 ts) whole = (s.0 + f.1, ap (drop f.1) s.1 ∙ drop-drop f.1 s.0 whole) in
-      let both : Each whole truncated final (f.0 ∷ pieces k truncated final (drop f.1 ts)) = inl (piece-writable k final ts f.0 f.1 e, modes-each k final whole (drop f.1 ts) m o h shorter behind) in
-      subst (Each whole truncated final) (sym (pieces_found k truncated final ts f.0 f.1 e)) both
+      let both : Each whole truncated final (f.0 ∷ groups k truncated final (drop f.1 ts)) = inl (group-writable k final ts f.0 f.1 e, modes-each k final whole (drop f.1 ts) m o h shorter behind) in
+      subst (Each whole truncated final) (sym (groups_found k truncated final ts f.0 f.1 e)) both
 
-  finals_of_private : (final : ℕ) (ts : List CsiParam) → is_some (piece_of private_mode_pieces final ts) ≡ true → ((eqb final 104 || eqb final 108) || (eqb final 115 || eqb final 114)) ≡ true
-  unfolding mode_piece
+  finals_of_private : (final : ℕ) (ts : List CsiParam) → is_some (group_of private_mode_groups final ts) ≡ true → ((eqb final 104 || eqb final 108) || (eqb final 115 || eqb final 114)) ≡ true
+  unfolding mode_group
   finals_of_private final [] h = cc
   finals_of_private final (P b ∷ ts) h = cc
   finals_of_private final (Integer z ∷ ts) h = some_private final z (some_from (private_mode_reading final z) (Integer z ∷ ts) h)
@@ -199,42 +200,42 @@ module _ (truncated : Bool) where
       some_from None us q = cc
       some_from (Some m) us q = refl
 
-  modes_or-each : (k : Kind) (final : ℕ) (whole ts : List CsiParam) (b : Bool) → is_some (piece_of k final ts) ≡ b → IsModes k → eqb final 109 ≡ false
-      → (is_some (piece_of k final ts) ≡ true → ((eqb final 104 || eqb final 108) || (eqb final 115 || eqb final 114)) ≡ true) → IsSuffix ts whole
+  modes_or-each : (k : Kind) (final : ℕ) (whole ts : List CsiParam) (b : Bool) → is_some (group_of k final ts) ≡ b → IsModes k → eqb final 109 ≡ false
+      → (is_some (group_of k final ts) ≡ true → ((eqb final 104 || eqb final 108) || (eqb final 115 || eqb final 114)) ≡ true) → IsSuffix ts whole
       → csi_reading whole truncated final ≡ modes_or k truncated final ts whole
-      → Each whole truncated final (cond b (pieces k truncated final ts) (unspecified whole truncated final ∷ []))
-  modes_or-each k final whole ts true e m o finals l q = standing-each k final whole ts (piece_of k final ts) m o (finals e) l refl e
+      → Each whole truncated final (cond b (groups k truncated final ts) (unspecified whole truncated final ∷ []))
+  modes_or-each k final whole ts true e m o finals l q = standing-each k final whole ts (group_of k final ts) m o (finals e) l refl e
   modes_or-each k final whole ts false e m o finals l q =
-      whole-each whole final (q ∙ ap (λ b. cond b (pieces k truncated final ts) (unspecified whole truncated final ∷ [])) e)
+      whole-each whole final (q ∙ ap (λ b. cond b (groups k truncated final ts) (unspecified whole truncated final ∷ [])) e)
 
   -- ---- One spelling for the whole list
 
-  lone_by : (ts : List CsiParam) (final : ℕ) (c : Option Cursor) (e : Option Edit) (d : Option Device) → cursor_reading final ts ≡ c → edit_reading final ts ≡ e → device_reading final ts ≡ d
-      → csi_reading ts truncated final ≡ lone_or truncated final ts
+  single_by : (ts : List CsiParam) (final : ℕ) (c : Option Cursor) (e : Option Edit) (d : Option Device) → cursor_reading final ts ≡ c → edit_reading final ts ≡ e → device_reading final ts ≡ d
+      → csi_reading ts truncated final ≡ single_or truncated final ts
       → Each ts truncated final (option_map_or (λ known. known ∷ []) (option_or (option_map cursor c) (option_or (option_map edit e) (option_map device d))) (unspecified ts truncated final ∷ []))
-  lone_by ts final (Some c) e d p q r w = inl (cursor_reading-writable final ts c p, tt)
-  lone_by ts final None (Some e) d p q r w = inl (edit_reading-writable final ts e q, tt)
-  lone_by ts final None None (Some d) p q r w = inl (tt, tt)
-  lone_by ts final None None None p q r w = whole-each ts final (w
+  single_by ts final (Some c) e d p q r w = inl (cursor_reading-writable final ts c p, tt)
+  single_by ts final None (Some e) d p q r w = inl (edit_reading-writable final ts e q, tt)
+  single_by ts final None None (Some d) p q r w = inl (tt, tt)
+  single_by ts final None None None p q r w = whole-each ts final (w
       ∙ ap (λ c. option_map_or (λ known. known ∷ []) (option_or (option_map cursor c) (option_or (option_map edit (edit_reading final ts)) (option_map device (device_reading final ts)))) (unspecified ts truncated final ∷ [])) p
       ∙ ap (λ e. option_map_or (λ known. known ∷ []) (option_or (option_map edit e) (option_map device (device_reading final ts))) (unspecified ts truncated final ∷ [])) q
       ∙ ap (λ d. option_map_or (λ known. known ∷ []) (option_map device d) (unspecified ts truncated final ∷ [])) r)
 
   standard_by : (ts : List CsiParam) (final : ℕ) (b : Bool) → (eqb final 104 || eqb final 108) ≡ b → eqb final 109 ≡ false
-      → csi_reading ts truncated final ≡ cond b (modes_or standard_mode_pieces truncated final ts ts) (lone_or truncated final ts)
-      → Each ts truncated final (cond b (modes_or standard_mode_pieces truncated final ts ts) (lone_or truncated final ts))
+      → csi_reading ts truncated final ≡ cond b (modes_or standard_mode_groups truncated final ts ts) (single_or truncated final ts)
+      → Each ts truncated final (cond b (modes_or standard_mode_groups truncated final ts ts) (single_or truncated final ts))
   standard_by ts final true h o w =
-      modes_or-each standard_mode_pieces final ts ts (is_some (piece_of standard_mode_pieces final ts)) refl tt o (λ x. or_left (eqb final 104 || eqb final 108) (eqb final 115 || eqb final 114) h) (0, refl) w
-  standard_by ts final false h o w = lone_by ts final (cursor_reading final ts) (edit_reading final ts) (device_reading final ts) refl refl refl w
+      modes_or-each standard_mode_groups final ts ts (is_some (group_of standard_mode_groups final ts)) refl tt o (λ x. or_left (eqb final 104 || eqb final 108) (eqb final 115 || eqb final 114) h) (0, refl) w
+  standard_by ts final false h o w = single_by ts final (cursor_reading final ts) (edit_reading final ts) (device_reading final ts) refl refl refl w
 
   standard-each : (ts : List CsiParam) (final : ℕ) → eqb final 109 ≡ false → csi_reading ts truncated final ≡ standard_reading truncated final ts → Each ts truncated final (standard_reading truncated final ts)
   standard-each ts final o w = standard_by ts final (eqb final 104 || eqb final 108) refl o w
 
   question_by : (b : ℕ) (ts : List CsiParam) (final : ℕ) (v : Bool) → eqb final 109 ≡ false
-      → csi_reading (P b ∷ ts) truncated final ≡ cond v (modes_or private_mode_pieces truncated final ts (P b ∷ ts)) (standard_reading truncated final (P b ∷ ts))
-      → Each (P b ∷ ts) truncated final (cond v (modes_or private_mode_pieces truncated final ts (P b ∷ ts)) (standard_reading truncated final (P b ∷ ts)))
+      → csi_reading (P b ∷ ts) truncated final ≡ cond v (modes_or private_mode_groups truncated final ts (P b ∷ ts)) (standard_reading truncated final (P b ∷ ts))
+      → Each (P b ∷ ts) truncated final (cond v (modes_or private_mode_groups truncated final ts (P b ∷ ts)) (standard_reading truncated final (P b ∷ ts)))
   question_by b ts final true o w =
-      modes_or-each private_mode_pieces final (P b ∷ ts) ts (is_some (piece_of private_mode_pieces final ts)) refl tt o (finals_of_private final ts) (1, refl) w
+      modes_or-each private_mode_groups final (P b ∷ ts) ts (is_some (group_of private_mode_groups final ts)) refl tt o (finals_of_private final ts) (1, refl) w
   question_by b ts final false o w = standard-each (P b ∷ ts) final o w
 
   other-each : (ts : List CsiParam) (final : ℕ) → eqb final 109 ≡ false → csi_reading ts truncated final ≡ other_reading truncated final ts → Each ts truncated final (other_reading truncated final ts)
@@ -265,12 +266,14 @@ writable_actions_read_back-lem truncated (unspecified params flag final) h = abs
 pub actions_read_back-lem : ActionsReadBack
 actions_read_back-lem ts truncated final = by (csi_reading ts truncated final) (reading-each ts truncated final)
   where
-    by : (actions : List Action) → Each ts truncated final actions → EachReadsBack ts truncated final actions
+    Back : Action → Type 0
+    Back a = is_exempt ts final a ≡ false → ReadsBack truncated a
+
+    by : (actions : List Action) → Each ts truncated final actions → AllByRecursion Back actions
     by [] h = tt
     by (a ∷ others) (inl h) = (λ x. writable_actions_read_back-lem truncated a h.0, by others h.1)
     by (a ∷ others) (inr r) =
-        let Back : Action → Type 0 = λ a. is_exempt ts final a ≡ false → ReadsBack truncated a in
-        (subst Back (sym r.1) r.3.back, subst (EachReadsBack ts truncated final) (sym r.2) tt)
+        (subst Back (sym r.1) r.3.back, subst (AllByRecursion Back) (sym r.2) tt)
 
 -- ---- The rest comes last
 

@@ -1,12 +1,13 @@
--- What a piece of SGR takes are tokens of SGR, so whether a list has only such is told by what stands behind its first piece.
+-- What a group of SGR takes are tokens of SGR, so whether a list has only such is told by what stands behind its first group.
 use Rattle.std.proofs.Common.{◌≡◌, ℕ, zero, suc, ◌+◌, ℤ, eqb, Bool, true, cond, ◌&&◌, ◌||◌, List, [], ◌∷◌, length, drop, Option, Some, None, IfSome, option_map, arith, refl, sym, ap, ◌∙◌, subst, inl, inr}
 use Rattle.std.proofs.lemmas.Bool.{cases_Bool, eqb-true, and_parts, or_left}
 use Rattle.csi_codec.specs.declared.parameters.CsiParam.{CsiParam}
 use Rattle.csi_codec.specs.declared.parameters.CsiParam.TheVariants.{Integer, P}
 use Rattle.csi_codec.specs.declared.rendition.Sgr.{Sgr}
 use Rattle.csi_codec.specs.Parameters.{semicolon_at, with_semicolon}
-use Rattle.csi_codec.specs.Rendition.{Part, byte_part, number_part, any_number, is_part, stands, Form, colour_forms, sgr_shape, sgr_piece}
-use Rattle.csi_codec.specs.Actions.{Action, sgr, rendition_piece, all_sgr_tokens, is_sgr_token}
+use Rattle.csi_codec.specs.Rendition.{Part, byte_part, number_part, any_number, is_part, stands, Form, colour_forms, sgr_shape, sgr_group}
+use Rattle.csi_codec.specs.Actions.{Action, sgr, all_sgr_tokens, is_sgr_token}
+use Rattle.csi_codec.proofs.PieceLemmas.{rendition_group}
 use Rattle.csi_codec.proofs.ShapeLemmas.{EachForm, EachShape, sgr_shape-each}
 
 -- a part of a shape is a number, `;` or `:`
@@ -26,11 +27,11 @@ part_is_token (number_part n) (P c) s h = cc
 part_is_token any_number (P c) s h = cc
 
 -- whether all are tokens of SGR is told by those behind the first n
-abbrev ToldBehind : List CsiParam → ℕ → Type 0
-ToldBehind ts n = all_sgr_tokens ts ≡ all_sgr_tokens (drop n ts)
+abbrev ToldAfter : List CsiParam → ℕ → Type 0
+ToldAfter ts n = all_sgr_tokens ts ≡ all_sgr_tokens (drop n ts)
 
 -- by those behind a shape that stands
-stands-sgr : (parts : List Part) (ts : List CsiParam) → all_sgr_parts parts ≡ true → stands parts ts ≡ true → ToldBehind ts (length parts)
+stands-sgr : (parts : List Part) (ts : List CsiParam) → all_sgr_parts parts ≡ true → stands parts ts ≡ true → ToldAfter ts (length parts)
 stands-sgr [] ts s h = refl
 stands-sgr (part ∷ parts) [] s h = cc
 stands-sgr (part ∷ parts) (t ∷ ts) s h =
@@ -39,21 +40,21 @@ stands-sgr (part ∷ parts) (t ∷ ts) s h =
 
 -- by those behind what was found
 abbrev Passes : {A : Type 0} → List CsiParam → Option (A × ℕ) → Type 0
-Passes ts found = IfSome found (λ f. ToldBehind ts f.1)
+Passes ts found = IfSome found (λ f. ToldAfter ts f.1)
 
 abbrev all_sgr_forms : List Form → Bool
 all_sgr_forms [] = true
 all_sgr_forms (form ∷ forms) = all_sgr_parts form.0 && all_sgr_forms forms
 
-forms_pass : (forms : List Form) → all_sgr_forms forms ≡ true → EachForm (λ ts f. ToldBehind ts f.1) forms
+forms_pass : (forms : List Form) → all_sgr_forms forms ≡ true → EachForm (λ ts f. ToldAfter ts f.1) forms
 forms_pass [] s = tt
 forms_pass (form ∷ forms) s =
     let parts = and_parts (all_sgr_parts form.0) (all_sgr_forms forms) s in (λ ts c stood e. stands-sgr form.0 ts parts.0 stood, forms_pass forms parts.1)
 
-one_more : (z : ℤ) (ts : List CsiParam) (n : ℕ) → ToldBehind ts n → ToldBehind (Integer z ∷ ts) (n + 1)
+one_more : (z : ℤ) (ts : List CsiParam) (n : ℕ) → ToldAfter ts n → ToldAfter (Integer z ∷ ts) (n + 1)
 one_more z ts n h = let e : suc n ≡ n + 1 = omega arith in h ∙ ap (λ k. all_sgr_tokens (drop k (Integer z ∷ ts))) e
 
-shapes_pass : EachShape (λ ts f. ToldBehind ts f.1) (λ ts f. ToldBehind ts f.1)
+shapes_pass : EachShape (λ ts f. ToldAfter ts f.1) (λ ts f. ToldAfter ts f.1)
 shapes_pass = record {
   form = forms_pass colour_forms refl;
   colour = λ t z ts f h. one_more z ts f.1 h;
@@ -62,30 +63,30 @@ shapes_pass = record {
   reset = λ ts. refl;
 }
 
--- and behind the `;` that a piece takes too
-behind_semicolon : (ts : List CsiParam) (n : ℕ) → all_sgr_tokens (drop n ts) ≡ all_sgr_tokens (drop (n + semicolon_at ts n) ts)
-behind_semicolon [] zero = refl
-behind_semicolon [] (suc n) = let e : suc n ≡ suc n + semicolon_at [] (suc n) = omega arith in ap (λ k. all_sgr_tokens (drop k [])) e
-behind_semicolon (Integer z ∷ ts) zero = refl
-behind_semicolon (P b ∷ ts) zero = elim (cases_Bool (eqb b 59)) [
+-- and behind the `;` that a group takes too
+after_semicolon : (ts : List CsiParam) (n : ℕ) → all_sgr_tokens (drop n ts) ≡ all_sgr_tokens (drop (n + semicolon_at ts n) ts)
+after_semicolon [] zero = refl
+after_semicolon [] (suc n) = let e : suc n ≡ suc n + semicolon_at [] (suc n) = omega arith in ap (λ k. all_sgr_tokens (drop k [])) e
+after_semicolon (Integer z ∷ ts) zero = refl
+after_semicolon (P b ∷ ts) zero = elim (cases_Bool (eqb b 59)) [
   | inl e ↦ rw e refl
   | inr e ↦ subst (λ v. all_sgr_tokens (P b ∷ ts) ≡ all_sgr_tokens (drop (0 + cond v 1 0) (P b ∷ ts))) (sym e) refl
 ]
-behind_semicolon (t ∷ ts) (suc n) =
+after_semicolon (t ∷ ts) (suc n) =
     let e : suc (n + semicolon_at ts n) ≡ suc n + semicolon_at ts n = omega arith in
-    behind_semicolon ts n ∙ ap (λ k. all_sgr_tokens (drop k (t ∷ ts))) e
+    after_semicolon ts n ∙ ap (λ k. all_sgr_tokens (drop k (t ∷ ts))) e
 
 with_semicolon-passes : {A : Type 0} (ts : List CsiParam) (found : Option (A × ℕ)) → Passes ts found → Passes ts (with_semicolon ts found)
 with_semicolon-passes ts None h = tt
-with_semicolon-passes ts (Some f) h = h ∙ behind_semicolon ts f.1
+with_semicolon-passes ts (Some f) h = h ∙ after_semicolon ts f.1
 
 as_action : (ts : List CsiParam) (found : Option (Sgr × ℕ)) → Passes ts found → Passes ts (option_map (λ f. (sgr f.0, f.1)) found)
 as_action ts None h = tt
 as_action ts (Some f) h = h
 
-rendition_piece-passes : (ts : List CsiParam) → Passes ts (rendition_piece ts)
-unfolding sgr_piece
-rendition_piece-passes ts = as_action ts (sgr_piece ts) (with_semicolon-passes ts (sgr_shape ts) (sgr_shape-each shapes_pass ts))
+rendition_group-passes : (ts : List CsiParam) → Passes ts (rendition_group ts)
+unfolding sgr_group
+rendition_group-passes ts = as_action ts (sgr_group ts) (with_semicolon-passes ts (sgr_shape ts) (sgr_shape-each shapes_pass ts))
 
-pub sgr_tokens_behind : (ts : List CsiParam) (a : Action) (n : ℕ) → rendition_piece ts ≡ Some (a, n) → all_sgr_tokens ts ≡ all_sgr_tokens (drop n ts)
-sgr_tokens_behind ts a n e = let P : Option (Action × ℕ) → Type 0 = λ found. Passes ts found in subst P e (rendition_piece-passes ts)
+pub sgr_tokens_after : (ts : List CsiParam) (a : Action) (n : ℕ) → rendition_group ts ≡ Some (a, n) → all_sgr_tokens ts ≡ all_sgr_tokens (drop n ts)
+sgr_tokens_after ts a n e = let P : Option (Action × ℕ) → Type 0 = λ found. Passes ts found in subst P e (rendition_group-passes ts)

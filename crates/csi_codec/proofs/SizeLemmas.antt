@@ -1,5 +1,5 @@
 -- How many bytes the text of a value that can be written has at most.
-use Rattle.std.proofs.Common.{◌≡◌, ℕ, ◌+◌, ◌<◌, ◌≤◌, ◌^◌, pos, eqb, List, [], ◌∷◌, length, length-append, Option, Some, None, arith, ap, subst, sym, refl}
+use Rattle.std.proofs.Common.{◌≡◌, ℕ, ◌+◌, ◌<◌, ◌≤◌, ◌^◌, pos, eqb, List, [], ◌∷◌, length, length-append, arith, ap, refl}
 use Rattle.std.specs.Prelude.{flat_map, encode_utf8}
 use Rattle.std.specs.Fmt.{decimal}
 use Rattle.std.proofs.lemmas.Fmt.{length-decimal-le}
@@ -7,6 +7,10 @@ use Rattle.std.proofs.lemmas.Bool.{leb-true, cond_both}
 use Rattle.std.proofs.lemmas.Str.{encode_ascii}
 use Rattle.csi_codec.specs.declared.parameters.CsiParam.{CsiParam}
 use Rattle.csi_codec.specs.declared.parameters.CsiParam.TheVariants.{Integer, P}
+use Rattle.csi_codec.specs.declared.cursors.Cursor.{Cursor}
+use Rattle.csi_codec.specs.declared.devices.Device.{Device}
+use Rattle.csi_codec.specs.declared.modes.Mode.{Mode}
+use Rattle.csi_codec.specs.declared.rendition.Sgr.{Sgr}
 use Rattle.csi_codec.specs.declared.devices.Device.TheVariants.{SoftReset, RequestPrimaryDeviceAttributes, StatusReport}
 use Rattle.csi_codec.specs.declared.modes.DecPrivateMode.{DecPrivateMode}
 use Rattle.csi_codec.specs.declared.modes.TerminalMode.{TerminalMode}
@@ -22,12 +26,10 @@ use Rattle.csi_codec.specs.Modes.{mode_spelling, dec_mode_code, ansi_mode_code}
 use Rattle.csi_codec.specs.Rendition.{palette_tokens, opaque_tokens, alpha_tokens, sgr_spelling}
 use Rattle.csi_codec.specs.Actions.{Action, sgr, cursor, edit, mode, device, unspecified, spelling_of}
 use Rattle.csi_codec.specs.Sequences.{csi_text}
-use Rattle.csi_codec.specs.Escapes.{bytes_of_pair}
-use Rattle.csi_codec.specs.Writable.{IsWritablePrivateMode, IsWritableStandardMode, pair_bytes}
-use Rattle.csi_codec.specs.Sizes.{SgrsAreShort, CursorsAreShort, EditsAreShort, ModesAreShort, DevicesAreShort, ActionsAreShort, PairsAreShort}
+use Rattle.csi_codec.specs.Writable.{IsWritableCursor, IsWritableEdit, IsWritablePrivateMode, IsWritableStandardMode, IsWritableMode, IsWritableSgr}
+use Rattle.csi_codec.specs.Sizes.{ActionsAreShort}
 use Rattle.csi_codec.proofs.SlotLemmas.{AreDigits, cursor_digits, edit_digits, cursor_final, edit_final}
 use Rattle.csi_codec.proofs.ModeBack.{private_within, standard_within}
-use Rattle.csi_codec.proofs.PairTrip.{pairs_read_back-lem}
 use Rattle.csi_codec.proofs.ShapeLemmas.{Target, foreground}
 use Rattle.csi_codec.proofs.SgrForms.{EachWritten, number_of, sgr_tokens-each}
 
@@ -105,7 +107,7 @@ width_within : (s : Slots) → width s ≤ 21
 width_within (paired a b) = omega arith
 width_within _ = omega arith
 
-pub cursors_are_short : CursorsAreShort
+cursors_are_short : (c : Cursor) → IsWritableCursor c → length (csi_text (cursor c)) ≤ 24
 unfolding cursor_spelling
 cursors_are_short c h =
     text_short 21 (cursor c) (weaker (width (cursor_slots c).0) 21 (slots_tokens (cursor_slots c).0) (slots_short (cursor_slots c).0 h (cursor_digits c)) (width_within (cursor_slots c).0))
@@ -116,13 +118,13 @@ one_number : (e : Edit) → width (edit_slots e).0 ≡ 10
 one_number (change.Repeat n) = refl
 one_number _ = refl
 
-pub edits_are_short : EditsAreShort
+edits_are_short : (e : Edit) → IsWritableEdit e → length (csi_text (edit e)) ≤ 13
 unfolding edit_spelling
 edits_are_short e h =
     text_short 10 (edit e) (weaker (width (edit_slots e).0) 10 (slots_tokens (edit_slots e).0) (slots_short (edit_slots e).0 h (edit_digits e)) (omega (arith, one_number e)))
     (omega (arith, (edit_final e).high))
 
-pub devices_are_short : DevicesAreShort
+devices_are_short : (d : Device) → length (csi_text (device d)) ≤ 4
 unfolding device_spelling
 devices_are_short SoftReset = text_short 1 (device SoftReset) (sign_first 0 33 [] (omega arith) (omega arith)) (omega arith)
 devices_are_short RequestPrimaryDeviceAttributes = text_short 1 (device RequestPrimaryDeviceAttributes) (omega arith) (omega arith)
@@ -138,7 +140,7 @@ standard_short m h =
     let small : ansi_mode_code m ≤ 65535 = leb-true (ansi_mode_code m) 65535 (standard_within m h) in
     number_short 6 (ansi_mode_code m) (omega arith) (omega arith) (omega arith)
 
-pub modes_are_short : ModesAreShort
+modes_are_short : (m : Mode) → IsWritableMode m → length (csi_text (mode m)) ≤ 9
 unfolding mode_spelling
 modes_are_short (does.SetDecPrivateMode m) h = text_short 6 (mode (does.SetDecPrivateMode m)) (private_short m h) (omega arith)
 modes_are_short (does.ResetDecPrivateMode m) h = text_short 6 (mode (does.ResetDecPrivateMode m)) (private_short m h) (omega arith)
@@ -188,7 +190,7 @@ forms_short = record {
   alpha = λ t r g b a h k l m. alpha_short (number_of t) r g b a (target_few t) h k l m;
 }
 
-pub sgrs_are_short : SgrsAreShort
+sgrs_are_short : (v : Sgr) → IsWritableSgr v → length (csi_text (sgr v)) ≤ 24
 unfolding sgr_spelling
 sgrs_are_short v h = text_short 21 (sgr v) (sgr_tokens-each forms_short v h) (omega arith)
 
@@ -199,12 +201,3 @@ actions_are_short (edit e) h = omega (arith, edits_are_short e h)
 actions_are_short (mode m) h = omega (arith, modes_are_short m h)
 actions_are_short (device d) h = omega (arith, devices_are_short d)
 actions_are_short (unspecified params flag final) h = absurd h
-
--- ---- ESC pairs
-
-pair_short_by : (between : Option ℕ) (final : ℕ) → length (pair_bytes between final) ≤ 3
-pair_short_by None final = omega arith
-pair_short_by (Some between) final = omega arith
-
-pub pairs_are_short : PairsAreShort
-pairs_are_short e h = subst (λ (text : List ℕ). length text ≤ 3) (sym (pairs_read_back-lem e h).text) (pair_short_by (bytes_of_pair e).0 (bytes_of_pair e).1)

@@ -25,7 +25,7 @@ use Rattle.csi_codec.specs.Devices.{device_reading, device_spelling}
 use Rattle.csi_codec.specs.Actions.{cursor, edit, device, csi_reading}
 use Rattle.csi_codec.specs.Laws.{ReadsBack}
 use Rattle.csi_codec.specs.Writable.{IsWritableCursor, IsWritableEdit}
-use Rattle.csi_codec.proofs.BackLemmas.{IsLone, lone_back, cursor_found, edit_found, count_back, count_tokens_back, pair_back, slots_plain}
+use Rattle.csi_codec.proofs.BackLemmas.{IsSingle, single_back, cursor_found, edit_found, count_back, count_tokens_back, pair_back, slots_plain}
 
 -- ---- What is written for it is read as it
 
@@ -102,13 +102,13 @@ edit_read (change.EraseInLine known) h = line_read known
 
 -- ---- And as no other
 
-cursor_lone : (c : Cursor) → IsLone (cursor_slots c).1
-cursor_lone variant.SaveCursor = record { other = refl; no_modes = refl }
-cursor_lone _ = record { other = refl; no_modes = refl }
+cursor_single : (c : Cursor) → IsSingle (cursor_slots c).1
+cursor_single variant.SaveCursor = record { other = refl; no_modes = refl }
+cursor_single _ = record { other = refl; no_modes = refl }
 
-edit_lone : (e : Edit) → IsLone (edit_slots e).1
-edit_lone (change.Repeat n) = record { other = refl; no_modes = refl }
-edit_lone _ = record { other = refl; no_modes = refl }
+edit_single : (e : Edit) → IsSingle (edit_slots e).1
+edit_single (change.Repeat n) = record { other = refl; no_modes = refl }
+edit_single _ = record { other = refl; no_modes = refl }
 
 no_cursor : (e : Edit) (ts : List CsiParam) → cursor_reading (edit_slots e).1 ts ≡ None
 unfolding cursor_reading
@@ -119,13 +119,13 @@ module _ (truncated : Bool) where
   pub cursor_back : (c : Cursor) → IsWritableCursor c → ReadsBack truncated (cursor c)
   unfolding cursor_spelling
   cursor_back c h =
-      lone_back truncated (cursor_slots c).1 (slots_tokens (cursor_slots c).0) (cursor c) (cursor_lone c) (slots_plain (cursor_slots c).0)
+      single_back truncated (cursor_slots c).1 (slots_tokens (cursor_slots c).0) (cursor c) (cursor_single c) (slots_plain (cursor_slots c).0)
       (cursor_found (cursor_slots c).1 (slots_tokens (cursor_slots c).0) c (cursor_read c h))
 
   pub edit_back : (e : Edit) → IsWritableEdit e → ReadsBack truncated (edit e)
   unfolding edit_spelling
   edit_back e h =
-      lone_back truncated (edit_slots e).1 (slots_tokens (edit_slots e).0) (edit e) (edit_lone e) (slots_plain (edit_slots e).0)
+      single_back truncated (edit_slots e).1 (slots_tokens (edit_slots e).0) (edit e) (edit_single e) (slots_plain (edit_slots e).0)
       (edit_found (edit_slots e).1 (slots_tokens (edit_slots e).0) e (no_cursor e (slots_tokens (edit_slots e).0)) (edit_read e h))
 
   pub device_back : (d : Device) → ReadsBack truncated (device d)

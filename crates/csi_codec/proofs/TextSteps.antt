@@ -163,11 +163,11 @@ table_digits n h = digits_below 256 n refl h
 
 -- ---- Larger numbers
 
-pub behind_front : (n : ℕ) → 10 ≤ n → n < 2 ^ 64 → length (decimal n) ≡ length (decimal (n / 10)) + 1
-behind_front n low high = ap length (decimal_step n low high) ∙ length-append (decimal (n / 10)) ((48 + n % 10) ∷ [])
+pub after_front : (n : ℕ) → 10 ≤ n → n < 2 ^ 64 → length (decimal n) ≡ length (decimal (n / 10)) + 1
+after_front n low high = ap length (decimal_step n low high) ∙ length-append (decimal (n / 10)) ((48 + n % 10) ∷ [])
 
-pub digit_behind : (old front new : List ℕ) (n : ℕ) → 10 ≤ n → n < 2 ^ 64 → front ≡ old ++ decimal (n / 10) → new ≡ front ++ (48 + n % 10) ∷ [] → new ≡ old ++ decimal n
-digit_behind old front new n low high e f =
+pub digit_after : (old front new : List ℕ) (n : ℕ) → 10 ≤ n → n < 2 ^ 64 → front ≡ old ++ decimal (n / 10) → new ≡ front ++ (48 + n % 10) ∷ [] → new ≡ old ++ decimal n
+digit_after old front new n low high e f =
     f ∙ ap (λ it. it ++ (48 + n % 10) ∷ []) e ∙ append_assoc old (decimal (n / 10)) ((48 + n % 10) ∷ []) ∙ ap (λ it. old ++ it) (sym (decimal_step n low high))
 
 -- the room that is asked for is there
@@ -175,7 +175,7 @@ pub has_small_room : (old : List ℕ) (n : ℕ) → 0 < length (decimal n) → l
 has_small_room old n some room = omega arith
 
 pub has_last_room : (old front : List ℕ) (n : ℕ) → 10 ≤ n → n < 2 ^ 64 → front ≡ old ++ decimal (n / 10) → length old + length (decimal n) + 2 ≤ 32 → length front < 32
-has_last_room old front n low high e room = omega (arith, ap length e, length-append old (decimal (n / 10)), behind_front n low high)
+has_last_room old front n low high e room = omega (arith, ap length e, length-append old (decimal (n / 10)), after_front n low high)
 
 -- ---- Sequences
 

@@ -6,7 +6,7 @@ use Rattle.std.proofs.lemmas.Bool.Decides.{nat_tests}
 use Rattle.std.proofs.lemmas.Bool.{cases_lt}
 use Rattle.std.proofs.lemmas.List.{append-nil, length-take-le, take-append-le, take_all}
 use Rattle.std.proofs.Math.Seq.{take-length}
-use Rattle.csi_codec.specs.Texts.{largest_number, begun_token, tokens_behind, tokens_of}
+use Rattle.csi_codec.specs.Texts.{largest_number, begun_token, tokens_after, tokens_of}
 use Rattle.csi_codec.specs.Fronts.{most_tokens}
 use Rattle.csi_codec.specs.Tokens.{Parameters, no_parameters, with_token, with_number, next_number, with_byte, parameters_of}
 use Rattle.csi_codec.specs.declared.parameters.CsiParam.{CsiParam}
@@ -149,15 +149,15 @@ shows_other p ts begun b d s =
       number = numbered p (P b) None;
     })
 
-keeps_all : (bytes : List ℕ) (p : Parameters) (ts : List CsiParam) (begun : Option ℕ) → Shows p ts begun → Keeps (fold with_byte p bytes) (ts ++ tokens_behind begun bytes)
+keeps_all : (bytes : List ℕ) (p : Parameters) (ts : List CsiParam) (begun : Option ℕ) → Shows p ts begun → Keeps (fold with_byte p bytes) (ts ++ tokens_after begun bytes)
 keeps_all [] p ts begun s = s.keeps
 keeps_all (b ∷ bytes) p ts begun s = by_test (λ q us c h. keeps_all bytes q us c h) (is_ascii_digit b) refl
   where
-    by_test : ((q : Parameters) (us : List CsiParam) (c : Option ℕ) → Shows q us c → Keeps (fold with_byte q bytes) (us ++ tokens_behind c bytes))
-        → (t : Bool) → is_ascii_digit b ≡ t → Keeps (fold with_byte p (b ∷ bytes)) (ts ++ tokens_behind begun (b ∷ bytes))
+    by_test : ((q : Parameters) (us : List CsiParam) (c : Option ℕ) → Shows q us c → Keeps (fold with_byte q bytes) (us ++ tokens_after c bytes))
+        → (t : Bool) → is_ascii_digit b ≡ t → Keeps (fold with_byte p (b ∷ bytes)) (ts ++ tokens_after begun (b ∷ bytes))
     by_test go true d = rw d (go (with_byte p b) ts (Some (10 * unwrap_or begun 0 + (b - 48))) (shows_digit p ts begun b d s))
     by_test go false d =
-        rw d (subst (Keeps (fold with_byte (with_byte p b) bytes)) (append_assoc (ts ++ begun_token begun) (P b ∷ []) (tokens_behind None bytes) ∙ append_assoc ts (begun_token begun) (P b ∷ tokens_behind None bytes))
+        rw d (subst (Keeps (fold with_byte (with_byte p b) bytes)) (append_assoc (ts ++ begun_token begun) (P b ∷ []) (tokens_after None bytes) ∙ append_assoc ts (begun_token begun) (P b ∷ tokens_after None bytes))
         (go (with_byte p b) ((ts ++ begun_token begun) ++ P b ∷ []) None (shows_other p ts begun b d s)))
 
 pub keeps_tokens : (bytes : List ℕ) → Keeps (parameters_of bytes) (tokens_of bytes)

@@ -87,14 +87,14 @@ target_large _ = refl
 forms_written : EachWritten (λ ts v. is_spellable ts ≡ true)
 forms_written = record {
   lone = λ n v h e. number_written n (omega arith);
-  line = λ n u h e. number_behind n (byte_large n (omega arith));
+  line = λ n u h e. number_after n (byte_large n (omega arith));
   palette = λ t n h. rw (target_large t, byte_large n h) refl;
   opaque = λ t r g b h k l. rw (target_large t, byte_large r h, byte_large g k, byte_large b l) refl;
   alpha = λ t r g b a h k l m. rw (target_large t, byte_large r h, byte_large g k, byte_large b l, byte_large a m) refl;
 }
   where
-    number_behind : (n : ℕ) → leb n largest_number ≡ true → is_spellable (number 4 ∷ P 58 ∷ number n ∷ []) ≡ true
-    number_behind n e = rw e refl
+    number_after : (n : ℕ) → leb n largest_number ≡ true → is_spellable (number 4 ∷ P 58 ∷ number n ∷ []) ≡ true
+    number_after n e = rw e refl
 
 sgr_written : (v : Sgr) → IsWritableSgr v → IsWritten (sgr v)
 unfolding sgr_spelling

@@ -1,5 +1,7 @@
 -- ESC pairs: the codes by their bytes, and what is written.
-use Rattle.std.specs.Prelude.{ℕ, List, [], ◌∷◌, ◌++◌, Bool, Option, Some, None, find, ◌==◌, ◌&&◌, unwrap_or, encode_utf8}
+use Rattle.std.specs.Prelude.{ℕ, List, [], ◌∷◌, ◌++◌, Bool, Option, Some, None, find, ◌==◌, ◌&&◌, unwrap_or}
+use Rattle.std.specs.Prelude.{encode_utf8}
+use Rattle.std.specs.Option.{option_map_or}
 use Rattle.csi_codec.specs.declared.escapes.EscCode.{EscCode}
 use Rattle.csi_codec.specs.declared.escapes.EscCode.TheVariants as code
 use Rattle.csi_codec.specs.declared.escapes.Esc.{Esc}
@@ -64,12 +66,9 @@ unfoldable pub known_code : Option ℕ → ℕ → Option EscCode
 known_code intermediate control = find (has_bytes intermediate control) esc_codes
 
 -- a code if there is one, else the bytes
-abbrev pub code_or_bytes : Option EscCode → Option ℕ → ℕ → Esc
-code_or_bytes (Some known) intermediate control = esc.Code known
-code_or_bytes None intermediate control = esc.Unspecified intermediate control
-
 abbrev pub esc_reading : Option ℕ → ℕ → Esc
-esc_reading intermediate control = code_or_bytes (known_code intermediate control) intermediate control
+esc_reading intermediate control =
+    option_map_or esc.Code (known_code intermediate control) (esc.Unspecified intermediate control)
 
 -- ---- Writing
 

@@ -1,9 +1,11 @@
 -- A control sequence at the front of some bytes.
 -- ECMA-48 5.4: CSI, parameter and intermediate bytes (20h to 3Fh), and a final byte (40h to 7Eh).
 use Rattle.std.specs.Prelude.{◌≡◌, ℕ, ◌≤◌, Bool, true, false, nat_lt, List, [], ◌∷◌, ◌++◌, length, take}
+use Rattle.std.specs.List.{AllByRecursion}
 use Rattle.csi_codec.specs.declared.parameters.CsiParam.{CsiParam}
+use Rattle.csi_codec.specs.declared.fronts.CsiFront.{CsiFront}
 use Rattle.csi_codec.specs.Parameters.{Spelled}
-use Rattle.csi_codec.specs.Actions.{Action, csi_reading, spelling_of}
+use Rattle.csi_codec.specs.Actions.{csi_reading, spelling_of}
 use Rattle.csi_codec.specs.Sequences.{csi_text}
 use Rattle.csi_codec.specs.Texts.{tokens_of, is_spellable, all_parameter_bytes}
 
@@ -17,6 +19,11 @@ pub record Front : Type 0 where
   pub truncated : Bool
   pub control : ℕ
   pub rest : List ℕ
+
+-- what a `CsiFront` shows: its parameters as a list, and its rest as bytes
+abbrev pub front_of : CsiFront → Front
+front_of front =
+    record { params = front.params.items; truncated = front.truncated; control = front.control; rest = front.rest.now }
 
 -- the bytes are ESC [, parameter and intermediate bytes, a final byte, and the rest
 pub record IsSequence (bytes body : List ℕ) (control : ℕ) (rest : List ℕ) : Type 0 where
@@ -46,12 +53,9 @@ OneFront = (bytes : List ℕ) (a b : Front) → HasFront bytes a → HasFront by
 abbrev pub whole_front : Spelled → Front
 whole_front s = record { params = s.params; truncated = false; control = s.control; rest = [] }
 
--- the text of an action is one sequence, of the parameters and the final byte that are written for it
-abbrev pub EachTextIsFront : List Action → Type 0
-EachTextIsFront [] = Unit {0}
-EachTextIsFront (a ∷ others) = HasFront (csi_text a) (whole_front (spelling_of a)) × EachTextIsFront others
-
--- so are the texts of all actions of a spellable list, of no more tokens than are kept, with a final byte from @ to ~
+-- the text of each action of a spellable list, of no more tokens than are kept, with a final byte from @ to ~, is one
+-- sequence, of the parameters and the final byte that are written for the action
 abbrev pub TextsAreFronts : Type 0
-TextsAreFronts = (ts : List CsiParam) (truncated : Bool) (final : ℕ) → is_spellable ts ≡ true → length ts ≤ most_tokens → 64 ≤ final → final ≤ 126
-    → EachTextIsFront (csi_reading ts truncated final)
+TextsAreFronts = (ts : List CsiParam) (truncated : Bool) (final : ℕ)
+    → is_spellable ts ≡ true → length ts ≤ most_tokens → 64 ≤ final → final ≤ 126
+    → AllByRecursion (λ a. HasFront (csi_text a) (whole_front (spelling_of a))) (csi_reading ts truncated final)

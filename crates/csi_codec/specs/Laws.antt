@@ -1,8 +1,11 @@
 -- What holds of every reading.
-use Rattle.std.specs.Prelude.{◌≡◌, ℕ, ◌<◌, Bool, true, false, not, ◌&&◌, ◌||◌, ◌==◌, nat_lt, List, [], ◌∷◌, ◌++◌, length, drop}
+use Rattle.std.specs.Prelude.{◌≡◌, ℕ, ◌<◌, ◌-◌, Bool, true, false, not, ◌&&◌, ◌||◌, ◌==◌, nat_lt, List, [], ◌∷◌, ◌++◌}
+use Rattle.std.specs.Prelude.{length, drop}
+use Rattle.std.specs.List.{list_all, AllByRecursion}
 use Rattle.csi_codec.specs.declared.parameters.CsiParam.{CsiParam}
-use Rattle.csi_codec.specs.declared.parameters.CsiParam.TheVariants.{Integer, P}
-use Rattle.csi_codec.specs.Actions.{Action, sgr, cursor, edit, mode, device, unspecified, all_sgr_tokens, csi_reading, spelling_of}
+use Rattle.csi_codec.specs.declared.parameters.CsiParam.TheVariants.{P}
+use Rattle.csi_codec.specs.Parameters.{semicolon_at}
+use Rattle.csi_codec.specs.Actions.{Action, unspecified, all_sgr_tokens, csi_reading, spelling_of}
 
 -- a list without some tokens at its front
 abbrev pub IsSuffix : List CsiParam → List CsiParam → Type 0
@@ -13,36 +16,12 @@ abbrev pub KeepsRests : List CsiParam → Bool → ℕ → List Action → Type 
 KeepsRests ts truncated final [] = Unit {0}
 KeepsRests ts truncated final (unspecified rest flag control ∷ others) =
     IsSuffix rest ts × (flag ≡ truncated) × (control ≡ final) × (others ≡ [])
-KeepsRests ts truncated final (sgr value ∷ others) = KeepsRests ts truncated final others
-KeepsRests ts truncated final (cursor value ∷ others) = KeepsRests ts truncated final others
-KeepsRests ts truncated final (edit value ∷ others) = KeepsRests ts truncated final others
-KeepsRests ts truncated final (mode value ∷ others) = KeepsRests ts truncated final others
-KeepsRests ts truncated final (device value ∷ others) = KeepsRests ts truncated final others
-
--- whether a token is a `;`
-abbrev pub is_semicolon : CsiParam → Bool
-is_semicolon (Integer z) = false
-is_semicolon (P b) = b == 59
-
--- whether the last token is a `;`
-abbrev pub ends_in_semicolon : List CsiParam → Bool
-ends_in_semicolon [] = false
-ends_in_semicolon (t ∷ []) = is_semicolon t
-ends_in_semicolon (t ∷ u ∷ ts) = ends_in_semicolon (u ∷ ts)
+KeepsRests ts truncated final (known ∷ others) = KeepsRests ts truncated final others
 
 -- whether an action is not the rest of a list
 abbrev pub is_known : Action → Bool
 is_known (unspecified rest truncated final) = false
-is_known (sgr value) = true
-is_known (cursor value) = true
-is_known (edit value) = true
-is_known (mode value) = true
-is_known (device value) = true
-
--- no action is the rest of a list
-abbrev pub all_known : List Action → Bool
-all_known [] = true
-all_known (a ∷ others) = is_known a && all_known others
+is_known _ = true
 
 -- two lists of SGR can be joined by a `;`
 pub record CanJoin (a b : List CsiParam) (truncated : Bool) : Type 0 where
@@ -50,8 +29,8 @@ pub record CanJoin (a b : List CsiParam) (truncated : Bool) : Type 0 where
   pub other_tokens : all_sgr_tokens b ≡ true
   pub first_some : 0 < length a
   pub other_some : 0 < length b
-  pub unended : ends_in_semicolon a ≡ false
-  pub known : all_known (csi_reading a truncated 109) ≡ true
+  pub unended : semicolon_at a (length a - 1) ≡ 0
+  pub known : list_all is_known (csi_reading a truncated 109) ≡ true
 
 -- the actions of a list, a `;` and another list are those of the one and then those of the other
 abbrev pub SgrListsJoin : Type 0
@@ -65,24 +44,17 @@ abbrev pub ReadsBack : Bool → Action → Type 0
 ReadsBack truncated a = csi_reading (spelling_of a).params truncated (spelling_of a).control ≡ a ∷ []
 
 abbrev pub begins_with_question : List CsiParam → Bool
-begins_with_question [] = false
-begins_with_question (Integer z ∷ ts) = false
 begins_with_question (P b ∷ ts) = b == 63
+begins_with_question _ = false
 
 -- the exception: a rest of modes, behind some that stand, and that begins with a `?` or stands under s or r
 abbrev pub is_exempt : List CsiParam → ℕ → Action → Bool
 is_exempt ts final (unspecified rest truncated control) =
-    nat_lt (length rest) (length ts) && not (final == 109) && (begins_with_question rest || (final == 115 || final == 114))
-is_exempt ts final (sgr value) = false
-is_exempt ts final (cursor value) = false
-is_exempt ts final (edit value) = false
-is_exempt ts final (mode value) = false
-is_exempt ts final (device value) = false
-
-abbrev pub EachReadsBack : List CsiParam → Bool → ℕ → List Action → Type 0
-EachReadsBack ts truncated final [] = Unit {0}
-EachReadsBack ts truncated final (a ∷ others) = (is_exempt ts final a ≡ false → ReadsBack truncated a) × EachReadsBack ts truncated final others
+    nat_lt (length rest) (length ts) && not (final == 109)
+    && (begins_with_question rest || (final == 115 || final == 114))
+is_exempt ts final _ = false
 
 -- each action of a list reads back under the same flag, but for the exception
 abbrev pub ActionsReadBack : Type 0
-ActionsReadBack = (ts : List CsiParam) (truncated : Bool) (final : ℕ) → EachReadsBack ts truncated final (csi_reading ts truncated final)
+ActionsReadBack = (ts : List CsiParam) (truncated : Bool) (final : ℕ)
+    → AllByRecursion (λ a. is_exempt ts final a ≡ false → ReadsBack truncated a) (csi_reading ts truncated final)

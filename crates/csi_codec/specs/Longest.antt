@@ -1,8 +1,10 @@
 -- The longest shape decides: the shapes of SGR, listed, and that the longest one that stands is chosen.
-use Rattle.std.specs.Prelude.{◌≡◌, ◌⊎◌, ℕ, zero, suc, ◌+◌, ◌≤◌, true, false, List, [], ◌∷◌, ◌++◌, map, length, drop, Some, None}
+use Rattle.std.specs.Prelude.{◌≡◌, ◌⊎◌, ℕ, zero, suc, ◌+◌, ◌≤◌, true, false, List, [], ◌∷◌, ◌++◌, map, length, drop}
+use Rattle.std.specs.Prelude.{Some, None}
+use Rattle.std.specs.List.{AllByRecursion}
 use Rattle.csi_codec.specs.declared.parameters.CsiParam.{CsiParam}
 use Rattle.csi_codec.specs.declared.rendition.Sgr.{Sgr}
-use Rattle.csi_codec.specs.Rendition.{Part, byte_part, number_part, stands, colon, Form, colour_forms, single_codes, sgr_shape}
+use Rattle.csi_codec.specs.Rendition.{Part, byte_part, number_part, stands, colon, Form, colour_forms, sgr_shape}
 
 -- the numbers from the first on, so many
 abbrev pub counted : ℕ → ℕ → List ℕ
@@ -10,8 +12,10 @@ counted first zero = []
 counted first (suc n) = first ∷ counted (first + 1) n
 
 -- the numbers that stand alone: those with a value of their own, fonts 11 to 19, and the first sixteen colours
-abbrev pub lone_numbers : List ℕ
-lone_numbers = map (λ line. line.0) single_codes ++ (counted 11 9 ++ (counted 30 8 ++ (counted 40 8 ++ (counted 90 8 ++ counted 100 8))))
+abbrev pub single_numbers : List ℕ
+single_numbers =
+    counted 0 20 ++ (counted 21 5 ++ (counted 27 11 ++ (counted 39 9
+    ++ (49 ∷ 53 ∷ 55 ∷ 59 ∷ counted 73 3 ++ (counted 90 8 ++ counted 100 8)))))
 
 -- 4:0 to 4:5
 abbrev pub underline_shapes : List (List Part)
@@ -24,12 +28,12 @@ colour_shapes target = map (λ form. number_part target ∷ form.0) colour_forms
 -- every shape: a lone `;`, a lone number, an underline, and a colour of the text, behind it and of its line
 abbrev pub sgr_shapes : List (List Part)
 sgr_shapes =
-    (byte_part 59 ∷ []) ∷ (map (λ n. number_part n ∷ []) lone_numbers ++ (underline_shapes ++ (colour_shapes 38 ++ (colour_shapes 48 ++ colour_shapes 58))))
+    (byte_part 59 ∷ []) ∷ (map (λ n. number_part n ∷ []) single_numbers
+    ++ (underline_shapes ++ (colour_shapes 38 ++ (colour_shapes 48 ++ colour_shapes 58))))
 
 -- no shape of the list that stands at the front of the tokens is longer than n
 abbrev pub NoneIsLonger : List (List Part) → List CsiParam → ℕ → Type 0
-NoneIsLonger [] ts n = Unit {0}
-NoneIsLonger (shape ∷ shapes) ts n = (stands shape ts ≡ true → length shape ≤ n) × NoneIsLonger shapes ts n
+NoneIsLonger shapes ts n = AllByRecursion (λ shape. stands shape ts ≡ true → length shape ≤ n) shapes
 
 -- some shape of the list stands there, of n tokens
 abbrev pub OneStands : List (List Part) → List CsiParam → ℕ → Type 0
@@ -38,8 +42,7 @@ OneStands (shape ∷ shapes) ts n = ((stands shape ts ≡ true) × (length shape
 
 -- none of the list stands there
 abbrev pub NoneStands : List (List Part) → List CsiParam → Type 0
-NoneStands [] ts = Unit {0}
-NoneStands (shape ∷ shapes) ts = (stands shape ts ≡ false) × NoneStands shapes ts
+NoneStands shapes ts = AllByRecursion (λ shape. stands shape ts ≡ false) shapes
 
 -- the longest of all shapes that stand there has n tokens
 pub record IsLongest (ts : List CsiParam) (n : ℕ) : Type 0 where
@@ -49,7 +52,8 @@ pub record IsLongest (ts : List CsiParam) (n : ℕ) : Type 0 where
 -- some form of a colour stands there, of n tokens, whose numbers name no colour: one of them is past 255
 abbrev pub OneNamesNone : List Form → List CsiParam → ℕ → Type 0
 OneNamesNone [] ts n = ⊥
-OneNamesNone (form ∷ forms) ts n = ((stands form.0 ts ≡ true) × (form.1 ts ≡ None) × (length form.0 ≡ n)) ⊎ OneNamesNone forms ts n
+OneNamesNone (form ∷ forms) ts n =
+    ((stands form.0 ts ≡ true) × (form.1 ts ≡ None) × (length form.0 ≡ n)) ⊎ OneNamesNone forms ts n
 
 -- the longest shape that stands is that of a colour behind its number, and names none
 pub record IsNoColour (ts : List CsiParam) : Type 0 where

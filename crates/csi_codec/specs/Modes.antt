@@ -1,6 +1,7 @@
 -- Modes by number, what a number spells, and what is written.
-use Rattle.std.specs.Prelude.{ℕ, ℤ, pos, List, [], ◌∷◌, Option, Some, None, find, ◌==◌, if◌then◌else◌, option_and_then}
-use Rattle.csi_codec.specs.Parameters.{is_number, number_within, Spelled, spelled, number_tokens, private_tokens}
+use Rattle.std.specs.Prelude.{ℕ, ℤ, pos, [], ◌∷◌, Option, Some, None, ◌==◌, if◌then◌else◌, option_and_then}
+use Rattle.std.specs.Option.{option_map_or}
+use Rattle.csi_codec.specs.Parameters.{named_by, number_within, Spelled, spelled, number_tokens, private_tokens}
 use Rattle.csi_codec.specs.declared.modes.DecPrivateModeCode.{DecPrivateModeCode}
 use Rattle.csi_codec.specs.declared.modes.DecPrivateModeCode.TheVariants as dec
 use Rattle.csi_codec.specs.declared.modes.TerminalModeCode.{TerminalModeCode}
@@ -51,13 +52,17 @@ dec_private_mode_number dec.MinTTYApplicationEscapeKeyMode = 7727
 dec_private_mode_number dec.SixelScrollsRight = 8452
 dec_private_mode_number dec.Win32InputMode = 9001
 
-abbrev pub dec_private_modes : List DecPrivateModeCode
-dec_private_modes =
-    dec.ApplicationCursorKeys ∷ dec.DecAnsiMode ∷ dec.Select132Columns ∷ dec.SmoothScroll ∷ dec.ReverseVideo ∷ dec.OriginMode ∷ dec.AutoWrap ∷ dec.AutoRepeat ∷ dec.StartBlinkingCursor ∷ dec.ShowCursor ∷ dec.ReverseWraparound ∷ dec.EnableAlternateScreen ∷ dec.LeftRightMarginMode ∷ dec.SixelDisplayMode ∷ dec.MouseTracking ∷ dec.HighlightMouseTracking ∷ dec.ButtonEventMouse ∷ dec.AnyEventMouse ∷ dec.FocusTracking ∷ dec.Utf8Mouse ∷ dec.SGRMouse ∷ dec.SGRPixelsMouse ∷ dec.XTermMetaSendsEscape ∷ dec.XTermAltSendsEscape ∷ dec.OptEnableAlternateScreen ∷ dec.SaveCursor ∷ dec.ClearAndEnableAlternateScreen ∷ dec.UsePrivateColorRegistersForEachGraphic ∷ dec.BracketedPaste ∷ dec.SynchronizedOutput ∷ dec.GraphemeClustering ∷ dec.MinTTYApplicationEscapeKeyMode ∷ dec.SixelScrollsRight ∷ dec.Win32InputMode ∷ []
-
 -- the private mode of a number
 abbrev pub dec_private_mode_named : ℤ → Option DecPrivateModeCode
-dec_private_mode_named z = find (λ known. is_number (dec_private_mode_number known) z) dec_private_modes
+dec_private_mode_named z =
+    named_by dec_private_mode_number (dec.ApplicationCursorKeys ∷ dec.DecAnsiMode ∷ dec.Select132Columns
+    ∷ dec.SmoothScroll ∷ dec.ReverseVideo ∷ dec.OriginMode ∷ dec.AutoWrap ∷ dec.AutoRepeat ∷ dec.StartBlinkingCursor
+    ∷ dec.ShowCursor ∷ dec.ReverseWraparound ∷ dec.EnableAlternateScreen ∷ dec.LeftRightMarginMode
+    ∷ dec.SixelDisplayMode ∷ dec.MouseTracking ∷ dec.HighlightMouseTracking ∷ dec.ButtonEventMouse ∷ dec.AnyEventMouse
+    ∷ dec.FocusTracking ∷ dec.Utf8Mouse ∷ dec.SGRMouse ∷ dec.SGRPixelsMouse ∷ dec.XTermMetaSendsEscape
+    ∷ dec.XTermAltSendsEscape ∷ dec.OptEnableAlternateScreen ∷ dec.SaveCursor ∷ dec.ClearAndEnableAlternateScreen
+    ∷ dec.UsePrivateColorRegistersForEachGraphic ∷ dec.BracketedPaste ∷ dec.SynchronizedOutput
+    ∷ dec.GraphemeClustering ∷ dec.MinTTYApplicationEscapeKeyMode ∷ dec.SixelScrollsRight ∷ dec.Win32InputMode ∷ []) z
 
 -- ECMA-48 8.3.125 SM; 12, 20 and 25 as in xterm's Set Mode
 abbrev pub terminal_mode_number : TerminalModeCode → ℕ
@@ -68,33 +73,23 @@ terminal_mode_number ansi.SendReceive = 12
 terminal_mode_number ansi.AutomaticNewline = 20
 terminal_mode_number ansi.ShowCursor = 25
 
-abbrev pub terminal_modes : List TerminalModeCode
-terminal_modes =
-    ansi.KeyboardAction ∷ ansi.Insert ∷ ansi.BiDirectionalSupportMode ∷ ansi.SendReceive ∷ ansi.AutomaticNewline ∷ ansi.ShowCursor ∷ []
-
 -- the mode of a number
 abbrev pub terminal_mode_named : ℤ → Option TerminalModeCode
-terminal_mode_named z = find (λ known. is_number (terminal_mode_number known) z) terminal_modes
+terminal_mode_named z =
+    named_by terminal_mode_number (ansi.KeyboardAction ∷ ansi.Insert ∷ ansi.BiDirectionalSupportMode
+    ∷ ansi.SendReceive ∷ ansi.AutomaticNewline ∷ ansi.ShowCursor ∷ []) z
 
 -- a private mode: by its name, if its number has one
-abbrev pub dec_mode_by : ℕ → Option DecPrivateModeCode → DecPrivateMode
-dec_mode_by n None = private.Unspecified n
-dec_mode_by n (Some code) = private.Code code
-
 abbrev pub dec_mode_of : ℕ → DecPrivateMode
-dec_mode_of n = dec_mode_by n (dec_private_mode_named (pos n))
+dec_mode_of n = option_map_or private.Code (dec_private_mode_named (pos n)) (private.Unspecified n)
 
 abbrev pub dec_mode_code : DecPrivateMode → ℕ
 dec_mode_code (private.Code code) = dec_private_mode_number code
 dec_mode_code (private.Unspecified n) = n
 
 -- a mode of the standard, likewise
-abbrev pub ansi_mode_by : ℕ → Option TerminalModeCode → TerminalMode
-ansi_mode_by n None = standard.Unspecified n
-ansi_mode_by n (Some code) = standard.Code code
-
 abbrev pub ansi_mode_of : ℕ → TerminalMode
-ansi_mode_of n = ansi_mode_by n (terminal_mode_named (pos n))
+ansi_mode_of n = option_map_or standard.Code (terminal_mode_named (pos n)) (standard.Unspecified n)
 
 abbrev pub ansi_mode_code : TerminalMode → ℕ
 ansi_mode_code (standard.Code code) = terminal_mode_number code

@@ -1,9 +1,13 @@
 -- Tokens of a CSI list, the slots that a list can have, and how tokens are written.
-use Rattle.std.specs.Prelude.{ℕ, ℤ, pos, negsuc, List, [], ◌∷◌, ◌++◌, ◌+◌, slice_get, Bool, true, false, Option, Some, None, nat_le, ◌==◌, if◌then◌else◌, encode_utf8, flat_map, option_map, option_and_then, unwrap_or}
+use Rattle.std.specs.Prelude.{ℕ, ℤ, pos, negsuc, List, [], ◌∷◌, ◌++◌, ◌+◌, slice_get, Bool, true, false, Option, Some}
+use Rattle.std.specs.Prelude.{None, nat_le, ◌==◌, if◌then◌else◌, encode_utf8, flat_map, option_map, option_and_then}
+use Rattle.std.specs.Prelude.{unwrap_or, find, Result, Ok, Err, ok_or}
 use Rattle.std.specs.Fmt.{signed_decimal}
 use Rattle.std.specs.Option.{option_zip}
 use Rattle.csi_codec.specs.declared.parameters.CsiParam.{CsiParam}
 use Rattle.csi_codec.specs.declared.parameters.CsiParam.TheVariants.{Integer, P}
+use Rattle.csi_codec.specs.declared.parameters.CrackError.{CrackError}
+use Rattle.csi_codec.specs.declared.parameters.CrackError.TheVariants.{NotASpelling}
 
 -- ---- Values
 
@@ -30,14 +34,23 @@ abbrev pub place : ℕ → Option ℤ → Option ℕ
 place default None = Some default
 place default (Some z) = option_map (or_default default) (number_within word_max z)
 
+-- the place that a parameter names, 0 standing for the default
+abbrev pub one_based : ℕ → CsiParam → Result ℕ CrackError
+one_based default (Integer z) = ok_or (place default (Some z)) NotASpelling
+one_based default (P b) = Err NotASpelling
+
+-- absent and 0 are 1
+abbrev pub optional_one_based : Option CsiParam → Result ℕ CrackError
+optional_one_based None = Ok 1
+optional_one_based (Some param) = one_based 1 param
+
 -- ---- Slots
 
 -- nothing, or one number
 abbrev pub one_slot : List CsiParam → Option (Option ℤ)
 one_slot [] = Some None
 one_slot (Integer z ∷ []) = Some (Some z)
-one_slot (Integer z ∷ t ∷ ts) = None
-one_slot (P b ∷ ts) = None
+one_slot _ = None
 
 -- nothing, a, a;, ;, ;b or a;b
 abbrev pub two_slots : List CsiParam → Option (Option ℤ × Option ℤ)
@@ -65,21 +78,19 @@ place_pair default ts = option_and_then (λ slots. option_zip (place 1 slots.0) 
 
 -- a list that begins with a number
 abbrev pub begins_with_number : List CsiParam → Bool
-begins_with_number [] = false
 begins_with_number (Integer z ∷ ts) = true
-begins_with_number (P b ∷ ts) = false
+begins_with_number _ = false
 
 -- the number in a slot, where absent is 0
 abbrev pub slot_number : Option ℤ → ℤ
 slot_number slot = unwrap_or slot (pos 0)
 
--- ---- Pieces
+-- ---- Groups
 
 -- 1 where a token is a `;`, else 0
 abbrev pub semicolon_count : Option CsiParam → ℕ
 semicolon_count (Some (P b)) = if b == 59 then 1 else 0
-semicolon_count (Some (Integer z)) = 0
-semicolon_count None = 0
+semicolon_count _ = 0
 
 abbrev pub semicolon_at : List CsiParam → ℕ → ℕ
 semicolon_at ts n = semicolon_count (slice_get ts n)
@@ -132,6 +143,14 @@ abbrev pub private_tokens : ℕ → List CsiParam
 private_tokens n = P 63 ∷ Integer (pos n) ∷ []
 
 -- ---- Tables
+
+-- the one of some names that has a number
+abbrev pub named_by : {A : Type 0} → (A → ℕ) → List A → ℤ → Option A
+named_by number names z = find (λ known. is_number (number known) z) names
+
+-- the name whose number stands in a slot
+abbrev pub named_slot : {A : Type 0} → (ℤ → Option A) → Option (Option ℤ) → Option A
+named_slot named slots = option_and_then (λ slot. named (slot_number slot)) slots
 
 -- the lines of a table of spellings: a final byte, and what a list before it spells
 abbrev pub Lines : Type 0 → Type 0

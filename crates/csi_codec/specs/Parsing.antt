@@ -1,40 +1,46 @@
 -- What is to come of a list from a place on.
 use Rattle.std.specs.Prelude.{◌≡◌, ℕ, ◌<◌, Bool, List, [], ◌∷◌, length, drop, ◌==◌, if◌then◌else◌}
 use Rattle.csi_codec.specs.declared.parameters.CsiParam.{CsiParam}
-use Rattle.csi_codec.specs.declared.pieces.Kind.{Kind}
-use Rattle.csi_codec.specs.declared.pieces.Kind.TheVariants as code
-use Rattle.csi_codec.specs.declared.places.CSIPlace.{CSIPlace}
+use Rattle.csi_codec.specs.declared.groups.Kind.{Kind}
+use Rattle.csi_codec.specs.declared.groups.Kind.TheVariants as code
+use Rattle.csi_codec.specs.declared.param_cursor.ParamCursor.{ParamCursor}
 use Rattle.csi_codec.specs.Actions as actions
-use Rattle.csi_codec.specs.Actions.{Action, unspecified, sgr_pieces, private_mode_pieces, standard_mode_pieces, pieces, csi_reading}
+use Rattle.csi_codec.specs.Actions.{Action, unspecified, sgr_groups, private_mode_groups, standard_mode_groups, groups}
+use Rattle.csi_codec.specs.Actions.{csi_reading}
 use Rattle.csi_codec.specs.Laws.{begins_with_question}
 
--- what the pieces of the code's kind are
+-- what the groups of the code's kind are
 abbrev pub kind_of : Kind → actions.Kind
-kind_of code.PrivateModes = private_mode_pieces
-kind_of code.StandardModes = standard_mode_pieces
+kind_of code.PrivateModes = private_mode_groups
+kind_of code.StandardModes = standard_mode_groups
 
--- the kind of the pieces of a list, by its final byte and whether it begins with a ?
+-- the kind of the groups of a list, by its final byte and whether it begins with a ?
 abbrev pub list_kind : ℕ → List CsiParam → actions.Kind
-list_kind final ts = if final == 109 then sgr_pieces else (if begins_with_question ts then private_mode_pieces else standard_mode_pieces)
+list_kind final ts =
+    if final == 109 then sgr_groups
+    else (if begins_with_question ts then private_mode_groups else standard_mode_groups)
 
 -- the actions of a list that are to come where so many of its tokens were read: all of them where none was, and behind
--- that the pieces that follow
-unfoldable pub actions_behind : ℕ → List CsiParam → Bool → ℕ → List Action
-actions_behind read ts truncated final = if read == 0 then csi_reading ts truncated final else pieces (list_kind final ts) truncated final (drop read ts)
+-- that the groups that follow
+unfoldable pub actions_after : ℕ → List CsiParam → Bool → ℕ → List Action
+actions_after read ts truncated final =
+    if read == 0 then csi_reading ts truncated final else groups (list_kind final ts) truncated final (drop read ts)
 
 -- the actions of a list that are to come from a place on, under a flag and a final byte
-abbrev pub actions_from : CSIPlace → List CsiParam → Bool → ℕ → List Action
-actions_from place ts truncated final = actions_behind place.index ts truncated final
+abbrev pub actions_from : ParamCursor → List CsiParam → Bool → ℕ → List Action
+actions_from place ts truncated final = actions_after place.index ts truncated final
 
 -- all actions of any list are to come
-abbrev pub IsStart : CSIPlace → Type 0
-IsStart place = (ts : List CsiParam) (truncated : Bool) (final : ℕ) → actions_from place ts truncated final ≡ csi_reading ts truncated final
+abbrev pub IsStart : ParamCursor → Type 0
+IsStart place = (ts : List CsiParam) (truncated : Bool) (final : ℕ)
+    → actions_from place ts truncated final ≡ csi_reading ts truncated final
 
 -- the next action of a list where so many tokens were read, and how many are read then
 pub record IsNext (read : ℕ) (ts : List CsiParam) (final : ℕ) (next : Action) (behind : ℕ) : Type 0 where
-  pub actions : (truncated : Bool) → actions_behind read ts truncated final ≡ next ∷ actions_behind behind ts truncated final
+  pub actions : (truncated : Bool)
+      → actions_after read ts truncated final ≡ next ∷ actions_after behind ts truncated final
 
 -- no setting is to come where so many tokens were read: the rest is the last action
 pub record HasNoSetting (read : ℕ) (ts : List CsiParam) : Type 0 where
-  pub rest : (truncated : Bool) → actions_behind read ts truncated 109 ≡ unspecified (drop read ts) truncated 109 ∷ []
+  pub rest : (truncated : Bool) → actions_after read ts truncated 109 ≡ unspecified (drop read ts) truncated 109 ∷ []
   pub within : read < length ts

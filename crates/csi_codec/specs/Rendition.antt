@@ -1,6 +1,7 @@
--- SGR: the shapes of a piece with their values, and what is written.
+-- SGR: the shapes of a group with their values, and what is written.
 -- ECMA-48 8.3.117; ISO 8613-6 13.1.8 for 38, 48 and the forms with colons; xterm: Character Attributes (SGR).
-use Rattle.std.specs.Prelude.{ℕ, ℤ, pos, List, [], ◌∷◌, length, Bool, true, false, ◌&&◌, Option, Some, None, nat_le, nat_lt, ◌==◌, ◌+◌, ◌-◌, if◌then◌else◌, option_map, option_and_then, slice_get}
+use Rattle.std.specs.Prelude.{ℕ, zero, suc, ℤ, pos, List, [], ◌∷◌, length, Bool, true, false, ◌&&◌, Option, Some, None}
+use Rattle.std.specs.Prelude.{nat_le, nat_lt, ◌==◌, ◌+◌, ◌-◌, if◌then◌else◌, option_map, option_and_then, slice_get}
 use Rattle.csi_codec.specs.Parameters.{is_number, number_within, with_semicolon, Spelled, spelled, number_tokens}
 use Rattle.csi_codec.specs.declared.parameters.CsiParam.{CsiParam}
 use Rattle.csi_codec.specs.declared.parameters.CsiParam.TheVariants.{Integer, P}
@@ -27,11 +28,9 @@ pub data Part : Type 0 where
 -- whether a token is what a part of a shape asks for: that byte, that number, or any number
 abbrev pub is_part : Part → CsiParam → Bool
 is_part (byte_part b) (P c) = c == b
-is_part (byte_part b) (Integer z) = false
-is_part (number_part n) (P c) = false
 is_part (number_part n) (Integer z) = is_number n z
-is_part any_number (P c) = false
 is_part any_number (Integer z) = true
+is_part _ _ = false
 
 -- whether a shape stands at the front of a list
 abbrev pub stands : List Part → List CsiParam → Bool
@@ -59,11 +58,15 @@ palette_at i ts = option_map color.PaletteIndex (byte_at ts i)
 
 -- the opaque colour whose channels are at three places
 abbrev pub opaque_at : ℕ → ℕ → ℕ → List CsiParam → Option ColorSpec
-opaque_at i j k ts = option_and_then (λ r. option_and_then (λ g. option_map (λ b. colour r g b 255) (byte_at ts k)) (byte_at ts j)) (byte_at ts i)
+opaque_at i j k ts =
+    option_and_then (λ r. option_and_then (λ g.
+    option_map (λ b. colour r g b 255) (byte_at ts k)) (byte_at ts j)) (byte_at ts i)
 
 -- the colour whose channels are at four places
 abbrev pub colour_at : ℕ → ℕ → ℕ → ℕ → List CsiParam → Option ColorSpec
-colour_at i j k l ts = option_and_then (λ r. option_and_then (λ g. option_and_then (λ b. option_map (λ a. colour r g b a) (byte_at ts l)) (byte_at ts k)) (byte_at ts j)) (byte_at ts i)
+colour_at i j k l ts =
+    option_and_then (λ r. option_and_then (λ g. option_and_then (λ b.
+    option_map (λ a. colour r g b a) (byte_at ts l)) (byte_at ts k)) (byte_at ts j)) (byte_at ts i)
 
 -- a form of a colour: its shape, and its value where the shape stands
 abbrev pub Form : Type 0
@@ -76,23 +79,28 @@ colon = byte_part 58
 abbrev pub semicolon : Part
 semicolon = byte_part 59
 
+-- so many numbers, each behind such a part
+abbrev pub numbers_after : Part → ℕ → List Part
+numbers_after part zero = []
+numbers_after part (suc n) = part ∷ any_number ∷ numbers_after part n
+
 -- the forms, the longest first
 abbrev pub colour_forms : List Form
 colour_forms =
     -- :6::r:g:b:a
-    (colon ∷ number_part 6 ∷ colon ∷ colon ∷ any_number ∷ colon ∷ any_number ∷ colon ∷ any_number ∷ colon ∷ any_number ∷ [], colour_at 4 6 8 10)
+    (colon ∷ number_part 6 ∷ colon ∷ numbers_after colon 4, colour_at 4 6 8 10)
     -- :2:i:r:g:b, where the colour space i is not looked at
-    ∷ (colon ∷ number_part 2 ∷ colon ∷ any_number ∷ colon ∷ any_number ∷ colon ∷ any_number ∷ colon ∷ any_number ∷ [], opaque_at 5 7 9)
+    ∷ (colon ∷ number_part 2 ∷ numbers_after colon 4, opaque_at 5 7 9)
     -- :2::r:g:b
-    ∷ (colon ∷ number_part 2 ∷ colon ∷ colon ∷ any_number ∷ colon ∷ any_number ∷ colon ∷ any_number ∷ [], opaque_at 4 6 8)
+    ∷ (colon ∷ number_part 2 ∷ colon ∷ numbers_after colon 3, opaque_at 4 6 8)
     -- :2:r:g:b
-    ∷ (colon ∷ number_part 2 ∷ colon ∷ any_number ∷ colon ∷ any_number ∷ colon ∷ any_number ∷ [], opaque_at 3 5 7)
+    ∷ (colon ∷ number_part 2 ∷ numbers_after colon 3, opaque_at 3 5 7)
     -- ;2;r;g;b
-    ∷ (semicolon ∷ number_part 2 ∷ semicolon ∷ any_number ∷ semicolon ∷ any_number ∷ semicolon ∷ any_number ∷ [], opaque_at 3 5 7)
+    ∷ (semicolon ∷ number_part 2 ∷ numbers_after semicolon 3, opaque_at 3 5 7)
     -- :5:n
-    ∷ (colon ∷ number_part 5 ∷ colon ∷ any_number ∷ [], palette_at 3)
+    ∷ (colon ∷ number_part 5 ∷ numbers_after colon 1, palette_at 3)
     -- ;5;n
-    ∷ (semicolon ∷ number_part 5 ∷ semicolon ∷ any_number ∷ [], palette_at 3)
+    ∷ (semicolon ∷ number_part 5 ∷ numbers_after semicolon 1, palette_at 3)
     ∷ []
 
 -- a value, and how many tokens it takes
@@ -102,115 +110,11 @@ taking n value = option_map (λ v. (v, n)) value
 -- the first form that stands decides
 abbrev pub first_form : List Form → List CsiParam → Option (ColorSpec × ℕ)
 first_form [] ts = None
-first_form (form ∷ forms) ts = if stands form.0 ts then taking (length form.0) (form.1 ts) else first_form forms ts
+first_form (form ∷ forms) ts =
+    if stands form.0 ts then taking (length form.0) (form.1 ts) else first_form forms ts
 
 unfoldable pub colour_form : List CsiParam → Option (ColorSpec × ℕ)
 colour_form ts = first_form colour_forms ts
-
--- ---- Lone numbers
-
--- the value of a number that stands alone
-abbrev pub single_codes : List (ℕ × Sgr)
-single_codes =
-    (0, sgr.Reset)
-    ∷ (1, sgr.Intensity intensity.Bold)
-    ∷ (2, sgr.Intensity intensity.Half)
-    ∷ (22, sgr.Intensity intensity.Normal)
-    ∷ (24, sgr.Underline underline.None)
-    ∷ (4, sgr.Underline underline.Single)
-    ∷ (21, sgr.Underline underline.Double)
-    ∷ (5, sgr.Blink blink.Slow)
-    ∷ (6, sgr.Blink blink.Rapid)
-    ∷ (25, sgr.Blink blink.None)
-    ∷ (3, sgr.Italic true)
-    ∷ (23, sgr.Italic false)
-    ∷ (7, sgr.Inverse true)
-    ∷ (27, sgr.Inverse false)
-    ∷ (8, sgr.Invisible true)
-    ∷ (28, sgr.Invisible false)
-    ∷ (9, sgr.StrikeThrough true)
-    ∷ (29, sgr.StrikeThrough false)
-    ∷ (53, sgr.Overline true)
-    ∷ (55, sgr.Overline false)
-    ∷ (10, sgr.Font font.Default)
-    ∷ (73, sgr.VerticalAlign align.SuperScript)
-    ∷ (74, sgr.VerticalAlign align.SubScript)
-    ∷ (75, sgr.VerticalAlign align.BaseLine)
-    ∷ (39, sgr.Foreground color.Default)
-    ∷ (49, sgr.Background color.Default)
-    ∷ (59, sgr.UnderlineColor color.Default)
-    ∷ []
-
--- the value listed for a number, or another one
-abbrev pub listed_or : {A : Type 0} → List (ℕ × A) → ℕ → Option A → Option A
-listed_or [] n other = other
-listed_or (line ∷ lines) n other = if line.0 == n then Some line.1 else listed_or lines n other
-
-abbrev pub is_between : ℕ → ℕ → ℕ → Bool
-is_between low high n = nat_le low n && nat_le n high
-
--- fonts 11 to 19, and the first sixteen colours of the palette
-abbrev pub ranged_code : ℕ → Option Sgr
-ranged_code n =
-    if is_between 11 19 n then Some (sgr.Font (font.Alternate (n - 10)))
-    else (if is_between 30 37 n then Some (sgr.Foreground (color.PaletteIndex (n - 30)))
-    else (if is_between 40 47 n then Some (sgr.Background (color.PaletteIndex (n - 40)))
-    else (if is_between 90 97 n then Some (sgr.Foreground (color.PaletteIndex (n - 82)))
-    else (if is_between 100 107 n then Some (sgr.Background (color.PaletteIndex (n - 92)))
-    else None))))
-
-unfoldable pub single_code : ℕ → Option Sgr
-single_code n = listed_or single_codes n (ranged_code n)
-
--- the value of a number as a parameter
-abbrev pub plain_code : ℤ → Option Sgr
-plain_code z = option_and_then single_code (number_within 255 z)
-
--- ---- Underlines behind 4:
-
-abbrev pub underline_numbered : ℤ → Option Underline
-underline_numbered z =
-    if is_number 0 z then Some underline.None
-    else (if is_number 1 z then Some underline.Single
-    else (if is_number 2 z then Some underline.Double
-    else (if is_number 3 z then Some underline.Curly
-    else (if is_number 4 z then Some underline.Dotted
-    else (if is_number 5 z then Some underline.Dashed
-    else None)))))
-
--- 4:k where there is such an underline, or else 4 alone; the tokens are counted with the 4
-abbrev pub underline_or_single : Option Underline → Option (Sgr × ℕ)
-underline_or_single None = Some (sgr.Underline underline.Single, 1)
-underline_or_single (Some line) = Some (sgr.Underline line, 3)
-
-abbrev pub underline_shape : List CsiParam → Option (Sgr × ℕ)
-underline_shape (P b ∷ Integer z ∷ ts) = underline_or_single (if b == 58 then underline_numbered z else None)
-underline_shape _ = underline_or_single None
-
--- ---- Pieces
-
--- a colour behind its number; the tokens are counted with the number
-abbrev pub colour_shape : (ColorSpec → Sgr) → List CsiParam → Option (Sgr × ℕ)
-colour_shape target ts = option_map (λ form. (target form.0, form.1 + 1)) (colour_form ts)
-
--- the longest shape that begins with a number
-unfoldable pub numbered_shape : ℤ → List CsiParam → Option (Sgr × ℕ)
-numbered_shape z ts =
-    if is_number 38 z then colour_shape sgr.Foreground ts
-    else (if is_number 48 z then colour_shape sgr.Background ts
-    else (if is_number 58 z then colour_shape sgr.UnderlineColor ts
-    else (if is_number 4 z then underline_shape ts
-    else taking 1 (plain_code z))))
-
--- the longest shape at the front of a list, and how many tokens it takes; a lone `;` is a reset
-unfoldable pub sgr_shape : List CsiParam → Option (Sgr × ℕ)
-sgr_shape [] = None
-sgr_shape (P b ∷ ts) = taking 1 (if b == 59 then Some sgr.Reset else None)
-sgr_shape (Integer z ∷ ts) = numbered_shape z ts
-
--- a piece: the longest shape, and the `;` right behind it
-unfoldable pub sgr_piece : List CsiParam → Option (Sgr × ℕ)
-sgr_piece ts = with_semicolon ts (sgr_shape ts)
 
 -- ---- Writing
 
@@ -224,21 +128,25 @@ palette_tokens target n = number target ∷ P 58 ∷ number 5 ∷ P 58 ∷ numbe
 
 -- :2::r:g:b
 abbrev pub opaque_tokens : ℕ → ℕ → ℕ → ℕ → List CsiParam
-opaque_tokens target r g b = number target ∷ P 58 ∷ number 2 ∷ P 58 ∷ P 58 ∷ number r ∷ P 58 ∷ number g ∷ P 58 ∷ number b ∷ []
+opaque_tokens target r g b =
+    number target ∷ P 58 ∷ number 2 ∷ P 58 ∷ P 58 ∷ number r ∷ P 58 ∷ number g ∷ P 58 ∷ number b ∷ []
 
 -- :6::r:g:b:a
 abbrev pub alpha_tokens : ℕ → ℕ → ℕ → ℕ → ℕ → List CsiParam
-alpha_tokens target r g b a = number target ∷ P 58 ∷ number 6 ∷ P 58 ∷ P 58 ∷ number r ∷ P 58 ∷ number g ∷ P 58 ∷ number b ∷ P 58 ∷ number a ∷ []
+alpha_tokens target r g b a =
+    number target ∷ P 58 ∷ number 6 ∷ P 58 ∷ P 58 ∷ number r ∷ P 58 ∷ number g ∷ P 58 ∷ number b ∷ P 58 ∷ number a ∷ []
 
 -- with its alpha where the colour isn't opaque
 abbrev pub colour_tokens : ℕ → SrgbaTuple → List CsiParam
-colour_tokens target c = if c.3 == 255 then opaque_tokens target c.0 c.1 c.2 else alpha_tokens target c.0 c.1 c.2 c.3
+colour_tokens target c =
+    if c.3 == 255 then opaque_tokens target c.0 c.1 c.2 else alpha_tokens target c.0 c.1 c.2 c.3
 
 -- a colour whose default is `off`, and whose first sixteen entries are short: low 0 to 7, bright 8 to 15
 abbrev pub short_colour_tokens : ℕ → ℕ → ℕ → ℕ → ColorSpec → List CsiParam
 short_colour_tokens target off low bright color.Default = number_tokens off
 short_colour_tokens target off low bright (color.PaletteIndex n) =
-    if nat_lt n 8 then number_tokens (low + n) else (if nat_lt n 16 then number_tokens (bright + n) else palette_tokens target n)
+    if nat_lt n 8 then number_tokens (low + n)
+    else (if nat_lt n 16 then number_tokens (bright + n) else palette_tokens target n)
 short_colour_tokens target off low bright (color.TrueColor c) = colour_tokens target c
 
 abbrev pub underline_colour_tokens : ColorSpec → List CsiParam
@@ -283,3 +191,92 @@ sgr_tokens (sgr.UnderlineColor c) = underline_colour_tokens c
 
 unfoldable pub sgr_spelling : Sgr → Spelled
 sgr_spelling value = spelled (sgr_tokens value) 109  -- m: SGR, ECMA-48 8.3.117
+
+-- ---- Single numbers
+
+-- the values that a number alone is written for
+abbrev pub single_codes : List Sgr
+single_codes =
+    sgr.Reset ∷ sgr.Intensity intensity.Bold ∷ sgr.Intensity intensity.Half ∷ sgr.Intensity intensity.Normal
+    ∷ sgr.Underline underline.None ∷ sgr.Underline underline.Single ∷ sgr.Underline underline.Double
+    ∷ sgr.Blink blink.Slow ∷ sgr.Blink blink.Rapid ∷ sgr.Blink blink.None ∷ sgr.Italic true ∷ sgr.Italic false
+    ∷ sgr.Inverse true ∷ sgr.Inverse false ∷ sgr.Invisible true ∷ sgr.Invisible false ∷ sgr.StrikeThrough true
+    ∷ sgr.StrikeThrough false ∷ sgr.Overline true ∷ sgr.Overline false ∷ sgr.Font font.Default
+    ∷ sgr.VerticalAlign align.SuperScript ∷ sgr.VerticalAlign align.SubScript ∷ sgr.VerticalAlign align.BaseLine
+    ∷ sgr.Foreground color.Default ∷ sgr.Background color.Default ∷ sgr.UnderlineColor color.Default ∷ []
+
+-- whether a list is this number alone
+abbrev pub is_alone : ℕ → List CsiParam → Bool
+is_alone n (Integer (pos m) ∷ []) = m == n
+is_alone n _ = false
+
+-- the value of the list that is written as a number alone, or another one
+abbrev pub listed_or : List Sgr → ℕ → Option Sgr → Option Sgr
+listed_or [] n other = other
+listed_or (value ∷ values) n other = if is_alone n (sgr_tokens value) then Some value else listed_or values n other
+
+abbrev pub is_between : ℕ → ℕ → ℕ → Bool
+is_between low high n = nat_le low n && nat_le n high
+
+-- fonts 11 to 19, and the first sixteen colours of the palette
+abbrev pub ranged_code : ℕ → Option Sgr
+ranged_code n =
+    if is_between 11 19 n then Some (sgr.Font (font.Alternate (n - 10)))
+    else (if is_between 30 37 n then Some (sgr.Foreground (color.PaletteIndex (n - 30)))
+    else (if is_between 40 47 n then Some (sgr.Background (color.PaletteIndex (n - 40)))
+    else (if is_between 90 97 n then Some (sgr.Foreground (color.PaletteIndex (n - 82)))
+    else (if is_between 100 107 n then Some (sgr.Background (color.PaletteIndex (n - 92)))
+    else None))))
+
+unfoldable pub single_code : ℕ → Option Sgr
+single_code n = listed_or single_codes n (ranged_code n)
+
+-- the value of a number as a parameter
+abbrev pub plain_code : ℤ → Option Sgr
+plain_code z = option_and_then single_code (number_within 255 z)
+
+-- ---- Underlines behind 4:
+
+abbrev pub underline_numbered : ℤ → Option Underline
+underline_numbered z =
+    if is_number 0 z then Some underline.None
+    else (if is_number 1 z then Some underline.Single
+    else (if is_number 2 z then Some underline.Double
+    else (if is_number 3 z then Some underline.Curly
+    else (if is_number 4 z then Some underline.Dotted
+    else (if is_number 5 z then Some underline.Dashed
+    else None)))))
+
+-- 4:k where there is such an underline, or else 4 alone; the tokens are counted with the 4
+abbrev pub underline_or_single : Option Underline → Option (Sgr × ℕ)
+underline_or_single None = Some (sgr.Underline underline.Single, 1)
+underline_or_single (Some line) = Some (sgr.Underline line, 3)
+
+abbrev pub underline_shape : List CsiParam → Option (Sgr × ℕ)
+underline_shape (P b ∷ Integer z ∷ ts) = underline_or_single (if b == 58 then underline_numbered z else None)
+underline_shape _ = underline_or_single None
+
+-- ---- Groups
+
+-- a colour behind its number; the tokens are counted with the number
+abbrev pub colour_shape : (ColorSpec → Sgr) → List CsiParam → Option (Sgr × ℕ)
+colour_shape target ts = option_map (λ form. (target form.0, form.1 + 1)) (colour_form ts)
+
+-- the longest shape that begins with a number
+unfoldable pub numbered_shape : ℤ → List CsiParam → Option (Sgr × ℕ)
+numbered_shape z ts =
+    if is_number 38 z then colour_shape sgr.Foreground ts
+    else (if is_number 48 z then colour_shape sgr.Background ts
+    else (if is_number 58 z then colour_shape sgr.UnderlineColor ts
+    else (if is_number 4 z then underline_shape ts
+    else taking 1 (plain_code z))))
+
+-- the longest shape at the front of a list, and how many tokens it takes; a lone `;` is a reset
+unfoldable pub sgr_shape : List CsiParam → Option (Sgr × ℕ)
+sgr_shape [] = None
+sgr_shape (P b ∷ ts) = taking 1 (if b == 59 then Some sgr.Reset else None)
+sgr_shape (Integer z ∷ ts) = numbered_shape z ts
+
+-- a group: the longest shape, and the `;` right behind it
+unfoldable pub sgr_group : List CsiParam → Option (Sgr × ℕ)
+sgr_group ts = with_semicolon ts (sgr_shape ts)

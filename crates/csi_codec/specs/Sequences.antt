@@ -11,6 +11,12 @@ use Rattle.csi_codec.specs.declared.sequences.CSI.TheVariants as csi
 abbrev pub rest_of : Unspecified → Action
 rest_of rest = unspecified rest.params.items rest.parameters_truncated rest.control
 
+-- the rests of two lists are equal: parameters, flags and final bytes
+pub record IsSameRest (a b : Unspecified) : Type 0 where
+  pub params : a.params.items ≡ b.params.items
+  pub truncated : a.parameters_truncated ≡ b.parameters_truncated
+  pub control : a.control ≡ b.control
+
 -- a CSI value without where it lies in memory
 abbrev pub action_of : CSI → Action
 action_of (csi.Sgr value) = sgr value

@@ -1,6 +1,7 @@
 -- The parameters of a cursor sequence or an edit: what is written for them, and which of their numbers can be written.
-use Rattle.std.specs.Prelude.{ℕ, ◌≤◌, List, [], ◌∷◌, ◌++◌}
-use Rattle.csi_codec.specs.Parameters.{word_max, Spelled, spelled, number_tokens, count_tokens, pair_tokens, extent_tokens}
+use Rattle.std.specs.Prelude.{ℕ, ◌≤◌, List, [], ◌∷◌, ◌++◌, map, option_map}
+use Rattle.csi_codec.specs.Parameters.{word_max, count, Lines, Spelled, spelled, number_tokens, count_tokens}
+use Rattle.csi_codec.specs.Parameters.{pair_tokens, extent_tokens}
 use Rattle.csi_codec.specs.declared.parameters.CsiParam.{CsiParam}
 use Rattle.csi_codec.specs.declared.parameters.CsiParam.TheVariants.{P}
 
@@ -33,6 +34,10 @@ slots_tokens (spaced n) = number_tokens n ++ P 32 ∷ []
 abbrev pub slots_spelling : Slots × ℕ → Spelled
 slots_spelling slots = spelled (slots_tokens slots.0) slots.1
 
+-- the lines of what has one count or place, each under the final byte that it is written with
+abbrev pub count_lines : {A : Type 0} → (A → Slots × ℕ) → List (ℕ → A) → Lines A
+count_lines slots makes = map (λ make. ((slots (make 1)).1, λ ts. option_map make (count ts))) makes
+
 -- a count or a place: 1 to the largest value of a parameter
 abbrev pub IsPlace : ℕ → Type 0
 IsPlace n = (1 ≤ n) × (n ≤ word_max)
@@ -42,7 +47,4 @@ abbrev pub ArePlaces : Slots → Type 0
 ArePlaces (counted n) = IsPlace n
 ArePlaces (placed n) = IsPlace n
 ArePlaces (paired a b) = IsPlace a × IsPlace b
-ArePlaces nothing = Unit {0}
-ArePlaces (named n) = Unit {0}
-ArePlaces (extent n) = Unit {0}
-ArePlaces (spaced n) = Unit {0}
+ArePlaces _ = Unit {0}

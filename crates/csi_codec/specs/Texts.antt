@@ -1,9 +1,11 @@
 -- Parameter bytes and the tokens that they spell.
-use Rattle.std.specs.Prelude.{◌≡◌, ℕ, ℤ, pos, negsuc, ◌+◌, ◌-◌, ◌*◌, min, Bool, true, false, not, ◌&&◌, ◌||◌, List, [], ◌∷◌, ◌++◌, Option, Some, None, unwrap_or, nat_le, if◌then◌else◌, flat_map}
+use Rattle.std.specs.Prelude.{ℕ, ℤ, pos, negsuc, ◌+◌, ◌-◌, ◌*◌, min, Bool, true, false, not, ◌&&◌, ◌||◌, List, [], ◌∷◌}
+use Rattle.std.specs.Prelude.{◌++◌, Option, Some, None, unwrap_or, nat_le, if◌then◌else◌}
 use Rattle.std.specs.Char.{is_ascii_digit}
+use Rattle.std.specs.List.{list_all}
 use Rattle.csi_codec.specs.declared.parameters.CsiParam.{CsiParam}
 use Rattle.csi_codec.specs.declared.parameters.CsiParam.TheVariants.{Integer, P}
-use Rattle.csi_codec.specs.Parameters.{begins_with_number, token_text}
+use Rattle.csi_codec.specs.Parameters.{begins_with_number}
 use Rattle.csi_codec.specs.Rendition.{is_between}
 
 -- the largest number of a token, the largest i64
@@ -16,15 +18,15 @@ begun_token None = []
 begun_token (Some n) = Integer (pos (min n largest_number)) ∷ []
 
 -- the tokens of the bytes behind the digits that have begun
-abbrev pub tokens_behind : Option ℕ → List ℕ → List CsiParam
-tokens_behind begun [] = begun_token begun
-tokens_behind begun (b ∷ bs) =
-    if is_ascii_digit b then tokens_behind (Some (10 * unwrap_or begun 0 + (b - 48))) bs
-    else begun_token begun ++ P b ∷ tokens_behind None bs
+abbrev pub tokens_after : Option ℕ → List ℕ → List CsiParam
+tokens_after begun [] = begun_token begun
+tokens_after begun (b ∷ bs) =
+    if is_ascii_digit b then tokens_after (Some (10 * unwrap_or begun 0 + (b - 48))) bs
+    else begun_token begun ++ P b ∷ tokens_after None bs
 
 -- ECMA-48 5.4.2: a run of digits is a number, cut at the largest; any other byte is itself
 abbrev pub tokens_of : List ℕ → List CsiParam
-tokens_of bytes = tokens_behind None bytes
+tokens_of bytes = tokens_after None bytes
 
 -- ---- Lists that bytes can spell
 
@@ -42,11 +44,6 @@ is_spellable [] = true
 is_spellable (P b ∷ ts) = is_sign b && is_spellable ts
 is_spellable (Integer z ∷ ts) = is_written_number z && (not (begins_with_number ts) && is_spellable ts)
 
--- a spellable list is what its text spells
-abbrev pub ParametersReadBack : Type 0
-ParametersReadBack = (ts : List CsiParam) → is_spellable ts ≡ true → tokens_of (flat_map token_text ts) ≡ ts
-
 -- the bytes between ESC [ and the final byte
 abbrev pub all_parameter_bytes : List ℕ → Bool
-all_parameter_bytes [] = true
-all_parameter_bytes (b ∷ bs) = is_between 32 63 b && all_parameter_bytes bs
+all_parameter_bytes bytes = list_all (is_between 32 63) bytes

@@ -1,5 +1,6 @@
 -- The tokens of a control sequence that are kept while its bytes come.
-use Rattle.std.specs.Prelude.{ℕ, pos, ◌+◌, ◌-◌, ◌*◌, min, Bool, true, false, ◌&&◌, nat_le, nat_lt, List, [], ◌∷◌, ◌++◌, Option, Some, None, unwrap_or, is_some, length, take, fold, if◌then◌else◌}
+use Rattle.std.specs.Prelude.{ℕ, pos, ◌+◌, ◌-◌, ◌*◌, min, Bool, true, false, ◌&&◌, nat_le, nat_lt, List, [], ◌∷◌, ◌++◌}
+use Rattle.std.specs.Prelude.{Option, Some, None, unwrap_or, is_some, length, take, fold, if◌then◌else◌}
 use Rattle.std.specs.Char.{is_ascii_digit}
 use Rattle.csi_codec.specs.Texts.{largest_number}
 use Rattle.csi_codec.specs.Fronts.{most_tokens}
@@ -22,14 +23,15 @@ no_parameters = record { tokens = []; truncated = false; number = None }
 -- one token more, where there is room
 abbrev pub with_token : Parameters → CsiParam → Option ℕ → Parameters
 with_token p token number =
-    if nat_lt (length p.tokens) most_tokens then record { tokens = p.tokens ++ token ∷ []; truncated = p.truncated; number = number }
-    else record { tokens = p.tokens; truncated = true; number = number }
+    if nat_lt (length p.tokens) most_tokens then record p { tokens = p.tokens ++ token ∷ []; number = number }
+    else record p { truncated = true; number = number }
 
 -- the last token is another number, if it was kept
 abbrev pub with_number : Parameters → ℕ → Parameters
 with_number p n =
-    if p.truncated then record { tokens = p.tokens; truncated = true; number = Some n }
-    else record { tokens = take (length p.tokens - 1) p.tokens ++ Integer (pos n) ∷ []; truncated = false; number = Some n }
+    if p.truncated then record p { truncated = true; number = Some n }
+    else
+    record { tokens = take (length p.tokens - 1) p.tokens ++ Integer (pos n) ∷ []; truncated = false; number = Some n }
 
 abbrev pub next_number : Option ℕ → ℕ → ℕ
 next_number number b = min (10 * unwrap_or number 0 + (b - 48)) largest_number
@@ -38,7 +40,8 @@ next_number number b = min (10 * unwrap_or number 0 + (b - 48)) largest_number
 unfoldable pub with_byte : Parameters → ℕ → Parameters
 with_byte p b =
     if is_ascii_digit b then
-    (if is_some p.number then with_number p (next_number p.number b) else with_token p (Integer (pos (next_number p.number b))) (Some (next_number p.number b)))
+    (if is_some p.number then with_number p (next_number p.number b)
+    else with_token p (Integer (pos (next_number p.number b))) (Some (next_number p.number b)))
     else with_token p (P b) None
 
 -- the parameter bytes in turn

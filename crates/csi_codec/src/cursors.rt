@@ -17,7 +17,7 @@ ghost use Rattle.csi_codec.specs.Parameters.{one_slot, sequence_text, slot_numbe
 use crate::one_based::OneBased;
 use crate::parameters::{CsiParam, count, number_and_space, one_number, one_place, place_pair};
 use crate::spelling::{
-    ControlSequence, put_bare, put_count, put_number, put_pair, write_parameters,
+    ControlSequence, put_count, put_final, put_number, put_pair, write_parameters,
 };
 use crate::text::SequenceText;
 use std::fmt;
@@ -203,8 +203,8 @@ impl ControlSequence for Cursor {
             Cursor::TabulationControl(known) => put_number(u32::from(known.to_u16()), b'W', text),
             Cursor::SetTopAndBottomMargins { top, bottom } => put_pair(top, bottom, b'r', text),
             Cursor::SetLeftAndRightMargins { left, right } => put_pair(left, right, b's', text),
-            Cursor::SaveCursor => put_bare(b's', text),
-            Cursor::RestoreCursor => put_bare(b'u', text),
+            Cursor::SaveCursor => put_final(b's', text),
+            Cursor::RestoreCursor => put_final(b'u', text),
             Cursor::RequestActivePositionReport => put_number(6, b'n', text),
             Cursor::CursorStyle(style) => put_style(style, text),
         }

@@ -4,7 +4,7 @@ ghost use Rattle.csi_codec.specs.Devices.{device_reading, device_spelling};
 ghost use Rattle.csi_codec.specs.Parameters.{sequence_text, spelled_text};
 
 use crate::parameters::CsiParam;
-use crate::spelling::{ControlSequence, put_bare, put_number, write_parameters};
+use crate::spelling::{ControlSequence, put_final, put_number, write_parameters};
 use crate::text::SequenceText;
 use std::fmt;
 
@@ -32,7 +32,7 @@ impl ControlSequence for Device {
     fn put_text(&self, text: &mut SequenceText) {
         match *self {
             Device::SoftReset => put_soft_reset(text),
-            Device::RequestPrimaryDeviceAttributes => put_bare(b'c', text),
+            Device::RequestPrimaryDeviceAttributes => put_final(b'c', text),
             Device::StatusReport => put_number(5, b'n', text),
         }
     }

@@ -1,7 +1,6 @@
 //! A control sequence at the front of some bytes (ECMA-48 5.4).
 ghost use Rattle.std.specs.Prelude.{◌≡◌, ◌≤◌, ◌↔◌, IsTrue, ℕ, List, ◌∷◌, IfNone, IfOk, IfSome, OnErr};
-ghost use Rattle.csi_codec.specs.FrontView.{front_of};
-ghost use Rattle.csi_codec.specs.Fronts.{Front, HasFront, HasNoFront};
+ghost use Rattle.csi_codec.specs.Fronts.{Front, HasFront, HasNoFront, front_of};
 
 use crate::parameters::CsiParam;
 use crate::tokens::Parameters;
@@ -42,7 +41,7 @@ pub fn read_csi<'a>(alloc: Global, bytes: &'a [u8]) -> Result<Option<CsiFront<'a
     ensures none { IfOk result (λ found. IfNone found (HasNoFront bytes.now)) }
     ensures refused { OnErr result ((front : Front) × HasFront bytes.now front) }
 {
-    let Some(behind) = behind_introducer(bytes) else {
+    let Some(behind) = after_introducer(bytes) else {
         return Ok(None);
     };
     let mut parameters = Parameters::new();
@@ -70,7 +69,7 @@ fn is_final(byte: u8) -> bool
 }
 
 /// What stands behind `ESC [`.
-fn behind_introducer(bytes: &[u8]) -> Option<&[u8]>
+fn after_introducer(bytes: &[u8]) -> Option<&[u8]>
     ensures some { IfSome result (λ behind. bytes.now ≡ 27 ∷ 91 ∷ behind.now) }
     ensures none { IfNone result ((behind : List ℕ) → bytes.now ≡ 27 ∷ 91 ∷ behind → ⊥) }
 {

@@ -2,26 +2,8 @@
 ghost use Rattle.csi_codec.specs.Fronts.{OneFront, TextsAreFronts};
 ghost use Rattle.csi_codec.specs.Laws.{ActionsReadBack, SgrListsJoin};
 ghost use Rattle.csi_codec.specs.Longest.{LongestShapeDecides};
-ghost use Rattle.csi_codec.specs.Sizes.{
-  SgrsAreShort,
-  CursorsAreShort,
-  EditsAreShort,
-  ModesAreShort,
-  DevicesAreShort,
-  ActionsAreShort,
-  PairsAreShort,
-};
-ghost use Rattle.csi_codec.specs.Texts.{ParametersReadBack};
-ghost use Rattle.csi_codec.specs.Writable.{
-  CursorsReadBack,
-  EditsReadBack,
-  DevicesReadBack,
-  ModesReadBack,
-  SgrsReadBack,
-  WritableActionsReadBack,
-  WritableTextsAreFronts,
-  PairsReadBack,
-};
+ghost use Rattle.csi_codec.specs.Sizes.{ActionsAreShort};
+ghost use Rattle.csi_codec.specs.Writable.{WritableActionsReadBack, WritableTextsAreFronts};
 
 /// The actions of an SGR list, a `;` and another list are those of the one and then those of the other, where the
 /// first is wholly known and does not end in `;`.
@@ -33,11 +15,6 @@ pub fn sgr_lists_join()
 /// but for a rest of modes behind some that stand, where it begins with `?` or stands under `s` or `r`.
 pub fn actions_read_back()
     ensures { ActionsReadBack }
-{}
-
-/// The text of a spellable list of parameters gives the list back.
-pub fn parameters_read_back()
-    ensures { ParametersReadBack }
 {}
 
 /// At most one sequence stands at the front of some bytes.
@@ -52,41 +29,20 @@ pub fn texts_are_fronts()
     ensures { TextsAreFronts }
 {}
 
-/// Each value that can be written is the one action of the parameters and the final byte that are written for it, under
+/// An action that can be written is the one action of the parameters and the final byte that are written for it, under
 /// either flag: a cursor sequence or an edit whose counts and places are 1 to 4294967295, every request, a mode by its
-/// name or by a number to 65535 that has none, and an SGR of any colour and of the fonts 1 to 9 or the default.
-pub fn writable_values_read_back()
-    ensures cursor { CursorsReadBack }
-    ensures edit { EditsReadBack }
-    ensures device { DevicesReadBack }
-    ensures mode { ModesReadBack }
-    ensures sgr { SgrsReadBack }
-{}
-
-/// An action that can be written is the one action of its parameters, under either flag, and its text is one sequence of
-/// them, with nothing behind it. So a program that builds such an action and writes it knows how it is read.
+/// name or by a number to 65535 that has none, and an SGR of any colour and of the fonts 1 to 9 or the default. Its
+/// text is one sequence of them, with nothing behind it. So a program that builds such an action and writes it knows
+/// how it is read.
 pub fn writable_actions_read_back()
     ensures action { WritableActionsReadBack }
     ensures text { WritableTextsAreFronts }
 {}
 
-/// The text of an ESC pair that can be written is ESC and the bytes of the pair, which mean that pair: a pair by its
-/// name, unless it opens a string, or by bytes that have no name.
-pub fn writable_pairs_read_back()
-    ensures { PairsReadBack }
-{}
-
-/// The most bytes of the text of a value that can be written: 24 of an SGR (`ESC [38:6::255:255:255:255m`) and of a
-/// cursor sequence (`ESC [4294967295;4294967295H`), 13 of an edit, 9 of a mode, 4 of a request, and so 24 of any action;
-/// 3 of an ESC pair.
+/// The text of an action that can be written has at most 24 bytes: as many as an SGR (`ESC [38:6::255:255:255:255m`)
+/// and a cursor sequence (`ESC [4294967295;4294967295H`) can have.
 pub fn writable_texts_are_short()
-    ensures sgr { SgrsAreShort }
-    ensures cursor { CursorsAreShort }
-    ensures edit { EditsAreShort }
-    ensures mode { ModesAreShort }
-    ensures device { DevicesAreShort }
     ensures action { ActionsAreShort }
-    ensures pair { PairsAreShort }
 {}
 
 /// The longest shape decides: no listed shape of SGR that stands at the front of a list is longer than the one that is

@@ -2,18 +2,18 @@
 //! bytes of every action.
 #![tactic(auto)]
 
-mod cracking;
+mod cracked;
 mod cursors;
 mod devices;
 mod edits;
 mod escapes;
 mod fronts;
+mod groups;
 pub mod laws;
 mod modes;
 mod one_based;
+mod param_cursor;
 mod parameters;
-mod pieces;
-mod places;
 mod rendition;
 mod sequences;
 mod sgr_reading;
@@ -22,7 +22,7 @@ mod spelling;
 mod text;
 mod tokens;
 
-pub use cracking::Cracked;
+pub use cracked::Cracked;
 pub use cursors::{Cursor, CursorStyle, CursorTabulationControl, TabulationClear};
 pub use devices::Device;
 pub use edits::{Edit, EraseInDisplay, EraseInLine};
@@ -30,8 +30,8 @@ pub use escapes::{Esc, EscCode};
 pub use fronts::{CsiFront, read_csi};
 pub use modes::{DecPrivateMode, DecPrivateModeCode, Mode, TerminalMode, TerminalModeCode};
 pub use one_based::OneBased;
+pub use param_cursor::ParamCursor;
 pub use parameters::{CrackError, CsiParam, Unspecified};
-pub use places::CSIPlace;
 pub use rendition::{Font, Sgr};
 pub use sequences::{CSI, CSIParser};
 pub use tokens::{Parameters, is_parameter};

@@ -31,8 +31,7 @@ impl fmt::Display for OneBased {
 }
 
 impl OneBased {
-    ghost use Rattle.csi_codec.specs.Places.{one_based, optional_one_based};
-    ghost use Rattle.csi_codec.specs.Parameters.{word_max};
+    ghost use Rattle.csi_codec.specs.Parameters.{one_based, optional_one_based, word_max};
 
     /// The place that counts as `value` from 1.
     pub fn new(value: u32) -> Self

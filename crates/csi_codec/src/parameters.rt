@@ -1,8 +1,10 @@
 //! Tokens of a CSI list, the numbers and places that a list can have, and how tokens are written.
 ghost use Rattle.std.specs.Prelude.{◌≡◌, ◌≤◌, ◌++◌, Some, IfOk, OnErr, OnOk, option_map, drop, length, take};
 ghost use Rattle.std.specs.Fmt.{signed_decimal};
-ghost use Rattle.csi_codec.specs.Parameters.{number_within, token_text, sequence_text, spelled, spelled_text, one_slot, two_slots, slot_and_space, place, slot_number, count, place_pair, semicolon_at};
-ghost use Rattle.csi_codec.specs.Rests.{IsSameRest};
+ghost use Rattle.csi_codec.specs.Parameters.{number_within, place, semicolon_at};
+ghost use Rattle.csi_codec.specs.Parameters.{one_slot, two_slots, slot_and_space, slot_number, count, place_pair};
+ghost use Rattle.csi_codec.specs.Parameters.{token_text, sequence_text, spelled, spelled_text};
+ghost use Rattle.csi_codec.specs.Sequences.{IsSameRest};
 
 use crate::one_based::OneBased;
 use crate::text::SequenceText;
@@ -74,9 +76,11 @@ impl fmt::Display for Unspecified {
 }
 
 impl Unspecified {
-    /// Appends the bytes of `ESC [`, the parameters and the final byte. Where memory is refused, `bytes` stay as they were.
+    /// Appends the bytes of `ESC [`, the parameters and the final byte. Where memory is refused, `bytes` stay as they
+    /// were.
     pub(crate) fn append_bytes_to(&self, bytes: &mut Vec<u8>) -> Result<(), AllocError>
-        ensures ok { OnOk result (bytes.new.items ≡ bytes.old.items ++ sequence_text (spelled self.now.params.items self.now.control)) }
+        ensures ok { OnOk result (bytes.new.items
+            ≡ bytes.old.items ++ sequence_text (spelled self.now.params.items self.now.control)) }
         ensures err { OnErr result (bytes.new.items ≡ bytes.old.items) }
     {
         let len = bytes.len();
@@ -89,7 +93,8 @@ impl Unspecified {
 
     /// Appends these bytes one after another; what was appended before a refusal stays.
     fn append_parts_to(&self, bytes: &mut Vec<u8>) -> Result<(), AllocError>
-        ensures ok { OnOk result (bytes.new.items ≡ bytes.old.items ++ sequence_text (spelled self.now.params.items self.now.control)) }
+        ensures ok { OnOk result (bytes.new.items
+            ≡ bytes.old.items ++ sequence_text (spelled self.now.params.items self.now.control)) }
         ensures err { take (length bytes.old.items) bytes.new.items ≡ bytes.old.items }
     {
         bytes.extend_from_slice(b"\x1b[")?;

@@ -8,8 +8,8 @@ use crate::cursors::Cursor;
 use crate::devices::Device;
 use crate::edits::Edit;
 use crate::modes::Mode;
+use crate::param_cursor::ParamCursor;
 use crate::parameters::{CsiParam, Unspecified};
-use crate::places::CSIPlace;
 use crate::rendition::Sgr;
 use crate::spelling::ControlSequence;
 use crate::text::SequenceText;
@@ -95,7 +95,7 @@ impl CSI {
             params,
             truncated: parameters_truncated,
             control,
-            place: CSIPlace::start(),
+            place: ParamCursor::start(),
         }
     }
 
@@ -125,7 +125,7 @@ pub struct CSIParser<'a> {
     params: &'a [CsiParam],
     truncated: bool,
     control: char,
-    place: CSIPlace,
+    place: ParamCursor,
 }
 
 impl<'a> Model for CSIParser<'a> {

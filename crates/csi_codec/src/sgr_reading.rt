@@ -1,4 +1,4 @@
-//! SGR: reading a piece, by the number that it begins with.
+//! SGR: reading a group, by the number that it begins with.
 ghost use Rattle.std.specs.Prelude.{◌≡◌, ◌≤◌, IfSome, pos, ◌∷◌, []};
 ghost use Rattle.csi_codec.specs.Parameters.{number_within};
 ghost use Rattle.csi_codec.specs.declared.parameters.CsiParam.TheVariants.{Integer, P};
@@ -14,7 +14,7 @@ ghost use Rattle.csi_codec.specs.Rendition.{
   underline_shape,
   numbered_shape,
   sgr_shape,
-  sgr_piece,
+  sgr_group,
 };
 
 use crate::parameters::CsiParam::{self, Integer, P};
@@ -46,7 +46,8 @@ fn opaque(len: usize, red: i64, green: i64, blue: i64) -> Option<(ColorSpec, usi
 
 /// The colour of four numbers, if they are bytes, told by so many tokens.
 fn with_alpha(len: usize, red: i64, green: i64, blue: i64, alpha: i64) -> Option<(ColorSpec, usize)>
-    ensures { result ≡ taking len (colour_at 0 1 2 3 (Integer red ∷ Integer green ∷ Integer blue ∷ Integer alpha ∷ [])) }
+    ensures { result
+        ≡ taking len (colour_at 0 1 2 3 (Integer red ∷ Integer green ∷ Integer blue ∷ Integer alpha ∷ [])) }
 {
     let color = SrgbaTuple(
         channel(red)?,
@@ -57,7 +58,8 @@ fn with_alpha(len: usize, red: i64, green: i64, blue: i64, alpha: i64) -> Option
     Some((ColorSpec::TrueColor(color), len))
 }
 
-/// The colour told with `;` by its kind and what stands behind that, and how many tokens it takes with the sign and the kind.
+/// The colour told with `;` by its kind and what stands behind that, and how many tokens it takes with the sign and the
+/// kind.
 #[tactic(auto, unfolding(crate::specs::Rendition::colour_form))]
 fn semicolon_form(kind: i64, params: &[CsiParam]) -> Option<(ColorSpec, usize)>
     ensures { result ≡ colour_form (P 59 ∷ Integer kind ∷ params.now) }
@@ -80,7 +82,8 @@ fn semicolon_form(kind: i64, params: &[CsiParam]) -> Option<(ColorSpec, usize)>
     }
 }
 
-/// The colour told with `:` by its kind and what stands behind that, and how many tokens it takes with the sign and the kind.
+/// The colour told with `:` by its kind and what stands behind that, and how many tokens it takes with the sign and the
+/// kind.
 #[tactic(auto, unfolding(crate::specs::Rendition::colour_form))]
 fn colon_form(kind: i64, params: &[CsiParam]) -> Option<(ColorSpec, usize)>
     ensures { result ≡ colour_form (P 58 ∷ Integer kind ∷ params.now) }
@@ -281,10 +284,10 @@ fn sgr_shape(params: &[CsiParam]) -> Option<(Sgr, usize)>
     }
 }
 
-/// What the piece at the front of a list stands for, and how many tokens it takes with the `;` right behind it.
-#[tactic(auto, unfolding(crate::specs::Rendition::sgr_piece))]
-pub(crate) fn sgr_piece(params: &[CsiParam]) -> Option<(Sgr, usize)>
-    ensures { result ≡ sgr_piece params.now }
+/// What the group at the front of a list stands for, and how many tokens it takes with the `;` right behind it.
+#[tactic(auto, unfolding(crate::specs::Rendition::sgr_group))]
+pub(crate) fn sgr_group(params: &[CsiParam]) -> Option<(Sgr, usize)>
+    ensures { result ≡ sgr_group params.now }
 {
     let (value, len) = sgr_shape(params)?;
     Some((value, len + semicolon_at(params, len)))

@@ -158,7 +158,10 @@ fn put_alpha(target: u8, red: u8, green: u8, blue: u8, alpha: u8, text: &mut Seq
 /// What a colour is of, three channels, and what kind of colour they are.
 #[inline(always)]
 fn channels_opened(target: u8, kind: u8, red: u8, green: u8, blue: u8) -> SequenceText
-    ensures text { result ≡ opened_text (number target ∷ P 58 ∷ number kind ∷ P 58 ∷ P 58 ∷ number red ∷ P 58 ∷ number green ∷ P 58 ∷ number blue ∷ []) }
+    ensures text { result
+        ≡ opened_text
+        (number target ∷ P 58 ∷ number kind ∷ P 58 ∷ P 58 ∷ number red ∷ P 58 ∷ number green ∷ P 58 ∷ number blue
+        ∷ []) }
     ensures short { length result ≤ 22 }
 {
     let mut text = color_opened(target, kind);

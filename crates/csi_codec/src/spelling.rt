@@ -1,8 +1,9 @@
-//! What is written as a control sequence, and the texts that families share: `ESC [`, parameters and a final byte, which is
-//! ASCII.
+//! What is written as a control sequence, and the texts that families share: `ESC [`, parameters and a final byte,
+//! which is ASCII.
 ghost use Rattle.std.specs.Prelude.{◌≡◌, ◌<◌, [], Some};
 ghost use Rattle.std.specs.Fmt.{DisplaysOnOk};
-ghost use Rattle.csi_codec.specs.Parameters.{Spelled, spelled, spelled_text, sequence_text, count_tokens, number_tokens, pair_tokens, extent_tokens};
+ghost use Rattle.csi_codec.specs.Parameters.{Spelled, spelled, spelled_text, sequence_text, count_tokens};
+ghost use Rattle.csi_codec.specs.Parameters.{number_tokens, pair_tokens, extent_tokens};
 
 use crate::one_based::OneBased;
 use crate::text::SequenceText;
@@ -30,7 +31,7 @@ pub(crate) fn write_parameters<S: ControlSequence, W: fmt::Write>(
 }
 
 /// No parameters.
-pub(crate) fn put_bare(control: u8, text: &mut SequenceText)
+pub(crate) fn put_final(control: u8, text: &mut SequenceText)
     requires { control < 128 }
     ensures { text.new ≡ sequence_text (spelled [] control) }
 {
@@ -56,7 +57,7 @@ pub(crate) fn put_count(count: u32, control: u8, text: &mut SequenceText)
     ensures { text.new ≡ sequence_text (spelled (count_tokens count) control) }
 {
     if count == 1 {
-        put_bare(control, text);
+        put_final(control, text);
     } else {
         put_number(count, control, text);
     }
@@ -81,7 +82,7 @@ pub(crate) fn put_extent(extent: u16, control: u8, text: &mut SequenceText)
     ensures { text.new ≡ sequence_text (spelled (extent_tokens extent) control) }
 {
     if extent == 0 {
-        put_bare(control, text);
+        put_final(control, text);
     } else {
         put_number(u32::from(extent), control, text);
     }

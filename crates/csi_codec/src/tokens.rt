@@ -2,8 +2,9 @@
 ghost use Rattle.std.specs.Prelude.{◌≡◌, ◌≤◌, IsSome, fold, take};
 ghost use Rattle.std.specs.List.{prefix_len};
 ghost use Rattle.std.specs.Char.{IsAsciiDigit};
-ghost use Rattle.csi_codec.specs.Tokens.{is_parameter as in_parameters, no_parameters, with_token, with_number, with_byte};
-ghost use Rattle.csi_codec.specs.Tokens.{next_number as number_behind};
+ghost use Rattle.csi_codec.specs.Tokens.{is_parameter as in_parameters, no_parameters, with_token, with_number};
+ghost use Rattle.csi_codec.specs.Tokens.{with_byte};
+ghost use Rattle.csi_codec.specs.Tokens.{next_number as number_after};
 
 use crate::parameters::CsiParam;
 use std::marker::Model;
@@ -27,7 +28,7 @@ pub fn is_parameter(byte: u8) -> bool
 #[inline(always)]
 fn next_number(number: Option<u64>, byte: u8) -> u64
     requires { IsAsciiDigit byte }
-    ensures { result ≡ number_behind number byte }
+    ensures { result ≡ number_after number byte }
 {
     let begun = number.unwrap_or(0);
     let digit = u64::from(byte - b'0');

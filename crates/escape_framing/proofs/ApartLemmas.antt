@@ -15,7 +15,7 @@ use Rattle.escape_framing.specs.Cut.{the_cut, dispatches, newly_decided}
 use Rattle.escape_framing.specs.Placed.{placed_from}
 use Rattle.escape_framing.specs.PlacedSegments.{placed_segments, LiesBetween}
 use Rattle.escape_framing.specs.Held.{Held, held_step, nothing_held, hand_out, held_of}
-use Rattle.escape_framing.specs.Framed.{Framed, Text, Lone, is_lent, put_text, framed, at_place, placed_behind, begun_bytes, IsLendable}
+use Rattle.escape_framing.specs.Framed.{Framed, Text, Single, is_lent, put_text, framed, at_place, placed_after, begun_bytes, IsLendable}
 use Rattle.escape_framing.proofs.Begun.{is_body}
 use Rattle.escape_framing.proofs.Existence.Utf8Lemmas.{Spelled, in_one, in_two, in_three, in_four, spelled}
 use Rattle.escape_framing.proofs.HeldLemmas.{decided, newly_handed, held_append, step_decides}
@@ -25,9 +25,9 @@ use Rattle.escape_framing.proofs.FramedLemmas.{never_lent}
 use Rattle.escape_framing.proofs.TextLemmas.{lent_character}
 use Rattle.escape_framing.proofs.PrintLemmas.{PrintNone, none_append, escape_quiet, Ending, goes_on, prints, quiet, replaces, Printing, whole_one, breaks_one, controls_quiet}
 use Rattle.escape_framing.proofs.SoundLemmas.{stream_sound, held_prints, held_body}
-use Rattle.escape_framing.proofs.LoneLemmas.{IsAlone, none_alone, print_alone}
+use Rattle.escape_framing.proofs.SingleLemmas.{IsAlone, none_alone, print_alone}
 use Rattle.escape_framing.proofs.SpellLemmas.{placed_same}
-use Rattle.escape_framing.proofs.SegmentPlaces.{whole_form, whole_length, stands_behind}
+use Rattle.escape_framing.proofs.SegmentPlaces.{whole_form, whole_length, stands_after}
 use Rattle.std.proofs.lemmas.Bool.{cond_both, cases_Bool, leb-true, and_parts, eqb-true, eqb-false}
 use Rattle.escape_framing.proofs.CharacterReading.{no_escape}
 
@@ -180,14 +180,14 @@ of_ending start place b p ds h (replaces f g w) = each_alone (subst (IsAlone sta
 
 of_printing : (start place b : ℕ) (p : List ℕ) (ds : List Dispatch) (h : Held) → Printing p b ds h.kept h.waiting → HandsOut start place ds h
 of_printing start place b p ds h (whole_one t) = of_ending start place b p ds h t
-of_printing start place b p ds h (breaks_one others e t) = behind_broken (of_ending start place b [] others h t)
+of_printing start place b p ds h (breaks_one others e t) = after_broken (of_ending start place b [] others h t)
   where
     never : is_lent start place 0xFFFD ≡ false
     never = never_lent start place 0xFFFD refl
 
-    behind_broken : HandsOut start place others h → HandsOut start place ds h
-    behind_broken (each_alone a) = each_alone (subst (IsAlone start place) (sym e) (print_alone start place 0xFFFD others never a))
-    behind_broken (last_lent front c l f a k n) = last_lent (Print 0xFFFD ∷ front) c l (e ∙ ap (λ (x : List Dispatch). Print 0xFFFD ∷ x) f) (print_alone start place 0xFFFD front never a) k n
+    after_broken : HandsOut start place others h → HandsOut start place ds h
+    after_broken (each_alone a) = each_alone (subst (IsAlone start place) (sym e) (print_alone start place 0xFFFD others never a))
+    after_broken (last_lent front c l f a k n) = last_lent (Print 0xFFFD ∷ front) c l (e ∙ ap (λ (x : List Dispatch). Print 0xFFFD ∷ x) f) (print_alone start place 0xFFFD front never a) k n
 
 step_hands_out : (stream : List ℕ) (b start place : ℕ) → HandsOut start place (held_step (held_of stream) b).dispatches (held_step (held_of stream) b).held
 step_hands_out stream b start place = ⊎_elim
@@ -203,7 +203,7 @@ byte_hands_out stream b start place =
 
 -- a character to lend is put before what follows
 lends_text : (start place c : ℕ) (ds front : List Dispatch) (placed : List (ℕ × Dispatch)) → ds ≡ front ++ Print c ∷ [] → IsAlone start place front → is_lent start place c ≡ true
-    → framed start (at_place place ds ++ placed) ≡ map Lone front ++ put_text (place - length (encode_utf8 c)) (encode_utf8 c) (framed start placed)
+    → framed start (at_place place ds ++ placed) ≡ map Single front ++ put_text (place - length (encode_utf8 c)) (encode_utf8 c) (framed start placed)
 lends_text start place c ds front placed e a k =
     let one : List (ℕ × Dispatch) = at_place place (Print c ∷ []) in
     ap (λ (l : List Dispatch). framed start (at_place place l ++ placed)) e
@@ -219,23 +219,23 @@ no_items [] i others e = cc
 no_items (x ∷ before) i others e = cc
 
 -- behind dispatches by themselves
-behind_lone : (xs : List Dispatch) (rest before : List Framed) (from : ℕ) (text : List ℕ) (others : List Framed) → map Lone xs ++ rest ≡ before ++ Text from text ∷ others
+after_single : (xs : List Dispatch) (rest before : List Framed) (from : ℕ) (text : List ℕ) (others : List Framed) → map Single xs ++ rest ≡ before ++ Text from text ∷ others
     → (front : List Framed) × (rest ≡ front ++ Text from text ∷ others)
-behind_lone [] rest before from text others e = (before, e)
-behind_lone (x ∷ xs) rest [] from text others e = cc
-behind_lone (x ∷ xs) rest (y ∷ before) from text others e = behind_lone xs rest before from text others (let k : map Lone xs ++ rest ≡ before ++ Text from text ∷ others = cc in k)
+after_single [] rest before from text others e = (before, e)
+after_single (x ∷ xs) rest [] from text others e = cc
+after_single (x ∷ xs) rest (y ∷ before) from text others e = after_single xs rest before from text others (let k : map Single xs ++ rest ≡ before ++ Text from text ∷ others = cc in k)
 
 -- some of those before a text
 record Left (xs ds : List Dispatch) (rest : List Framed) (next : ℕ) (more : List ℕ) (others : List Framed) : Type 0 where
   left : List Dispatch
   joined : ds ≡ xs ++ left
-  behind : rest ≡ map Lone left ++ Text next more ∷ others
+  behind : rest ≡ map Single left ++ Text next more ∷ others
 
-left_of : (xs ds : List Dispatch) (rest : List Framed) (next : ℕ) (more : List ℕ) (others : List Framed) → map Lone xs ++ rest ≡ map Lone ds ++ Text next more ∷ others → Left xs ds rest next more others
+left_of : (xs ds : List Dispatch) (rest : List Framed) (next : ℕ) (more : List ℕ) (others : List Framed) → map Single xs ++ rest ≡ map Single ds ++ Text next more ∷ others → Left xs ds rest next more others
 left_of [] ds rest next more others e = record { left = ds; joined = refl; behind = e }
 left_of (x ∷ xs) [] rest next more others e = cc
 left_of (x ∷ xs) (d ∷ ds) rest next more others e =
-    let k = left_of xs ds rest next more others (let f : map Lone xs ++ rest ≡ map Lone ds ++ Text next more ∷ others = cc in f) in
+    let k = left_of xs ds rest next more others (let f : map Single xs ++ rest ≡ map Single ds ++ Text next more ∷ others = cc in f) in
     let same : d ≡ x = cc in
     record { left = k.left; joined = (λ i. same i ∷ k.joined i); behind = k.behind }
 
@@ -247,14 +247,14 @@ record Begins (from : ℕ) (items : List Framed) : Type 0 where
 
 put_begins : (from : ℕ) (text : List ℕ) (rest : List Framed) → Begins from (put_text from text rest)
 put_begins from text [] = record { text = text; others = []; are = refl }
-put_begins from text (Lone d ∷ rest) = record { text = text; others = Lone d ∷ rest; are = refl }
+put_begins from text (Single d ∷ rest) = record { text = text; others = Single d ∷ rest; are = refl }
 put_begins from text (Text next more ∷ rest) =
     cond_both (next == from + length text) _ _ (Begins from) (λ e. record { text = text ++ more; others = rest; are = refl }) (λ e. record { text = text; others = Text next more ∷ rest; are = refl })
 
-first_is : (from : ℕ) (text : List ℕ) (rest : List Framed) (ds : List Dispatch) (next : ℕ) (more : List ℕ) (others : List Framed) → put_text from text rest ≡ map Lone ds ++ Text next more ∷ others → (ds ≡ []) × (from ≡ next)
+first_is : (from : ℕ) (text : List ℕ) (rest : List Framed) (ds : List Dispatch) (next : ℕ) (more : List ℕ) (others : List Framed) → put_text from text rest ≡ map Single ds ++ Text next more ∷ others → (ds ≡ []) × (from ≡ next)
 first_is from text rest ds next more others e = by_dispatches ds (sym (put_begins from text rest).are ∙ e)
   where
-    by_dispatches : (ds : List Dispatch) → Text from (put_begins from text rest).text ∷ (put_begins from text rest).others ≡ map Lone ds ++ Text next more ∷ others → (ds ≡ []) × (from ≡ next)
+    by_dispatches : (ds : List Dispatch) → Text from (put_begins from text rest).text ∷ (put_begins from text rest).others ≡ map Single ds ++ Text next more ∷ others → (ds ≡ []) × (from ≡ next)
     by_dispatches [] k = (refl, cc)
     by_dispatches (d ∷ ds) k = cc
 
@@ -270,12 +270,12 @@ put_where first characters [] [] from text others e =
     let t : characters ≡ text = cc in
     is_put (sym k) (λ i. f i + length (t i)) (λ next more behind m. cc)
 put_where first characters [] (y ∷ before) from text others e = absurd (no_items before (Text from text) others (let k : [] ≡ before ++ Text from text ∷ others = cc in k))
-put_where first characters (Lone d ∷ rest) [] from text others e =
-    let k : Lone d ∷ rest ≡ others = cc in
+put_where first characters (Single d ∷ rest) [] from text others e =
+    let k : Single d ∷ rest ≡ others = cc in
     let f : first ≡ from = cc in
     let t : characters ≡ text = cc in
     is_put (sym k) (λ i. f i + length (t i)) (λ next more behind m. cc)
-put_where first characters (Lone d ∷ rest) (y ∷ before) from text others e = stood before from text (let k : Lone d ∷ rest ≡ before ++ Text from text ∷ others = cc in k) refl
+put_where first characters (Single d ∷ rest) (y ∷ before) from text others e = stood before from text (let k : Single d ∷ rest ≡ before ++ Text from text ∷ others = cc in k) refl
 put_where first characters (Text next more ∷ rest) before from text others e =
     ⊎_elim (λ k. joins before (eqb-true next (first + length characters) k) (rw k at e)) (λ k. apart before (eqb-false next (first + length characters) k) (rw k at e)) (cases_Bool (next == first + length characters))
   where
@@ -311,12 +311,12 @@ record Reaches (front bytes : List ℕ) (ds : List Dispatch) (next : ℕ) : Type
   place : next + length (encode_utf8 character) ≡ length front + length read
   nothing : held_of (front ++ read) ≡ nothing_held
 
-reaches : (bytes front : List ℕ) (start : ℕ) (ds : List Dispatch) (next : ℕ) (more : List ℕ) (others : List Framed) → framed start (placed_from front bytes) ≡ map Lone ds ++ Text next more ∷ others → Reaches front bytes ds next
-reaches [] front start ds next more others e = absurd (no_items (map Lone ds) (Text next more) others e)
+reaches : (bytes front : List ℕ) (start : ℕ) (ds : List Dispatch) (next : ℕ) (more : List ℕ) (others : List Framed) → framed start (placed_from front bytes) ≡ map Single ds ++ Text next more ∷ others → Reaches front bytes ds next
+reaches [] front start ds next more others e = absurd (no_items (map Single ds) (Text next more) others e)
 reaches (b ∷ bytes) front start ds next more others e = by_step (byte_hands_out front b start (length front + 1)) (λ left k. reaches bytes (front ++ b ∷ []) start left next more others k)
   where
     by_step : HandsOut start (length front + 1) (newly_decided front (b ∷ [])) (held_of (front ++ b ∷ []))
-        → ((left : List Dispatch) → framed start (placed_from (front ++ b ∷ []) bytes) ≡ map Lone left ++ Text next more ∷ others → Reaches (front ++ b ∷ []) bytes left next)
+        → ((left : List Dispatch) → framed start (placed_from (front ++ b ∷ []) bytes) ≡ map Single left ++ Text next more ∷ others → Reaches (front ++ b ∷ []) bytes left next)
         → Reaches front (b ∷ bytes) ds next
     by_step (each_alone a) later =
         let l = left_of (newly_decided front (b ∷ [])) ds (framed start (placed_from (front ++ b ∷ []) bytes)) next more others (sym (a (placed_from (front ++ b ∷ []) bytes)) ∙ e) in
@@ -362,7 +362,7 @@ whole_dispatches s h = ap (λ (t : Tail). flat_map dispatches_of (the_cut s).seg
 
 -- from where nothing is held up to the next text
 idle_between : (bytes front : List ℕ) (start : ℕ) (ds : List Dispatch) (next : ℕ) (more : List ℕ) (others : List Framed) → held_of front ≡ nothing_held → start ≤ length front
-    → framed start (placed_from front bytes) ≡ map Lone ds ++ Text next more ∷ others → ((ds ≡ []) × (next ≡ length front)) ⊎ IsBetween (front ++ bytes) (length front) next ds
+    → framed start (placed_from front bytes) ≡ map Single ds ++ Text next more ∷ others → ((ds ≡ []) × (next ≡ length front)) ⊎ IsBetween (front ++ bytes) (length front) next ds
 idle_between bytes front start ds next more others idle l e = by_segments (the_cut w.read).segments refl
   where
     w : Reaches front bytes ds next
@@ -391,7 +391,7 @@ idle_between bytes front start ds next more others idle l e = by_segments (the_c
               segment = s;
               lies = record {
                 place = length front;
-                stands = subst (λ (x : List ℕ). Contains (placed_segments (front ++ x)) (length front, s)) (sym w.split) (stands_behind front w.read w.left s segments idle held k);
+                stands = subst (λ (x : List ℕ). Contains (placed_segments (front ++ x)) (length front, s)) (sym w.split) (stands_after front w.read w.left s segments idle held k);
                 behind = omega arith;
                 before = omega (arith, long, all, place, length-append (bytes_of s) (flat_map bytes_of segments));
               };
@@ -404,17 +404,17 @@ idle_between bytes front start ds next more others idle l e = by_segments (the_c
             = sym (whole_form w.read held) ∙ ap (flat_map bytes_of) (sym k) ∙ ap (λ (x : Segment). bytes_of x ++ flat_map bytes_of segments) is in
             let stands = front_is (encode w.character) w.read (flat_map bytes_of segments) (no_escape_in w.character w.lendable.0 w.lendable.1) form in
             let split : bytes ≡ encode w.character ++ (stands.0 ++ w.left) = w.split ∙ ap (λ (x : List ℕ). x ++ w.left) stands.1 ∙ append_assoc (encode w.character) stands.0 w.left in
-            let put : framed start (placed_from front bytes) ≡ put_text (length front) (encode w.character) (framed start (placed_behind (length front + length (encode w.character)) nothing_held (stands.0 ++ w.left)))
+            let put : framed start (placed_from front bytes) ≡ put_text (length front) (encode w.character) (framed start (placed_after (length front + length (encode w.character)) nothing_held (stands.0 ++ w.left)))
             = ap (framed start) (sym (placed_same bytes front))
-            ∙ (λ i. framed start (placed_behind (length front) (idle i) (split i)))
+            ∙ (λ i. framed start (placed_after (length front) (idle i) (split i)))
             ∙ lent_character start (length front) w.character (stands.0 ++ w.left) w.lendable l in
-            let b = first_is (length front) (encode w.character) (framed start (placed_behind (length front + length (encode w.character)) nothing_held (stands.0 ++ w.left))) ds next more others (sym put ∙ e) in
+            let b = first_is (length front) (encode w.character) (framed start (placed_after (length front + length (encode w.character)) nothing_held (stands.0 ++ w.left))) ds next more others (sym put ∙ e) in
             inl (b.0, sym b.1)
 
 -- between two texts with nothing but dispatches between them
 pub texts_between : (bytes front : List ℕ) (start : ℕ) (before : List Framed) (from : ℕ) (text : List ℕ) (ds : List Dispatch) (next : ℕ) (more : List ℕ) (others : List Framed) → start ≤ length front
-    → framed start (placed_from front bytes) ≡ before ++ Text from text ∷ (map Lone ds ++ Text next more ∷ others) → IsBetween (front ++ bytes) (from + length text) next ds
-texts_between [] front start before from text ds next more others l e = absurd (no_items before (Text from text) (map Lone ds ++ Text next more ∷ others) e)
+    → framed start (placed_from front bytes) ≡ before ++ Text from text ∷ (map Single ds ++ Text next more ∷ others) → IsBetween (front ++ bytes) (from + length text) next ds
+texts_between [] front start before from text ds next more others l e = absurd (no_items before (Text from text) (map Single ds ++ Text next more ∷ others) e)
 texts_between (b ∷ bytes) front start before from text ds next more others l e =
     by_step (byte_hands_out front b start (length front + 1))
     (λ lead old shown k. texts_between bytes (front ++ b ∷ []) start lead old shown ds next more others (omega (arith, length-append front (b ∷ []))) k)
@@ -423,19 +423,19 @@ texts_between (b ∷ bytes) front start before from text ds next more others l e
     joined from h = subst (λ (s : List ℕ). IsBetween s from next ds) (append_assoc front (b ∷ []) bytes) h
 
     by_step : HandsOut start (length front + 1) (newly_decided front (b ∷ [])) (held_of (front ++ b ∷ []))
-        → ((lead : List Framed) (old : ℕ) (shown : List ℕ) → framed start (placed_from (front ++ b ∷ []) bytes) ≡ lead ++ Text old shown ∷ (map Lone ds ++ Text next more ∷ others) → IsBetween ((front ++ b ∷ []) ++ bytes) (old + length shown) next ds)
+        → ((lead : List Framed) (old : ℕ) (shown : List ℕ) → framed start (placed_from (front ++ b ∷ []) bytes) ≡ lead ++ Text old shown ∷ (map Single ds ++ Text next more ∷ others) → IsBetween ((front ++ b ∷ []) ++ bytes) (old + length shown) next ds)
         → IsBetween (front ++ b ∷ bytes) (from + length text) next ds
     by_step (each_alone a) later =
-        let k = behind_lone (newly_decided front (b ∷ [])) (framed start (placed_from (front ++ b ∷ []) bytes)) before from text (map Lone ds ++ Text next more ∷ others) (sym (a (placed_from (front ++ b ∷ []) bytes)) ∙ e) in
+        let k = after_single (newly_decided front (b ∷ [])) (framed start (placed_from (front ++ b ∷ []) bytes)) before from text (map Single ds ++ Text next more ∷ others) (sym (a (placed_from (front ++ b ∷ []) bytes)) ∙ e) in
         joined (from + length text) (later k.0 from text k.1)
     by_step (last_lent f c y g a t n) later =
-        by_put (put_where (length front + 1 - length (encode_utf8 c)) (encode_utf8 c) (framed start (placed_from (front ++ b ∷ []) bytes)) x.0 from text (map Lone ds ++ Text next more ∷ others) x.1)
+        by_put (put_where (length front + 1 - length (encode_utf8 c)) (encode_utf8 c) (framed start (placed_from (front ++ b ∷ []) bytes)) x.0 from text (map Single ds ++ Text next more ∷ others) x.1)
       where
-        x : (lead : List Framed) × (put_text (length front + 1 - length (encode_utf8 c)) (encode_utf8 c) (framed start (placed_from (front ++ b ∷ []) bytes)) ≡ lead ++ Text from text ∷ (map Lone ds ++ Text next more ∷ others))
-        x = behind_lone f (put_text (length front + 1 - length (encode_utf8 c)) (encode_utf8 c) (framed start (placed_from (front ++ b ∷ []) bytes))) before from text (map Lone ds ++ Text next more ∷ others)
+        x : (lead : List Framed) × (put_text (length front + 1 - length (encode_utf8 c)) (encode_utf8 c) (framed start (placed_from (front ++ b ∷ []) bytes)) ≡ lead ++ Text from text ∷ (map Single ds ++ Text next more ∷ others))
+        x = after_single f (put_text (length front + 1 - length (encode_utf8 c)) (encode_utf8 c) (framed start (placed_from (front ++ b ∷ []) bytes))) before from text (map Single ds ++ Text next more ∷ others)
             (sym (lends_text start (length front + 1) c (newly_decided front (b ∷ [])) f (placed_from (front ++ b ∷ []) bytes) g a t) ∙ e)
 
-        by_put : Put (length front + 1 - length (encode_utf8 c)) (encode_utf8 c) (framed start (placed_from (front ++ b ∷ []) bytes)) from text (map Lone ds ++ Text next more ∷ others)
+        by_put : Put (length front + 1 - length (encode_utf8 c)) (encode_utf8 c) (framed start (placed_from (front ++ b ∷ []) bytes)) from text (map Single ds ++ Text next more ∷ others)
             → IsBetween (front ++ b ∷ bytes) (from + length text) next ds
         by_put (stood lead old shown r m) = subst (λ (p : ℕ). IsBetween (front ++ b ∷ bytes) p next ds) m (joined (old + length shown) (later lead old shown r))
         by_put (is_put same ends other) =
@@ -444,7 +444,7 @@ texts_between (b ∷ bytes) front start before from text ds next more others l e
           where
             by_case : length (front ++ b ∷ []) ≡ from + length text → ((ds ≡ []) × (next ≡ length (front ++ b ∷ []))) ⊎ IsBetween ((front ++ b ∷ []) ++ bytes) (length (front ++ b ∷ [])) next ds → IsBetween (front ++ b ∷ bytes) (from + length text) next ds
             by_case at (inl (nil, here)) =
-                let k : framed start (placed_from (front ++ b ∷ []) bytes) ≡ Text next more ∷ others = sym same ∙ ap (λ (l : List Dispatch). map Lone l ++ Text next more ∷ others) nil in
+                let k : framed start (placed_from (front ++ b ∷ []) bytes) ≡ Text next more ∷ others = sym same ∙ ap (λ (l : List Dispatch). map Single l ++ Text next more ∷ others) nil in
                 absurd (other next more others k (omega (arith, here, at, ends)))
             by_case at (inr h) = subst (λ (p : ℕ). IsBetween (front ++ b ∷ bytes) p next ds) at (joined (length (front ++ b ∷ [])) h)
 

@@ -8,7 +8,7 @@ use Rattle.escape_framing.specs.Bytes.{is_cut, is_stop}
 use Rattle.escape_framing.specs.Segment.{IsBegun}
 use Rattle.escape_framing.specs.Dispatch.{Print}
 use Rattle.escape_framing.specs.Held.{Kept, InCharacter, InEscape, InControlSequence, InHeader, Step, steps, character_step, kept_step, Held, Handed, handed, interrupted, fresh_step, waiting_step, held_step, nothing_held, hand_out}
-use Rattle.escape_framing.specs.Framed.{Framed, Lone, framed, at_place, placed_behind, framed_behind, begun_bytes, bytes_begun, IsLendable, IsReached}
+use Rattle.escape_framing.specs.Framed.{Framed, Single, framed, at_place, placed_after, framed_after, begun_bytes, bytes_begun, IsLendable, IsReached}
 use Rattle.escape_framing.proofs.Begun.{is_body}
 use Rattle.escape_framing.specs.Segment.{IsPrintable}
 use Rattle.escape_framing.proofs.Existence.Utf8Lemmas.{Spelled, in_one, in_two, in_three, in_four, spelled}
@@ -84,13 +84,13 @@ kept_breaks _ false b s h z n = absurd (z refl)
 
 -- the same dispatches, and the same is held
 pub record GoesOn (h : Held) (bytes : List ℕ) (ds : List Framed) (h' : Held) : Type 0 where
-  pub lends : (start count : ℕ) → framed_behind start count h bytes ≡ ds ++ framed_behind start count h' bytes
+  pub lends : (start count : ℕ) → framed_after start count h bytes ≡ ds ++ framed_after start count h' bytes
   pub keeps : (hand_out h bytes).held ≡ (hand_out h' bytes).held
 
-pub broken_goes : (h : Held) (b : ℕ) (rest : List ℕ) → held_step h b ≡ broken_step (held_step nothing_held b) → GoesOn h (b ∷ rest) (Lone (Print 0xFFFD) ∷ []) nothing_held
-unfolding placed_behind hand_out
+pub broken_goes : (h : Held) (b : ℕ) (rest : List ℕ) → held_step h b ≡ broken_step (held_step nothing_held b) → GoesOn h (b ∷ rest) (Single (Print 0xFFFD) ∷ []) nothing_held
+unfolding placed_after hand_out
 broken_goes h b rest e = record {
-  lends = λ start count. ap (λ (x : Handed). framed start (at_place (count + 1) x.dispatches ++ placed_behind (count + 1) x.held rest)) e ∙ rw (never_lent start (count + 1) 0xFFFD refl) refl;
+  lends = λ start count. ap (λ (x : Handed). framed start (at_place (count + 1) x.dispatches ++ placed_after (count + 1) x.held rest)) e ∙ rw (never_lent start (count + 1) 0xFFFD refl) refl;
   keeps = ap (λ (x : Handed). (hand_out x.held rest).held) e;
 }
 
@@ -102,15 +102,15 @@ text_breaks_at h b rest c more r o z l e = kept_breaks h.kept h.waiting b (reach
 -- ---- what is open before its final byte is cut off
 
 same_goes : (h : Held) (b : ℕ) (rest : List ℕ) → held_step h b ≡ held_step nothing_held b → GoesOn h (b ∷ rest) [] nothing_held
-unfolding placed_behind hand_out
+unfolding placed_after hand_out
 same_goes h b rest e = record {
-  lends = λ start count. ap (λ (x : Handed). framed start (at_place (count + 1) x.dispatches ++ placed_behind (count + 1) x.held rest)) e;
+  lends = λ start count. ap (λ (x : Handed). framed start (at_place (count + 1) x.dispatches ++ placed_after (count + 1) x.held rest)) e;
   keeps = ap (λ (x : Handed). (hand_out x.held rest).held) e;
 }
 
 -- a C2 and the byte behind it
 lead_goes : (k : Kept) (y : ℕ) (rest : List ℕ) → interrupted k ≡ steps [] k → waiting_step k y ≡ waiting_step (InCharacter []) y → GoesOn (record { kept = k; waiting = false }) (0xC2 ∷ y ∷ rest) [] nothing_held
-unfolding placed_behind hand_out held_step fresh_step
+unfolding placed_after hand_out held_step fresh_step
 lead_goes k y rest i e = record {
   lends = λ start count. rw (i, e) refl;
   keeps = rw (i, e) refl;

@@ -7,22 +7,23 @@ use Rattle.std.proofs.lemmas.List.Folds.{length-prefix_len}
 use Rattle.std.proofs.lemmas.List.Sums.{prefix_len-le-length}
 use Rattle.escape_framing.specs.Bytes.{is_stop, is_embedded, is_intermediate, is_cut, is_opener}
 use Rattle.escape_framing.specs.Held.{InEscape, Held, command_step, escape_step, opened, fresh_step, held_step, nothing_held, hand_out}
-use Rattle.escape_framing.specs.Framed.{Lone, framed_behind, no_text, IsReached, IsCarried, Frames}
-use Rattle.escape_framing.specs.Fronts.{is_body_byte, IsSilent}
+use Rattle.escape_framing.specs.Framed.{Single, framed_after, no_text, IsReached, IsCarried, Frames}
+use Rattle.escape_framing.specs.Prefixes.{is_body_byte}
 use Rattle.escape_framing.specs.Lending.{Lending}
 use Rattle.escape_framing.specs.Event.{handed_out}
 use Rattle.escape_framing.specs.Read.{whole_command, ReadsEvent, TakesMemoryAt}
 use Rattle.escape_framing.specs.declared.event.Event.{Event}
 use Rattle.escape_framing.specs.declared.event.Event.TheVariants as event
 use Rattle.escape_framing.specs.declared.event.Read.TheVariants as read
+use Rattle.escape_framing.proofs.RunLemmas.{IsSilent}
 use Rattle.escape_framing.proofs.FrontLemmas.{reads_run, opening_handed}
 use Rattle.escape_framing.proofs.ReadEventLemmas.{reads_one, reads_left}
 use Rattle.escape_framing.proofs.RunLemmas.{all_pass, quiet_front, body_handed, in_command}
 
 -- ---- a run, and an event behind it
 
-reads_behind : (old : Held) (bytes : List ℕ) (n m : ℕ) (e : Option Event) (mid l : Lending) → IsReached mid.held → 0 < n → ReadsEvent old bytes (read.Bytes None n) mid → ReadsEvent mid.held (drop n bytes) (read.Bytes e m) l → ReadsEvent old bytes (read.Bytes e (n + m)) l
-reads_behind old bytes n m e mid l reached z a b = record {
+reads_after : (old : Held) (bytes : List ℕ) (n m : ℕ) (e : Option Event) (mid l : Lending) → IsReached mid.held → 0 < n → ReadsEvent old bytes (read.Bytes None n) mid → ReadsEvent mid.held (drop n bytes) (read.Bytes e m) l → ReadsEvent old bytes (read.Bytes e (n + m)) l
+reads_after old bytes n m e mid l reached z a b = record {
   frames = λ count r k. both count (a.frames count r k);
   within = let x : n ≤ length bytes = a.within in let y : m ≤ length (drop n bytes) = b.within in omega (arith, x, y, length-drop n bytes);
   text = no_text;
@@ -32,16 +33,16 @@ reads_behind old bytes n m e mid l reached z a b = record {
       subst (TakesMemoryAt old bytes) q (a.opens r (m + k) (b.opens reached k (subst (λ (x : List ℕ). TakesMemoryAt l.held x k) (sym (drop-drop m n bytes)) t)));
 }
   where
-    both : (count : ℕ) → Frames count old bytes (λ from. []) n mid.held → Frames count old bytes (λ from. map Lone (handed_out l e)) (n + m) l.held
+    both : (count : ℕ) → Frames count old bytes (λ from. []) n mid.held → Frames count old bytes (λ from. map Single (handed_out l e)) (n + m) l.held
     both count f =
         let g = b.frames (count + n) f.reached f.carried in
         record {
           within = omega (arith, f.within, g.within, length-drop n bytes);
           lends = λ start.
               f.lends start
-              ∙ (let q : start + count + n ≡ start + (count + n) = omega arith in ap (λ (c : ℕ). framed_behind start c mid.held (drop n bytes)) q)
+              ∙ (let q : start + count + n ≡ start + (count + n) = omega arith in ap (λ (c : ℕ). framed_after start c mid.held (drop n bytes)) q)
               ∙ g.lends start
-              ∙ (let q : start + (count + n) + m ≡ start + count + (n + m) = omega arith in λ i. map Lone (handed_out l e) ++ framed_behind start (q i) l.held (drop-drop m n bytes i));
+              ∙ (let q : start + (count + n) + m ≡ start + count + (n + m) = omega arith in λ i. map Single (handed_out l e) ++ framed_after start (q i) l.held (drop-drop m n bytes i));
           keeps = f.keeps ∙ g.keeps ∙ ap (λ (x : List ℕ). (hand_out l.held x).held) (drop-drop m n bytes);
           reached = g.reached;
           carried = (let q : count + n + m ≡ count + (n + m) = omega arith in subst (λ (c : ℕ). IsCarried 0 c l.held (drop (n + m) bytes)) q (subst (IsCarried 0 (count + n + m) l.held) (drop-drop m n bytes) g.carried));
@@ -85,7 +86,7 @@ reads_command l bytes others body rest b m n h is k d e s =
     let begun : Lending = record { held = in_command body; parameters = l.parameters; body = body } in
     let left : drop (length body + 2) (0x1B ∷ 0x5D ∷ others) ≡ b ∷ rest = ap (λ (x : ℕ). drop x (0x1B ∷ 0x5D ∷ others)) (two_more (length body)) ∙ d in
     let read_it : ReadsEvent nothing_held (0x1B ∷ 0x5D ∷ others) (whole_command (length body + 2 + m)) (shown l.parameters body) =
-    reads_behind nothing_held (0x1B ∷ 0x5D ∷ others) (length body + 2) m (Some event.OperatingSystemCommand) begun (shown l.parameters body) (take (length body + 2) (0x1B ∷ 0x5D ∷ others), sym (body_silent others body k).keeps) (omega arith)
+    reads_after nothing_held (0x1B ∷ 0x5D ∷ others) (length body + 2) m (Some event.OperatingSystemCommand) begun (shown l.parameters body) (take (length body + 2) (0x1B ∷ 0x5D ∷ others), sym (body_silent others body k).keeps) (omega arith)
     (reads_run nothing_held (0x1B ∷ 0x5D ∷ others) (length body + 2) begun (omega arith) (body_silent others body k))
     (subst (λ (x : List ℕ). ReadsEvent (in_command body) x (whole_command m) (shown l.parameters body)) (sym left) (reads_end l.parameters body rest b m e)) in
     subst (λ (x : Held). ReadsEvent x bytes (whole_command n) (record l { held = x; body = body })) (sym h)

@@ -5,7 +5,7 @@ use Rattle.text_clusters.specs.Controls.{is_c1}
 use Rattle.escape_framing.specs.Bytes.{is_stop, is_cut}
 use Rattle.escape_framing.specs.Dispatch.{Dispatch, Data}
 use Rattle.escape_framing.specs.Framed.{kept_takes, takes_text}
-use Rattle.escape_framing.specs.Held.{Kept, InCharacter, InEscape, InCommand, InDevice, InString, Step, steps, before, character_step, escape_step, command_step, device_step, string_step, kept_step, Held, Handed, handed, handed_behind, fresh_step, waiting_step, held_step}
+use Rattle.escape_framing.specs.Held.{Kept, InCharacter, InEscape, InCommand, InDevice, InString, Step, steps, before, character_step, escape_step, command_step, device_step, string_step, kept_step, Held, Handed, handed, handed_after, fresh_step, waiting_step, held_step}
 use Rattle.escape_framing.specs.Lending.{Lending}
 use Rattle.escape_framing.specs.Event.{dispatch_in, handed_out, resumed, held_resumed, IsAlone, kept_rank, rank, IsLeft, GoesOn, IsHeldLeft}
 use Rattle.escape_framing.specs.declared.event.Event.{Event}
@@ -97,22 +97,22 @@ fresh_left old new b e w v l = record {
 
 -- ---- a byte behind a C2
 
-c1_at : (h : Held) (b : ℕ) → h.waiting ≡ true → is_c1 0xC2 b ≡ true → held_step h b ≡ (let escape = kept_step h.kept 0x1B in handed_behind escape (handed (kept_step escape.kept (b - 0x40)) false))
+c1_at : (h : Held) (b : ℕ) → h.waiting ≡ true → is_c1 0xC2 b ≡ true → held_step h b ≡ (let escape = kept_step h.kept 0x1B in handed_after escape (handed (kept_step escape.kept (b - 0x40)) false))
 unfolding held_step waiting_step
 c1_at h b w c = rw (w, c) refl
 
-other_at : (h : Held) (b : ℕ) → h.waiting ≡ true → is_c1 0xC2 b ≡ false → held_step h b ≡ (let plain = kept_step h.kept 0xC2 in handed_behind plain (fresh_step plain.kept b))
+other_at : (h : Held) (b : ℕ) → h.waiting ≡ true → is_c1 0xC2 b ≡ false → held_step h b ≡ (let plain = kept_step h.kept 0xC2 in handed_after plain (fresh_step plain.kept b))
 unfolding held_step waiting_step
 other_at h b w c = rw (w, c) refl
 
-nested : (ds : List Dispatch) (s : Step) (rest : Handed) → handed_behind (before ds s) rest ≡ (let h = handed_behind s rest in record { dispatches = ds ++ h.dispatches; held = h.held })
+nested : (ds : List Dispatch) (s : Step) (rest : Handed) → handed_after (before ds s) rest ≡ (let h = handed_after s rest in record { dispatches = ds ++ h.dispatches; held = h.held })
 nested ds s rest = ap (λ (l : List Dispatch). record { dispatches = l; held = rest.held }) (append_assoc ds s.dispatches rest.dispatches)
 
 -- half of a C1 control: ESC is left first
 pub c1_left : (old new : Held) (b : ℕ) (ds : List Dispatch) (r : Bool) → old.waiting ≡ true → new.waiting ≡ old.waiting → is_c1 0xC2 b ≡ true → r ≡ false → kept_step old.kept 0x1B ≡ resumed ds new.kept r 0x1B → held_step old b ≡ held_resumed ds new r b
 c1_left old new b ds r w v c z e =
     c1_at old b w c
-    ∙ ap (λ (escape : Step). handed_behind escape (handed (kept_step escape.kept (b - 0x40)) false)) (e ∙ ap (λ (x : Bool). resumed ds new.kept x 0x1B) z)
+    ∙ ap (λ (escape : Step). handed_after escape (handed (kept_step escape.kept (b - 0x40)) false)) (e ∙ ap (λ (x : Bool). resumed ds new.kept x 0x1B) z)
     ∙ (let first = kept_step new.kept 0x1B in nested ds first (handed (kept_step first.kept (b - 0x40)) false))
     ∙ ap (λ (h : Handed). record { dispatches = ds ++ h.dispatches; held = h.held }) (sym (c1_at new b (v ∙ w) c))
     ∙ ap (λ (x : Bool). held_resumed ds new x b) (sym z)
@@ -122,7 +122,7 @@ pub c1_read : (old new : Held) (b : ℕ) (ds : List Dispatch) (r : Bool) → old
 c1_read old new b ds r w v c g z e =
     let t : r ≡ true = z ∙ ap not (c1_not_cut b c) in
     c1_at old b w c
-    ∙ ap (λ (escape : Step). handed_behind escape (handed (kept_step escape.kept (b - 0x40)) false)) (escape_opens old.kept g)
+    ∙ ap (λ (escape : Step). handed_after escape (handed (kept_step escape.kept (b - 0x40)) false)) (escape_opens old.kept g)
     ∙ ap (λ (s : Step). handed s false) (e ∙ ap (λ (x : Bool). resumed ds new.kept x (b - 0x40)) t)
     ∙ ap (λ (x : Bool). record { dispatches = ds; held = record { kept = new.kept; waiting = x } }) (sym v)
     ∙ ap (λ (x : Bool). held_resumed ds new x b) (sym t)
@@ -131,7 +131,7 @@ c1_read old new b ds r w v c g z e =
 pub other_left : (old new : Held) (b : ℕ) (ds : List Dispatch) (r : Bool) → old.waiting ≡ true → new.waiting ≡ old.waiting → is_c1 0xC2 b ≡ false → r ≡ false → kept_step old.kept 0xC2 ≡ resumed ds new.kept r 0xC2 → held_step old b ≡ held_resumed ds new r b
 other_left old new b ds r w v c z e =
     other_at old b w c
-    ∙ ap (λ (plain : Step). handed_behind plain (fresh_step plain.kept b)) (e ∙ ap (λ (x : Bool). resumed ds new.kept x 0xC2) z)
+    ∙ ap (λ (plain : Step). handed_after plain (fresh_step plain.kept b)) (e ∙ ap (λ (x : Bool). resumed ds new.kept x 0xC2) z)
     ∙ (let first = kept_step new.kept 0xC2 in nested ds first (fresh_step first.kept b))
     ∙ ap (λ (h : Handed). record { dispatches = ds ++ h.dispatches; held = h.held }) (sym (other_at new b (v ∙ w) c))
     ∙ ap (λ (x : Bool). held_resumed ds new x b) (sym z)
@@ -139,14 +139,14 @@ other_left old new b ds r w v c z e =
 -- then it is read, and the byte may be left
 other_read : (old new : Held) (b : ℕ) (ds : List Dispatch) → old.waiting ≡ true → new.waiting ≡ false → is_c1 0xC2 b ≡ false → kept_step old.kept 0xC2 ≡ steps ds new.kept → held_step old b ≡ held_resumed ds new false b
 unfolding held_step
-other_read old new b ds w v c e = rw v (other_at old b w c ∙ ap (λ (plain : Step). handed_behind plain (fresh_step plain.kept b)) e)
+other_read old new b ds w v c e = rw v (other_at old b w c ∙ ap (λ (plain : Step). handed_after plain (fresh_step plain.kept b)) e)
 
 -- or it hands nothing out, and the byte does what it does behind that
 pub other_goes : (old : Held) (middle : Kept) (b : ℕ) (l : Lending) (e : Option Event) (r : Bool) (h : Handed) → old.waiting ≡ true → is_c1 0xC2 b ≡ false → e ≡ None → r ≡ true → l.held.kept ≡ middle → kept_step old.kept 0xC2 ≡ resumed (handed_out l e) l.held.kept r 0xC2 → fresh_step middle b ≡ h
     → held_step old b ≡ h
 other_goes old middle b l e r h w c n z m f g =
     other_at old b w c
-    ∙ ap (λ (plain : Step). handed_behind plain (fresh_step plain.kept b)) (f ∙ (λ i. resumed (handed_out l (n i)) (m i) (z i) 0xC2))
+    ∙ ap (λ (plain : Step). handed_after plain (fresh_step plain.kept b)) (f ∙ (λ i. resumed (handed_out l (n i)) (m i) (z i) 0xC2))
     ∙ g
 
 -- ---- what is left behind a C2

@@ -1,18 +1,18 @@
 -- Where the texts of a call stand.
 use Rattle.std.proofs.Common.{◌≡◌, ℕ, ◌+◌, ◌-◌, ◌≤◌, true, false, List, [], ◌∷◌, ◌++◌, length, refl, arith}
 use Rattle.std.specs.Prelude.{◌==◌, encode_utf8}
-use Rattle.escape_framing.specs.Framed.{Framed, Text, Lone, is_lent, put_text, put_character, IsLendable}
+use Rattle.escape_framing.specs.Framed.{Framed, Text, Single, is_lent, put_text, put_character, IsLendable}
 use Rattle.std.proofs.lemmas.Bool.{cond_both, ne_eqb, eq-eqb, le-leb}
 
 -- the first text, if one stands first, begins behind so many bytes
 abbrev pub BeginsFrom : ℕ → List Framed → Type 0
 BeginsFrom n [] = Unit {0}
-BeginsFrom n (Lone d ∷ rest) = Unit {0}
+BeginsFrom n (Single d ∷ rest) = Unit {0}
 BeginsFrom n (Text from text ∷ rest) = n ≤ from
 
 put_begins : (n from : ℕ) (text : List ℕ) (rest : List Framed) → n ≤ from → BeginsFrom n (put_text from text rest)
 put_begins n from text [] l = l
-put_begins n from text (Lone d ∷ rest) l = l
+put_begins n from text (Single d ∷ rest) l = l
 put_begins n from text (Text next more ∷ rest) l = cond_both (next == from + length text) _ _ (BeginsFrom n) (λ e. l) (λ e. l)
 
 pub never_lent : (start place c : ℕ) → c ≡ 0xFFFD → is_lent start place c ≡ false
@@ -25,7 +25,7 @@ print_begins n start place c rest l = cond_both (is_lent start place c) _ _ (Beg
 -- a text before others that don't go on with it
 pub put_apart : (from : ℕ) (text : List ℕ) (rest : List Framed) → BeginsFrom (from + length text + 1) rest → put_text from text rest ≡ Text from text ∷ rest
 put_apart from text [] l = refl
-put_apart from text (Lone d ∷ rest) l = refl
+put_apart from text (Single d ∷ rest) l = refl
 put_apart from text (Text next more ∷ rest) l = rw (ne_eqb next (from + length text) (λ e. omega arith)) refl
 
 pub put_joined : (from : ℕ) (text more : List ℕ) (rest : List Framed) → put_text from text (Text (from + length text) more ∷ rest) ≡ Text from (text ++ more) ∷ rest

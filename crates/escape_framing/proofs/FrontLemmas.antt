@@ -1,5 +1,5 @@
 -- Bytes at the front that hand out one event or none, none of which prints: a run, or a whole control sequence.
-use Rattle.std.proofs.Common.{◌≡◌, ℕ, ◌+◌, ◌<◌, ◌≤◌, true, false, List, [], ◌∷◌, ◌++◌, length, map, fold, take, drop, Option, Some, None, refl, sym, ap, subst, ◌∙◌, arith, append_assoc, length-append}
+use Rattle.std.proofs.Common.{◌≡◌, ℕ, ◌+◌, ◌<◌, ◌≤◌, true, false, List, [], ◌∷◌, ◌++◌, length, map, fold, take, drop, Option, Some, None, IfSome, refl, sym, ap, subst, ◌∙◌, arith, append_assoc, length-append}
 use Rattle.std.specs.Prelude.{◌==◌}
 use Rattle.std.specs.List.{prefix_len, list_all}
 use Rattle.std.proofs.lemmas.Bool.Decides.{nat_tests}
@@ -9,8 +9,7 @@ use Rattle.csi_codec.specs.Tokens.{is_parameter, Parameters, no_parameters, with
 use Rattle.escape_framing.specs.Bytes.{is_stop, is_embedded, is_intermediate, is_final, is_opener, is_cut}
 use Rattle.escape_framing.specs.Dispatch.{Dispatch, Print, ControlSequence}
 use Rattle.escape_framing.specs.Held.{InEscape, Step, Held, Handed, handed, escape_step, opened, control_sequence_step, fresh_step, held_step, nothing_held, hand_out}
-use Rattle.escape_framing.specs.Framed.{Framed, Lone, placed_behind, framed_behind, begun_bytes, no_text, IsReached, Frames}
-use Rattle.escape_framing.specs.Fronts.{IsSilent}
+use Rattle.escape_framing.specs.Framed.{Framed, Single, placed_after, framed_after, begun_bytes, no_text, IsReached, Frames}
 use Rattle.escape_framing.specs.Lending.{Lending}
 use Rattle.escape_framing.specs.Event.{handed_out}
 use Rattle.escape_framing.specs.Read.{ReadsEvent}
@@ -19,9 +18,9 @@ use Rattle.escape_framing.specs.declared.event.Event.TheVariants as event
 use Rattle.escape_framing.specs.declared.event.Read.TheVariants as read
 use Rattle.escape_framing.proofs.HeldLemmas.{hand_append, held_append}
 use Rattle.escape_framing.proofs.PrintLemmas.{PrintNone}
-use Rattle.escape_framing.proofs.LoneLemmas.{none_alone, carried_none}
+use Rattle.escape_framing.proofs.SingleLemmas.{none_alone, carried_none}
 use Rattle.escape_framing.proofs.FirstLemmas.{first_escape}
-use Rattle.escape_framing.proofs.RunLemmas.{all_pass, in_sequence, parameters_handed}
+use Rattle.escape_framing.proofs.RunLemmas.{IsSilent, all_pass, in_sequence, parameters_handed}
 use Rattle.escape_framing.proofs.BodyLemmas.{opens_read}
 
 -- ---- bytes whose dispatches print nothing
@@ -32,22 +31,22 @@ both_none (Print c ∷ xs) ys p = absurd p
 both_none (_ ∷ xs) ys p = both_none xs ys p
 
 front_alone : (start count : ℕ) (h : Held) (front rest : List ℕ) → PrintNone (hand_out h front).dispatches
-    → framed_behind start count h (front ++ rest) ≡ map Lone (hand_out h front).dispatches ++ framed_behind start (count + length front) (hand_out h front).held rest
-unfolding placed_behind hand_out
-front_alone start count h [] rest p = let k : count ≡ count + 0 = omega arith in ap (λ (n : ℕ). framed_behind start n h rest) k
+    → framed_after start count h (front ++ rest) ≡ map Single (hand_out h front).dispatches ++ framed_after start (count + length front) (hand_out h front).held rest
+unfolding placed_after hand_out
+front_alone start count h [] rest p = let k : count ≡ count + 0 = omega arith in ap (λ (n : ℕ). framed_after start n h rest) k
 front_alone start count h (b ∷ front) rest p =
     let first = held_step h b in
     let more = hand_out first.held front in
     let q = both_none first.dispatches more.dispatches p in
     let n : count + 1 + length front ≡ count + length (b ∷ front) = omega arith in
-    none_alone start (count + 1) first.dispatches q.0 (placed_behind (count + 1) first.held (front ++ rest))
-    ∙ ap (λ (l : List Framed). map Lone first.dispatches ++ l)
-    (front_alone start (count + 1) first.held front rest q.1 ∙ ap (λ (m : ℕ). map Lone more.dispatches ++ framed_behind start m more.held rest) n)
-    ∙ sym (append_assoc (map Lone first.dispatches) (map Lone more.dispatches) (framed_behind start (count + length (b ∷ front)) more.held rest))
-    ∙ ap (λ (l : List Framed). l ++ framed_behind start (count + length (b ∷ front)) more.held rest) (sym (map-append Lone first.dispatches more.dispatches))
+    none_alone start (count + 1) first.dispatches q.0 (placed_after (count + 1) first.held (front ++ rest))
+    ∙ ap (λ (l : List Framed). map Single first.dispatches ++ l)
+    (front_alone start (count + 1) first.held front rest q.1 ∙ ap (λ (m : ℕ). map Single more.dispatches ++ framed_after start m more.held rest) n)
+    ∙ sym (append_assoc (map Single first.dispatches) (map Single more.dispatches) (framed_after start (count + length (b ∷ front)) more.held rest))
+    ∙ ap (λ (l : List Framed). l ++ framed_after start (count + length (b ∷ front)) more.held rest) (sym (map-append Single first.dispatches more.dispatches))
 
 frames_front : (h after : Held) (front rest : List ℕ) (ds : List Dispatch) (count : ℕ) → hand_out h front ≡ record { dispatches = ds; held = after } → PrintNone ds → begun_bytes after ≡ [] → IsReached h
-    → Frames count h (front ++ rest) (λ from. map Lone ds) (length front) after
+    → Frames count h (front ++ rest) (λ from. map Single ds) (length front) after
 frames_front h after front rest ds count e q z r =
     let d : (hand_out h front).dispatches ≡ ds = ap (λ (x : Handed). x.dispatches) e in
     let a : (hand_out h front).held ≡ after = ap (λ (x : Handed). x.held) e in
@@ -55,7 +54,7 @@ frames_front h after front rest ds count e q z r =
       within = omega (arith, length-append front rest);
       lends = λ start.
           front_alone start (start + count) h front rest (subst PrintNone (sym d) q)
-          ∙ (λ i. map Lone (d i) ++ framed_behind start (start + count + length front) (a i) (sym (drop_at front rest (length front) refl) i));
+          ∙ (λ i. map Single (d i) ++ framed_after start (start + count + length front) (a i) (sym (drop_at front rest (length front) refl) i));
       keeps = ap (λ (x : Handed). x.held) (hand_append h front rest) ∙ (λ i. (hand_out (a i) (sym (drop_at front rest (length front) refl) i)).held);
       reached = (r.0 ++ front, sym a ∙ ap (λ (x : Held). (hand_out x front).held) r.1 ∙ sym (held_append r.0 front));
       carried = carried_none 0 (count + length front) after (drop (length front) (front ++ rest)) z;
@@ -77,6 +76,12 @@ pub reads_run : (old : Held) (bytes : List ℕ) (n : ℕ) (l : Lending) → 0 < 
 reads_run old bytes n l z q =
     reads_front old bytes (take n bytes) (drop n bytes) n None l (take-append-drop n bytes) (length-take-le n bytes q.within) z
     (λ i. record { dispatches = q.silent i; held = q.keeps i }) tt q.none
+
+-- as a count that was read, unless it is 0
+pub reads_some : (old : Held) (bytes : List ℕ) (n : ℕ) (found : Option ℕ) (l : Lending) → IfSome found (λ m. (0 < m) × (m ≡ n)) → IsSilent old bytes n l.held
+    → IfSome found (λ m. ReadsEvent old bytes (read.Bytes None m) l)
+reads_some old bytes n None l f q = tt
+reads_some old bytes n (Some m) l f q = subst (λ (k : ℕ). ReadsEvent old bytes (read.Bytes None k) l) (sym f.1) (reads_run old bytes n l (omega (arith, f.0, f.1)) q)
 
 -- ---- a whole control sequence
 

@@ -14,7 +14,7 @@ use Rattle.escape_framing.specs.Decode.{Reading, waits, ends_before, first_byte,
 use Rattle.escape_framing.specs.Dispatch.{Dispatch, Data, Enter, controls_in, settled, decided_of, dispatches_of}
 use Rattle.escape_framing.specs.Bytes.{is_stop, ends_command, taken}
 use Rattle.escape_framing.specs.Cut.{the_cut, dispatches, newly_decided}
-use Rattle.escape_framing.specs.Held.{Kept, InCharacter, kept_of, Step, steps, before, character_step, kept_step, Held, Handed, handed, handed_behind, interrupted, fresh_step, waiting_step, held_step, nothing_held, hand_out, held_of}
+use Rattle.escape_framing.specs.Held.{Kept, InCharacter, kept_of, Step, steps, before, character_step, kept_step, Held, Handed, handed, handed_after, interrupted, fresh_step, waiting_step, held_step, nothing_held, hand_out, held_of}
 use Rattle.escape_framing.proofs.Existence.Utf8Lemmas.{Spelled, in_one, in_two, in_three, in_four, spelled, lead_wants, begins_one}
 use Rattle.escape_framing.proofs.Existence.SevenBitLemmas.{opens, pairs, seven_bit_plain, seven_bit_pair, opens_more}
 use Rattle.escape_framing.proofs.Existence.CutLemmas.{cuts_on}
@@ -147,7 +147,7 @@ fresh_at s b ds kept n r =
 
 -- what an interrupted step hands out with the step behind it
 joined : (ds : List Dispatch) (kept : Kept) (b : ℕ) (rest : Kept → Handed) → before (interrupted kept).dispatches (kept_step (interrupted kept).kept b) ≡ kept_step kept b
-    → then_handed (ds ++ (interrupted kept).dispatches) (handed_behind (kept_step (interrupted kept).kept b) (rest (kept_step (interrupted kept).kept b).kept))
+    → then_handed (ds ++ (interrupted kept).dispatches) (handed_after (kept_step (interrupted kept).kept b) (rest (kept_step (interrupted kept).kept b).kept))
     ≡ then_handed (ds ++ (kept_step kept b).dispatches) (rest (kept_step kept b).kept)
 joined ds kept b rest e =
     let i = (interrupted kept).dispatches in
@@ -207,10 +207,10 @@ last_is_c2 [] = false
 last_is_c2 (b ∷ []) = b == 0xC2
 last_is_c2 (b ∷ c ∷ bytes) = last_is_c2 (c ∷ bytes)
 
-last_behind : (xs : List ℕ) (y : ℕ) (ys : List ℕ) → last_is_c2 (xs ++ y ∷ ys) ≡ last_is_c2 (y ∷ ys)
-last_behind [] y ys = refl
-last_behind (x ∷ []) y ys = refl
-last_behind (x ∷ z ∷ xs) y ys = last_behind (z ∷ xs) y ys
+last_after : (xs : List ℕ) (y : ℕ) (ys : List ℕ) → last_is_c2 (xs ++ y ∷ ys) ≡ last_is_c2 (y ∷ ys)
+last_after [] y ys = refl
+last_after (x ∷ []) y ys = refl
+last_after (x ∷ z ∷ xs) y ys = last_after (z ∷ xs) y ys
 
 settled_all : (xs : List ℕ) → last_is_c2 xs ≡ false → settled xs ≡ xs
 settled_all [] h = refl
@@ -220,23 +220,23 @@ settled_all (x ∷ y ∷ xs) h = ap (λ l. x ∷ l) (settled_all (y ∷ xs) h)
 opens_last : (s : List ℕ) → last_is_c2 (seven_bit s) ≡ opens s
 opens_last [] = refl
 opens_last (x ∷ []) = refl
-opens_last (x ∷ y ∷ s) = ⊎_elim (λ e. rw e (behind_escape (seven_bit s) e ∙ opens_last s)) (λ e. rw e (behind_byte y s ∙ opens_last (y ∷ s))) (cases_Bool (is_c1 x y))
+opens_last (x ∷ y ∷ s) = ⊎_elim (λ e. rw e (after_escape (seven_bit s) e ∙ opens_last s)) (λ e. rw e (after_byte y s ∙ opens_last (y ∷ s))) (cases_Bool (is_c1 x y))
   where
     small : is_c1 x y ≡ true → ((y - 0x40) == 0xC2) ≡ false
     small h = grind (arith, nat_tests)
 
-    behind_escape : (l : List ℕ) → is_c1 x y ≡ true → last_is_c2 (0x1B ∷ (y - 0x40) ∷ l) ≡ last_is_c2 l
-    behind_escape [] h = small h
-    behind_escape (z ∷ l) h = refl
+    after_escape : (l : List ℕ) → is_c1 x y ≡ true → last_is_c2 (0x1B ∷ (y - 0x40) ∷ l) ≡ last_is_c2 l
+    after_escape [] h = small h
+    after_escape (z ∷ l) h = refl
 
-    behind_byte : (z : ℕ) (s : List ℕ) → last_is_c2 (x ∷ seven_bit (z ∷ s)) ≡ last_is_c2 (seven_bit (z ∷ s))
-    behind_byte z [] = refl
-    behind_byte z (w ∷ s) = cond_both (is_c1 z w) _ _ (λ l. last_is_c2 (x ∷ l) ≡ last_is_c2 l) (λ e. refl) (λ e. refl)
+    after_byte : (z : ℕ) (s : List ℕ) → last_is_c2 (x ∷ seven_bit (z ∷ s)) ≡ last_is_c2 (seven_bit (z ∷ s))
+    after_byte z [] = refl
+    after_byte z (w ∷ s) = cond_both (is_c1 z w) _ _ (λ l. last_is_c2 (x ∷ l) ≡ last_is_c2 l) (λ e. refl) (λ e. refl)
 
 -- where no C2 stands last, what is open has decided all that it was given
 decided_all : (t : Tail) (front : List ℕ) → last_is_c2 (front ++ bytes_of_tail t) ≡ false → decided_of t ≡ given t
 decided_all (OpenDevice o header f body) front h =
-    let e : last_is_c2 (f ∷ body) ≡ false = sym (last_behind (front ++ (0x1B ∷ o ++ 0x50 ∷ header)) f body) ∙ ap last_is_c2 (append_assoc front (0x1B ∷ o ++ 0x50 ∷ header) (f ∷ body)) ∙ h in
+    let e : last_is_c2 (f ∷ body) ≡ false = sym (last_after (front ++ (0x1B ∷ o ++ 0x50 ∷ header)) f body) ∙ ap last_is_c2 (append_assoc front (0x1B ∷ o ++ 0x50 ∷ header) (f ∷ body)) ∙ h in
     ap (λ l. controls_in o ++ Enter (taken header) f ∷ map Data l) (settled_all body (last_data body e))
   where
     last_data : (xs : List ℕ) → last_is_c2 (f ∷ xs) ≡ false → last_is_c2 xs ≡ false

@@ -13,7 +13,7 @@ use Rattle.std.proofs.lemmas.List.Sums.{fold-append}
 use Rattle.escape_framing.specs.Bytes.{is_stop, is_embedded, is_intermediate, is_opener, is_cut, in_escape, taken}
 use Rattle.csi_codec.specs.Tokens.{is_parameter}
 use Rattle.escape_framing.specs.Segment.{Tail, Begun, OpenEscape, OpenControlSequence, OpenCommand, OpenHeader, OpenDevice, OpenString, Segment, Escape, ControlSequence, OperatingSystemCommand, DeviceControl, String, CutOff, IsUnfinished}
-use Rattle.escape_framing.specs.Decode.{Reading, waits, ends, ends_before, first_byte, in_character, opened_by, behind_escape, next_byte}
+use Rattle.escape_framing.specs.Decode.{Reading, waits, ends, ends_before, first_byte, in_character, opened_by, after_escape, next_byte}
 use Rattle.escape_framing.specs.Dispatch.{Dispatch, Data, Enter, Exit, controls_in, escape_dispatch, control_sequence_dispatch, command_dispatch, dispatches_of, decided_of}
 use Rattle.escape_framing.specs.Dispatch as dispatch
 use Rattle.csi_codec.specs.Tokens.{with_byte, parameters_of}
@@ -141,11 +141,11 @@ goes_opened body b = by_three (b == 0x5B) (b == 0x5D) (b == 0x50)
     (λ e f g. rw (e, f, g) (goes_on (OpenHeader body []) (controls_in body) [] _ (sym (append-nil _)) refl))
     (λ e f g. rw (e, f, g) (goes_on (OpenString body b []) (controls_in body) [] _ (sym (append-nil _)) refl))
 
-goes_final : (body : List ℕ) (b : ℕ) → list_all in_escape body ≡ true → Goes (controls_in body) (behind_escape body b) (final_step (take 2 (taken body)) b)
-unfolding behind_escape
+goes_final : (body : List ℕ) (b : ℕ) → list_all in_escape body ≡ true → Goes (controls_in body) (after_escape body b) (final_step (take 2 (taken body)) b)
+unfolding after_escape
 goes_final body b h = by_taken (taken body) refl (any_taken body h)
   where
-    by_taken : (xs : List ℕ) → taken body ≡ xs → list_any is_intermediate body ≡ list_any (λ x. true) xs → Goes (controls_in body) (behind_escape body b) (final_step (take 2 xs) b)
+    by_taken : (xs : List ℕ) → taken body ≡ xs → list_any is_intermediate body ≡ list_any (λ x. true) xs → Goes (controls_in body) (after_escape body b) (final_step (take 2 xs) b)
     by_taken [] k l = ⊎_elim
         (λ (o : is_opener b ≡ true). rw (l, o) (goes_opened body b))
         (λ (o : is_opener b ≡ false). rw (l, o) (goes_end (Escape body b) (controls_in body) _ (ap (λ xs. controls_in body ++ escape_dispatch xs b) k)))

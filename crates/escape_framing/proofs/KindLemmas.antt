@@ -5,10 +5,10 @@ use Rattle.std.specs.Str.{IsUtf8, is_utf8, IsValidUpTo}
 use Rattle.std.specs.Str.Lossy.{utf8_error_len}
 use Rattle.std.proofs.lemmas.Str.{IsUtf8-from_is_utf8}
 use Rattle.escape_framing.proofs.BegunLemmas.{no_text_in_tail}
-use Rattle.escape_framing.specs.Characters.{IsBehindBegun}
+use Rattle.escape_framing.specs.Characters.{IsAfterBegun}
 use Rattle.std.proofs.lemmas.Bool.{false_from_ne_true}
 
-pub fault_is : (bytes : List ℕ) (n : ℕ) (o : Option ℕ) → IsBehindBegun bytes → (IsUtf8 bytes → ⊥) → IsValidUpTo bytes n → o ≡ utf8_error_len (drop n bytes)
+pub fault_is : (bytes : List ℕ) (n : ℕ) (o : Option ℕ) → IsAfterBegun bytes → (IsUtf8 bytes → ⊥) → IsValidUpTo bytes n → o ≡ utf8_error_len (drop n bytes)
     → (is_utf8 bytes ≡ false) × (o ≡ utf8_error_len bytes)
 fault_is bytes n o (tail, b, g, f) u v e =
     let z : n ≡ 0 = no_text_in_tail tail b n g (subst (λ l. IsUtf8 (take n l)) f v.front) (rw f at v.short) in

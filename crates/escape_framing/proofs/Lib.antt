@@ -19,7 +19,7 @@ pub mod FramedLemmas
 pub mod TextLemmas
 pub mod PrintLemmas
 pub mod SoundLemmas
-pub mod LoneLemmas
+pub mod SingleLemmas
 pub mod BreakLemmas
 pub mod LenLemmas
 pub mod StepLemmas

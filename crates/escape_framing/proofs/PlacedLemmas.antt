@@ -32,10 +32,10 @@ module _ {X : Type 0} where
   at_front (y ∷ xs) ys zero x h = h
   at_front (y ∷ xs) ys (suc i) x h = at_front xs ys i x h
 
-  pub at_behind : (xs ys : List X) (i j : ℕ) → j ≡ length xs + i → slice_get (xs ++ ys) j ≡ slice_get ys i
-  at_behind [] ys i j e = ap (λ (n : ℕ). slice_get ys n) (let k : j ≡ i = omega arith in k)
-  at_behind (x ∷ xs) ys i zero e = absurd (omega arith)
-  at_behind (x ∷ xs) ys i (suc j) e = at_behind xs ys i j (omega arith)
+  pub at_after : (xs ys : List X) (i j : ℕ) → j ≡ length xs + i → slice_get (xs ++ ys) j ≡ slice_get ys i
+  at_after [] ys i j e = ap (λ (n : ℕ). slice_get ys n) (let k : j ≡ i = omega arith in k)
+  at_after (x ∷ xs) ys i zero e = absurd (omega arith)
+  at_after (x ∷ xs) ys i (suc j) e = at_after xs ys i j (omega arith)
 
 -- an element of two lists that are joined is of the one or of the other
 pub data OfOne {X : Type 0} (xs ys : List X) (i : ℕ) (x : X) : Type 0 where
@@ -69,7 +69,7 @@ stands : (s x more : List ℕ) (i : ℕ) (dispatch : Dispatch) → slice_get (ne
 stands s x more i dispatch h =
     let grown : dispatches ((s ++ x) ++ more) ≡ dispatches s ++ (newly_decided s x ++ newly_decided (s ++ x) more)
     = dispatches_grow (s ++ x) more ∙ ap (λ l. l ++ newly_decided (s ++ x) more) (dispatches_grow s x) ∙ append_assoc (dispatches s) _ _ in
-    ap (λ l. slice_get l (length (dispatches s) + i)) grown ∙ at_behind (dispatches s) _ i _ refl ∙ at_front (newly_decided s x) _ i dispatch h
+    ap (λ l. slice_get l (length (dispatches s) + i)) grown ∙ at_after (dispatches s) _ i _ refl ∙ at_front (newly_decided s x) _ i dispatch h
 
 -- a front decides no more than the whole
 front_decides : (s : List ℕ) (n : ℕ) → length (dispatches (take n s)) ≤ length (dispatches s)

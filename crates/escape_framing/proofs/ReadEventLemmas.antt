@@ -9,8 +9,8 @@ use Rattle.escape_framing.specs.Dispatch.{Dispatch}
 use Rattle.escape_framing.specs.Dispatch as stream
 use Rattle.escape_framing.specs.Decode.{in_character, first_byte}
 use Rattle.escape_framing.specs.Held.{Kept, InCharacter, InCommand, InDevice, InString, character_step, opened, escape_step, header_step, Held, Handed, fresh_step, held_step, nothing_held, hand_out}
-use Rattle.escape_framing.specs.Framed.{Text, Lone, framed, at_place, placed_behind, framed_behind, begun_bytes, bytes_begun, kept_takes, takes_text, no_text, BeginsNoText, IsReached, IsCarried, Frames, IsTextLen}
-use Rattle.escape_framing.specs.Fronts.{IsLastAt}
+use Rattle.escape_framing.specs.Framed.{Text, Single, framed, at_place, placed_after, framed_after, begun_bytes, bytes_begun, kept_takes, takes_text, no_text, BeginsNoText, IsReached, IsCarried, Frames, IsTextLen}
+use Rattle.escape_framing.specs.Prefixes.{IsLastAt}
 use Rattle.escape_framing.specs.Lending.{Lending}
 use Rattle.escape_framing.specs.Event.{handed_out, held_resumed, rank, IsAlone, IsHeldLeft}
 use Rattle.escape_framing.specs.Read.{ReadsEvent, TakesMemoryAt}
@@ -23,7 +23,7 @@ use Rattle.escape_framing.specs.declared.event.Read.{Read}
 use Rattle.escape_framing.specs.declared.event.Read.TheVariants as read
 use Rattle.escape_framing.proofs.FramedLemmas.{never_lent}
 use Rattle.escape_framing.proofs.SoundLemmas.{IsSoundIn, reached_sound}
-use Rattle.escape_framing.proofs.LoneLemmas.{carried_none, some_or_none}
+use Rattle.escape_framing.proofs.SingleLemmas.{carried_none, some_or_none}
 use Rattle.escape_framing.proofs.BreakLemmas.{lead_of}
 use Rattle.escape_framing.proofs.StepLemmas.{frames_text, text_ends, frames_broken, broken_same, frames_alone, nothing_reached}
 use Rattle.escape_framing.proofs.BodyLemmas.{opens_read, opens_left, closed_takes_none, none_more}
@@ -33,7 +33,7 @@ use Rattle.std.proofs.lemmas.List.{map-append}
 
 -- ---- an event that is left a byte stands alone
 
-event_alone : (l : Lending) (e : Option Event) (start place : ℕ) (placed : List (ℕ × Dispatch)) → IsAlone e → framed start (at_place place (handed_out l e) ++ placed) ≡ map Lone (handed_out l e) ++ framed start placed
+event_alone : (l : Lending) (e : Option Event) (start place : ℕ) (placed : List (ℕ × Dispatch)) → IsAlone e → framed start (at_place place (handed_out l e) ++ placed) ≡ map Single (handed_out l e) ++ framed start placed
 event_alone l None start place placed a = refl
 event_alone l (Some (event.Print c)) start place placed a = rw (never_lent start place c a) refl
 event_alone l (Some _) start place placed a = refl
@@ -107,15 +107,15 @@ left_carried count b rest old new e r k l = by_closed l.closed
 -- ---- one byte
 
 frames_left : (count : ℕ) (old : Held) (b : ℕ) (rest : List ℕ) (l : Lending) (e : Option Event) → IsReached old → IsCarried 0 count old (b ∷ rest) → held_step old b ≡ held_resumed (handed_out l e) l.held false b → IsHeldLeft old b e l.held
-    → Frames count old (b ∷ rest) (λ from. map Lone (handed_out l e)) 0 l.held
-unfolding placed_behind hand_out
+    → Frames count old (b ∷ rest) (λ from. map Single (handed_out l e)) 0 l.held
+unfolding placed_after hand_out
 frames_left count old b rest l e r k s f = record {
   within = omega arith;
   lends = λ start.
-      ap (λ (x : Handed). framed start (at_place (start + count + 1) x.dispatches ++ placed_behind (start + count + 1) x.held rest)) s
-      ∙ ap (framed start) (at_both (start + count + 1) (handed_out l e) (held_step l.held b).dispatches (placed_behind (start + count + 1) (held_step l.held b).held rest))
-      ∙ event_alone l e start (start + count + 1) (at_place (start + count + 1) (held_step l.held b).dispatches ++ placed_behind (start + count + 1) (held_step l.held b).held rest) f.alone
-      ∙ (let q : start + count ≡ start + count + 0 = omega arith in ap (λ (m : ℕ). map Lone (handed_out l e) ++ framed_behind start m l.held (b ∷ rest)) q);
+      ap (λ (x : Handed). framed start (at_place (start + count + 1) x.dispatches ++ placed_after (start + count + 1) x.held rest)) s
+      ∙ ap (framed start) (at_both (start + count + 1) (handed_out l e) (held_step l.held b).dispatches (placed_after (start + count + 1) (held_step l.held b).held rest))
+      ∙ event_alone l e start (start + count + 1) (at_place (start + count + 1) (held_step l.held b).dispatches ++ placed_after (start + count + 1) (held_step l.held b).held rest) f.alone
+      ∙ (let q : start + count ≡ start + count + 0 = omega arith in ap (λ (m : ℕ). map Single (handed_out l e) ++ framed_after start m l.held (b ∷ rest)) q);
   keeps = ap (λ (x : Handed). (hand_out x.held rest).held) s;
   reached = left_reached l.held f.closed;
   carried = left_carried (count + 0) b rest old l.held e r (subst (λ (m : ℕ). IsCarried 0 m old (b ∷ rest)) (let q : count ≡ count + 0 = omega arith in q) k) f;
@@ -134,7 +134,7 @@ reads_left old b rest bytes l e is s f = subst (λ (m : List ℕ). ReadsEvent ol
 pub reads_one : (old : Held) (b : ℕ) (rest bytes : List ℕ) (l : Lending) (e : Option Event) → bytes ≡ b ∷ rest → held_step old b ≡ held_resumed (handed_out l e) l.held true b → (takes_text old b ≡ true → BeginsNoText bytes) → ReadsEvent old bytes (read.Bytes e 1) l
 unfolding hand_out
 reads_one old b rest bytes l e is s none = subst (λ (m : List ℕ). ReadsEvent old m (read.Bytes e 1) l) (sym is) (record {
-  frames = λ count r k. subst (λ (x : Handed). Frames count old (b ∷ rest) (λ from. map Lone x.dispatches) 1 x.held) s (frames_alone count old b rest r (λ y. subst BeginsNoText is (none y)) k);
+  frames = λ count r k. subst (λ (x : Handed). Frames count old (b ∷ rest) (λ from. map Single x.dispatches) 1 x.held) s (frames_alone count old b rest r (λ y. subst BeginsNoText is (none y)) k);
   within = omega arith;
   text = no_text;
   moves = λ x y. absurd (let z : 1 ≡ 0 = x in omega arith);
@@ -144,7 +144,7 @@ reads_one old b rest bytes l e is s none = subst (λ (m : List ℕ). ReadsEvent 
 -- ---- nothing, a run, a text
 
 pub reads_none : (l : Lending) (bytes : List ℕ) → length bytes ≡ 0 → ReadsEvent l.held bytes (read.Bytes None 0) l
-unfolding placed_behind hand_out
+unfolding placed_after hand_out
 reads_none l [] e = record {
   frames = λ count r c. record { within = omega arith; lends = λ start. refl; keeps = refl; reached = r; carried = subst (λ (m : ℕ). IsCarried 0 m l.held []) (let k : count ≡ count + 0 = omega arith in k) c };
   within = omega arith;
@@ -162,7 +162,7 @@ begun_rank _ false n = absurd (n refl)
 pub reads_broken_event : (old : Held) (b n : ℕ) (rest bytes : List ℕ) (l : Lending) → bytes ≡ b ∷ rest → takes_text old b ≡ true → begun_bytes old ≢ [] → IsTextLen bytes n → 0 < n → l.held ≡ nothing_held
     → ReadsEvent old bytes (read.Bytes (Some (event.Print 0xFFFD)) 0) l
 reads_broken_event old b n rest bytes l is t begun k z e = subst (λ (m : List ℕ). ReadsEvent old m (read.Bytes (Some (event.Print 0xFFFD)) 0) l) (sym is) (record {
-  frames = λ count r c. subst (λ (h : Held). Frames count old (b ∷ rest) (λ from. Lone (stream.Print 0xFFFD) ∷ []) 0 h) (sym e) (frames_broken count n old b rest r t begun (subst (λ (m : List ℕ). IsTextLen m n) is k) z);
+  frames = λ count r c. subst (λ (h : Held). Frames count old (b ∷ rest) (λ from. Single (stream.Print 0xFFFD) ∷ []) 0 h) (sym e) (frames_broken count n old b rest r t begun (subst (λ (m : List ℕ). IsTextLen m n) is k) z);
   within = omega arith;
   text = no_text;
   moves = λ x y. subst (λ (h : Held). rank h < rank old) (sym e) (begun_rank old.kept old.waiting begun);

@@ -12,12 +12,19 @@ use Rattle.csi_codec.specs.Tokens.{is_parameter, Parameters, with_byte}
 use Rattle.escape_framing.specs.Bytes.{is_stop, is_embedded}
 use Rattle.escape_framing.specs.Held.{InControlSequence, InCommand, InString, control_sequence_step, command_step, string_step, fresh_step, Held, Handed, held_step, hand_out}
 use Rattle.escape_framing.specs.Framed.{begun_bytes}
-use Rattle.escape_framing.specs.Fronts.{is_body_byte, is_string_byte, IsSilent}
+use Rattle.escape_framing.specs.Prefixes.{is_body_byte, is_string_byte}
 
 pub all_pass : (test : ℕ → Bool) (xs : List ℕ) → list_all test (take (prefix_len test xs) xs) ≡ true
 all_pass test [] = refl
 all_pass test (b ∷ xs) = cond_both (test b) _ _ (λ n. list_all test (take n (b ∷ xs)) ≡ true)
     (λ e. let k : 1 + prefix_len test xs ≡ suc (prefix_len test xs) = omega arith in rw k (rw e (all_pass test xs))) (λ e. refl)
+
+-- So many bytes at the front hand nothing out, and leave no character begun.
+pub record IsSilent (held : Held) (bytes : List ℕ) (n : ℕ) (after : Held) : Type 0 where
+  pub within : n ≤ length bytes
+  pub silent : (hand_out held (take n bytes)).dispatches ≡ []
+  pub keeps : (hand_out held (take n bytes)).held ≡ after
+  pub none : begun_bytes after ≡ []
 
 pub quiet_front : (held after : Held) (bytes : List ℕ) (n : ℕ) → n ≤ length bytes → hand_out held (take n bytes) ≡ record { dispatches = []; held = after } → begun_bytes after ≡ [] → IsSilent held bytes n after
 quiet_front held after bytes n l q b = record { within = l; silent = ap (λ (x : Handed). x.dispatches) q; keeps = ap (λ (x : Handed). x.held) q; none = b }

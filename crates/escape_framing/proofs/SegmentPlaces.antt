@@ -80,9 +80,9 @@ contains_at : (p : List (ℕ × Segment)) (x : ℕ × Segment) (ys : List (ℕ �
 contains_at p x ys = (length p, omega (arith, length-append p (x ∷ ys)), get_or_at p x ys x (length p) refl)
 
 -- the first segment behind a stream of which nothing is held stands there
-pub stands_behind : (s x left : List ℕ) (segment : Segment) (segments : List Segment) → held_of s ≡ nothing_held → held_of x ≡ nothing_held → segment ∷ segments ≡ (the_cut x).segments
+pub stands_after : (s x left : List ℕ) (segment : Segment) (segments : List Segment) → held_of s ≡ nothing_held → held_of x ≡ nothing_held → segment ∷ segments ≡ (the_cut x).segments
     → Contains (placed_segments (s ++ (x ++ left))) (length s, segment)
-stands_behind s x left segment segments h k e =
+stands_after s x left segment segments h k e =
     let rest = segments ++ (the_cut left).segments in
     let row : (the_cut (s ++ (x ++ left))).segments ≡ (the_cut s).segments ++ (segment ∷ rest)
     = segments_join s (x ++ left) h ∙ ap (λ l. (the_cut s).segments ++ l) (segments_join x left k ∙ ap (λ l. l ++ (the_cut left).segments) (sym e)) in

@@ -7,7 +7,7 @@ use Rattle.std.proofs.lemmas.Bool.Decides.{nat_tests}
 use Rattle.escape_framing.specs.Bytes.{is_stop, is_embedded, is_intermediate, is_final, is_escape_final, is_string_opener, is_opener, is_cut, in_escape, in_parameters, ends_command}
 use Rattle.csi_codec.specs.Tokens.{is_parameter}
 use Rattle.escape_framing.specs.Segment.{Tail, Begun, OpenEscape, OpenControlSequence, OpenCommand, OpenHeader, OpenDevice, OpenString, Escape, ControlSequence, OperatingSystemCommand, DeviceControl, String, CutOff, bytes_of, IsUnfinished, is_before_final, IsSegment, follows, Segment}
-use Rattle.escape_framing.specs.Decode.{waits, ends_before, first_byte, in_character, opened_by, behind_escape, next_byte, read_on}
+use Rattle.escape_framing.specs.Decode.{waits, ends_before, first_byte, in_character, opened_by, after_escape, next_byte, read_on}
 use Rattle.escape_framing.proofs.Existence.Utf8Lemmas.{append_nil}
 use Rattle.escape_framing.proofs.ReadLemmas.{after, step_waits, step_ends, step_ends_before, spans}
 
@@ -68,7 +68,7 @@ unfolding is_embedded is_stop is_intermediate is_cut is_opener is_string_opener
 opener_ends b h = record { outside = grind (arith, nat_tests); whole = grind (arith, nat_tests) }
 
 opens : (o : List ℕ) (b : ℕ) → list_all is_embedded o ≡ true → is_opener b ≡ true → next_byte (OpenEscape o) b ≡ waits (opened_by o b)
-unfolding next_byte behind_escape
+unfolding next_byte after_escape
 opens o b g k = let e = opener_ends b k in rw (e.outside, e.whole, no_intermediate o g, k) refl
 
 opened_string : (o : List ℕ) (x : ℕ) → is_string_opener x ≡ true → opened_by o x ≡ OpenString o x []
@@ -135,7 +135,7 @@ ends_at t s test [] h e = cc
 ends_at t s test (b ∷ f) h e = step_ends_before t s b f (e b h)
 
 pub reads_whole_escape : (body : List ℕ) (final : ℕ) (f : List ℕ) → IsSegment (Escape body final) f → read_on (Begun []) (bytes_of (Escape body final) ++ f) ≡ after (Escape body final) (read_on (Begun []) f)
-unfolding next_byte behind_escape
+unfolding next_byte after_escape
 reads_whole_escape body final f g =
     ap (read_on (Begun [])) (append_assoc (0x1B ∷ body) (final ∷ []) f)
     ∙ reads_escape body (final ∷ f) g.0

@@ -7,7 +7,7 @@ use Rattle.escape_framing.specs.Bytes.{is_stop}
 use Rattle.escape_framing.specs.Segment.{Tail, Begun, IsUnfinished}
 use Rattle.escape_framing.specs.Decode.{read_on}
 use Rattle.escape_framing.specs.SevenBit.{seven_bit}
-use Rattle.escape_framing.specs.Held.{Kept, InCharacter, InEscape, InControlSequence, InCommand, InHeader, InDevice, InString, kept_of, Step, steps, character_step, escape_step, control_sequence_step, command_step, header_step, device_step, string_step, kept_step, Held, Handed, handed, handed_behind, interrupted, fresh_step, waiting_step, held_step, nothing_held, hand_out, held_of}
+use Rattle.escape_framing.specs.Held.{Kept, InCharacter, InEscape, InControlSequence, InCommand, InHeader, InDevice, InString, kept_of, Step, steps, character_step, escape_step, control_sequence_step, command_step, header_step, device_step, string_step, kept_step, Held, Handed, handed, handed_after, interrupted, fresh_step, waiting_step, held_step, nothing_held, hand_out, held_of}
 use Rattle.escape_framing.specs.Framed.{begun_bytes, bytes_begun, IsReached}
 use Rattle.escape_framing.proofs.Begun.{begun_in, is_body}
 use Rattle.escape_framing.proofs.FirstLemmas.{first_escape}
@@ -166,7 +166,7 @@ unfolding fresh_step
 fresh_body k b h =
     cond_both (b == 0xC2) _ _ IsQuietAt (λ e. rw (body_interrupted k h) (tt, body_none k true h)) (λ e. let q = body_quiet k b h in (q.none, begun_none (kept_step k b).kept q.begun))
 
-plain_waiting : (k : Kept) (b : ℕ) → is_c1 0xC2 b ≡ false → waiting_step k b ≡ handed_behind (kept_step k 0xC2) (fresh_step (kept_step k 0xC2).kept b)
+plain_waiting : (k : Kept) (b : ℕ) → is_c1 0xC2 b ≡ false → waiting_step k b ≡ handed_after (kept_step k 0xC2) (fresh_step (kept_step k 0xC2).kept b)
 unfolding waiting_step
 plain_waiting k b e = rw e refl
 

@@ -5,7 +5,7 @@ use Rattle.escape_framing.specs.Dispatch.{Dispatch, Print}
 use Rattle.escape_framing.specs.Cut.{newly_decided}
 use Rattle.escape_framing.specs.Held.{held_of}
 use Rattle.escape_framing.specs.Placed.{placed_from}
-use Rattle.escape_framing.specs.Framed.{Framed, Text, Lone, is_lent, put_text, put_character, framed, at_place, placed_behind, Spells, nothing, alone, in_text, AreApart}
+use Rattle.escape_framing.specs.Framed.{Framed, Text, Single, is_lent, put_text, put_character, framed, at_place, placed_after, Spells, nothing, alone, in_text, AreApart}
 use Rattle.escape_framing.proofs.HeldLemmas.{step_decides}
 use Rattle.std.proofs.lemmas.Bool.{cond_both, eqb-true, eqb-false}
 
@@ -20,7 +20,7 @@ more_spells from next c more items ds (in_text n d cs text i es all e f k) =
 
 put_spells : (from c : ℕ) (items : List Framed) (ds : List Dispatch) → Spells items ds → Spells (put_text from (encode_utf8 c) items) (Print c ∷ ds)
 put_spells from c [] ds h = one_spells from c [] ds h
-put_spells from c (Lone d ∷ items) ds h = one_spells from c (Lone d ∷ items) ds h
+put_spells from c (Single d ∷ items) ds h = one_spells from c (Single d ∷ items) ds h
 put_spells from c (Text next more ∷ items) ds h =
     cond_both (next == from + length (encode_utf8 c)) _ _ (λ l. Spells l (Print c ∷ ds)) (λ e. more_spells from next c more items ds h) (λ e. one_spells from c (Text next more ∷ items) ds h)
 
@@ -35,16 +35,16 @@ framed_spells start ((n, d) ∷ placed) = alone d (framed start placed) (map (λ
 
 -- ---- side by side
 
-behind_text : (from : ℕ) (text more : List ℕ) (next : ℕ) (items : List Framed) → AreApart (Text next more ∷ items) → next ≡ from + length text → AreApart (Text from (text ++ more) ∷ items)
-behind_text from text more next [] h e = tt
-behind_text from text more next (Lone d ∷ items) h e = h
-behind_text from text more next (Text other rest ∷ items) h e = (λ k. h.0 (let m = length-append text more in omega arith), h.1)
+after_text : (from : ℕ) (text more : List ℕ) (next : ℕ) (items : List Framed) → AreApart (Text next more ∷ items) → next ≡ from + length text → AreApart (Text from (text ++ more) ∷ items)
+after_text from text more next [] h e = tt
+after_text from text more next (Single d ∷ items) h e = h
+after_text from text more next (Text other rest ∷ items) h e = (λ k. h.0 (let m = length-append text more in omega arith), h.1)
 
 put_stands_apart : (from : ℕ) (text : List ℕ) (items : List Framed) → AreApart items → AreApart (put_text from text items)
 put_stands_apart from text [] h = tt
-put_stands_apart from text (Lone d ∷ items) h = h
+put_stands_apart from text (Single d ∷ items) h = h
 put_stands_apart from text (Text next more ∷ items) h =
-    cond_both (next == from + length text) _ _ AreApart (λ e. behind_text from text more next items h (eqb-true next (from + length text) e)) (λ e. (eqb-false next (from + length text) e, h))
+    cond_both (next == from + length text) _ _ AreApart (λ e. after_text from text more next items h (eqb-true next (from + length text) e)) (λ e. (eqb-false next (from + length text) e, h))
 
 character_apart : (start place c : ℕ) (items : List Framed) → AreApart items → AreApart (put_character start place c items)
 character_apart start place c items h =
@@ -57,10 +57,10 @@ framed_apart start ((n, _) ∷ placed) = framed_apart start placed
 
 -- ---- what is held is enough for the places too
 
-pub placed_same : (bytes stream : List ℕ) → placed_behind (length stream) (held_of stream) bytes ≡ placed_from stream bytes
-unfolding placed_behind
+pub placed_same : (bytes stream : List ℕ) → placed_after (length stream) (held_of stream) bytes ≡ placed_from stream bytes
+unfolding placed_after
 placed_same [] stream = refl
 placed_same (b ∷ bytes) stream =
     let d = step_decides stream b in
     let n : length stream + 1 ≡ length (stream ++ b ∷ []) = sym (length-append stream (b ∷ [])) in
-    (λ i. at_place (length stream + 1) (sym d.0 i) ++ placed_behind (n i) (sym d.1 i) bytes) ∙ ap (λ l. at_place (length stream + 1) (newly_decided stream (b ∷ [])) ++ l) (placed_same bytes (stream ++ b ∷ []))
+    (λ i. at_place (length stream + 1) (sym d.0 i) ++ placed_after (n i) (sym d.1 i) bytes) ∙ ap (λ l. at_place (length stream + 1) (newly_decided stream (b ∷ [])) ++ l) (placed_same bytes (stream ++ b ∷ []))

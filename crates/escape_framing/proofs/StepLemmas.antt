@@ -6,14 +6,14 @@ use lib.Utf8.{encode}
 use Rattle.escape_framing.specs.Bytes.{is_stop, is_cut}
 use Rattle.escape_framing.specs.Dispatch.{Print}
 use Rattle.escape_framing.specs.Held.{Kept, InEscape, InControlSequence, InCommand, InHeader, InDevice, InString, Step, kept_step, Held, Handed, fresh_step, held_step, nothing_held, hand_out, held_of}
-use Rattle.escape_framing.specs.Framed.{Text, Lone, placed_behind, framed_behind, begun_bytes, bytes_begun, kept_takes, takes_text, IsLendable, IsText, no_text, text_of, BeginsNoText, IsCarried, IsReached, Frames, IsTextLen}
+use Rattle.escape_framing.specs.Framed.{Text, Single, placed_after, framed_after, begun_bytes, bytes_begun, kept_takes, takes_text, IsLendable, IsText, no_text, text_of, BeginsNoText, IsCarried, IsReached, Frames, IsTextLen}
 use Rattle.escape_framing.proofs.Begun.{is_body}
 use Rattle.escape_framing.proofs.HeldLemmas.{step_decides}
 use Rattle.escape_framing.proofs.FramedLemmas.{BeginsFrom}
 use Rattle.escape_framing.proofs.TextLemmas.{reads_text, text_kept}
 use Rattle.escape_framing.proofs.PrintLemmas.{PrintNone, IsQuiet, Before, is_quiet, cuts, escape_before, control_sequence_before, header_before, stop_quiet}
 use Rattle.escape_framing.proofs.SoundLemmas.{begun_none}
-use Rattle.escape_framing.proofs.LoneLemmas.{StandAlone, carried_none, byte_alone, body_alone, quiet_alone, IsLate, begins_late}
+use Rattle.escape_framing.proofs.SingleLemmas.{StandAlone, carried_none, byte_alone, body_alone, quiet_alone, IsLate, begins_late}
 use Rattle.escape_framing.proofs.BreakLemmas.{GoesOn, text_breaks_at, text_cuts, is_character, broken_goes}
 use Rattle.std.proofs.lemmas.Bool.{leb-true, or_cases, cases_Bool, ne_eqb, leb-false}
 
@@ -55,13 +55,13 @@ takes_outside _ w b h = refl
 -- ---- a text breaks a character
 
 pub frames_broken : (count n : ℕ) (h : Held) (b : ℕ) (rest : List ℕ) → IsReached h → takes_text h b ≡ true → begun_bytes h ≢ [] → IsTextLen (b ∷ rest) n → 0 < n
-    → Frames count h (b ∷ rest) (λ from. Lone (Print 0xFFFD) ∷ []) 0 nothing_held
+    → Frames count h (b ∷ rest) (λ from. Single (Print 0xFFFD) ∷ []) 0 nothing_held
 frames_broken count n h b rest r t z k p =
     let f = first_in (b ∷ rest) n k p in
     let g = broken_goes h b rest (text_breaks_at h b rest f.c f.more r (takes_outside h.kept h.waiting b t) z f.lendable f.is) in
     record {
       within = omega arith;
-      lends = λ start. g.lends start (start + count) ∙ (let q : start + count ≡ start + count + 0 = omega arith in ap (λ (m : ℕ). Lone (Print 0xFFFD) ∷ framed_behind start m nothing_held (b ∷ rest)) q);
+      lends = λ start. g.lends start (start + count) ∙ (let q : start + count ≡ start + count + 0 = omega arith in ap (λ (m : ℕ). Single (Print 0xFFFD) ∷ framed_after start m nothing_held (b ∷ rest)) q);
       keeps = g.keeps;
       reached = nothing_reached;
       carried = carried_none 0 (count + 0) nothing_held (b ∷ rest) refl;
@@ -83,31 +83,31 @@ high (InControlSequence p) false b h z i = leb-true 0x80 b h
 high (InHeader header) false b h z i = leb-true 0x80 b h
 high _ w b h z i = cc
 
-text_behind : (count n : ℕ) (h : Held) (bytes : List ℕ) → IsTextLen bytes n → 0 < n → GoesOn h bytes [] nothing_held → Frames count h bytes (λ from. Text from (take n bytes) ∷ []) n nothing_held
-text_behind count n h bytes k p g =
+text_after : (count n : ℕ) (h : Held) (bytes : List ℕ) → IsTextLen bytes n → 0 < n → GoesOn h bytes [] nothing_held → Frames count h bytes (λ from. Text from (take n bytes) ∷ []) n nothing_held
+text_after count n h bytes k p g =
     let len : length (take n bytes) ≡ n = length-take-le n bytes k.within in
     record {
       within = k.within;
       lends = λ start.
           g.lends start (start + count)
-          ∙ ap (framed_behind start (start + count) nothing_held) (sym (take-append-drop n bytes))
+          ∙ ap (framed_after start (start + count) nothing_held) (sym (take-append-drop n bytes))
           ∙ reads_text start (start + count) (take n bytes) (drop n bytes) k.text (some_taken bytes n k.within p) (omega arith)
-          (subst (λ (m : ℕ). BeginsFrom (start + count + m + 1) (framed_behind start (start + count + m) nothing_held (drop n bytes))) (sym len) (apart start))
-          ∙ ap (λ (m : ℕ). Text (start + count) (take n bytes) ∷ framed_behind start (start + count + m) nothing_held (drop n bytes)) len;
+          (subst (λ (m : ℕ). BeginsFrom (start + count + m + 1) (framed_after start (start + count + m) nothing_held (drop n bytes))) (sym len) (apart start))
+          ∙ ap (λ (m : ℕ). Text (start + count) (take n bytes) ∷ framed_after start (start + count + m) nothing_held (drop n bytes)) len;
       keeps = g.keeps ∙ ap (λ (l : List ℕ). (hand_out nothing_held l).held) (sym (take-append-drop n bytes)) ∙ text_kept (take n bytes) (drop n bytes) k.text;
       reached = nothing_reached;
       carried = carried_none 0 (count + n) nothing_held (drop n bytes) refl;
     }
   where
-    apart : (start : ℕ) → BeginsFrom (start + count + n + 1) (framed_behind start (start + count + n) nothing_held (drop n bytes))
-    apart start = subst (λ (h' : Held). IsLate (start + count + n + 1) (start + count + n) (begun_bytes h') (drop n bytes) → BeginsFrom (start + count + n + 1) (framed_behind start (start + count + n) h' (drop n bytes))) start_held
+    apart : (start : ℕ) → BeginsFrom (start + count + n + 1) (framed_after start (start + count + n) nothing_held (drop n bytes))
+    apart start = subst (λ (h' : Held). IsLate (start + count + n + 1) (start + count + n) (begun_bytes h') (drop n bytes) → BeginsFrom (start + count + n + 1) (framed_after start (start + count + n) h' (drop n bytes))) start_held
         (begins_late (drop n bytes) [] start (start + count + n) (start + count + n + 1)) (inr (omega arith, k.rest))
 
 pub frames_text : (count n : ℕ) (h : Held) (b : ℕ) (rest : List ℕ) → IsReached h → takes_text h b ≡ true → begun_bytes h ≡ [] → IsTextLen (b ∷ rest) n → 0 < n
     → Frames count h (b ∷ rest) (λ from. Text from (take n (b ∷ rest)) ∷ []) n nothing_held
 frames_text count n h b rest r t z k p =
     let f = first_in (b ∷ rest) n k p in
-    text_behind count n h (b ∷ rest) k p (text_cuts h b rest f.c f.more r (takes_outside h.kept h.waiting b t) z (high h.kept h.waiting b t z) f.lendable f.is)
+    text_after count n h (b ∷ rest) k p (text_cuts h b rest f.c f.more r (takes_outside h.kept h.waiting b t) z (high h.kept h.waiting b t z) f.lendable f.is)
 
 -- nothing is held behind it
 pub text_ends : (n : ℕ) (h : Held) (b : ℕ) (rest : List ℕ) → IsReached h → takes_text h b ≡ true → begun_bytes h ≡ [] → IsTextLen (b ∷ rest) n → 0 < n → (hand_out h (take n (b ∷ rest))).held ≡ nothing_held
@@ -121,11 +121,11 @@ text_ends (suc n) h b rest r t z k p =
 -- ---- one byte
 
 stands : (count : ℕ) (h : Held) (b : ℕ) (rest : List ℕ) → IsReached h → ((start : ℕ) → StandAlone start (start + count + 1) (held_step h b).held rest (held_step h b).dispatches)
-    → Frames count h (b ∷ rest) (λ from. map Lone (held_step h b).dispatches) 1 (held_step h b).held
-unfolding placed_behind hand_out
+    → Frames count h (b ∷ rest) (λ from. map Single (held_step h b).dispatches) 1 (held_step h b).held
+unfolding placed_after hand_out
 stands count h b rest (stream, e) a = record {
   within = omega (arith, short b rest);
-  lends = λ start. (a start).alone (placed_behind (start + count + 1) (held_step h b).held rest);
+  lends = λ start. (a start).alone (placed_after (start + count + 1) (held_step h b).held rest);
   keeps = refl;
   reached = (stream ++ b ∷ [], ap (λ (x : Held). (held_step x b).held) e ∙ sym (step_decides stream b).1);
   carried = subst (λ (m : ℕ). IsCarried 0 m (held_step h b).held rest) (let k : 0 + count + 1 ≡ count + 1 = omega arith in k) (a 0).carried;
@@ -168,5 +168,5 @@ alone_at h b rest start count r n c = ⊎_elim
     shut _ w h f = cc
 
 pub frames_alone : (count : ℕ) (h : Held) (b : ℕ) (rest : List ℕ) → IsReached h → (takes_text h b ≡ true → BeginsNoText (b ∷ rest)) → IsCarried 0 count h (b ∷ rest)
-    → Frames count h (b ∷ rest) (λ from. map Lone (held_step h b).dispatches) 1 (held_step h b).held
+    → Frames count h (b ∷ rest) (λ from. map Single (held_step h b).dispatches) 1 (held_step h b).held
 frames_alone count h b rest r n c = stands count h b rest r (λ start. alone_at h b rest start (start + count) r n (in_call start count h (b ∷ rest) c))

@@ -9,7 +9,7 @@ use Rattle.escape_framing.specs.Segment.{Segment, Begun, IsBegun, IsUnfinished, 
 use Rattle.escape_framing.specs.Decode.{Reading, ends, in_character, next_byte}
 use Rattle.escape_framing.specs.Dispatch.{Dispatch, Print, dispatches_of}
 use Rattle.escape_framing.specs.Held.{InCharacter, Step, steps, kept_of, character_step, Held, Handed, handed, fresh_step, waiting_step, held_step, nothing_held, hand_out}
-use Rattle.escape_framing.specs.Framed.{Text, is_lent, put_text, framed, at_place, placed_behind, framed_behind, IsLendable, IsText, no_text, text_of}
+use Rattle.escape_framing.specs.Framed.{Text, is_lent, put_text, framed, at_place, placed_after, framed_after, IsLendable, IsText, no_text, text_of}
 use Rattle.escape_framing.proofs.Existence.Utf8Lemmas.{Spelled, in_one, in_two, in_three, in_four, spelled}
 use Rattle.escape_framing.proofs.CharacterReading.{waits_begun, ends_character, plain_segment, no_escape}
 use Rattle.escape_framing.proofs.FramedLemmas.{BeginsFrom, lends, put_apart, put_joined}
@@ -36,9 +36,9 @@ unfolding character_step in_character
 lead_kept = ap (λ (r : Reading). steps (flat_map dispatches_of r.segments) (kept_of r.tail)) first_c2
 
 -- a byte behind a C2 that is no half of a C1 control
-pub behind_lead : (b : ℕ) → is_c1 0xC2 b ≡ false → b ≢ 0xC2 → held_step lead_waits b ≡ handed (character_step (0xC2 ∷ []) b) false
+pub after_lead : (b : ℕ) → is_c1 0xC2 b ≡ false → b ≢ 0xC2 → held_step lead_waits b ≡ handed (character_step (0xC2 ∷ []) b) false
 unfolding held_step waiting_step fresh_step
-behind_lead b h n = rw (h, lead_kept) (rw (ne_eqb b 0xC2 n) refl)
+after_lead b h n = rw (h, lead_kept) (rw (ne_eqb b 0xC2 n) refl)
 
 pub begun_step : (p : List ℕ) (b : ℕ) → IsUnfinished (Begun p) → IsBegun (p ++ b ∷ []) → character_step p b ≡ steps [] (InCharacter (p ++ b ∷ []))
 unfolding character_step next_byte
@@ -56,15 +56,15 @@ abbrev Both : Type 0
 Both = List (ℕ × Dispatch) × Held
 
 abbrev both : ℕ → Held → List ℕ → Both
-both count held bytes = (placed_behind count held bytes, (hand_out held bytes).held)
+both count held bytes = (placed_after count held bytes, (hand_out held bytes).held)
 
 -- a character that is printed, before what bytes do behind it
 abbrev printed : ℕ → ℕ → List ℕ → Both
-printed count c bytes = ((count, Print c) ∷ placed_behind count nothing_held bytes, (hand_out nothing_held bytes).held)
+printed count c bytes = ((count, Print c) ∷ placed_after count nothing_held bytes, (hand_out nothing_held bytes).held)
 
-step_of : (count : ℕ) (held : Held) (b : ℕ) (bytes : List ℕ) (h : Handed) → held_step held b ≡ h → both count held (b ∷ bytes) ≡ (at_place (count + 1) h.dispatches ++ placed_behind (count + 1) h.held bytes, (hand_out h.held bytes).held)
-unfolding placed_behind hand_out
-step_of count held b bytes h e = ap (λ (x : Handed). (at_place (count + 1) x.dispatches ++ placed_behind (count + 1) x.held bytes, (hand_out x.held bytes).held)) e
+step_of : (count : ℕ) (held : Held) (b : ℕ) (bytes : List ℕ) (h : Handed) → held_step held b ≡ h → both count held (b ∷ bytes) ≡ (at_place (count + 1) h.dispatches ++ placed_after (count + 1) h.held bytes, (hand_out h.held bytes).held)
+unfolding placed_after hand_out
+step_of count held b bytes h e = ap (λ (x : Handed). (at_place (count + 1) x.dispatches ++ placed_after (count + 1) x.held bytes, (hand_out x.held bytes).held)) e
 
 -- the bytes of a character behind its first ones, where none of them is a C2
 reads_on : (count c x : ℕ) (p q more : List ℕ) → IsScalar c → IsPrintable c → encode c ≡ (x ∷ p) ++ q → q ≢ []
@@ -106,7 +106,7 @@ reads_more count c x y q more s h e two = ⊎_elim lead other (cases_eq x 0xC2)
         ∙ step_of count nothing_held 0xC2 (y ∷ q ++ more) (record { dispatches = []; held = lead_waits }) (unfold held_step fresh_step in refl)
         ∙ ap (λ (z : List ℕ). both (count + 1) lead_waits (y ∷ z ++ more)) t.0
         ∙ step_of (count + 1) lead_waits y more (handed (steps (Print c ∷ []) (InCharacter [])) false)
-        (behind_lead y (not_c1 y l) (λ k. no_c2 (subst Inner k (inner c 0xC2 y [] [] s f))) ∙ ap (λ (u : Step). handed u false) (whole_step c y (0xC2 ∷ []) s h f g))
+        (after_lead y (not_c1 y l) (λ k. no_c2 (subst Inner k (inner c 0xC2 y [] [] s f))) ∙ ap (λ (u : Step). handed u false) (whole_step c y (0xC2 ∷ []) s h f g))
         ∙ (let m : count + 1 + 1 ≡ count + length (x ∷ y ∷ q) = omega (arith, ap length t.0) in ap (λ (z : ℕ). printed z c more) m)
 
     other : x ≢ 0xC2 → both count nothing_held (x ∷ y ∷ q ++ more) ≡ printed (count + length (x ∷ y ∷ q)) c more
@@ -132,7 +132,7 @@ reads_both count c more s h = by_kind (spelled c s)
     by_kind (in_four g l e) = subst Goal (sym e) (reads_more count c _ _ (_ ∷ _ ∷ []) more s h e (λ k. absurd (omega arith)))
 
 pub reads_character : (count c : ℕ) (more : List ℕ) → IsScalar c → IsPrintable c
-    → placed_behind count nothing_held (encode c ++ more) ≡ (count + length (encode c), Print c) ∷ placed_behind (count + length (encode c)) nothing_held more
+    → placed_after count nothing_held (encode c ++ more) ≡ (count + length (encode c), Print c) ∷ placed_after (count + length (encode c)) nothing_held more
 reads_character count c more s h = ap (λ (r : Both). r.0) (reads_both count c more s h)
 
 pub held_character : (c : ℕ) (more : List ℕ) → IsScalar c → IsPrintable c → (hand_out nothing_held (encode c ++ more)).held ≡ (hand_out nothing_held more).held
@@ -141,29 +141,29 @@ held_character c more s h = ap (λ (r : Both). r.1) (reads_both 0 c more s h)
 -- ---- a text
 
 pub lent_character : (start count c : ℕ) (more : List ℕ) → IsLendable c → start ≤ count
-    → framed_behind start count nothing_held (encode c ++ more) ≡ put_text count (encode c) (framed_behind start (count + length (encode c)) nothing_held more)
+    → framed_after start count nothing_held (encode c ++ more) ≡ put_text count (encode c) (framed_after start (count + length (encode c)) nothing_held more)
 lent_character start count c more h l =
     ap (framed start) (reads_character count c more h.0 h.1)
     ∙ (let e : is_lent start (count + length (encode c)) c ≡ true = lends start (count + length (encode c)) c h (omega arith) in rw e refl)
-    ∙ (let k : count + length (encode c) - length (encode c) ≡ count = omega arith in ap (λ (n : ℕ). put_text n (encode c) (framed_behind start (count + length (encode c)) nothing_held more)) k)
+    ∙ (let k : count + length (encode c) - length (encode c) ≡ count = omega arith in ap (λ (n : ℕ). put_text n (encode c) (framed_after start (count + length (encode c)) nothing_held more)) k)
 
 -- characters side by side are one text, where the bytes behind them don't go on with it
-pub reads_text : (start count : ℕ) (text rest : List ℕ) → IsText text → text ≢ [] → start ≤ count → BeginsFrom (count + length text + 1) (framed_behind start (count + length text) nothing_held rest)
-    → framed_behind start count nothing_held (text ++ rest) ≡ Text count text ∷ framed_behind start (count + length text) nothing_held rest
+pub reads_text : (start count : ℕ) (text rest : List ℕ) → IsText text → text ≢ [] → start ≤ count → BeginsFrom (count + length text + 1) (framed_after start (count + length text) nothing_held rest)
+    → framed_after start count nothing_held (text ++ rest) ≡ Text count text ∷ framed_after start (count + length text) nothing_held rest
 reads_text start count text rest no_text n l r = absurd (n refl)
 reads_text start count text rest (text_of c [] h t) n l r =
     let e : encode c ++ [] ≡ encode c = append-nil (encode c) in
-    ap (λ (b : List ℕ). framed_behind start count nothing_held (b ++ rest)) e
+    ap (λ (b : List ℕ). framed_after start count nothing_held (b ++ rest)) e
     ∙ lent_character start count c rest h l
-    ∙ put_apart count (encode c) (framed_behind start (count + length (encode c)) nothing_held rest) (subst (λ (b : List ℕ). BeginsFrom (count + length b + 1) (framed_behind start (count + length b) nothing_held rest)) e r)
-    ∙ ap (λ (b : List ℕ). Text count b ∷ framed_behind start (count + length b) nothing_held rest) (sym e)
+    ∙ put_apart count (encode c) (framed_after start (count + length (encode c)) nothing_held rest) (subst (λ (b : List ℕ). BeginsFrom (count + length b + 1) (framed_after start (count + length b) nothing_held rest)) e r)
+    ∙ ap (λ (b : List ℕ). Text count b ∷ framed_after start (count + length b) nothing_held rest) (sym e)
 reads_text start count text rest (text_of c (x ∷ more) h t) n l r =
     let k : count + length (encode c) + length (x ∷ more) ≡ count + length (encode c ++ x ∷ more) = omega (arith, length-append (encode c) (x ∷ more)) in
-    ap (framed_behind start count nothing_held) (append_assoc (encode c) (x ∷ more) rest)
+    ap (framed_after start count nothing_held) (append_assoc (encode c) (x ∷ more) rest)
     ∙ lent_character start count c ((x ∷ more) ++ rest) h l
-    ∙ ap (put_text count (encode c)) (reads_text start (count + length (encode c)) (x ∷ more) rest t (λ e. cc) (omega arith) (subst (λ (m : ℕ). BeginsFrom (m + 1) (framed_behind start m nothing_held rest)) (sym k) r))
-    ∙ put_joined count (encode c) (x ∷ more) (framed_behind start (count + length (encode c) + length (x ∷ more)) nothing_held rest)
-    ∙ ap (λ (m : ℕ). Text count (encode c ++ x ∷ more) ∷ framed_behind start m nothing_held rest) k
+    ∙ ap (put_text count (encode c)) (reads_text start (count + length (encode c)) (x ∷ more) rest t (λ e. cc) (omega arith) (subst (λ (m : ℕ). BeginsFrom (m + 1) (framed_after start m nothing_held rest)) (sym k) r))
+    ∙ put_joined count (encode c) (x ∷ more) (framed_after start (count + length (encode c) + length (x ∷ more)) nothing_held rest)
+    ∙ ap (λ (m : ℕ). Text count (encode c ++ x ∷ more) ∷ framed_after start m nothing_held rest) k
 
 -- nothing is held behind a text
 pub text_kept : (text rest : List ℕ) → IsText text → (hand_out nothing_held (text ++ rest)).held ≡ (hand_out nothing_held rest).held

@@ -31,10 +31,10 @@ pub record Differs (h : Held) : Type 0 where
   pub other : List ℕ
   pub first : Dispatch
   pub second : Dispatch
-  pub behind_first : List Dispatch
-  pub behind_second : List Dispatch
-  pub gives_first : (hand_out h one).dispatches ≡ first ∷ behind_first
-  pub gives_second : (hand_out h other).dispatches ≡ second ∷ behind_second
+  pub after_first : List Dispatch
+  pub after_second : List Dispatch
+  pub gives_first : (hand_out h one).dispatches ≡ first ∷ after_first
+  pub gives_second : (hand_out h other).dispatches ≡ second ∷ after_second
   pub apart : AreApart first second
 
 abbrev at_rest_with : Kept → Held
@@ -87,8 +87,8 @@ stops_apart h xs ys e f = record {
   other = 0x1A ∷ [];
   first = Control 0x18;
   second = Control 0x1A;
-  behind_first = xs;
-  behind_second = ys;
+  after_first = xs;
+  after_second = ys;
   gives_first = e;
   gives_second = f;
   apart = stops refl refl;
@@ -205,8 +205,8 @@ begun_differs x p g =
       other = 0x18 ∷ [];
       first = Print k.c;
       second = Print 0xFFFD;
-      behind_first = [];
-      behind_second = _;
+      after_first = [];
+      after_second = _;
       gives_first = completes k.more (x ∷ p) k.c (inr g) (λ h. cc) k.some k.scalar k.high k.is;
       gives_second = hand_rest (InCharacter (x ∷ p)) 0x18 [] _ refl (broken_by x p 0x18 g low ∙ ap (before (Print 0xFFFD ∷ [])) cancel);
       apart = prints k.c 0xFFFD refl refl k.other;
@@ -227,8 +227,8 @@ rest_differs (OpenDevice o header f body) g = record {
   other = 0x62 ∷ [];
   first = Data 0x61;
   second = Data 0x62;
-  behind_first = _;
-  behind_second = _;
+  after_first = _;
+  after_second = _;
   gives_first = hand_rest InDevice 0x61 [] _ refl (device_data 0x61 no_stops.0);
   gives_second = hand_rest InDevice 0x62 [] _ refl (device_data 0x62 no_stops.1);
   apart = data_bytes 0x61 0x62 refl refl (λ k. absurd (omega arith));
@@ -242,15 +242,15 @@ lead_differs kept e = record {
   other = 0x18 ∷ [];
   first = Print 0xA9;
   second = Print 0xFFFD;
-  behind_first = _;
-  behind_second = _;
+  after_first = _;
+  after_second = _;
   gives_first = hand_c2 kept 0xA9 _ _ refl refl e (whole_step 0xA9 0xA9 (0xC2 ∷ []) (low_scalar 0xA9 (omega arith)) (inr (omega arith)) (two 0xA9 (omega arith) (omega arith)) (inr c2_begins));
   gives_second = hand_c2 kept 0x18 _ _ refl refl e (broken_by 0xC2 [] 0x18 c2_begins low ∙ ap (before (Print 0xFFFD ∷ [])) cancel);
   apart = prints 0xA9 0xFFFD refl refl (λ k. absurd (omega arith));
 }
 
-cancelled_c2 : (kept behind_c2 : Kept) → kept_step kept 0xC2 ≡ steps [] behind_c2 → Cancels behind_c2 → Differs (at_c2_with kept)
-cancelled_c2 kept behind_c2 e c = stops_apart _ _ _ (hand_c2 kept 0x18 _ _ refl refl e (c.at_cancel ∙ cancel)) (hand_c2 kept 0x1A _ _ refl refl e (c.at_substitute ∙ substitute))
+cancelled_c2 : (kept after_c2 : Kept) → kept_step kept 0xC2 ≡ steps [] after_c2 → Cancels after_c2 → Differs (at_c2_with kept)
+cancelled_c2 kept after_c2 e c = stops_apart _ _ _ (hand_c2 kept 0x18 _ _ refl refl e (c.at_cancel ∙ cancel)) (hand_c2 kept 0x1A _ _ refl refl e (c.at_substitute ∙ substitute))
 
 c2_differs : (t : Tail) → IsUnfinished t → Differs (at_c2_with (interrupted (kept_of t)).kept)
 c2_differs (Begun []) g = lead_differs (InCharacter []) lead_kept
@@ -264,8 +264,8 @@ c2_differs (OpenDevice o header f body) g = record {
   other = 0x61 ∷ [];
   first = Exit;
   second = Data 0xC2;
-  behind_first = _;
-  behind_second = _;
+  after_first = _;
+  after_second = _;
   gives_first = hand_pair InDevice 0x9C refl ∙ ap (λ ds. (ds ++ (kept_step (kept_step InDevice 0x1B).kept 0x5C).dispatches) ++ []) device_escape;
   gives_second = hand_c2 InDevice 0x61 _ _ refl refl (device_data 0xC2 no_stops.2) (device_data 0x61 no_stops.0);
   apart = goes_on 0xC2 refl refl;
@@ -292,8 +292,8 @@ undecided stream =
       other = d.other;
       first = d.first;
       second = d.second;
-      behind_first = d.behind_first;
-      behind_second = d.behind_second;
+      after_first = d.after_first;
+      after_second = d.after_second;
       gives_first = newly_handed stream d.one ∙ d.gives_first;
       gives_second = newly_handed stream d.other ∙ d.gives_second;
       differ = differ d.first d.second d.apart;

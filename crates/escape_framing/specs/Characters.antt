@@ -13,8 +13,8 @@ use Rattle.escape_framing.specs.declared.characters.Own.{Own}
 use Rattle.escape_framing.specs.declared.characters.Own.TheVariants as own
 
 -- the bytes are the first ones of a character, and one byte more
-abbrev pub IsBehindBegun : List ℕ → Type 0
-IsBehindBegun bytes = (front : List ℕ) × (b : ℕ) × IsUnfinished (Begun front) × (bytes ≡ front ++ b ∷ [])
+abbrev pub IsAfterBegun : List ℕ → Type 0
+IsAfterBegun bytes = (front : List ℕ) × (b : ℕ) × IsUnfinished (Begun front) × (bytes ≡ front ++ b ∷ [])
 
 abbrev pub IsKind : List ℕ → Kind → Type 0
 IsKind bytes (kind.Whole c) = (is_utf8 bytes ≡ true) × (slice_index (chars bytes) 0 ≡ c)

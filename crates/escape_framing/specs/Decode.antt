@@ -6,7 +6,9 @@ use Rattle.std.specs.Str.Lossy.{utf8_error_len}
 use Rattle.std.specs.Char.{is_ascii_control}
 use Rattle.text_clusters.specs.Controls.{in_c1}
 use Rattle.escape_framing.specs.Bytes.{is_stop, is_intermediate, is_opener, is_cut, in_escape, in_parameters}
-use Rattle.escape_framing.specs.Segment.{Tail, Begun, OpenEscape, OpenControlSequence, OpenCommand, OpenHeader, OpenDevice, OpenString, Segment, Character, IllFormed, Control, Escape, ControlSequence, OperatingSystemCommand, DeviceControl, String, CutOff}
+use Rattle.escape_framing.specs.Segment.{Tail, Begun, OpenEscape, OpenControlSequence, OpenCommand, OpenHeader}
+use Rattle.escape_framing.specs.Segment.{OpenDevice, OpenString, Segment, Character, IllFormed, Control, Escape}
+use Rattle.escape_framing.specs.Segment.{ControlSequence, OperatingSystemCommand, DeviceControl, String, CutOff}
 
 -- the segments that were decided, and what is open
 pub record Reading : Type 0 where
@@ -61,8 +63,9 @@ opened_by body b =
     else OpenString body b []
 
 -- a byte from 30 to 7E behind ESC and intermediate bytes
-unfoldable pub behind_escape : List ℕ → ℕ → Reading
-behind_escape body b = if list_any is_intermediate body || not (is_opener b) then ends (Escape body b) else waits (opened_by body b)
+unfoldable pub after_escape : List ℕ → ℕ → Reading
+after_escape body b =
+    if list_any is_intermediate body || not (is_opener b) then ends (Escape body b) else waits (opened_by body b)
 
 -- a byte behind what is open
 unfoldable pub next_byte : Tail → ℕ → Reading
@@ -70,7 +73,7 @@ next_byte (Begun bytes) b = in_character bytes b
 next_byte (OpenEscape body) b =
     if in_escape b then waits (OpenEscape (body ++ b ∷ []))
     else if is_cut b then ends_before (CutOff (OpenEscape body)) (first_byte b)
-    else behind_escape body b
+    else after_escape body b
 next_byte (OpenControlSequence opening body) b =
     if in_parameters b then waits (OpenControlSequence opening (body ++ b ∷ []))
     else if is_cut b then ends_before (CutOff (OpenControlSequence opening body)) (first_byte b)

@@ -1,7 +1,9 @@
 -- What segments hand out, in order: the dispatches.
-use Rattle.std.specs.Prelude.{ℕ, Bool, nat_lt, ◌||◌, ◌==◌, List, [], ◌∷◌, ◌++◌, Option, Some, None, length, take, map, filter, if◌then◌else◌}
+use Rattle.std.specs.Prelude.{ℕ, Bool, nat_lt, ◌||◌, ◌==◌, List, [], ◌∷◌, ◌++◌, Option, Some, None, length, take, map}
+use Rattle.std.specs.Prelude.{filter, if◌then◌else◌}
 use Rattle.escape_framing.specs.Bytes.{taken}
-use Rattle.escape_framing.specs.Segment.{Tail, Begun, OpenEscape, OpenControlSequence, OpenCommand, OpenHeader, OpenDevice, OpenString, Segment}
+use Rattle.escape_framing.specs.Segment.{Tail, Begun, OpenEscape, OpenControlSequence, OpenCommand, OpenHeader}
+use Rattle.escape_framing.specs.Segment.{OpenDevice, OpenString, Segment}
 use Rattle.escape_framing.specs.Segment as segment
 use Rattle.csi_codec.specs.Texts.{tokens_of}
 use Rattle.csi_codec.specs.Fronts.{most_tokens}
@@ -52,7 +54,8 @@ decided_of (OpenEscape body) = controls_in body
 decided_of (OpenControlSequence opening body) = controls_in opening ++ controls_in body
 decided_of (OpenCommand opening body) = controls_in opening
 decided_of (OpenHeader opening header) = controls_in opening
-decided_of (OpenDevice opening header final body) = controls_in opening ++ Enter (taken header) final ∷ map Data (settled body)
+decided_of (OpenDevice opening header final body) =
+    controls_in opening ++ Enter (taken header) final ∷ map Data (settled body)
 decided_of (OpenString opening opener body) = controls_in opening
 
 -- what a segment hands out: U+FFFD stands for a piece that is ill-formed
@@ -61,8 +64,10 @@ dispatches_of (segment.Character c) = Print c ∷ []
 dispatches_of (segment.IllFormed bytes) = Print 0xFFFD ∷ []
 dispatches_of (segment.Control b) = Control b ∷ []
 dispatches_of (segment.Escape body final) = controls_in body ++ escape_dispatch (taken body) final
-dispatches_of (segment.ControlSequence opening body final) = controls_in opening ++ controls_in body ++ control_sequence_dispatch (taken body) final ∷ []
+dispatches_of (segment.ControlSequence opening body final) =
+    controls_in opening ++ controls_in body ++ control_sequence_dispatch (taken body) final ∷ []
 dispatches_of (segment.OperatingSystemCommand opening body ender) = controls_in opening ++ command_dispatch body ender
-dispatches_of (segment.DeviceControl opening header final body) = controls_in opening ++ Enter (taken header) final ∷ map Data body ++ Exit ∷ []
+dispatches_of (segment.DeviceControl opening header final body) =
+    controls_in opening ++ Enter (taken header) final ∷ map Data body ++ Exit ∷ []
 dispatches_of (segment.String opening opener body) = controls_in opening
 dispatches_of (segment.CutOff tail) = decided_of tail

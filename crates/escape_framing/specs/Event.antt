@@ -1,13 +1,16 @@
 -- What a framer hands out, one event at a time, and what it leaves unread.
-use Rattle.std.specs.Prelude.{◌≡◌, ◌<◌, ◌≤◌, ◌⊎◌, ℕ, ◌+◌, Bool, true, false, List, [], ◌∷◌, ◌++◌, Option, Some, None, if◌then◌else◌}
+use Rattle.std.specs.Prelude.{◌≡◌, ◌<◌, ◌≤◌, ◌⊎◌, ℕ, ◌+◌, Bool, true, false, List, [], ◌∷◌, ◌++◌, Option, Some, None}
+use Rattle.std.specs.Prelude.{if◌then◌else◌}
 use Rattle.text_clusters.specs.Controls.{is_c1}
 use Rattle.escape_framing.specs.Bytes.{is_stop, is_cut}
 use Rattle.escape_framing.specs.Dispatch as stream
-use Rattle.escape_framing.specs.Held.{Kept, InCharacter, InEscape, InControlSequence, InCommand, InHeader, InDevice, InString, Step, steps, before, kept_step, Held, Handed, held_step}
+use Rattle.escape_framing.specs.Held.{Kept, InCharacter, InEscape, InControlSequence, InCommand, InHeader, InDevice}
+use Rattle.escape_framing.specs.Held.{InString, Step, steps, before, kept_step, Held, Handed, held_step}
 use Rattle.escape_framing.specs.Framed.{takes_text}
 use Rattle.escape_framing.specs.Lending.{Lending}
 use Rattle.escape_framing.specs.declared.event.Event.{Event}
-use Rattle.escape_framing.specs.declared.event.Event.TheVariants.{Print, Control, Escape, ControlSequence, OperatingSystemCommand, Enter, Data, Exit}
+use Rattle.escape_framing.specs.declared.event.Event.TheVariants.{Print, Control, Escape, ControlSequence}
+use Rattle.escape_framing.specs.declared.event.Event.TheVariants.{OperatingSystemCommand, Enter, Data, Exit}
 
 -- an event, with what the framer lends
 abbrev pub dispatch_in : Lending → Event → stream.Dispatch
@@ -79,8 +82,8 @@ GoesOn (InHeader header) b = is_cut b ≡ false
 GoesOn InDevice b = is_stop b ≡ false
 GoesOn InString b = is_stop b ≡ false
 
--- A byte of the stream that is left unread has read a C2 that waited, as a byte of data, or closed what was open; then a
--- C2 waits on before it where that is half of a C1 control, or breaks off a sequence.
+-- A byte of the stream that is left unread has read a C2 that waited, as a byte of data, or closed what was open; then
+-- a C2 waits on before it where that is half of a C1 control, or breaks off a sequence.
 pub record IsHeldLeft (old : Held) (b : ℕ) (event : Option Event) (new : Held) : Type 0 where
   pub falls : rank new < rank old
   pub closed : (new.kept ≡ InCharacter []) ⊎ (new ≡ record { kept = InDevice; waiting = false })

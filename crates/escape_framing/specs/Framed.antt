@@ -1,14 +1,17 @@
 -- What the bytes of one call hand out: texts, which are lent from them, and dispatches by themselves.
-use Rattle.std.specs.Prelude.{◌≡◌, ◌≢◌, ◌≤◌, ◌<◌, ℕ, ◌+◌, ◌-◌, Bool, true, false, not, ◌&&◌, ◌||◌, nat_le, ◌==◌, List, [], ◌∷◌, ◌++◌, length, map, take, drop, encode_utf8, encode_utf8_all, if◌then◌else◌}
+use Rattle.std.specs.Prelude.{◌≡◌, ◌≢◌, ◌≤◌, ◌<◌, ℕ, ◌+◌, ◌-◌, Bool, true, false, not, ◌&&◌, ◌||◌, nat_le, ◌==◌, List}
+use Rattle.std.specs.Prelude.{[], ◌∷◌, ◌++◌, length, map, take, drop, encode_utf8, encode_utf8_all, if◌then◌else◌}
 use Rattle.std.specs.Char.{IsScalar}
 use Rattle.escape_framing.specs.Segment.{IsPrintable}
-use Rattle.escape_framing.specs.Dispatch.{Dispatch, Print, Control, Escape, ControlSequence, OperatingSystemCommand, Enter, Data, Exit}
-use Rattle.escape_framing.specs.Held.{Kept, InCharacter, InEscape, InControlSequence, InCommand, InHeader, InDevice, InString, Held, held_step, hand_out, held_of}
+use Rattle.escape_framing.specs.Dispatch.{Dispatch, Print, Control, Escape, ControlSequence, OperatingSystemCommand}
+use Rattle.escape_framing.specs.Dispatch.{Enter, Data, Exit}
+use Rattle.escape_framing.specs.Held.{Kept, InCharacter, InEscape, InControlSequence, InCommand, InHeader, InDevice}
+use Rattle.escape_framing.specs.Held.{InString, Held, held_step, hand_out, held_of}
 
 -- a text, with the count of the stream's bytes before it; or a dispatch
 pub data Framed : Type 0 where
   Text : ℕ → List ℕ → Framed
-  Lone : Dispatch → Framed
+  Single : Dispatch → Framed
 
 -- A character is lent where all its bytes stand behind the start of the call. U+FFFD never is, since it also stands for
 -- bytes that are ill-formed.
@@ -18,24 +21,26 @@ is_lent start place c = not (c == 0xFFFD) && nat_le (start + length (encode_utf8
 -- a text before others: one with the text that begins where it ends
 abbrev pub put_text : ℕ → List ℕ → List Framed → List Framed
 put_text from text [] = Text from text ∷ []
-put_text from text (Lone d ∷ rest) = Text from text ∷ Lone d ∷ rest
+put_text from text (Single d ∷ rest) = Text from text ∷ Single d ∷ rest
 put_text from text (Text next more ∷ rest) =
     if next == from + length text then Text from (text ++ more) ∷ rest else Text from text ∷ Text next more ∷ rest
 
 -- a character that has its place before others
 abbrev pub put_character : ℕ → ℕ → ℕ → List Framed → List Framed
 put_character start place c rest =
-    if is_lent start place c then put_text (place - length (encode_utf8 c)) (encode_utf8 c) rest else Lone (Print c) ∷ rest
+    if is_lent start place c then put_text (place - length (encode_utf8 c)) (encode_utf8 c) rest
+    else Single (Print c) ∷ rest
 
 abbrev pub put_dispatch : ℕ → ℕ → Dispatch → List Framed → List Framed
 put_dispatch start place (Print c) rest = put_character start place c rest
-put_dispatch start place (Control b) rest = Lone (Control b) ∷ rest
-put_dispatch start place (Escape intermediate final) rest = Lone (Escape intermediate final) ∷ rest
-put_dispatch start place (ControlSequence tokens truncated final) rest = Lone (ControlSequence tokens truncated final) ∷ rest
-put_dispatch start place (OperatingSystemCommand body) rest = Lone (OperatingSystemCommand body) ∷ rest
-put_dispatch start place (Enter header final) rest = Lone (Enter header final) ∷ rest
-put_dispatch start place (Data b) rest = Lone (Data b) ∷ rest
-put_dispatch start place Exit rest = Lone Exit ∷ rest
+put_dispatch start place (Control b) rest = Single (Control b) ∷ rest
+put_dispatch start place (Escape intermediate final) rest = Single (Escape intermediate final) ∷ rest
+put_dispatch start place (ControlSequence tokens truncated final) rest =
+    Single (ControlSequence tokens truncated final) ∷ rest
+put_dispatch start place (OperatingSystemCommand body) rest = Single (OperatingSystemCommand body) ∷ rest
+put_dispatch start place (Enter header final) rest = Single (Enter header final) ∷ rest
+put_dispatch start place (Data b) rest = Single (Data b) ∷ rest
+put_dispatch start place Exit rest = Single Exit ∷ rest
 
 -- placed dispatches of a call whose bytes begin behind the start: characters that stand side by side are one text
 abbrev pub framed : ℕ → List (ℕ × Dispatch) → List Framed
@@ -47,10 +52,10 @@ abbrev pub at_place : ℕ → List Dispatch → List (ℕ × Dispatch)
 at_place place dispatches = map (λ d. (place, d)) dispatches
 
 -- the placed dispatches of bytes, behind so many others of which this is held
-unfoldable pub placed_behind : ℕ → Held → List ℕ → List (ℕ × Dispatch)
-placed_behind count held [] = []
-placed_behind count held (b ∷ bytes) =
-    let first = held_step held b in at_place (count + 1) first.dispatches ++ placed_behind (count + 1) first.held bytes
+unfoldable pub placed_after : ℕ → Held → List ℕ → List (ℕ × Dispatch)
+placed_after count held [] = []
+placed_after count held (b ∷ bytes) =
+    let first = held_step held b in at_place (count + 1) first.dispatches ++ placed_after (count + 1) first.held bytes
 
 -- a C2, where it waits
 abbrev pub lead_in : Bool → List ℕ
@@ -75,8 +80,8 @@ kept_takes InDevice waiting b = false
 kept_takes InString waiting b = false
 
 -- what bytes hand out behind so many others, of which this is held, in a call whose bytes begin behind the start
-abbrev pub framed_behind : ℕ → ℕ → Held → List ℕ → List Framed
-framed_behind start count held bytes = framed start (placed_behind count held bytes)
+abbrev pub framed_after : ℕ → ℕ → Held → List ℕ → List Framed
+framed_after start count held bytes = framed start (placed_after count held bytes)
 
 -- a character of which a text is made
 abbrev pub IsLendable : ℕ → Type 0
@@ -97,7 +102,8 @@ begun_bytes held = bytes_begun held.kept held.waiting
 
 -- A character that has begun and that can become one to lend has begun before the start of the call.
 pub record IsCarried (start count : ℕ) (held : Held) (rest : List ℕ) : Type 0 where
-  pub carried : (c : ℕ) (more : List ℕ) → IsLendable c → begun_bytes held ++ rest ≡ encode_utf8 c ++ more → begun_bytes held ≢ [] → count < start + length (begun_bytes held)
+  pub carried : (c : ℕ) (more : List ℕ) → IsLendable c → begun_bytes held ++ rest ≡ encode_utf8 c ++ more
+      → begun_bytes held ≢ [] → count < start + length (begun_bytes held)
 
 -- this is held of some stream
 abbrev pub IsReached : Held → Type 0
@@ -105,19 +111,23 @@ IsReached held = (stream : List ℕ) × (held ≡ held_of stream)
 
 -- Behind what is held, the bytes hand out these first, and then what the bytes behind so many of them do behind what is
 -- held now: in each call that began where those before have been read.
-pub record Frames (count : ℕ) (held : Held) (bytes : List ℕ) (items : ℕ → List Framed) (n : ℕ) (after : Held) : Type 0 where
-  pub within : n ≤ length bytes
-  pub lends : (start : ℕ) → framed_behind start (start + count) held bytes ≡ items (start + count) ++ framed_behind start (start + count + n) after (drop n bytes)
-  pub keeps : (hand_out held bytes).held ≡ (hand_out after (drop n bytes)).held
-  pub reached : IsReached after
-  pub carried : IsCarried 0 (count + n) after (drop n bytes)
+pub record Frames (count : ℕ) (held : Held) (bytes : List ℕ) (items : ℕ → List Framed) (n : ℕ) (after : Held) : Type 0
+  where
+    pub within : n ≤ length bytes
+    pub lends : (start : ℕ)
+        → framed_after start (start + count) held bytes
+        ≡ items (start + count) ++ framed_after start (start + count + n) after (drop n bytes)
+    pub keeps : (hand_out held bytes).held ≡ (hand_out after (drop n bytes)).held
+    pub reached : IsReached after
+    pub carried : IsCarried 0 (count + n) after (drop n bytes)
 
 -- ---- how texts are found
 
 -- so many bytes are the character at the front, which can be lent; 0 where none is
 pub record IsCharacterLen (bytes : List ℕ) (n : ℕ) : Type 0 where
   pub none : n ≡ 0 → BeginsNoText bytes
-  pub some : 0 < n → (c : ℕ) × (more : List ℕ) × IsLendable c × (bytes ≡ encode_utf8 c ++ more) × (length (encode_utf8 c) ≡ n)
+  pub some : 0 < n
+      → (c : ℕ) × (more : List ℕ) × IsLendable c × (bytes ≡ encode_utf8 c ++ more) × (length (encode_utf8 c) ≡ n)
 
 -- so many bytes are a text at the front; 0 only where none can stand there
 pub record IsRunLen (bytes : List ℕ) (n : ℕ) : Type 0 where
@@ -140,14 +150,16 @@ takes_text held b = kept_takes held.kept held.waiting b
 -- the dispatches, where each text is printed character by character; no text is empty
 pub data Spells : List Framed → List Dispatch → Type 0 where
   nothing : Spells [] []
-  alone : (d : Dispatch) (items : List Framed) (ds : List Dispatch) → Spells items ds → Spells (Lone d ∷ items) (d ∷ ds)
-  in_text : (from c : ℕ) (cs text : List ℕ) (items : List Framed) (ds all : List Dispatch) → text ≡ encode_utf8_all (c ∷ cs) → all ≡ map Print (c ∷ cs) ++ ds → Spells items ds
+  alone : (d : Dispatch) (items : List Framed) (ds : List Dispatch) → Spells items ds
+      → Spells (Single d ∷ items) (d ∷ ds)
+  in_text : (from c : ℕ) (cs text : List ℕ) (items : List Framed) (ds all : List Dispatch)
+      → text ≡ encode_utf8_all (c ∷ cs) → all ≡ map Print (c ∷ cs) ++ ds → Spells items ds
       → Spells (Text from text ∷ items) all
 
 -- where two texts stand side by side, other bytes lie between them
 abbrev pub AreApart : List Framed → Type 0
 AreApart [] = Unit {0}
-AreApart (Lone d ∷ items) = AreApart items
+AreApart (Single d ∷ items) = AreApart items
 AreApart (Text from text ∷ []) = Unit {0}
-AreApart (Text from text ∷ Lone d ∷ items) = AreApart items
+AreApart (Text from text ∷ Single d ∷ items) = AreApart items
 AreApart (Text from text ∷ Text next more ∷ items) = (next ≢ from + length text) × AreApart (Text next more ∷ items)

@@ -1,7 +1,8 @@
 -- How the fields of a framer are read.
 use Rattle.std.specs.Prelude.{ℕ, List, [], ◌∷◌}
 use Rattle.csi_codec.specs.Tokens.{Parameters}
-use Rattle.escape_framing.specs.Held.{Kept, InCharacter, InEscape, InControlSequence, InCommand, InHeader, InDevice, InString}
+use Rattle.escape_framing.specs.Held.{Kept, InCharacter, InEscape, InControlSequence, InCommand, InHeader, InDevice}
+use Rattle.escape_framing.specs.Held.{InString}
 use Rattle.escape_framing.specs.Lending.{Lending}
 use Rattle.escape_framing.specs.declared.states.Intermediates.{Intermediates}
 use Rattle.escape_framing.specs.declared.states.Intermediates.TheVariants.{Zero, One, More}

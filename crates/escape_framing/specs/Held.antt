@@ -5,9 +5,11 @@ use Rattle.std.specs.Char.{is_ascii_control}
 use Rattle.text_clusters.specs.Controls.{is_c1}
 use Rattle.escape_framing.specs.Bytes.{is_stop, is_embedded, is_intermediate, is_opener, is_cut, taken}
 use Rattle.csi_codec.specs.Tokens.{is_parameter}
-use Rattle.escape_framing.specs.Segment.{Tail, Begun, OpenEscape, OpenControlSequence, OpenCommand, OpenHeader, OpenDevice, OpenString}
+use Rattle.escape_framing.specs.Segment.{Tail, Begun, OpenEscape, OpenControlSequence, OpenCommand, OpenHeader}
+use Rattle.escape_framing.specs.Segment.{OpenDevice, OpenString}
 use Rattle.escape_framing.specs.Decode.{in_character}
-use Rattle.escape_framing.specs.Dispatch.{Dispatch, Print, ControlSequence, OperatingSystemCommand, Enter, Data, Exit, controls_in, escape_dispatch, dispatches_of}
+use Rattle.escape_framing.specs.Dispatch.{Dispatch, Print, ControlSequence, OperatingSystemCommand, Enter, Data, Exit}
+use Rattle.escape_framing.specs.Dispatch.{controls_in, escape_dispatch, dispatches_of}
 use Rattle.csi_codec.specs.Tokens.{Parameters, no_parameters, with_byte, parameters_of}
 
 -- what is kept of what is open: the first bytes of a character, intermediate bytes (the first two tell whether there is
@@ -144,14 +146,15 @@ unfoldable pub fresh_step : Kept → ℕ → Handed
 fresh_step kept b = if b == 0xC2 then handed (interrupted kept) true else handed (kept_step kept b) false
 
 -- behind a step
-abbrev pub handed_behind : Step → Handed → Handed
-handed_behind step rest = record { dispatches = step.dispatches ++ rest.dispatches; held = rest.held }
+abbrev pub handed_after : Step → Handed → Handed
+handed_after step rest = record { dispatches = step.dispatches ++ rest.dispatches; held = rest.held }
 
 -- a byte behind a C2: half of a C1 control, which is two bytes of the seven-bit form, or another byte
 unfoldable pub waiting_step : Kept → ℕ → Handed
 waiting_step kept b =
-    if is_c1 0xC2 b then (let escape = kept_step kept 0x1B in handed_behind escape (handed (kept_step escape.kept (b - 0x40)) false))
-    else (let plain = kept_step kept 0xC2 in handed_behind plain (fresh_step plain.kept b))
+    if is_c1 0xC2 b
+    then (let escape = kept_step kept 0x1B in handed_after escape (handed (kept_step escape.kept (b - 0x40)) false))
+    else (let plain = kept_step kept 0xC2 in handed_after plain (fresh_step plain.kept b))
 
 -- a byte of the stream
 unfoldable pub held_step : Held → ℕ → Handed

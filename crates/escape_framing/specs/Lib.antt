@@ -12,7 +12,7 @@ pub mod Characters
 pub mod Undecided
 pub mod FramerView
 pub mod Framed
-pub mod Fronts
+pub mod Prefixes
 pub mod Lending
 pub mod Event
 pub mod Stepping

@@ -11,12 +11,14 @@ pub record IsPlaced (stream : List ℕ) (index place : ℕ) (dispatch : Dispatch
   -- however the stream goes on behind so many bytes, this dispatch is at the index
   pub decided : (more : List ℕ) → slice_get (dispatches (take place stream ++ more)) index ≡ Some dispatch
   -- behind fewer bytes the stream can go on so that it is not
-  pub least : (fewer : ℕ) → fewer < place → ((more : List ℕ) → slice_get (dispatches (take fewer stream ++ more)) index ≡ Some dispatch) → ⊥
+  pub least : (fewer : ℕ) → fewer < place
+      → ((more : List ℕ) → slice_get (dispatches (take fewer stream ++ more)) index ≡ Some dispatch) → ⊥
 
 -- the placed dispatches of the bytes, behind others: what a byte decides has its place behind that byte
 abbrev pub placed_from : List ℕ → List ℕ → List (ℕ × Dispatch)
 placed_from front [] = []
-placed_from front (b ∷ bytes) = map (λ d. (length front + 1, d)) (newly_decided front (b ∷ [])) ++ placed_from (front ++ b ∷ []) bytes
+placed_from front (b ∷ bytes) =
+    map (λ d. (length front + 1, d)) (newly_decided front (b ∷ [])) ++ placed_from (front ++ b ∷ []) bytes
 
 -- the dispatches that a stream decides, in order, each with the count of bytes that decides it
 abbrev pub placed_dispatches : List ℕ → List (ℕ × Dispatch)

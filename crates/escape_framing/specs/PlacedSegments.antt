@@ -8,7 +8,8 @@ abbrev pub segments_from : ℕ → List Segment → List (ℕ × Segment)
 segments_from count [] = []
 segments_from count (segment ∷ segments) = (count, segment) ∷ segments_from (count + length (bytes_of segment)) segments
 
--- the segments of a stream, in order, each with the count of the stream's bytes before it; its seven-bit form has as many
+-- the segments of a stream, in order, each with the count of the stream's bytes before it; its seven-bit form has as
+-- many
 abbrev pub placed_segments : List ℕ → List (ℕ × Segment)
 placed_segments stream = segments_from 0 (the_cut stream).segments
 

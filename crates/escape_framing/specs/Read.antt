@@ -1,7 +1,7 @@
 -- What a framer has read of some bytes.
 use Rattle.std.specs.Prelude.{◌≡◌, ◌≤◌, ◌<◌, ℕ, ◌+◌, List, [], ◌∷◌, length, take, drop, map, Some}
 use Rattle.escape_framing.specs.Held.{Held, TakesMemory, hand_out}
-use Rattle.escape_framing.specs.Framed.{Framed, Text, Lone, IsText, IsReached, IsCarried, Frames}
+use Rattle.escape_framing.specs.Framed.{Framed, Text, Single, IsText, IsReached, IsCarried, Frames}
 use Rattle.escape_framing.specs.Lending.{Lending}
 use Rattle.escape_framing.specs.Event.{handed_out, rank}
 use Rattle.escape_framing.specs.declared.event.Event.TheVariants as event
@@ -20,7 +20,7 @@ text_of (read.Bytes event n) = 0
 -- the text that was read of the bytes behind so many, or the event, with what is lent
 abbrev pub items_of : Lending → Read → List ℕ → ℕ → List Framed
 items_of l (read.Text n) bytes from = Text from (take n bytes) ∷ []
-items_of l (read.Bytes event n) bytes from = map Lone (handed_out l event)
+items_of l (read.Bytes event n) bytes from = map Single (handed_out l event)
 
 -- a control sequence of so many bytes, by its final byte
 abbrev pub whole_sequence : ℕ → ℕ → Read
@@ -45,4 +45,5 @@ pub record ReadsEvent (held : Held) (bytes : List ℕ) (r : Read) (after : Lendi
   -- where none of some bytes is read, something was closed for them, which can't go on: the rank is at most 3
   pub moves : count_of r ≡ 0 → 0 < length bytes → rank after.held < rank held
   -- where a body or a header is read behind these and some more bytes, it is so behind what was held
-  pub opens : IsReached held → (m : ℕ) → TakesMemoryAt after.held (drop (count_of r) bytes) m → TakesMemoryAt held bytes (count_of r + m)
+  pub opens : IsReached held → (m : ℕ) → TakesMemoryAt after.held (drop (count_of r) bytes) m
+      → TakesMemoryAt held bytes (count_of r + m)

@@ -1,9 +1,11 @@
 -- The segments of a byte stream, as cases on whole byte strings (ECMA-48, 5 and 8.3; Unicode, table 3-7).
-use Rattle.std.specs.Prelude.{◌≡◌, ◌≢◌, ℕ, ◌<◌, ◌≤◌, ◌⊎◌, Bool, true, false, not, ◌||◌, IsTrue, ◌==◌, List, [], ◌∷◌, ◌++◌, if◌then◌else◌, encode_utf8}
+use Rattle.std.specs.Prelude.{◌≡◌, ◌≢◌, ℕ, ◌<◌, ◌≤◌, ◌⊎◌, Bool, true, false, not, ◌||◌, IsTrue, ◌==◌, List, [], ◌∷◌}
+use Rattle.std.specs.Prelude.{◌++◌, if◌then◌else◌, encode_utf8}
 use Rattle.std.specs.Char.{IsScalar}
 use Rattle.std.specs.List.{flat_map, list_all, list_any}
 use Rattle.escape_framing.specs.SevenBit.{seven_bit}
-use Rattle.escape_framing.specs.Bytes.{is_stop, is_embedded, is_intermediate, is_final, is_escape_final, is_string_opener, is_opener, is_cut, in_escape, in_parameters, ends_command}
+use Rattle.escape_framing.specs.Bytes.{is_stop, is_embedded, is_intermediate, is_final, is_escape_final}
+use Rattle.escape_framing.specs.Bytes.{is_string_opener, is_opener, is_cut, in_escape, in_parameters, ends_command}
 
 -- ---- What is open
 
@@ -47,13 +49,18 @@ IsBegun bytes = (c : ℕ) × (more : List ℕ) × IsScalar c × (encode_utf8 c �
 abbrev pub IsUnfinished : Tail → Type 0
 IsUnfinished (Begun bytes) = (bytes ≡ []) ⊎ IsBegun bytes
 IsUnfinished (OpenEscape body) = IsTrue (list_all in_escape body)
-IsUnfinished (OpenControlSequence opening body) = IsTrue (list_all is_embedded opening) × IsTrue (list_all in_parameters body)
-IsUnfinished (OpenCommand opening body) = IsTrue (list_all is_embedded opening) × IsTrue (list_all (λ b. not (ends_command b)) body)
-IsUnfinished (OpenHeader opening header) = IsTrue (list_all is_embedded opening) × IsTrue (list_all in_parameters header)
+IsUnfinished (OpenControlSequence opening body) =
+    IsTrue (list_all is_embedded opening) × IsTrue (list_all in_parameters body)
+IsUnfinished (OpenCommand opening body) =
+    IsTrue (list_all is_embedded opening) × IsTrue (list_all (λ b. not (ends_command b)) body)
+IsUnfinished (OpenHeader opening header) =
+    IsTrue (list_all is_embedded opening) × IsTrue (list_all in_parameters header)
 IsUnfinished (OpenDevice opening header final body) =
-    IsTrue (list_all is_embedded opening) × IsTrue (list_all in_parameters header) × IsTrue (is_final final) × IsTrue (list_all (λ b. not (is_stop b)) body)
+    IsTrue (list_all is_embedded opening) × IsTrue (list_all in_parameters header) × IsTrue (is_final final)
+    × IsTrue (list_all (λ b. not (is_stop b)) body)
 IsUnfinished (OpenString opening opener body) =
-    IsTrue (list_all is_embedded opening) × IsTrue (is_string_opener opener) × IsTrue (list_all (λ b. not (is_stop b)) body)
+    IsTrue (list_all is_embedded opening) × IsTrue (is_string_opener opener)
+    × IsTrue (list_all (λ b. not (is_stop b)) body)
 
 -- an escape sequence, a control sequence or a header, whose final byte hasn't come
 abbrev pub is_before_final : Tail → Bool
@@ -89,7 +96,8 @@ bytes_of (IllFormed bytes) = bytes
 bytes_of (Control b) = b ∷ []
 bytes_of (Escape body final) = 0x1B ∷ body ++ final ∷ []
 bytes_of (ControlSequence opening body final) = (0x1B ∷ opening ++ 0x5B ∷ body) ++ final ∷ []
-bytes_of (OperatingSystemCommand opening body ender) = (0x1B ∷ opening ++ 0x5D ∷ body) ++ (if ender == 0x07 then ender ∷ [] else [])
+bytes_of (OperatingSystemCommand opening body ender) =
+    (0x1B ∷ opening ++ 0x5D ∷ body) ++ (if ender == 0x07 then ender ∷ [] else [])
 bytes_of (DeviceControl opening header final body) = (0x1B ∷ opening ++ 0x50 ∷ header) ++ final ∷ body
 bytes_of (String opening opener body) = 0x1B ∷ opening ++ opener ∷ body
 bytes_of (CutOff tail) = bytes_of_tail tail
@@ -107,7 +115,8 @@ IsControl b = ((b < 0x20) × (b ≢ 0x1B)) ⊎ (b ≡ 0x7F)
 abbrev pub IsIllFormed : List ℕ → List ℕ → Type 0
 IsIllFormed bytes following =
     ((b : ℕ) × (bytes ≡ b ∷ []) × (BeginsCharacter bytes → ⊥))
-    ⊎ (IsBegun bytes × ((next : ℕ) × (others : List ℕ) × (following ≡ next ∷ others) × (BeginsCharacter (bytes ++ next ∷ []) → ⊥)))
+    ⊎ (IsBegun bytes
+    × ((next : ℕ) × (others : List ℕ) × (following ≡ next ∷ others) × (BeginsCharacter (bytes ++ next ∷ []) → ⊥)))
 
 -- what follows begins with a byte that passes the test
 abbrev pub follows : (ℕ → Bool) → List ℕ → Bool
@@ -120,16 +129,21 @@ IsSegment (Character c) following = IsScalar c × IsPrintable c
 IsSegment (IllFormed bytes) following = IsIllFormed bytes following
 IsSegment (Control b) following = IsControl b
 IsSegment (Escape body final) following =
-    IsTrue (list_all in_escape body) × IsTrue (is_escape_final final) × IsTrue (list_any is_intermediate body || not (is_opener final))
+    IsTrue (list_all in_escape body) × IsTrue (is_escape_final final)
+    × IsTrue (list_any is_intermediate body || not (is_opener final))
 IsSegment (ControlSequence opening body final) following =
     IsTrue (list_all is_embedded opening) × IsTrue (list_all in_parameters body) × IsTrue (is_final final)
 IsSegment (OperatingSystemCommand opening body ender) following =
-    IsTrue (list_all is_embedded opening) × IsTrue (list_all (λ b. not (ends_command b)) body) × IsTrue (ends_command ender) × IsTrue (ender == 0x07 || follows (λ b. b == ender) following)
+    IsTrue (list_all is_embedded opening) × IsTrue (list_all (λ b. not (ends_command b)) body)
+    × IsTrue (ends_command ender) × IsTrue (ender == 0x07 || follows (λ b. b == ender) following)
 IsSegment (DeviceControl opening header final body) following =
-    IsTrue (list_all is_embedded opening) × IsTrue (list_all in_parameters header) × IsTrue (is_final final) × IsTrue (list_all (λ b. not (is_stop b)) body) × IsTrue (follows is_stop following)
+    IsTrue (list_all is_embedded opening) × IsTrue (list_all in_parameters header) × IsTrue (is_final final)
+    × IsTrue (list_all (λ b. not (is_stop b)) body) × IsTrue (follows is_stop following)
 IsSegment (String opening opener body) following =
-    IsTrue (list_all is_embedded opening) × IsTrue (is_string_opener opener) × IsTrue (list_all (λ b. not (is_stop b)) body) × IsTrue (follows is_stop following)
-IsSegment (CutOff tail) following = IsUnfinished tail × IsTrue (is_before_final tail) × IsTrue (follows is_cut following)
+    IsTrue (list_all is_embedded opening) × IsTrue (is_string_opener opener)
+    × IsTrue (list_all (λ b. not (is_stop b)) body) × IsTrue (follows is_stop following)
+IsSegment (CutOff tail) following =
+    IsUnfinished tail × IsTrue (is_before_final tail) × IsTrue (follows is_cut following)
 
 -- ---- The cut
 

@@ -9,8 +9,8 @@ pub record IsUndecided (stream : List ℕ) : Type 0 where
   pub other : List ℕ
   pub first : Dispatch
   pub second : Dispatch
-  pub behind_first : List Dispatch
-  pub behind_second : List Dispatch
-  pub gives_first : newly_decided stream one ≡ first ∷ behind_first
-  pub gives_second : newly_decided stream other ≡ second ∷ behind_second
+  pub after_first : List Dispatch
+  pub after_second : List Dispatch
+  pub gives_first : newly_decided stream one ≡ first ∷ after_first
+  pub gives_second : newly_decided stream other ≡ second ∷ after_second
   pub differ : first ≢ second

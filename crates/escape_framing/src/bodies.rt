@@ -1,7 +1,7 @@
 //! The bytes of bodies that stand for themselves.
 ghost use Rattle.std.specs.Prelude.{◌≡◌, take};
 ghost use Rattle.std.specs.List.{prefix_len};
-ghost use Rattle.escape_framing.specs.Fronts.{is_body_byte as in_bodies, is_string_byte as in_strings};
+ghost use Rattle.escape_framing.specs.Prefixes.{is_body_byte as in_bodies, is_string_byte as in_strings};
 
 use crate::bytes::{C1_LEAD, is_stop};
 use crate::texts::behind;
@@ -27,7 +27,7 @@ pub(crate) fn string_len(bytes: &[u8]) -> usize
 
 // A byte of a command's body that stands for itself.
 #[inline(always)]
-#[tactic(auto, unfolding(crate::specs::Fronts::is_body_byte))]
+#[tactic(auto, unfolding(crate::specs::Prefixes::is_body_byte))]
 fn is_body_byte(byte: u8) -> bool
     ensures { result ≡ in_bodies byte }
 {

@@ -1,6 +1,8 @@
 //! Classes of bytes (ECMA-48, 5).
 ghost use Rattle.std.specs.Prelude.{◌≡◌};
-ghost use Rattle.escape_framing.specs.Bytes.{is_stop as in_stops, is_embedded as in_embedded, is_intermediate as in_intermediates, is_opener as in_openers, is_cut as in_cuts};
+ghost use Rattle.escape_framing.specs.Bytes.{is_stop as in_stops, is_embedded as in_embedded};
+ghost use Rattle.escape_framing.specs.Bytes.{is_intermediate as in_intermediates, is_opener as in_openers};
+ghost use Rattle.escape_framing.specs.Bytes.{is_cut as in_cuts};
 
 pub(crate) const BEL: u8 = 0x07;
 

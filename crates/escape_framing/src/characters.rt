@@ -3,7 +3,7 @@ ghost use Rattle.std.specs.Prelude.{◌≡◌, ◌↔◌, IsTrue, IfSome, ℕ, �
 ghost use Rattle.escape_framing.specs.Segment.{IsUnfinished, Begun};
 ghost use Rattle.escape_framing.specs.Held.{InCharacter, character_step};
 ghost use Rattle.escape_framing.specs.Event.{GoesOn};
-ghost use Rattle.escape_framing.specs.Characters.{IsBehindBegun, IsKind, own_step, segment_step, step_of, Breaks};
+ghost use Rattle.escape_framing.specs.Characters.{IsAfterBegun, IsKind, own_step, segment_step, step_of, Breaks};
 
 use std::marker::Model;
 use std::str;
@@ -30,7 +30,7 @@ pub(crate) enum Own {
 }
 
 fn kind_of(bytes: &[u8]) -> Kind
-    requires { IsBehindBegun bytes.now }
+    requires { IsAfterBegun bytes.now }
     ensures { IsKind bytes.now result }
 {
     match str::from_utf8(bytes) {

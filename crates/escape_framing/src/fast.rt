@@ -1,5 +1,5 @@
-//! Shortcuts: what stands whole or in a run at the front of the bytes of a call is read at once. A reader may skip them, since
-//! each answers what the general way does, or `None` or 0, which leaves all to it.
+//! Shortcuts: what stands whole or in a run at the front of the bytes of a call is read at once. A reader may skip
+//! them, since each answers what the general way does, or `None`, which leaves all to it.
 ghost use Rattle.std.specs.Prelude.{◌≡◌, ◌∷◌, IfSome};
 
 mod command;
@@ -8,7 +8,7 @@ mod sequence;
 
 // What stands behind ESC and the byte that introduces a sequence.
 #[inline(always)]
-fn behind_introducer(bytes: &[u8], introducer: u8) -> Option<&[u8]>
+fn after_introducer(bytes: &[u8], introducer: u8) -> Option<&[u8]>
     ensures { IfSome result (λ others. bytes.now ≡ 0x1B ∷ introducer ∷ others.now) }
 {
     match bytes {

@@ -1,5 +1,6 @@
 //! The framer: from bytes to events, one at a time.
-ghost use Rattle.std.specs.Prelude.{◌≡◌, ◌≢◌, ◌↔◌, ◌<◌, ℕ, true, false, IsTrue, IfOk, IfSome, OnErr, List, [], ◌∷◌, Some, None};
+ghost use Rattle.std.specs.Prelude.{◌≡◌, ◌≢◌, ◌↔◌, ◌<◌, ℕ, true, false, IsTrue, List, [], ◌∷◌};
+ghost use Rattle.std.specs.Prelude.{IfOk, IfSome, OnErr, Some, None};
 ghost use Rattle.text_clusters.specs.Controls.{is_c1 as in_c1s};
 ghost use Rattle.csi_codec.specs.Tokens.{no_parameters};
 ghost use Rattle.escape_framing.specs.Held.{TakesMemory, interrupted, fresh_step, held_step, nothing_held, steps};
@@ -133,7 +134,7 @@ impl Framer {
     }
 
     // The second byte of a C1 control behind its C2: ESC ends what is open, and then opens what the control does.
-    fn behind_c1(&mut self, byte: u8) -> Result<Stepped, AllocError>
+    fn after_c1(&mut self, byte: u8) -> Result<Stepped, AllocError>
         requires waiting { self.old.held.waiting ≡ true }
         requires half { in_c1s 0xC2 byte ≡ true }
         ensures steps { IfOk result (λ s. held_step self.old.held byte ≡ as_advanced self.new s byte) }
@@ -149,7 +150,7 @@ impl Framer {
     }
 
     // Another byte behind a C2, which is read first; a C2 that is data hands itself out.
-    fn behind_lead(&mut self, byte: u8) -> Result<Stepped, AllocError>
+    fn after_lead(&mut self, byte: u8) -> Result<Stepped, AllocError>
         requires waiting { self.old.held.waiting ≡ true }
         requires plain { in_c1s 0xC2 byte ≡ false }
         ensures steps { IfOk result (λ s. held_step self.old.held byte ≡ as_advanced self.new s byte) }
@@ -180,9 +181,9 @@ impl Framer {
         if !self.waiting {
             self.fresh(byte)
         } else if is_c1(C1_LEAD, byte) {
-            self.behind_c1(byte)
+            self.after_c1(byte)
         } else {
-            self.behind_lead(byte)
+            self.after_lead(byte)
         }
     }
 
@@ -257,12 +258,8 @@ impl Framer {
         ensures reads { IfOk result (λ r. ReadsEvent self.old.held bytes.now r self.new) }
         ensures memory { OnErr result (TakesMemory self.old.held.kept) }
     {
-        let run = self.read_run(bytes)?;
-        if run != 0 {
-            return Ok(Read::Bytes {
-                event: None,
-                count: run,
-            });
+        if let Some(count) = self.read_run(bytes)? {
+            return Ok(Read::Bytes { event: None, count });
         }
         let stepped = self.advance(byte)?;
         let count = if stepped.is_read { 1 } else { 0 };

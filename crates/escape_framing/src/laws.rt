@@ -9,13 +9,14 @@ ghost use Rattle.escape_framing.specs.Cut.{the_cut, tail_of, dispatches, newly_d
 ghost use Rattle.escape_framing.specs.Held.{nothing_held, hand_out, held_of};
 ghost use Rattle.escape_framing.specs.Undecided.{IsUndecided};
 ghost use Rattle.escape_framing.specs.Placed.{IsPlaced, placed_from, placed_dispatches};
-ghost use Rattle.escape_framing.specs.Framed.{Framed, Text, framed, placed_behind, Spells, AreApart};
+ghost use Rattle.escape_framing.specs.Framed.{Framed, Text, framed, placed_after, Spells, AreApart};
 ghost use Rattle.escape_framing.specs.PlacedSegments.{placed_segments, LiesBetween};
 
 /// A law, which needs no call: each stream has a cut, and no other than the one that is read.
 pub fn one_cut()
     ensures cut { (stream : List ℕ) → IsCut stream (the_cut stream).segments (tail_of stream) }
-    ensures only { (stream : List ℕ) (segments : List Segment) (tail : Tail) → IsCut stream segments tail → (segments ≡ (the_cut stream).segments) × (tail ≡ tail_of stream) }
+    ensures only { (stream : List ℕ) (segments : List Segment) (tail : Tail) → IsCut stream segments tail
+        → (segments ≡ (the_cut stream).segments) × (tail ≡ tail_of stream) }
 {}
 
 /// A law, which needs no call: bytes are open, as a stream's last can be, exactly where there are none, or some
@@ -28,13 +29,15 @@ pub fn open_bytes()
 /// A law, which needs no call: the placed dispatches are the stream's dispatches, each with the least count of bytes
 /// that decides it however the stream goes on.
 pub fn places()
-    ensures placed { (stream : List ℕ) (index place : ℕ) (dispatch : Dispatch) → slice_get (placed_dispatches stream) index ≡ Some (place, dispatch) → IsPlaced stream index place dispatch }
+    ensures placed { (stream : List ℕ) (index place : ℕ) (dispatch : Dispatch)
+        → slice_get (placed_dispatches stream) index ≡ Some (place, dispatch) → IsPlaced stream index place dispatch }
     ensures all { (stream : List ℕ) → map (λ (p : ℕ × Dispatch). p.1) (placed_dispatches stream) ≡ dispatches stream }
 {}
 
 /// A law, which needs no call: pieces decide what their concatenation decides, in the same order.
 pub fn pieces_join()
-    ensures { (stream x y : List ℕ) → newly_decided stream (x ++ y) ≡ newly_decided stream x ++ newly_decided (stream ++ x) y }
+    ensures { (stream x y : List ℕ)
+        → newly_decided stream (x ++ y) ≡ newly_decided stream x ++ newly_decided (stream ++ x) y }
 {}
 
 /// A law, which needs no call: what is held of a stream, and no more of it, decides what more bytes hand out.
@@ -58,21 +61,29 @@ pub fn idle_streams()
 /// A law, which needs no call: the texts of a call, character by character, and the dispatches between them are its
 /// placed dispatches; no text is empty, and other bytes lie between two that stand side by side.
 pub fn texts_and_dispatches()
-    ensures spelled { (start : ℕ) (placed : List (ℕ × Dispatch)) → Spells (framed start placed) (map (λ (p : ℕ × Dispatch). p.1) placed) }
+    ensures spelled { (start : ℕ) (placed : List (ℕ × Dispatch))
+        → Spells (framed start placed) (map (λ (p : ℕ × Dispatch). p.1) placed) }
     ensures apart { (start : ℕ) (placed : List (ℕ × Dispatch)) → AreApart (framed start placed) }
-    ensures held { (stream bytes : List ℕ) → placed_behind (length stream) (held_of stream) bytes ≡ placed_from stream bytes }
+    ensures held { (stream bytes : List ℕ)
+        → placed_after (length stream) (held_of stream) bytes ≡ placed_from stream bytes }
 {}
 
 /// A law, which needs no call: the placed segments are those of the cut, in order, and each stands at its place in the
 /// seven-bit form of the stream, which has as many bytes as the stream.
 pub fn segment_places()
-    ensures all { (stream : List ℕ) → map (λ (p : ℕ × Segment). p.1) (placed_segments stream) ≡ (the_cut stream).segments }
-    ensures placed { (stream : List ℕ) (index place : ℕ) (segment : Segment) → slice_get (placed_segments stream) index ≡ Some (place, segment) → take (length (bytes_of segment)) (drop place (seven_bit stream)) ≡ bytes_of segment }
+    ensures all { (stream : List ℕ)
+        → map (λ (p : ℕ × Segment). p.1) (placed_segments stream) ≡ (the_cut stream).segments }
+    ensures placed { (stream : List ℕ) (index place : ℕ) (segment : Segment)
+        → slice_get (placed_segments stream) index ≡ Some (place, segment)
+        → take (length (bytes_of segment)) (drop place (seven_bit stream)) ≡ bytes_of segment }
     ensures same_length { (stream : List ℕ) → length (seven_bit stream) ≡ length stream }
 {}
 
-/// A law, which needs no call: where two texts of a call stand side by side, a segment that hands nothing out lies between
-/// them.
+/// A law, which needs no call: where two texts of a call stand side by side, a segment that hands nothing out lies
+/// between them.
 pub fn texts_apart()
-    ensures { (stream bytes : List ℕ) (before after : List Framed) (from next : ℕ) (text more : List ℕ) → framed (length stream) (placed_from stream bytes) ≡ before ++ Text from text ∷ Text next more ∷ after → (segment : Segment) × LiesBetween (stream ++ bytes) (from + length text) next segment × (dispatches_of segment ≡ []) }
+    ensures { (stream bytes : List ℕ) (before after : List Framed) (from next : ℕ) (text more : List ℕ)
+        → framed (length stream) (placed_from stream bytes) ≡ before ++ Text from text ∷ Text next more ∷ after
+        → (segment : Segment) × LiesBetween (stream ++ bytes) (from + length text) next segment
+        × (dispatches_of segment ≡ []) }
 {}

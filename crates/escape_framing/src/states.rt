@@ -2,7 +2,10 @@
 ghost use Rattle.std.specs.Prelude.{◌≡◌, ◌<◌, not, ℕ, true, false, IfOk, OnErr, List, [], ◌∷◌, ◌++◌, Some, None, take};
 ghost use Rattle.escape_framing.specs.Bytes.{is_stop as in_stops, is_cut as in_cuts};
 ghost use Rattle.escape_framing.specs.Dispatch.{controls_in};
-ghost use Rattle.escape_framing.specs.Held.{InCharacter, InEscape, InControlSequence, InCommand, InHeader, InDevice, InString, escape_step, final_step, opened, control_sequence_step, command_step, header_step, device_step, string_step, kept_step, steps, TakesMemory};
+ghost use Rattle.escape_framing.specs.Held.{InCharacter, InEscape, InControlSequence, InCommand, InHeader, InDevice};
+ghost use Rattle.escape_framing.specs.Held.{InString, escape_step, final_step, opened, control_sequence_step};
+ghost use Rattle.escape_framing.specs.Held.{command_step, header_step, device_step, string_step, kept_step, steps};
+ghost use Rattle.escape_framing.specs.Held.{TakesMemory};
 ghost use Rattle.escape_framing.specs.Characters.{own_dispatches};
 ghost use Rattle.escape_framing.specs.FramerView.{bytes_in};
 ghost use Rattle.escape_framing.specs.Lending.{Lending};

@@ -108,14 +108,14 @@ utf8_lossy-chunk bytes valid [] rest parts front back last = utf8_lossy_last_chu
 utf8_lossy-chunk bytes valid (b ∷ invalid) rest parts front back last = utf8_lossy_chunk bytes valid (b ∷ invalid) rest parts front back (omega arith)
 
 -- the steps of a walk over parts
-pub lossy_behind_next : (parts : List (Vec ℕ Global)) (i : ℕ) (part : Vec ℕ Global) → i < length parts → part ≡ get_or parts i part
+pub lossy_after_next : (parts : List (Vec ℕ Global)) (i : ℕ) (part : Vec ℕ Global) → i < length parts → part ≡ get_or parts i part
     → behind (map utf8_lossy (map (λ v. v.items) (drop i parts))) ≡ semicolon ∷ utf8_lossy part.items ++ behind (map utf8_lossy (map (λ v. v.items) (drop (i + 1) parts)))
-lossy_behind_next parts i part below item =
+lossy_after_next parts i part below item =
     at_drop_more (λ ps. behind (map utf8_lossy (map (λ (v : Vec ℕ Global). v.items) ps))) parts i part below
     ∙ ap (λ (v : Vec ℕ Global). semicolon ∷ (utf8_lossy v.items ++ behind (map utf8_lossy (map (λ v. v.items) (drop (i + 1) parts))))) (sym item)
 
-pub lossy_behind_end : (parts : List (Vec ℕ Global)) (i : ℕ) → length parts ≤ i → behind (map utf8_lossy (map (λ v. v.items) (drop i parts))) ≡ []
-lossy_behind_end parts i h = at_drop_all (λ ps. behind (map utf8_lossy (map (λ (v : Vec ℕ Global). v.items) ps))) parts i h
+pub lossy_after_end : (parts : List (Vec ℕ Global)) (i : ℕ) → length parts ≤ i → behind (map utf8_lossy (map (λ v. v.items) (drop i parts))) ≡ []
+lossy_after_end parts i h = at_drop_all (λ ps. behind (map utf8_lossy (map (λ (v : Vec ℕ Global). v.items) ps))) parts i h
 
 pub lossy_start : (parts rest : List (Vec ℕ Global)) (first : Vec ℕ Global) (text : List ℕ) → text ≡ first.items → parts ≡ first ∷ rest
     → utf8_lossy text ++ behind (map utf8_lossy (map (λ v. v.items) rest)) ≡ joined (map utf8_lossy (map (λ v. v.items) parts))
@@ -129,4 +129,4 @@ pub lossy_next : (done text : List ℕ) (parts : List (Vec ℕ Global)) (i : ℕ
 lossy_next done text parts i part below item same =
     append_assoc done _ _
     ∙ ap (λ t. done ++ semicolon ∷ (utf8_lossy t ++ behind (map utf8_lossy (map (λ (v : Vec ℕ Global). v.items) (drop (i + 1) parts))))) same
-    ∙ ap (λ t. done ++ t) (sym (lossy_behind_next parts i part below item))
+    ∙ ap (λ t. done ++ t) (sym (lossy_after_next parts i part below item))

@@ -15,11 +15,11 @@ use Rattle.escape_osc.specs.Sizes.{TextsTakeSix, LinksTakeSeven, EndOfLinkTakesS
 length-framed : (body : List ℕ) → length (framed body) ≡ length body + 4
 length-framed body = omega (arith, length-append body (0x1B ∷ 92 ∷ []))
 
-behind_code : (code : ℕ) (text : List ℕ) → length (framed (code ∷ 59 ∷ text)) ≡ length text + 6
-behind_code code text = omega (arith, length-framed (code ∷ 59 ∷ text))
+after_code : (code : ℕ) (text : List ℕ) → length (framed (code ∷ 59 ∷ text)) ≡ length text + 6
+after_code code text = omega (arith, length-framed (code ∷ 59 ∷ text))
 
 pub texts_take_six : (text : List ℕ) → TextsTakeSix text
-texts_take_six text = record { icon_name_and_title = behind_code 48 text; icon_name = behind_code 49 text; title = behind_code 50 text; directory = behind_code 55 text }
+texts_take_six text = record { icon_name_and_title = after_code 48 text; icon_name = after_code 49 text; title = after_code 50 text; directory = after_code 55 text }
 
 link_length : (params uri : List ℕ) → length (framed (56 ∷ 59 ∷ (params ++ 59 ∷ uri))) ≡ length params + length uri + 7
 link_length params uri = omega (arith, length-framed (56 ∷ 59 ∷ (params ++ 59 ∷ uri)), length-append params (59 ∷ uri))

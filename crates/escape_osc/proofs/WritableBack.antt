@@ -22,9 +22,9 @@ use Rattle.escape_osc.proofs.ReadBack.{link_value, clear_back, lettered_back, co
 
 -- ---- what can be written reads back
 
-lone_lacks_c1 : (b : ℕ) → holds_c1 (b ∷ []) ≡ false
+single_lacks_c1 : (b : ℕ) → holds_c1 (b ∷ []) ≡ false
 unfolding holds_c1
-lone_lacks_c1 b = refl
+single_lacks_c1 b = refl
 
 text_lacks_c1 : (code : ℕ) (text : List ℕ) → code < 128 → holds_c1 (code ∷ 59 ∷ text) ≡ false → holds_c1 text ≡ false
 text_lacks_c1 code text small h = sym (holds_c1-cons code (59 ∷ text) small ∙ holds_c1-cons 59 text (omega arith)) ∙ h
@@ -72,10 +72,10 @@ unspecified_back parts false h = ap (λ found. unwrap_or found (unspecified part
 
 pub writable_back : (command : Command) → IsWritable command → ReadsBack command
 writable_back (set_icon_name_and_window_title text) w =
-    code_text_back set_icon_name_and_window_title 48 text refl (lone_lacks_c1 48) w.spelling (text_lacks_c1 48 text (omega arith) w.clean.no_c1) zero_is_text
-writable_back (set_icon_name text) w = code_text_back set_icon_name 49 text refl (lone_lacks_c1 49) w.spelling (text_lacks_c1 49 text (omega arith) w.clean.no_c1) one_is_text
-writable_back (set_window_title text) w = code_text_back set_window_title 50 text refl (lone_lacks_c1 50) w.spelling (text_lacks_c1 50 text (omega arith) w.clean.no_c1) two_is_text
-writable_back (current_working_directory text) w = code_text_back current_working_directory 55 text refl (lone_lacks_c1 55) w.spelling (text_lacks_c1 55 text (omega arith) w.clean.no_c1) seven_is_text
+    code_text_back set_icon_name_and_window_title 48 text refl (single_lacks_c1 48) w.spelling (text_lacks_c1 48 text (omega arith) w.clean.no_c1) zero_is_text
+writable_back (set_icon_name text) w = code_text_back set_icon_name 49 text refl (single_lacks_c1 49) w.spelling (text_lacks_c1 49 text (omega arith) w.clean.no_c1) one_is_text
+writable_back (set_window_title text) w = code_text_back set_window_title 50 text refl (single_lacks_c1 50) w.spelling (text_lacks_c1 50 text (omega arith) w.clean.no_c1) two_is_text
+writable_back (current_working_directory text) w = code_text_back current_working_directory 55 text refl (single_lacks_c1 55) w.spelling (text_lacks_c1 55 text (omega arith) w.clean.no_c1) seven_is_text
 writable_back (set_hyperlink link) w = link_value link w.spelling w.clean.no_c1
 writable_back (set_selection bits text) w =
     let symbols = base64_each text in
@@ -83,7 +83,7 @@ writable_back (set_selection bits text) w =
     (each_weaker IsSymbol (λ b. (b == semicolon) ≡ false) symbol_piece (base64_of text) symbols)
     (ascii_lacks_c1 (base64_of text) (each_weaker IsSymbol (λ b. b < 128) symbol_small (base64_of text) symbols))
     (sets bits text w.spelling.1)
-writable_back (query_selection bits) w = lettered_back bits (codes "?") (query_selection bits) (selection_value bits w.spelling) (refl, tt) (lone_lacks_c1 63) (asks bits)
+writable_back (query_selection bits) w = lettered_back bits (codes "?") (query_selection bits) (selection_value bits w.spelling) (refl, tt) (single_lacks_c1 63) (asks bits)
 writable_back (clear_selection bits) w = clear_back bits (selection_value bits w.spelling)
 writable_back (unspecified parts) w = ap osc_reading w.spelling.0 ∙ unspecified_back parts (any_holds_c1 parts) w.spelling.1
 

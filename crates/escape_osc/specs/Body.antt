@@ -12,7 +12,8 @@ abbrev pub bytes_of_body : Body → List ℕ
 bytes_of_body (form.Text code text) = code.now ++ text.now
 bytes_of_body (form.Link link) = link_text link.now
 bytes_of_body (form.Selection selection rest) = codes "52;" ++ (letters_of (bits_of selection) ++ rest.now)
-bytes_of_body (form.SelectionText selection text) = codes "52;" ++ (letters_of (bits_of selection) ++ semicolon ∷ base64_of text.now)
+bytes_of_body (form.SelectionText selection text) =
+    codes "52;" ++ (letters_of (bits_of selection) ++ semicolon ∷ base64_of text.now)
 bytes_of_body (form.Parts parts) = joined (map (λ part. part.items) parts.now)
 
 -- parts that are no UTF-8 have U+FFFD in place of what is ill-formed

@@ -2,8 +2,14 @@
 use Rattle.std.specs.Prelude.{map, option_map}
 use Rattle.std.specs.String.{string_bytes}
 use Rattle.escape_osc.specs.declared.command.OperatingSystemCommand.{OperatingSystemCommand}
-use Rattle.escape_osc.specs.declared.command.OperatingSystemCommand.TheVariants.{SetIconNameAndWindowTitle, SetIconName, SetWindowTitle, CurrentWorkingDirectory, SetHyperlink, SetSelection, QuerySelection, ClearSelection, Unspecified}
-use Rattle.escape_osc.specs.Command.{Command, set_icon_name_and_window_title, set_icon_name, set_window_title, current_working_directory, set_hyperlink, set_selection, query_selection, clear_selection, unspecified}
+use Rattle.escape_osc.specs.declared.command.OperatingSystemCommand.TheVariants.{SetIconNameAndWindowTitle, SetIconName}
+use Rattle.escape_osc.specs.declared.command.OperatingSystemCommand.TheVariants.{SetWindowTitle}
+use Rattle.escape_osc.specs.declared.command.OperatingSystemCommand.TheVariants.{CurrentWorkingDirectory, SetHyperlink}
+use Rattle.escape_osc.specs.declared.command.OperatingSystemCommand.TheVariants.{SetSelection, QuerySelection}
+use Rattle.escape_osc.specs.declared.command.OperatingSystemCommand.TheVariants.{ClearSelection, Unspecified}
+use Rattle.escape_osc.specs.Command.{Command, set_icon_name_and_window_title, set_icon_name, set_window_title}
+use Rattle.escape_osc.specs.Command.{current_working_directory, set_hyperlink, set_selection, query_selection}
+use Rattle.escape_osc.specs.Command.{clear_selection, unspecified}
 use Rattle.escape_osc.specs.Selection.{bits_of}
 
 abbrev pub command_of : OperatingSystemCommand → Command

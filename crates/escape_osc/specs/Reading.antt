@@ -7,7 +7,9 @@ use Rattle.std.specs.Str.{is_utf8, bytes_eq}
 use Rattle.base64.specs.Engines.{standard}
 use Rattle.base64.specs.GeneralPurpose.{decoded_of}
 use Rattle.cell_base.specs.LinkText.{link_reading}
-use Rattle.escape_osc.specs.Command.{Command, set_icon_name_and_window_title, set_icon_name, set_window_title, current_working_directory, set_hyperlink, set_selection, query_selection, clear_selection, unspecified}
+use Rattle.escape_osc.specs.Command.{Command, set_icon_name_and_window_title, set_icon_name, set_window_title}
+use Rattle.escape_osc.specs.Command.{current_working_directory, set_hyperlink, set_selection, query_selection}
+use Rattle.escape_osc.specs.Command.{clear_selection, unspecified}
 use Rattle.escape_osc.specs.Parts.{joined, any_holds_c1}
 use Rattle.escape_osc.specs.Selection.{selection_reading}
 

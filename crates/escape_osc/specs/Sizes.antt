@@ -2,7 +2,9 @@
 use Rattle.std.specs.Prelude.{◌≡◌, ℕ, ◌+◌, ◌-◌, ◌*◌, ◌/◌, ◌^◌, ◌≤◌, List, length, Some, None}
 use Rattle.cell_base.specs.Link.{Link}
 use Rattle.cell_base.specs.LinkText.{params_text}
-use Rattle.escape_osc.specs.Command.{set_icon_name_and_window_title, set_icon_name, set_window_title, current_working_directory, set_hyperlink, set_selection, query_selection, clear_selection}
+use Rattle.escape_osc.specs.Command.{set_icon_name_and_window_title, set_icon_name, set_window_title}
+use Rattle.escape_osc.specs.Command.{current_working_directory, set_hyperlink, set_selection, query_selection}
+use Rattle.escape_osc.specs.Command.{clear_selection}
 use Rattle.escape_osc.specs.Text.{text_of}
 
 -- ESC ], a code of one digit, `;`, the text, ESC \
@@ -14,12 +16,15 @@ pub record TextsTakeSix (text : List ℕ) : Type 0 where
 
 -- ESC ], `8;`, the parameters, `;`, the URI, ESC \
 abbrev pub LinksTakeSeven : Type 0
-LinksTakeSeven = (link : Link) → length (text_of (set_hyperlink (Some link))) ≡ length (params_text link.params) + length link.uri + 7
+LinksTakeSeven =
+    (link : Link)
+    → length (text_of (set_hyperlink (Some link))) ≡ length (params_text link.params) + length link.uri + 7
 
 abbrev pub EndOfLinkTakesSeven : Type 0
 EndOfLinkTakesSeven = length (text_of (set_hyperlink None)) ≡ 7
 
--- how many symbols of base64 a text of so many bytes takes: four for each three, also for those at the end that are fewer
+-- how many symbols of base64 a text of so many bytes takes: four for each three, also for those at the end that are
+-- fewer
 abbrev pub base64_length : ℕ → ℕ
 base64_length count = (count + 2) / 3 * 4
 

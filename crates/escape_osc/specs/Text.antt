@@ -4,7 +4,9 @@ use Rattle.std.specs.Str.Lossy.{utf8_lossy}
 use Rattle.base64.specs.Engines.{standard}
 use Rattle.base64.specs.GeneralPurpose.{encode_of}
 use Rattle.cell_base.specs.LinkText.{text_of_link}
-use Rattle.escape_osc.specs.Command.{Command, set_icon_name_and_window_title, set_icon_name, set_window_title, current_working_directory, set_hyperlink, set_selection, query_selection, clear_selection, unspecified}
+use Rattle.escape_osc.specs.Command.{Command, set_icon_name_and_window_title, set_icon_name, set_window_title}
+use Rattle.escape_osc.specs.Command.{current_working_directory, set_hyperlink, set_selection, query_selection}
+use Rattle.escape_osc.specs.Command.{clear_selection, unspecified}
 use Rattle.escape_osc.specs.Parts.{semicolon, joined}
 use Rattle.escape_osc.specs.Selection.{letters_of}
 

@@ -11,7 +11,9 @@ use Rattle.std.specs.Char.{is_ascii_control}
 use Rattle.text_clusters.specs.Controls.{holds_c1}
 use Rattle.cell_base.specs.Link.{Link}
 use Rattle.cell_base.specs.LinkText.{link_reading, text_of_link, is_writable, is_empty_link}
-use Rattle.escape_osc.specs.Command.{Command, set_icon_name_and_window_title, set_icon_name, set_window_title, current_working_directory, set_hyperlink, set_selection, query_selection, clear_selection, unspecified}
+use Rattle.escape_osc.specs.Command.{Command, set_icon_name_and_window_title, set_icon_name, set_window_title}
+use Rattle.escape_osc.specs.Command.{current_working_directory, set_hyperlink, set_selection, query_selection}
+use Rattle.escape_osc.specs.Command.{clear_selection, unspecified}
 use Rattle.escape_osc.specs.Parts.{parts_of, joined}
 use Rattle.escape_osc.specs.Reading.{fitting_reading, osc_reading}
 use Rattle.escape_osc.specs.Text.{body_of}
@@ -34,8 +36,8 @@ pub record IsSelection (bits : ℕ) : Type 0 where
 abbrev pub IsReadableLink : Option Link → Type 0
 IsReadableLink link = link_reading (parts_of (text_of_link link)) ≡ Ok link
 
--- a link by value, given by a program, with a URI or parameters: keys and values that are UTF-8 and hold no sign of the text,
--- in the order of the keys
+-- a link by value, given by a program, with a URI or parameters: keys and values that are UTF-8 and hold no sign of the
+-- text, in the order of the keys
 pub record IsLink (link : Link) : Type 0 where
   pub texts : AllByRecursion (λ param. IsUtf8 param.0 × IsUtf8 param.1) link.params
   pub plain : list_all is_writable link.params ≡ true
@@ -44,8 +46,8 @@ pub record IsLink (link : Link) : Type 0 where
   pub given : link.implicit ≡ false
   pub some : is_empty_link link ≡ false
 
--- a command by value: a text that is UTF-8, a link that its text gives, selections that have letters, and parts that fit
--- no code and that a body can be cut into
+-- a command by value: a text that is UTF-8, a link that its text gives, selections that have letters, and parts that
+-- fit no code and that a body can be cut into
 abbrev pub HasSpelling : Command → Type 0
 HasSpelling (set_icon_name_and_window_title text) = IsUtf8 text
 HasSpelling (set_icon_name text) = IsUtf8 text

@@ -34,7 +34,7 @@ impl OperatingSystemCommand {
         result
     }
 
-    // The same, but that what was appended before a refusal stays.
+    // Appends the bytes of the command; those that were appended before a refusal stay.
     #[tactic(auto, using(crate::proofs::AppendLemmas::kept))]
     fn append_text_to(&self, dest: &mut Vec<u8>) -> Result<(), AllocError>
         ensures ok { OnOk result (dest.new.items ≡ dest.old.items ++ text_of (command_of self.now)) }

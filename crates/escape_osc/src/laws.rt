@@ -3,10 +3,12 @@
 ghost use Rattle.std.specs.Prelude.{◌≡◌, false, None, Some, ℕ, List};
 ghost use Rattle.text_clusters.specs.Controls.{holds_c1};
 ghost use Rattle.cell_base.specs.Link.{Link};
-ghost use Rattle.escape_osc.specs.Command.{Command, set_icon_name_and_window_title, set_icon_name, set_window_title, current_working_directory};
+ghost use Rattle.escape_osc.specs.Command.{Command, set_icon_name_and_window_title, set_icon_name, set_window_title};
+ghost use Rattle.escape_osc.specs.Command.{current_working_directory};
 ghost use Rattle.escape_osc.specs.Parts.{parts_of};
 ghost use Rattle.escape_osc.specs.Reading.{osc_reading};
-ghost use Rattle.escape_osc.specs.Sizes.{AllSelectionsTakeMost, EndOfLinkTakesSeven, LinksTakeSeven, SelectionsAreShort, TextsTakeSix};
+ghost use Rattle.escape_osc.specs.Sizes.{AllSelectionsTakeMost, EndOfLinkTakesSeven, LinksTakeSeven};
+ghost use Rattle.escape_osc.specs.Sizes.{SelectionsAreShort, TextsTakeSix};
 ghost use Rattle.escape_osc.specs.Writable.{IsLink, IsReadableLink, IsWritable, LacksControls, ReadsBack};
 
 use crate::command::OperatingSystemCommand;
@@ -34,7 +36,8 @@ pub fn text_is_writable(text: &str)
     let _ = text;
 }
 
-/// A link of texts that hold no sign of a link's text, given by a program, is what its own text gives; so is the end of one.
+/// A link of texts that hold no sign of a link's text, given by a program, is what its own text gives; so is the end of
+/// one.
 pub fn links_read_back()
     ensures link { (link : Link) → IsLink link → IsReadableLink (Some link) }
     ensures end_of_link { IsReadableLink None }
@@ -52,8 +55,8 @@ pub fn text_reads_back(text: &str)
 }
 
 /// The bytes of a command beside what it carries: six beside a title, the name of an icon or a directory, seven beside
-/// the parameters and the URI of a link, and seven of the end of a link. What asks for selections takes at most 22, what
-/// clears them 20, and what sets them 21 beside the base64 of its text; so many where all thirteen are named.
+/// the parameters and the URI of a link, and seven of the end of a link. What asks for selections takes at most 22,
+/// what clears them 20, and what sets them 21 beside the base64 of its text; so many where all thirteen are named.
 pub fn text_lengths()
     ensures texts { (text : List ℕ) → TextsTakeSix text }
     ensures links { LinksTakeSeven }

@@ -5,7 +5,9 @@ ghost use Rattle.std.specs.String.{string_bytes};
 ghost use Rattle.base64.specs.Engines.{standard};
 ghost use Rattle.base64.specs.GeneralPurpose.{decoded_of};
 ghost use Rattle.escape_osc.specs.CommandView.{command_of};
-ghost use Rattle.escape_osc.specs.Reading.{utf8_reading, text_reading, base64_reading, data_reading, clear_reading, lettered_reading, selection_command, link_command, coded_reading, fitting_reading, osc_reading};
+ghost use Rattle.escape_osc.specs.Reading.{utf8_reading, text_reading, base64_reading, data_reading, clear_reading};
+ghost use Rattle.escape_osc.specs.Reading.{lettered_reading, selection_command, link_command, coded_reading};
+ghost use Rattle.escape_osc.specs.Reading.{fitting_reading, osc_reading};
 ghost use Rattle.escape_osc.specs.Selection.{bits_of};
 
 use crate::command::OperatingSystemCommand;

@@ -134,7 +134,7 @@ impl Selection {
         Some(all)
     }
 
-    // The same, where no letter at all stands for SELECT and CUT0.
+    // The selections that letters name; no letter at all names SELECT and CUT0.
     #[tactic(auto, unfolding(crate::specs::Selection::selection_reading))]
     pub(crate) fn from_letters(letters: &[u8]) -> Option<Selection>
         ensures { option_map bits_of result ≡ selection_reading letters.now }

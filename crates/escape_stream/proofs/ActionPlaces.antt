@@ -12,7 +12,7 @@ use Rattle.escape_framing.specs.Decode.{read_on}
 use Rattle.escape_framing.specs.Cut.{the_cut, dispatches, newly_decided}
 use Rattle.escape_framing.specs.Placed.{placed_from}
 use Rattle.escape_framing.proofs.HeldLemmas.{newly_handed}
-use Rattle.escape_framing.proofs.PlacedLemmas.{dispatches_grow, newly_join, at_front, at_behind, OfOne, here, there, of_one}
+use Rattle.escape_framing.proofs.PlacedLemmas.{dispatches_grow, newly_join, at_front, at_after, OfOne, here, there, of_one}
 use Rattle.escape_framing.proofs.UndecidedLemmas.{AreApart, stops, prints, data_bytes, goes_on, stream_differs}
 use Rattle.escape_stream.specs.StreamAction.{StreamAction, print, control, data_byte, exit}
 use Rattle.escape_stream.specs.StreamActions.{actions_of_dispatch, actions_of, stream_actions, newly_decided_actions, placed_actions, IsPlacedAction, IsUndecidedAction}
@@ -82,7 +82,7 @@ stands : (s x more : List ℕ) (i : ℕ) (action : StreamAction) → slice_get (
 stands s x more i action h =
     let grown : stream_actions ((s ++ x) ++ more) ≡ stream_actions s ++ (newly_decided_actions s x ++ newly_decided_actions (s ++ x) more)
     = actions_grow (s ++ x) more ∙ ap (λ l. l ++ newly_decided_actions (s ++ x) more) (actions_grow s x) ∙ append_assoc (stream_actions s) _ _ in
-    ap (λ l. slice_get l (length (stream_actions s) + i)) grown ∙ at_behind (stream_actions s) _ i _ refl ∙ at_front (newly_decided_actions s x) _ i action h
+    ap (λ l. slice_get l (length (stream_actions s) + i)) grown ∙ at_after (stream_actions s) _ i _ refl ∙ at_front (newly_decided_actions s x) _ i action h
 
 placed_here : (front bytes : List ℕ) (b i : ℕ) (action : StreamAction) → slice_get (new_at front b) i ≡ Some action
     → IsPlacedAction (front ++ b ∷ bytes) (length (stream_actions front) + i) (length front + 1) action
@@ -229,9 +229,9 @@ undecided_action stream =
       other = d.other;
       first = t.one;
       second = t.other;
-      behind_first = actions_of d.behind_first;
-      behind_second = actions_of d.behind_second;
-      gives_first = ap actions_of (newly_handed stream d.one ∙ d.gives_first) ∙ ap (λ l. l ++ actions_of d.behind_first) t.is_one;
-      gives_second = ap actions_of (newly_handed stream d.other ∙ d.gives_second) ∙ ap (λ l. l ++ actions_of d.behind_second) t.is_other;
+      after_first = actions_of d.after_first;
+      after_second = actions_of d.after_second;
+      gives_first = ap actions_of (newly_handed stream d.one ∙ d.gives_first) ∙ ap (λ l. l ++ actions_of d.after_first) t.is_one;
+      gives_second = ap actions_of (newly_handed stream d.other ∙ d.gives_second) ∙ ap (λ l. l ++ actions_of d.after_second) t.is_other;
       differ = t.differ;
     }

@@ -6,7 +6,7 @@ use Rattle.std.specs.Iterator.{MakesProgress, at_most}
 use Rattle.std.proofs.Math.ListN.{drop_of_length-le}
 use Rattle.std.proofs.lemmas.List.{drop-drop}
 use Rattle.escape_framing.specs.Held.{Held, TakesMemory, hand_out, held_of}
-use Rattle.escape_framing.specs.Framed.{framed, framed_behind, placed_behind, begun_bytes}
+use Rattle.escape_framing.specs.Framed.{framed, framed_after, placed_after, begun_bytes}
 use Rattle.escape_framing.specs.Lending.{Lending}
 use Rattle.escape_framing.specs.Read.{ReadsEvent, TakesMemoryAt, count_of, whole_command}
 use Rattle.escape_framing.specs.declared.error.ParseError.{ParseError}
@@ -19,7 +19,7 @@ use Rattle.escape_framing.specs.declared.event.Read.{Read}
 use Rattle.escape_framing.specs.declared.event.Read.TheVariants as read
 use Rattle.escape_framing.proofs.HeldLemmas.{held_append}
 use Rattle.escape_framing.proofs.SpellLemmas.{placed_same}
-use Rattle.escape_stream.specs.Pieces.{Piece, Text, Lone, pieces_of, pieces}
+use Rattle.escape_stream.specs.Pieces.{Piece, Text, Single, pieces_of, pieces}
 use Rattle.escape_stream.specs.PiecesView.{parser_of, open_pieces, held_at_end, items_at, items_left, ready_at, AsksMemory, AsksMemoryLater, BytesTakeMemory, SomeTakesMemory, FirstTakesMemory, ReadsBody, IsReady, PiecesGo, IsOpen, IsOver, IsUnderWay, GivesPiece, HasGiven, GoesOn, SameBut, FindsHere, HandsOutOf, IsGoing, Begins as BeginsEvent}
 use Rattle.escape_stream.specs.Walking.{FindsWhole}
 use Rattle.escape_stream.specs.ParserShown.{Parsing, lending_in}
@@ -33,7 +33,7 @@ use Rattle.escape_stream.specs.declared.pieces.Reading.{Reading as Pieces}
 use Rattle.escape_stream.specs.declared.pieces.Stage.{Stage}
 use Rattle.escape_stream.specs.declared.sequence.Sequence.{Sequence}
 use Rattle.escape_stream.specs.declared.pieces.Stage.TheVariants as stage
-use Rattle.escape_stream.proofs.PieceLemmas.{read_pieces, read_behind, event_pieces, comes_closer}
+use Rattle.escape_stream.proofs.PieceLemmas.{read_pieces, read_after, event_pieces, comes_closer}
 
 -- ---- where a body is read
 
@@ -65,10 +65,10 @@ stays it u = record { same = λ start. refl; ready = u; ends = refl; bodies = λ
 pub gives_action : (first old new : Pieces) (a : Action) → GoesOn first old → SameBut old new → Gives (actions_left old.parser.now.parameters old.sequence) (Some a) (actions_left old.parser.now.parameters new.sequence) → HasGiven first (Some (code.Action a)) new
 gives_action first old new a g s e = record {
   gives = λ start. (
-    Lone (value_of a),
+    Single (value_of a),
     refl,
     sym (g.same start)
-        ∙ ap (λ (q : List StreamAction). map Lone q ++ pieces_of (framed_behind start (start + old.count) old.parser.now.held (drop old.count old.bytes.now))) e
+        ∙ ap (λ (q : List StreamAction). map Single q ++ pieces_of (framed_after start (start + old.count) old.parser.now.held (drop old.count old.bytes.now))) e
         ∙ rw (s.parser, s.count, s.bytes) refl,
   );
   ready = ready_too old new s g.ready;
@@ -81,7 +81,7 @@ gives_action first old new a g s e = record {
 pub sequence_over : (first old new : Pieces) → GoesOn first old → SameBut old new → actions_left old.parser.now.parameters old.sequence ≡ [] → new.sequence ≡ None → GoesOn first new
 sequence_over first old new g s e n = record {
   same = λ start.
-      rw (n, s.parser, s.count, s.bytes) (sym (ap (λ (q : List StreamAction). map Lone q ++ pieces_of (framed_behind start (start + old.count) old.parser.now.held (drop old.count old.bytes.now))) e))
+      rw (n, s.parser, s.count, s.bytes) (sym (ap (λ (q : List StreamAction). map Single q ++ pieces_of (framed_after start (start + old.count) old.parser.now.held (drop old.count old.bytes.now))) e))
       ∙ g.same start;
   ready = ready_too old new s g.ready;
   ends = ends_too old new s ∙ g.ends;
@@ -90,8 +90,8 @@ sequence_over first old new g s e n = record {
 
 -- ---- the end
 
-none_framed : (start count : ℕ) (held : Held) → framed_behind start count held [] ≡ []
-unfolding placed_behind
+none_framed : (start count : ℕ) (held : Held) → framed_after start count held [] ≡ []
+unfolding placed_after
 none_framed start count held = refl
 
 none_handed : (held : Held) → (hand_out held []).held ≡ held
@@ -104,7 +104,7 @@ gives_none first it g q n =
     record {
       gives = λ start.
           sym (g.same start)
-          ∙ rw q (ap (λ (b : List ℕ). pieces_of (framed_behind start (start + it.count) it.parser.now.held b)) d ∙ ap pieces_of (none_framed start (start + it.count) it.parser.now.held));
+          ∙ rw q (ap (λ (b : List ℕ). pieces_of (framed_after start (start + it.count) it.parser.now.held b)) d ∙ ap pieces_of (none_framed start (start + it.count) it.parser.now.held));
       ready = g.ready;
       ends = g.ends;
       done = λ z. sym (none_handed it.parser.now.held) ∙ ap (λ (b : List ℕ). (hand_out it.parser.now.held b).held) (sym d) ∙ g.ends;
@@ -137,7 +137,7 @@ has_read old new bytes found r l u q e f reads h p b n = record {
 
 read_ready : (old new : Pieces) (r : Read) (l : Lending) → HasRead old r l new → IsUnderWay new × (held_at_end new ≡ held_at_end old)
 read_ready old new r l h =
-    let b = read_behind old.count old.parser.now.held old.bytes.now r l h.reads h.under.within h.under.reached h.under.carried in (
+    let b = read_after old.count old.parser.now.held old.bytes.now r l h.reads h.under.within h.under.reached h.under.carried in (
       record {
         within = rw (h.count, h.bytes) b.within;
         reached = rw h.held b.reached;
@@ -158,7 +158,7 @@ bodies_read old new r l h place b =
           (subst (λ (x : List ℕ). TakesMemoryAt l.held x (place - new.count)) left (subst (λ (x : Held). TakesMemoryAt x (drop new.count new.bytes.now) (place - new.count)) h.held b.takes)));
     }
 
-read_whole : (old new : Pieces) (r : Read) (l : Lending) (h : HasRead old r l new) (start : ℕ) → pieces_of (framed_behind start (start + old.count) old.parser.now.held (drop old.count old.bytes.now)) ≡ open_pieces start old
+read_whole : (old new : Pieces) (r : Read) (l : Lending) (h : HasRead old r l new) (start : ℕ) → pieces_of (framed_after start (start + old.count) old.parser.now.held (drop old.count old.bytes.now)) ≡ open_pieces start old
 read_whole old new r l h start = rw h.over refl
 
 pub gives_text : (old new : Pieces) (n : ℕ) (l : Lending) (t : Bor (List ℕ)) → HasRead old (read.Text n) l new → new.sequence ≡ None → t.now ≡ take n (drop old.count old.bytes.now) → HasGiven old (Some (code.Text t)) new
@@ -180,19 +180,19 @@ gives_text old new n l t h q k =
 
 -- an event, whose first action is handed out, if there is one
 module _ (old new : Pieces) (n : ℕ) (l : Lending) (e : Event) (h : HasRead old (read.Bytes (Some e) n) l new) where
-  event_whole : (start : ℕ) (left : List StreamAction) → event_actions l e ≡ left → open_pieces start old ≡ map Lone left ++ pieces_of (framed_behind start (start + new.count) new.parser.now.held (drop new.count new.bytes.now))
+  event_whole : (start : ℕ) (left : List StreamAction) → event_actions l e ≡ left → open_pieces start old ≡ map Single left ++ pieces_of (framed_after start (start + new.count) new.parser.now.held (drop new.count new.bytes.now))
   event_whole start left g =
       sym (read_whole old new (read.Bytes (Some e) n) l h start)
       ∙ read_pieces old.count old.parser.now.held old.bytes.now (read.Bytes (Some e) n) l h.reads start h.under.reached h.under.carried
-      ∙ event_pieces l e (pieces_of (framed_behind start (start + (old.count + n)) l.held (drop (old.count + n) old.bytes.now)))
-      ∙ ap (λ (xs : List StreamAction). map Lone xs ++ pieces_of (framed_behind start (start + (old.count + n)) l.held (drop (old.count + n) old.bytes.now))) g
+      ∙ event_pieces l e (pieces_of (framed_after start (start + (old.count + n)) l.held (drop (old.count + n) old.bytes.now)))
+      ∙ ap (λ (xs : List StreamAction). map Single xs ++ pieces_of (framed_after start (start + (old.count + n)) l.held (drop (old.count + n) old.bytes.now))) g
       ∙ rw (h.held, h.count, h.bytes) refl
 
   pub gives_event : (a : Action) → Gives (event_actions l e) (Some a) (actions_left new.parser.now.parameters new.sequence) → HasGiven old (Some (code.Action a)) new
   gives_event a g =
       let w = read_ready old new (read.Bytes (Some e) n) l h in
       record {
-        gives = λ start. (Lone (value_of a), refl, event_whole start (value_of a ∷ actions_left new.parser.now.parameters new.sequence) g);
+        gives = λ start. (Single (value_of a), refl, event_whole start (value_of a ∷ actions_left new.parser.now.parameters new.sequence) g);
         ready = w.0;
         ends = w.1;
         done = λ z. cc;
@@ -224,8 +224,8 @@ begins_sequence old new e s answer h is = record {
 
 -- ---- what is handed out behind the same
 
-pub given_behind : (old mid new : Pieces) (piece : Option PieceCode) → GoesOn old mid → HasGiven mid piece new → HasGiven old piece new
-given_behind old mid new piece g h = record {
+pub given_after : (old mid new : Pieces) (piece : Option PieceCode) → GoesOn old mid → HasGiven mid piece new → HasGiven old piece new
+given_after old mid new piece g h = record {
   gives = λ start. subst (λ (x : List Piece). GivesPiece x piece (open_pieces start new)) (g.same start) (h.gives start);
   ready = h.ready;
   ends = h.ends ∙ g.ends;
@@ -233,13 +233,13 @@ given_behind old mid new piece g h = record {
   bodies = λ place b. g.bodies place (h.bodies place b);
 }
 
-pub found_behind : (old mid new : Pieces) (piece : Option PieceCode) → GoesOn old mid → FindsHere mid piece new → is_some piece ≡ true → HasGiven old piece new
-found_behind old mid new None g h e = cc
-found_behind old mid new (Some piece) g h e = given_behind old mid new (Some piece) g h
+pub found_after : (old mid new : Pieces) (piece : Option PieceCode) → GoesOn old mid → FindsHere mid piece new → is_some piece ≡ true → HasGiven old piece new
+found_after old mid new None g h e = cc
+found_after old mid new (Some piece) g h e = given_after old mid new (Some piece) g h
 
 -- ---- where memory is taken
 
-first_takes : (xs : List StreamAction) (ps : List Piece) → FirstTakes xs → FirstTakesMemory (map Lone xs ++ ps)
+first_takes : (xs : List StreamAction) (ps : List Piece) → FirstTakes xs → FirstTakesMemory (map Single xs ++ ps)
 first_takes [] ps t = absurd t
 first_takes (x ∷ xs) ps t = t
 
@@ -311,7 +311,7 @@ begins it stream bytes h n b q = record {
     reached = (stream, h);
     carried = record { carried = λ c more l e z. rw n (some_bytes (begun_bytes it.parser.now.held) z) };
   };
-  pieces = rw (q, n, b, h) (let k : length stream + 0 ≡ length stream = omega arith in ap (λ (m : ℕ). pieces_of (framed_behind (length stream) m (held_of stream) bytes)) k ∙ ap (λ l. pieces_of (framed (length stream) l)) (placed_same bytes stream));
+  pieces = rw (q, n, b, h) (let k : length stream + 0 ≡ length stream = omega arith in ap (λ (m : ℕ). pieces_of (framed_after (length stream) m (held_of stream) bytes)) k ∙ ap (λ l. pieces_of (framed (length stream) l)) (placed_same bytes stream));
   ends = rw (n, b, h) (sym (held_append stream bytes));
 }
 

@@ -8,18 +8,18 @@ use Rattle.escape_framing.specs.Placed.{placed_from}
 use Rattle.escape_framing.proofs.ApartLemmas.{texts_between}
 use Rattle.escape_stream.specs.StreamAction.{StreamAction}
 use Rattle.escape_stream.specs.StreamActions.{actions_of_dispatch, actions_of}
-use Rattle.escape_stream.specs.Pieces.{Piece, Text, Lone, pieces_of, pieces, AreApart}
+use Rattle.escape_stream.specs.Pieces.{Piece, Text, Single, pieces_of, pieces, AreApart}
 
 no_pieces : (before : List Piece) (i : Piece) (others : List Piece) → [] ≡ before ++ i ∷ others → ⊥
 no_pieces [] i others e = cc
 no_pieces (x ∷ before) i others e = cc
 
 -- behind actions by themselves
-behind_actions : (actions : List StreamAction) (rest before : List Piece) (from : ℕ) (text : List ℕ) (others : List Piece) → map Lone actions ++ rest ≡ before ++ Text from text ∷ others
+after_actions : (actions : List StreamAction) (rest before : List Piece) (from : ℕ) (text : List ℕ) (others : List Piece) → map Single actions ++ rest ≡ before ++ Text from text ∷ others
     → (front : List Piece) × (rest ≡ front ++ Text from text ∷ others)
-behind_actions [] rest before from text others e = (before, e)
-behind_actions (a ∷ actions) rest [] from text others e = cc
-behind_actions (a ∷ actions) rest (p ∷ before) from text others e = behind_actions actions rest before from text others (let k : map Lone actions ++ rest ≡ before ++ Text from text ∷ others = cc in k)
+after_actions [] rest before from text others e = (before, e)
+after_actions (a ∷ actions) rest [] from text others e = cc
+after_actions (a ∷ actions) rest (p ∷ before) from text others e = after_actions actions rest before from text others (let k : map Single actions ++ rest ≡ before ++ Text from text ∷ others = cc in k)
 
 -- a text of pieces is one of the items that they are of
 record IsItem (items : List Framed) (from : ℕ) (text : List ℕ) (others : List Piece) : Type 0 where
@@ -38,16 +38,16 @@ is_item (framing.Text first shown ∷ items) [] from text others e =
 is_item (framing.Text first shown ∷ items) (p ∷ before) from text others e =
     let k = is_item items before from text others (let m : pieces_of items ≡ before ++ Text from text ∷ others = cc in m) in
     record { before = framing.Text first shown ∷ k.before; behind = k.behind; are = (λ i. framing.Text first shown ∷ k.are i); rest = k.rest }
-is_item (framing.Lone d ∷ items) before from text others e =
-    let b = behind_actions (actions_of_dispatch d) (pieces_of items) before from text others e in
+is_item (framing.Single d ∷ items) before from text others e =
+    let b = after_actions (actions_of_dispatch d) (pieces_of items) before from text others e in
     let k = is_item items b.0 from text others b.1 in
-    record { before = framing.Lone d ∷ k.before; behind = k.behind; are = (λ i. framing.Lone d ∷ k.are i); rest = k.rest }
+    record { before = framing.Single d ∷ k.before; behind = k.behind; are = (λ i. framing.Single d ∷ k.are i); rest = k.rest }
 
 -- a text that stands first stands behind dispatches without an action
 record IsFirst (items : List Framed) (next : ℕ) (more : List ℕ) : Type 0 where
   silent : List Dispatch
   others : List Framed
-  are : items ≡ map framing.Lone silent ++ framing.Text next more ∷ others
+  are : items ≡ map framing.Single silent ++ framing.Text next more ∷ others
   none : actions_of silent ≡ []
 
 is_first : (items : List Framed) (next : ℕ) (more : List ℕ) (after : List Piece) → pieces_of items ≡ Text next more ∷ after → IsFirst items next more
@@ -56,14 +56,14 @@ is_first (framing.Text first shown ∷ items) next more after e =
     let f : first ≡ next = cc in
     let t : shown ≡ more = cc in
     record { silent = []; others = items; are = (λ i. framing.Text (f i) (t i) ∷ items); none = refl }
-is_first (framing.Lone d ∷ items) next more after e = by_actions (actions_of_dispatch d) refl (λ k. is_first items next more after k)
+is_first (framing.Single d ∷ items) next more after e = by_actions (actions_of_dispatch d) refl (λ k. is_first items next more after k)
   where
-    by_actions : (actions : List StreamAction) → actions_of_dispatch d ≡ actions → (pieces_of items ≡ Text next more ∷ after → IsFirst items next more) → IsFirst (framing.Lone d ∷ items) next more
+    by_actions : (actions : List StreamAction) → actions_of_dispatch d ≡ actions → (pieces_of items ≡ Text next more ∷ after → IsFirst items next more) → IsFirst (framing.Single d ∷ items) next more
     by_actions [] k later =
-        let r = later (sym (ap (λ (l : List StreamAction). map Lone l ++ pieces_of items) k) ∙ e) in
-        record { silent = d ∷ r.silent; others = r.others; are = (λ i. framing.Lone d ∷ r.are i); none = ap (λ (l : List StreamAction). l ++ actions_of r.silent) k ∙ r.none }
+        let r = later (sym (ap (λ (l : List StreamAction). map Single l ++ pieces_of items) k) ∙ e) in
+        record { silent = d ∷ r.silent; others = r.others; are = (λ i. framing.Single d ∷ r.are i); none = ap (λ (l : List StreamAction). l ++ actions_of r.silent) k ∙ r.none }
     by_actions (a ∷ actions) k later =
-        let m : Lone a ∷ (map Lone actions ++ pieces_of items) ≡ Text next more ∷ after = sym (ap (λ (l : List StreamAction). map Lone l ++ pieces_of items) k) ∙ e in cc
+        let m : Single a ∷ (map Single actions ++ pieces_of items) ≡ Text next more ∷ after = sym (ap (λ (l : List StreamAction). map Single l ++ pieces_of items) k) ∙ e in cc
 
 none_first : (xs ys : List StreamAction) → xs ++ ys ≡ [] → xs ≡ []
 none_first [] ys e = refl

@@ -18,12 +18,12 @@ use Rattle.escape_osc.proofs.WritableBack.{writable_back}
 use Rattle.escape_framing.specs.Bytes.{is_stop, is_final, taken}
 use Rattle.escape_framing.specs.Segment.{ControlSequence, OperatingSystemCommand}
 use Rattle.escape_framing.specs.Dispatch.{control_sequence_dispatch, command_dispatch, dispatches_of}
-use Rattle.escape_framing.proofs.Existence.SevenBitLemmas.{no_pair, no_pair_behind}
+use Rattle.escape_framing.proofs.Existence.SevenBitLemmas.{no_pair, no_pair_after}
 use Rattle.escape_stream.specs.StreamAction.{StreamAction, command, csi}
 use Rattle.escape_stream.specs.StreamActions.{actions_of}
 use Rattle.escape_stream.specs.StreamWritable.{IsReadBack}
 use Rattle.escape_stream.proofs.PlainBytes.{low_byte, is_plain, taken_plain, controls_in_plain, ends_none, plain_bytes, is_parameter_byte, parameter_bytes, parameters_plain, parameters_inside, parameters_low}
-use Rattle.escape_stream.proofs.TextSegments.{Says, says_same, says_segment, low_stands, low_text, escape_behind, other_stands}
+use Rattle.escape_stream.proofs.TextSegments.{Says, says_same, says_segment, low_stands, low_text, escape_after, other_stands}
 
 -- ---- Control sequences
 
@@ -49,7 +49,7 @@ says_sequence body final bytes actions p l u h =
     split = ap (λ x. 27 ∷ 91 ∷ x) (append_assoc body (final ∷ []) bytes)
 
     behind : no_pair (0xC2 ∷ (body ++ final ∷ bytes)) ≡ true
-    behind = low_text body (final ∷ bytes) (parameters_low body p) (low_stands final bytes (low_byte final u) (no_pair_behind (0xC2 ∷ []) bytes h.unpaired))
+    behind = low_text body (final ∷ bytes) (parameters_low body p) (low_stands final bytes (low_byte final u) (no_pair_after (0xC2 ∷ []) bytes h.unpaired))
 
     stands : no_pair (0xC2 ∷ 27 ∷ 91 ∷ (body ++ final ∷ bytes)) ≡ true
     stands = low_text (27 ∷ 91 ∷ []) (body ++ final ∷ bytes) refl behind
@@ -93,7 +93,7 @@ says_body body bytes actions p n h =
     split = ap (λ x. 27 ∷ 93 ∷ (x ++ 27 ∷ bytes)) (append-nil body)
 
     stands : no_pair (0xC2 ∷ 27 ∷ 93 ∷ (body ++ 27 ∷ bytes)) ≡ true
-    stands = other_stands 93 (body ++ 27 ∷ bytes) refl (escape_behind body bytes (not_c1 body n) (no_pair_behind (0xC2 ∷ []) (27 ∷ bytes) h.unpaired))
+    stands = other_stands 93 (body ++ 27 ∷ bytes) refl (escape_after body bytes (not_c1 body n) (no_pair_after (0xC2 ∷ []) (27 ∷ bytes) h.unpaired))
 
 -- the text of a command, where what is behind it begins with its ESC \
 pub says_command : (c : Command) (bytes : List ℕ) (actions : List StreamAction) → osc.IsWritable c → Says (27 ∷ 92 ∷ bytes) actions → Says (text_of c ++ bytes) (command c ∷ actions)

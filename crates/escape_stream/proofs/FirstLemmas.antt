@@ -74,10 +74,10 @@ take_none zero xs e = sym e
 take_none (suc n) [] e = refl
 take_none (suc n) (x ∷ xs) e = cc
 
-take_behind : (i j : ℕ) (xs : List ℕ) → take (i + j) xs ≡ take i xs ++ take j (drop i xs)
-take_behind zero j xs = let k : 0 + j ≡ j = omega arith in ap (λ (n : ℕ). take n xs) k
-take_behind (suc i) j [] = let k : suc i + j ≡ suc (i + j) = omega arith in rw k (sym (take_none j [] refl))
-take_behind (suc i) j (x ∷ xs) = let k : suc i + j ≡ suc (i + j) = omega arith in rw k (ap (λ (l : List ℕ). x ∷ l) (take_behind i j xs))
+take_after : (i j : ℕ) (xs : List ℕ) → take (i + j) xs ≡ take i xs ++ take j (drop i xs)
+take_after zero j xs = let k : 0 + j ≡ j = omega arith in ap (λ (n : ℕ). take n xs) k
+take_after (suc i) j [] = let k : suc i + j ≡ suc (i + j) = omega arith in rw k (sym (take_none j [] refl))
+take_after (suc i) j (x ∷ xs) = let k : suc i + j ≡ suc (i + j) = omega arith in rw k (ap (λ (l : List ℕ). x ∷ l) (take_after i j xs))
 
 pub nowhere : (P : List ℕ → Type 0) (stream bytes : List ℕ) (held : Held) (i : ℕ) → length bytes ≤ i → IsReadTo P stream bytes held i → IsNowhere P bytes
 nowhere P stream bytes held i above r = λ count within. r.none count (omega arith)
@@ -94,12 +94,12 @@ module _ (stream bytes : List ℕ) (i : ℕ) where
 
   pub newly_next : newly_decided_actions stream (take (i + 1) bytes) ≡ newly_decided_actions stream (take i bytes) ++ next_actions
   newly_next =
-      ap (newly_decided_actions stream) (take_behind i 1 bytes)
+      ap (newly_decided_actions stream) (take_after i 1 bytes)
       ∙ ap actions_of (newly_join stream (take i bytes) (take 1 (drop i bytes)))
       ∙ flat_map-append actions_of_dispatch (newly_decided stream (take i bytes)) (newly_decided (stream ++ take i bytes) (take 1 (drop i bytes)))
 
   pub held_more : (held : Held) → held ≡ held_of ((stream ++ take i bytes) ++ take 1 (drop i bytes)) → held ≡ held_of (stream ++ take (i + 1) bytes)
-  held_more held e = e ∙ ap held_of (append_assoc stream (take i bytes) (take 1 (drop i bytes)) ∙ ap (λ l. stream ++ l) (sym (take_behind i 1 bytes)))
+  held_more held e = e ∙ ap held_of (append_assoc stream (take i bytes) (take 1 (drop i bytes)) ∙ ap (λ l. stream ++ l) (sym (take_after i 1 bytes)))
 
   pub read_next : (P : List ℕ → Type 0) (before after : Held) → IsReadTo P stream bytes before i → after ≡ held_of ((stream ++ take i bytes) ++ take 1 (drop i bytes)) → (P (take (i + 1) bytes) → ⊥) → IsReadTo P stream bytes after (i + 1)
   read_next P before after r e not = record {

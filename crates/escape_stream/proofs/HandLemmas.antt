@@ -8,7 +8,7 @@ use Rattle.escape_stream.specs.declared.pieces.Piece.TheVariants as code
 use Rattle.escape_stream.specs.StreamAction.{StreamAction, appended}
 use Rattle.escape_stream.specs.StreamActions.{newly_decided_actions}
 use Rattle.escape_stream.specs.Parsing.{IsCalledAt}
-use Rattle.escape_stream.specs.Pieces.{Piece, Text, Lone, pieces, actions_of_piece, actions_of_pieces}
+use Rattle.escape_stream.specs.Pieces.{Piece, Text, Single, pieces, actions_of_piece, actions_of_pieces}
 use Rattle.escape_stream.specs.Items as item
 use Rattle.escape_stream.specs.Items.{Item, item_of, items_of, items, actions_of_item, actions_of_items}
 use Rattle.escape_stream.specs.PiecesView.{IsPiece, item_handed}
@@ -20,14 +20,14 @@ use Rattle.escape_stream.proofs.SpokenLemmas.{pieces_say}
 pub same_item : (p : Piece) (x : PieceCode) → IsPiece p x → item_of p ≡ item_handed x
 same_item (Text from text) (code.Text t) e = ap item.Text (sym e)
 same_item (Text from text) (code.Action a) e = absurd e
-same_item (Lone a) (code.Text t) e = absurd e
-same_item (Lone a) (code.Action b) e = ap item.Lone (sym e)
+same_item (Single a) (code.Text t) e = absurd e
+same_item (Single a) (code.Action b) e = ap item.Single (sym e)
 
 -- ---- actions
 
 one_says : (p : Piece) → actions_of_item (item_of p) ≡ actions_of_piece p
 one_says (Text from text) = refl
-one_says (Lone a) = refl
+one_says (Single a) = refl
 
 all_say : (ps : List Piece) → actions_of_items (items_of ps) ≡ actions_of_pieces ps
 all_say [] = refl

@@ -5,18 +5,18 @@ use Rattle.std.specs.Str.{IsUtf8, chars}
 use Rattle.std.proofs.lemmas.Str.{IsUtf8-past_char, encodes-chars, chars_past_char, chars-nil}
 use Rattle.escape_stream.specs.StreamAction.{StreamAction, print, print_string, is_print, printed, appended}
 
-some_behind : (u : List StreamAction) (x : StreamAction) → appended u x ≢ []
-some_behind [] x e = cc
-some_behind (a ∷ []) x e = by_test (is_print a && is_print x) refl
+some_after : (u : List StreamAction) (x : StreamAction) → appended u x ≢ []
+some_after [] x e = cc
+some_after (a ∷ []) x e = by_test (is_print a && is_print x) refl
   where
     by_test : (t : Bool) → (is_print a && is_print x) ≡ t → ⊥
     by_test true k = let l : print_string (printed a ++ printed x) ∷ [] ≡ [] = rw k at e in cc
     by_test false k = let l : a ∷ x ∷ [] ≡ [] = rw k at e in cc
-some_behind (a ∷ b ∷ u) x e = cc
+some_after (a ∷ b ∷ u) x e = cc
 
-behind_some : (a : StreamAction) (u : List StreamAction) (x : StreamAction) → u ≢ [] → appended (a ∷ u) x ≡ a ∷ appended u x
-behind_some a [] x n = absurd (n refl)
-behind_some a (b ∷ u) x n = refl
+after_some : (a : StreamAction) (u : List StreamAction) (x : StreamAction) → u ≢ [] → appended (a ∷ u) x ≡ a ∷ appended u x
+after_some a [] x n = absurd (n refl)
+after_some a (b ∷ u) x n = refl
 
 -- two prints are one of both texts
 two_prints : (u : List StreamAction) (x y : StreamAction) → is_print x ≡ true → is_print y ≡ true → appended (appended u x) y ≡ appended u (print_string (printed x ++ printed y))
@@ -27,7 +27,7 @@ two_prints (a ∷ []) x y p q = by_test (is_print a) refl
     by_test true k = rw (k, p) (rw q (ap (λ l. print_string l ∷ []) (append_assoc (printed a) (printed x) (printed y))))
     by_test false k = rw k (rw (p, q) refl)
 two_prints (a ∷ b ∷ u) x y p q =
-    behind_some a (appended (b ∷ u) x) y (some_behind (b ∷ u) x) ∙ ap (λ l. a ∷ l) (two_prints (b ∷ u) x y p q)
+    after_some a (appended (b ∷ u) x) y (some_after (b ∷ u) x) ∙ ap (λ l. a ∷ l) (two_prints (b ∷ u) x y p q)
 
 -- characters behind a text
 joined_text : (u : List StreamAction) (text cs : List ℕ) → fold appended (appended u (print_string text)) (map print cs) ≡ appended u (print_string (text ++ encode_utf8_all cs))

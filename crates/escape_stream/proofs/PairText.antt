@@ -2,12 +2,14 @@
 use Rattle.std.proofs.Common.{◌≡◌, ℕ, ◌≤◌, inl, inr, Bool, true, false, List, [], ◌∷◌, ◌++◌, refl, sym, ap, ◌∙◌, arith, Option, Some, None, subst}
 use Rattle.std.specs.Prelude.{◌==◌, ◌||◌, not, encode_utf8, ◌≢◌, find, unwrap_or}
 use Rattle.std.specs.List.{list_all, list_any}
+use Rattle.std.specs.Option.{option_map_or}
 use Rattle.std.proofs.lemmas.Bool.{and_parts, or_right, false≢true}
 use Rattle.std.proofs.lemmas.Bool.Decides.{nat_tests}
 use Rattle.std.proofs.lemmas.Str.{encode_ascii}
-use Rattle.csi_codec.specs.Escapes.{esc_code_bytes, esc_codes, has_bytes, code_or_bytes, known_code, esc_reading, esc_bytes, esc_text}
+use Rattle.csi_codec.specs.Escapes.{esc_code_bytes, esc_codes, has_bytes, known_code, esc_reading, esc_bytes, esc_text}
 use Rattle.csi_codec.specs.declared.escapes.EscCode.{EscCode}
 use Rattle.csi_codec.specs.declared.escapes.Esc.{Esc}
+use Rattle.csi_codec.specs.declared.escapes.Esc.TheVariants as pair
 use Rattle.escape_framing.specs.Bytes.{is_embedded, taken, is_intermediate, is_escape_final, is_string_opener, is_opener, in_escape}
 use Rattle.escape_framing.specs.Segment.{Escape}
 use Rattle.escape_framing.specs.Dispatch.{escape_dispatch, dispatches_of}
@@ -65,7 +67,7 @@ written intermediate final known b e =
     }
 
 text_read : (intermediate : Option ℕ) (final : ℕ) (found : Option EscCode) → ArePairBytes intermediate final → known_code intermediate final ≡ found
-    → esc_text (code_or_bytes found intermediate final) ≡ esc_bytes intermediate final
+    → esc_text (option_map_or pair.Code found (pair.Unspecified intermediate final)) ≡ esc_bytes intermediate final
 text_read intermediate final None b e = refl
 text_read intermediate final (Some known) b e =
     let w = written intermediate final known b e in
@@ -95,9 +97,9 @@ is_intermediate_byte b l h = grind (arith, nat_tests)
 intermediate_is_plain : (b : ℕ) → 32 ≤ b → b ≤ 47 → is_plain b ≡ true
 intermediate_is_plain b l h = grind (arith, nat_tests)
 
-says_lone : (final : ℕ) (bytes : List ℕ) (actions : List StreamAction) → ArePairBytes None final → Says bytes actions → Says (27 ∷ final ∷ bytes) (esc (esc_reading None final) ∷ actions)
+says_single : (final : ℕ) (bytes : List ℕ) (actions : List StreamAction) → ArePairBytes None final → Says bytes actions → Says (27 ∷ final ∷ bytes) (esc (esc_reading None final) ∷ actions)
 unfolding escape_dispatch
-says_lone final bytes actions b h =
+says_single final bytes actions b h =
     says_segment (Escape [] final) bytes actions (refl, final_byte final b.0 b.1, ap not (opens_nothing final b.2))
     (low_text (27 ∷ final ∷ []) bytes (rw (low_byte final b.1) refl) h.unpaired) h
 
@@ -121,7 +123,7 @@ says_between between final bytes actions b h =
 says_bytes : (intermediate : Option ℕ) (final : ℕ) (bytes : List ℕ) (actions : List StreamAction) → ArePairBytes intermediate final → Says bytes actions
     → Says (esc_bytes intermediate final ++ bytes) (esc (esc_reading intermediate final) ∷ actions)
 says_bytes None final bytes actions b h =
-    says_same (ap (λ l. 27 ∷ (l ++ bytes)) (sym (encode_ascii final (omega arith)))) refl (says_lone final bytes actions b h)
+    says_same (ap (λ l. 27 ∷ (l ++ bytes)) (sym (encode_ascii final (omega arith)))) refl (says_single final bytes actions b h)
 says_bytes (Some between) final bytes actions b h =
     says_same (ap (λ l. 27 ∷ (l ++ final ∷ [] ++ bytes)) (sym (encode_ascii between (omega arith))) ∙ ap (λ l. 27 ∷ ((encode_utf8 between ++ l) ++ bytes)) (sym (encode_ascii final (omega arith)))) refl
     (says_between between final bytes actions b h)
@@ -142,4 +144,4 @@ backslash_opens_none (inr (inr (inr (inr (inr e))))) = omega arith
 -- ESC \ is the string terminator
 pub says_terminator : (bytes : List ℕ) (actions : List StreamAction) → Says bytes actions → Says (27 ∷ 92 ∷ bytes) (string_terminator ∷ actions)
 unfolding known_code
-says_terminator bytes actions h = says_lone 92 bytes actions (omega arith, omega arith, backslash_opens_none) h
+says_terminator bytes actions h = says_single 92 bytes actions (omega arith, omega arith, backslash_opens_none) h

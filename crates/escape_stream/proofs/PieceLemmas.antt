@@ -6,19 +6,19 @@ use Rattle.std.proofs.lemmas.List.{drop-drop}
 use Rattle.escape_framing.specs.Event.{handed_out, kept_rank, rank}
 use Rattle.escape_framing.specs.Held.{Held, Kept, InCharacter, InEscape, InControlSequence, InCommand, InHeader, InDevice, InString, hand_out}
 use Rattle.escape_framing.specs.Framed as framing
-use Rattle.escape_framing.specs.Framed.{Framed, framed_behind, IsReached, IsCarried}
+use Rattle.escape_framing.specs.Framed.{Framed, framed_after, IsReached, IsCarried}
 use Rattle.escape_framing.specs.Lending.{Lending}
 use Rattle.escape_framing.specs.Read.{ReadsEvent, count_of}
 use Rattle.escape_framing.specs.Read as reading
 use Rattle.escape_framing.specs.declared.event.Event.{Event}
 use Rattle.escape_framing.specs.declared.event.Read.{Read}
-use Rattle.escape_stream.specs.Pieces.{Piece, Lone, pieces_of_framed, pieces_of}
+use Rattle.escape_stream.specs.Pieces.{Piece, Single, pieces_of_framed, pieces_of}
 use Rattle.escape_stream.specs.Sequences.{event_actions}
 
 -- ---- the actions of an event
 
-pub event_pieces : (l : Lending) (e : Event) (rest : List Piece) → pieces_of (map framing.Lone (handed_out l (Some e))) ++ rest ≡ map Lone (event_actions l e) ++ rest
-event_pieces l e rest = ap (λ (x : List Piece). x ++ rest) (append-nil (map Lone (event_actions l e)))
+pub event_pieces : (l : Lending) (e : Event) (rest : List Piece) → pieces_of (map framing.Single (handed_out l (Some e))) ++ rest ≡ map Single (event_actions l e) ++ rest
+event_pieces l e rest = ap (λ (x : List Piece). x ++ rest) (append-nil (map Single (event_actions l e)))
 
 -- ---- what was read
 
@@ -31,20 +31,20 @@ pub record Behind (k n : ℕ) (h after : Held) (bytes : List ℕ) : Type 0 where
 
 module _ (k : ℕ) (h : Held) (bytes : List ℕ) (r : Read) (l : Lending) (reads : ReadsEvent h (drop k bytes) r l) where
   -- what is left behind it
-  left_behind : (start n : ℕ) → framed_behind start (start + k + n) l.held (drop n (drop k bytes)) ≡ framed_behind start (start + (k + n)) l.held (drop (k + n) bytes)
-  left_behind start n = λ i. framed_behind start (add_assoc start k n i) l.held (drop-drop n k bytes i)
+  left_after : (start n : ℕ) → framed_after start (start + k + n) l.held (drop n (drop k bytes)) ≡ framed_after start (start + (k + n)) l.held (drop (k + n) bytes)
+  left_after start n = λ i. framed_after start (add_assoc start k n i) l.held (drop-drop n k bytes i)
 
   pub read_pieces : (start : ℕ) → IsReached h → IsCarried 0 k h (drop k bytes)
-      → pieces_of (framed_behind start (start + k) h (drop k bytes)) ≡ pieces_of (reading.items_of l r (drop k bytes) (start + k)) ++ pieces_of (framed_behind start (start + (k + count_of r)) l.held (drop (k + count_of r) bytes))
+      → pieces_of (framed_after start (start + k) h (drop k bytes)) ≡ pieces_of (reading.items_of l r (drop k bytes) (start + k)) ++ pieces_of (framed_after start (start + (k + count_of r)) l.held (drop (k + count_of r) bytes))
   read_pieces start reached carried =
       let f = reads.frames k reached carried in
       let items = reading.items_of l r (drop k bytes) (start + k) in
       ap pieces_of (f.lends start)
-      ∙ flat_map-append pieces_of_framed items (framed_behind start (start + k + count_of r) l.held (drop (count_of r) (drop k bytes)))
-      ∙ ap (λ (x : List Framed). pieces_of items ++ pieces_of x) (left_behind start (count_of r))
+      ∙ flat_map-append pieces_of_framed items (framed_after start (start + k + count_of r) l.held (drop (count_of r) (drop k bytes)))
+      ∙ ap (λ (x : List Framed). pieces_of items ++ pieces_of x) (left_after start (count_of r))
 
-  pub read_behind : k ≤ length bytes → IsReached h → IsCarried 0 k h (drop k bytes) → Behind k (count_of r) h l.held bytes
-  read_behind within reached carried =
+  pub read_after : k ≤ length bytes → IsReached h → IsCarried 0 k h (drop k bytes) → Behind k (count_of r) h l.held bytes
+  read_after within reached carried =
       let f = reads.frames k reached carried in
       let d : drop (count_of r) (drop k bytes) ≡ drop (k + count_of r) bytes = drop-drop (count_of r) k bytes in
       record {

@@ -12,7 +12,7 @@ use Rattle.text_clusters.specs.Controls.{is_c1}
 use lib.Utf8.{scalar, scalars}
 use Rattle.escape_framing.specs.Segment.{Character, Control, IsPrintable, IsControl}
 use Rattle.escape_framing.proofs.Existence.Utf8Lemmas.{Spelled, in_one, in_two, in_three, in_four, spelled, order}
-use Rattle.escape_framing.proofs.Existence.SevenBitLemmas.{no_pair, no_pair_behind}
+use Rattle.escape_framing.proofs.Existence.SevenBitLemmas.{no_pair, no_pair_after}
 use Rattle.escape_stream.specs.declared.control.ControlCode.{ControlCode}
 use Rattle.escape_stream.specs.Controls.{control_number, control_codes}
 use Rattle.escape_stream.specs.StreamAction.{StreamAction, print, control}
@@ -51,25 +51,25 @@ low_test : (c : ℕ) → c < 128 → nat_lt c 128 ≡ true
 low_test c h = grind (arith, nat_tests)
 
 character_stands : (c : ℕ) (bytes : List ℕ) → IsPrintable c → Spelled c → no_pair (0xC2 ∷ bytes) ≡ true → no_pair (0xC2 ∷ (encode_utf8 c ++ bytes)) ≡ true
-character_stands c bytes p (in_one l e) h = ap (λ x. no_pair (0xC2 ∷ (x ++ bytes))) e ∙ low_stands c bytes (low_test c l) (no_pair_behind (0xC2 ∷ []) bytes h)
+character_stands c bytes p (in_one l e) h = ap (λ x. no_pair (0xC2 ∷ (x ++ bytes))) e ∙ low_stands c bytes (low_test c l) (no_pair_after (0xC2 ∷ []) bytes h)
 character_stands c bytes p (in_two g l e) h =
     ap (λ x. no_pair (0xC2 ∷ (x ++ bytes))) e
     ∙ pair_stands 0xC2 (192 + c / 64) ((128 + c % 64) ∷ bytes) (lead_stands (192 + c / 64) (omega arith))
     (pair_stands (192 + c / 64) (128 + c % 64) bytes (two_bytes c (above c g p) l)
-    (other_stands (128 + c % 64) bytes (is_other (128 + c % 64) (λ k. omega arith)) (no_pair_behind (0xC2 ∷ []) bytes h)))
+    (other_stands (128 + c % 64) bytes (is_other (128 + c % 64) (λ k. omega arith)) (no_pair_after (0xC2 ∷ []) bytes h)))
 character_stands c bytes p (in_three g l s e) h =
     ap (λ x. no_pair (0xC2 ∷ (x ++ bytes))) e
     ∙ pair_stands 0xC2 (224 + c / 4096) ((128 + (c / 64) % 64) ∷ (128 + c % 64) ∷ bytes) (lead_stands (224 + c / 4096) (omega arith))
     (other_stands (224 + c / 4096) ((128 + (c / 64) % 64) ∷ (128 + c % 64) ∷ bytes) (is_other (224 + c / 4096) (λ k. omega arith))
     (other_stands (128 + (c / 64) % 64) ((128 + c % 64) ∷ bytes) (is_other (128 + (c / 64) % 64) (λ k. omega arith))
-    (other_stands (128 + c % 64) bytes (is_other (128 + c % 64) (λ k. omega arith)) (no_pair_behind (0xC2 ∷ []) bytes h))))
+    (other_stands (128 + c % 64) bytes (is_other (128 + c % 64) (λ k. omega arith)) (no_pair_after (0xC2 ∷ []) bytes h))))
 character_stands c bytes p (in_four g l e) h =
     ap (λ x. no_pair (0xC2 ∷ (x ++ bytes))) e
     ∙ pair_stands 0xC2 (240 + c / 262144) ((128 + (c / 4096) % 64) ∷ (128 + (c / 64) % 64) ∷ (128 + c % 64) ∷ bytes) (lead_stands (240 + c / 262144) (omega arith))
     (other_stands (240 + c / 262144) ((128 + (c / 4096) % 64) ∷ (128 + (c / 64) % 64) ∷ (128 + c % 64) ∷ bytes) (is_other (240 + c / 262144) (λ k. omega arith))
     (other_stands (128 + (c / 4096) % 64) ((128 + (c / 64) % 64) ∷ (128 + c % 64) ∷ bytes) (is_other (128 + (c / 4096) % 64) (λ k. omega arith))
     (other_stands (128 + (c / 64) % 64) ((128 + c % 64) ∷ bytes) (is_other (128 + (c / 64) % 64) (λ k. omega arith))
-    (other_stands (128 + c % 64) bytes (is_other (128 + c % 64) (λ k. omega arith)) (no_pair_behind (0xC2 ∷ []) bytes h)))))
+    (other_stands (128 + c % 64) bytes (is_other (128 + c % 64) (λ k. omega arith)) (no_pair_after (0xC2 ∷ []) bytes h)))))
 
 pub says_print : (c : ℕ) (bytes : List ℕ) (actions : List StreamAction) → IsScalar c → IsPrintable c → Says bytes actions → Says (encode_utf8 c ++ bytes) (print c ∷ actions)
 says_print c bytes actions s p h = says_segment (Character c) bytes actions (s, p) (character_stands c bytes p (spelled c s) h.unpaired) h
@@ -123,4 +123,4 @@ control_low n (inr e) = omega arith
 pub says_control : (n : ℕ) (bytes : List ℕ) (actions : List StreamAction) → IsControl n → Says bytes actions → Says (n ∷ bytes) (control n ∷ actions)
 says_control n bytes actions c h =
     says_same refl (ap (λ l. (l ++ []) ++ actions) (found control_codes n (listed n c)))
-    (says_segment (Control n) bytes actions c (low_stands n bytes (low_test n (control_low n c)) (no_pair_behind (0xC2 ∷ []) bytes h.unpaired)) h)
+    (says_segment (Control n) bytes actions c (low_stands n bytes (low_test n (control_low n c)) (no_pair_after (0xC2 ∷ []) bytes h.unpaired)) h)

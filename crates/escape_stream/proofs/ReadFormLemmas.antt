@@ -6,22 +6,22 @@ use Rattle.std.proofs.lemmas.Str.{encodes-chars}
 use Rattle.csi_codec.specs.declared.escapes.Esc.{Esc}
 use Rattle.csi_codec.specs.Escapes.{esc_text}
 use Rattle.escape_stream.specs.StreamAction.{StreamAction, print, print_string, control, enter, data_byte, exit, command, csi, esc}
-use Rattle.escape_stream.specs.StreamText.{action_text, closes_string, is_terminator_pair, texts_behind}
-use Rattle.escape_stream.specs.StreamWritable.{terminator_before, read_form_behind, HasTexts, ReadFormsEncodeAlike}
+use Rattle.escape_stream.specs.StreamText.{action_text, closes_string, is_terminator_pair, texts_after}
+use Rattle.escape_stream.specs.StreamWritable.{terminator_before, read_form_after, HasTexts, ReadFormsEncodeAlike}
 
-characters_text : (cs : List ℕ) (others : List StreamAction) → texts_behind false (map print cs ++ others) ≡ encode_utf8_all cs ++ texts_behind false others
+characters_text : (cs : List ℕ) (others : List StreamAction) → texts_after false (map print cs ++ others) ≡ encode_utf8_all cs ++ texts_after false others
 characters_text [] others = refl
-characters_text (c ∷ cs) others = ap (λ rest. encode_utf8 c ++ rest) (characters_text cs others) ∙ sym (append_assoc (encode_utf8 c) (encode_utf8_all cs) (texts_behind false others))
+characters_text (c ∷ cs) others = ap (λ rest. encode_utf8 c ++ rest) (characters_text cs others) ∙ sym (append_assoc (encode_utf8 c) (encode_utf8_all cs) (texts_after false others))
 
-text_characters : (text : List ℕ) (others : List StreamAction) → IsUtf8 text → texts_behind false (map print (chars text) ++ others) ≡ text ++ texts_behind false others
-text_characters text others h = characters_text (chars text) others ∙ ap (λ bytes. bytes ++ texts_behind false others) (encodes-chars text h)
+text_characters : (text : List ℕ) (others : List StreamAction) → IsUtf8 text → texts_after false (map print (chars text) ++ others) ≡ text ++ texts_after false others
+text_characters text others h = characters_text (chars text) others ∙ ap (λ bytes. bytes ++ texts_after false others) (encodes-chars text h)
 
-pair_behind : (e : Esc) (v : Bool) (read others : List StreamAction) → texts_behind false read ≡ texts_behind false others → is_terminator_pair e ≡ v
-    → texts_behind true (terminator_before true v ++ esc e ∷ [] ++ read) ≡ cond v [] (esc_text e) ++ texts_behind false others
-pair_behind e true read others same h = ap (λ v. cond v [] (esc_text e) ++ texts_behind false read) h ∙ same
-pair_behind e false read others same h = ap (λ rest. esc_text e ++ rest) same
+pair_after : (e : Esc) (v : Bool) (read others : List StreamAction) → texts_after false read ≡ texts_after false others → is_terminator_pair e ≡ v
+    → texts_after true (terminator_before true v ++ esc e ∷ [] ++ read) ≡ cond v [] (esc_text e) ++ texts_after false others
+pair_after e true read others same h = ap (λ v. cond v [] (esc_text e) ++ texts_after false read) h ∙ same
+pair_after e false read others same h = ap (λ rest. esc_text e ++ rest) same
 
-pub same_bytes : (closed : Bool) (actions : List StreamAction) → HasTexts actions → texts_behind closed (read_form_behind closed actions) ≡ texts_behind closed actions
+pub same_bytes : (closed : Bool) (actions : List StreamAction) → HasTexts actions → texts_after closed (read_form_after closed actions) ≡ texts_after closed actions
 same_bytes true [] h = refl
 same_bytes false [] h = refl
 same_bytes true (print character ∷ others) h = ap (λ rest. action_text (print character) ++ rest) (same_bytes (closes_string (print character)) others h)
@@ -31,8 +31,8 @@ same_bytes true (data_byte byte ∷ others) h = ap (λ rest. action_text (data_b
 same_bytes true (exit ∷ others) h = ap (λ rest. action_text exit ++ rest) (same_bytes (closes_string exit) others h)
 same_bytes true (command c ∷ others) h = ap (λ rest. action_text (command c) ++ rest) (same_bytes (closes_string (command c)) others h)
 same_bytes true (csi a ∷ others) h = ap (λ rest. action_text (csi a) ++ rest) (same_bytes (closes_string (csi a)) others h)
-same_bytes true (print_string text ∷ others) h = text_characters text (read_form_behind false others) h.0 ∙ ap (λ rest. text ++ rest) (same_bytes false others h.1)
-same_bytes true (esc e ∷ others) h = pair_behind e (is_terminator_pair e) (read_form_behind false others) others (same_bytes false others h) refl
+same_bytes true (print_string text ∷ others) h = text_characters text (read_form_after false others) h.0 ∙ ap (λ rest. text ++ rest) (same_bytes false others h.1)
+same_bytes true (esc e ∷ others) h = pair_after e (is_terminator_pair e) (read_form_after false others) others (same_bytes false others h) refl
 same_bytes false (print character ∷ others) h = ap (λ rest. action_text (print character) ++ rest) (same_bytes (closes_string (print character)) others h)
 same_bytes false (control number ∷ others) h = ap (λ rest. action_text (control number) ++ rest) (same_bytes (closes_string (control number)) others h)
 same_bytes false (enter header byte ∷ others) h = ap (λ rest. action_text (enter header byte) ++ rest) (same_bytes (closes_string (enter header byte)) others h)
@@ -40,7 +40,7 @@ same_bytes false (data_byte byte ∷ others) h = ap (λ rest. action_text (data_
 same_bytes false (exit ∷ others) h = ap (λ rest. action_text exit ++ rest) (same_bytes (closes_string exit) others h)
 same_bytes false (command c ∷ others) h = ap (λ rest. action_text (command c) ++ rest) (same_bytes (closes_string (command c)) others h)
 same_bytes false (csi a ∷ others) h = ap (λ rest. action_text (csi a) ++ rest) (same_bytes (closes_string (csi a)) others h)
-same_bytes false (print_string text ∷ others) h = text_characters text (read_form_behind false others) h.0 ∙ ap (λ rest. text ++ rest) (same_bytes false others h.1)
+same_bytes false (print_string text ∷ others) h = text_characters text (read_form_after false others) h.0 ∙ ap (λ rest. text ++ rest) (same_bytes false others h.1)
 same_bytes false (esc e ∷ others) h = ap (λ rest. esc_text e ++ rest) (same_bytes false others h)
 
 pub read_forms-lem : ReadFormsEncodeAlike

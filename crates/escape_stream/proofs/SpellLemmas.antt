@@ -7,11 +7,11 @@ use Rattle.escape_framing.specs.Placed.{placed_from}
 use Rattle.escape_framing.proofs.SpellLemmas.{framed_spells}
 use Rattle.escape_stream.specs.StreamAction.{StreamAction, print}
 use Rattle.escape_stream.specs.StreamActions.{actions_of_dispatch, actions_of}
-use Rattle.escape_stream.specs.Pieces.{Piece, Lone, pieces_of, pieces, Spells, nothing, alone, in_text}
+use Rattle.escape_stream.specs.Pieces.{Piece, Single, pieces_of, pieces, Spells, nothing, alone, in_text}
 
-all_alone : (actions : List StreamAction) (items : List Piece) (others : List StreamAction) → Spells items others → Spells (map Lone actions ++ items) (actions ++ others)
+all_alone : (actions : List StreamAction) (items : List Piece) (others : List StreamAction) → Spells items others → Spells (map Single actions ++ items) (actions ++ others)
 all_alone [] items others h = h
-all_alone (a ∷ actions) items others h = alone a (map Lone actions ++ items) (actions ++ others) (all_alone actions items others h)
+all_alone (a ∷ actions) items others h = alone a (map Single actions ++ items) (actions ++ others) (all_alone actions items others h)
 
 prints_of : (cs : List ℕ) (ds : List Dispatch) → actions_of (map Print cs ++ ds) ≡ map print cs ++ actions_of ds
 prints_of [] ds = refl

@@ -19,7 +19,7 @@ use Rattle.escape_framing.specs.Framed.{Framed, framed, is_lent, put_text, put_c
 use Rattle.escape_framing.proofs.PlacedLemmas.{newly_join}
 use Rattle.escape_stream.specs.StreamAction.{StreamAction, print}
 use Rattle.escape_stream.specs.StreamActions.{actions_of_dispatch, actions_of, newly_decided_actions}
-use Rattle.escape_stream.specs.Pieces.{Piece, Lone, pieces_of, pieces, actions_of_piece, actions_of_pieces}
+use Rattle.escape_stream.specs.Pieces.{Piece, Single, pieces_of, pieces, actions_of_piece, actions_of_pieces}
 
 -- ---- a character that is printed is a scalar value
 
@@ -105,19 +105,19 @@ newly_print stream more =
 
 -- ---- pieces by their actions
 
-lone_actions : (actions : List StreamAction) → actions_of_pieces (map Lone actions) ≡ actions
-lone_actions [] = refl
-lone_actions (a ∷ actions) = ap (λ (l : List StreamAction). a ∷ l) (lone_actions actions)
+single_actions : (actions : List StreamAction) → actions_of_pieces (map Single actions) ≡ actions
+single_actions [] = refl
+single_actions (a ∷ actions) = ap (λ (l : List StreamAction). a ∷ l) (single_actions actions)
 
-pub lone_behind : (actions : List StreamAction) (items : List Piece) → actions_of_pieces (map Lone actions ++ items) ≡ actions ++ actions_of_pieces items
-lone_behind actions items = flat_map-append actions_of_piece (map Lone actions) items ∙ ap (λ (l : List StreamAction). l ++ actions_of_pieces items) (lone_actions actions)
+pub single_after : (actions : List StreamAction) (items : List Piece) → actions_of_pieces (map Single actions ++ items) ≡ actions ++ actions_of_pieces items
+single_after actions items = flat_map-append actions_of_piece (map Single actions) items ∙ ap (λ (l : List StreamAction). l ++ actions_of_pieces items) (single_actions actions)
 
-lone_framed : (d : Dispatch) (rest : List Framed) → actions_of_pieces (pieces_of (framing.Lone d ∷ rest)) ≡ actions_of_dispatch d ++ actions_of_pieces (pieces_of rest)
-lone_framed d rest = lone_behind (actions_of_dispatch d) (pieces_of rest)
+single_framed : (d : Dispatch) (rest : List Framed) → actions_of_pieces (pieces_of (framing.Single d ∷ rest)) ≡ actions_of_dispatch d ++ actions_of_pieces (pieces_of rest)
+single_framed d rest = single_after (actions_of_dispatch d) (pieces_of rest)
 
 put_actions : (from : ℕ) (text : List ℕ) (rest : List Framed) → IsUtf8 text → actions_of_pieces (pieces_of (put_text from text rest)) ≡ map print (chars text) ++ actions_of_pieces (pieces_of rest)
 put_actions from text [] u = refl
-put_actions from text (framing.Lone d ∷ rest) u = refl
+put_actions from text (framing.Single d ∷ rest) u = refl
 put_actions from text (framing.Text next more ∷ rest) u = by_test (next == from + length text) refl
   where
     by_test : (t : Bool) → (next == from + length text) ≡ t → actions_of_pieces (pieces_of (put_text from text (framing.Text next more ∷ rest))) ≡ map print (chars text) ++ actions_of_pieces (pieces_of (framing.Text next more ∷ rest))
@@ -142,13 +142,13 @@ seconds placed = map (λ (p : ℕ × Dispatch). p.1) placed
 framed_actions : (start : ℕ) (placed : List (ℕ × Dispatch)) → AllPrint (seconds placed) → actions_of_pieces (pieces_of (framed start placed)) ≡ actions_of (seconds placed)
 framed_actions start [] h = refl
 framed_actions start ((n, Print c) ∷ placed) h = character_actions start n c (framed start placed) h.0 ∙ ap (λ (l : List StreamAction). print c ∷ l) (framed_actions start placed h.1)
-framed_actions start ((n, Control b) ∷ placed) h = lone_framed (Control b) (framed start placed) ∙ ap (λ (l : List StreamAction). actions_of_dispatch (Control b) ++ l) (framed_actions start placed h.1)
-framed_actions start ((n, Escape i f) ∷ placed) h = lone_framed (Escape i f) (framed start placed) ∙ ap (λ (l : List StreamAction). actions_of_dispatch (Escape i f) ++ l) (framed_actions start placed h.1)
-framed_actions start ((n, ControlSequence t x f) ∷ placed) h = lone_framed (ControlSequence t x f) (framed start placed) ∙ ap (λ (l : List StreamAction). actions_of_dispatch (ControlSequence t x f) ++ l) (framed_actions start placed h.1)
-framed_actions start ((n, OperatingSystemCommand body) ∷ placed) h = lone_framed (OperatingSystemCommand body) (framed start placed) ∙ ap (λ (l : List StreamAction). actions_of_dispatch (OperatingSystemCommand body) ++ l) (framed_actions start placed h.1)
-framed_actions start ((n, Enter x f) ∷ placed) h = lone_framed (Enter x f) (framed start placed) ∙ ap (λ (l : List StreamAction). actions_of_dispatch (Enter x f) ++ l) (framed_actions start placed h.1)
-framed_actions start ((n, Data b) ∷ placed) h = lone_framed (Data b) (framed start placed) ∙ ap (λ (l : List StreamAction). actions_of_dispatch (Data b) ++ l) (framed_actions start placed h.1)
-framed_actions start ((n, Exit) ∷ placed) h = lone_framed Exit (framed start placed) ∙ ap (λ (l : List StreamAction). actions_of_dispatch Exit ++ l) (framed_actions start placed h.1)
+framed_actions start ((n, Control b) ∷ placed) h = single_framed (Control b) (framed start placed) ∙ ap (λ (l : List StreamAction). actions_of_dispatch (Control b) ++ l) (framed_actions start placed h.1)
+framed_actions start ((n, Escape i f) ∷ placed) h = single_framed (Escape i f) (framed start placed) ∙ ap (λ (l : List StreamAction). actions_of_dispatch (Escape i f) ++ l) (framed_actions start placed h.1)
+framed_actions start ((n, ControlSequence t x f) ∷ placed) h = single_framed (ControlSequence t x f) (framed start placed) ∙ ap (λ (l : List StreamAction). actions_of_dispatch (ControlSequence t x f) ++ l) (framed_actions start placed h.1)
+framed_actions start ((n, OperatingSystemCommand body) ∷ placed) h = single_framed (OperatingSystemCommand body) (framed start placed) ∙ ap (λ (l : List StreamAction). actions_of_dispatch (OperatingSystemCommand body) ++ l) (framed_actions start placed h.1)
+framed_actions start ((n, Enter x f) ∷ placed) h = single_framed (Enter x f) (framed start placed) ∙ ap (λ (l : List StreamAction). actions_of_dispatch (Enter x f) ++ l) (framed_actions start placed h.1)
+framed_actions start ((n, Data b) ∷ placed) h = single_framed (Data b) (framed start placed) ∙ ap (λ (l : List StreamAction). actions_of_dispatch (Data b) ++ l) (framed_actions start placed h.1)
+framed_actions start ((n, Exit) ∷ placed) h = single_framed Exit (framed start placed) ∙ ap (λ (l : List StreamAction). actions_of_dispatch Exit ++ l) (framed_actions start placed h.1)
 
 -- the dispatches of a call, without their places, are those that its bytes newly decide
 at_one_place : (n : ℕ) (ds : List Dispatch) → seconds (map (λ d. (n, d)) ds) ≡ ds

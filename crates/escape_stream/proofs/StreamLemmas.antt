@@ -4,35 +4,35 @@ use Rattle.std.proofs.lemmas.List.{at_drop_more, at_drop_all}
 use Rattle.escape_stream.specs.declared.action.Action.{Action}
 use Rattle.escape_stream.specs.StreamAction.{StreamAction, print_string, printed}
 use Rattle.escape_stream.specs.StreamActionView.{value_of}
-use Rattle.escape_stream.specs.StreamText.{action_text, closes_string, text_behind, texts_behind, stream_text, ends_closed, begins_terminated, TextsJoin}
+use Rattle.escape_stream.specs.StreamText.{action_text, closes_string, text_after, texts_after, stream_text, ends_closed, begins_terminated, TextsJoin}
 use Rattle.escape_stream.specs.Joining.{JoinsPair, JoinsLast}
 
 -- ---- Texts
 
 -- the steps of a walk that writes actions, with the bytes so far
 pub encode_next : (bytes : List ℕ) (actions : List Action) (i : ℕ) (action : Action) (closed : Bool) → i < length actions → action ≡ get_or actions i action
-    → bytes ++ text_behind closed (value_of action) ++ texts_behind (closes_string (value_of action)) (map value_of (drop (i + 1) actions)) ≡ bytes ++ texts_behind closed (map value_of (drop i actions))
+    → bytes ++ text_after closed (value_of action) ++ texts_after (closes_string (value_of action)) (map value_of (drop (i + 1) actions)) ≡ bytes ++ texts_after closed (map value_of (drop i actions))
 encode_next bytes actions i action closed below item =
-    append_assoc bytes (text_behind closed (value_of action)) (texts_behind (closes_string (value_of action)) (map value_of (drop (i + 1) actions)))
-    ∙ ap (λ (a : Action). bytes ++ texts_behind closed (value_of a ∷ map value_of (drop (i + 1) actions))) item
-    ∙ sym (at_drop_more (λ (rest : List Action). bytes ++ texts_behind closed (map value_of rest)) actions i action below)
+    append_assoc bytes (text_after closed (value_of action)) (texts_after (closes_string (value_of action)) (map value_of (drop (i + 1) actions)))
+    ∙ ap (λ (a : Action). bytes ++ texts_after closed (value_of a ∷ map value_of (drop (i + 1) actions))) item
+    ∙ sym (at_drop_more (λ (rest : List Action). bytes ++ texts_after closed (map value_of rest)) actions i action below)
 
-pub encode_end : (bytes : List ℕ) (actions : List Action) (i : ℕ) (closed : Bool) → length actions ≤ i → bytes ++ texts_behind closed (map value_of (drop i actions)) ≡ bytes
-encode_end bytes actions i closed h = at_drop_all (λ (rest : List Action). bytes ++ texts_behind closed (map value_of rest)) actions i h ∙ append-nil bytes
+pub encode_end : (bytes : List ℕ) (actions : List Action) (i : ℕ) (closed : Bool) → length actions ≤ i → bytes ++ texts_after closed (map value_of (drop i actions)) ≡ bytes
+encode_end bytes actions i closed h = at_drop_all (λ (rest : List Action). bytes ++ texts_after closed (map value_of rest)) actions i h ∙ append-nil bytes
 
 -- the texts of a list whose first action is not closed twice
-not_twice : (closed : Bool) (b : List StreamAction) → (closed && begins_terminated b) ≡ false → texts_behind closed b ≡ texts_behind false b
+not_twice : (closed : Bool) (b : List StreamAction) → (closed && begins_terminated b) ≡ false → texts_after closed b ≡ texts_after false b
 not_twice closed [] h = refl
-not_twice closed (x ∷ b) h = ap (λ v. cond v [] (action_text x) ++ texts_behind (closes_string x) b) h
+not_twice closed (x ∷ b) h = ap (λ v. cond v [] (action_text x) ++ texts_after (closes_string x) b) h
 
-texts_behind-append : (closed : Bool) (a b : List StreamAction) → (ends_closed closed a && begins_terminated b) ≡ false → texts_behind closed (a ++ b) ≡ texts_behind closed a ++ stream_text b
-texts_behind-append closed [] b h = not_twice closed b h
-texts_behind-append closed (x ∷ a) b h =
-    ap (λ rest. text_behind closed x ++ rest) (texts_behind-append (closes_string x) a b h)
-    ∙ sym (append_assoc (text_behind closed x) (texts_behind (closes_string x) a) (stream_text b))
+texts_after-append : (closed : Bool) (a b : List StreamAction) → (ends_closed closed a && begins_terminated b) ≡ false → texts_after closed (a ++ b) ≡ texts_after closed a ++ stream_text b
+texts_after-append closed [] b h = not_twice closed b h
+texts_after-append closed (x ∷ a) b h =
+    ap (λ rest. text_after closed x ++ rest) (texts_after-append (closes_string x) a b h)
+    ∙ sym (append_assoc (text_after closed x) (texts_after (closes_string x) a) (stream_text b))
 
 pub texts_join-lem : TextsJoin
-texts_join-lem a b h = texts_behind-append false a b h
+texts_join-lem a b h = texts_after-append false a b h
 
 -- ---- The last action
 
@@ -42,9 +42,9 @@ lone last next after true h = ap (λ a. a ∷ []) h.1 ∙ sym (ap (λ v. cond v 
 lone last next after false h =
     (ap (λ a. a ∷ []) h.1, ap (λ v. cond v (print_string (printed last ++ printed next) ∷ []) (last ∷ next ∷ [])) h.0)
 
-behind_first : (first second : StreamAction) (others after : List StreamAction) (next : StreamAction) (joined : Bool) → JoinsLast (second ∷ others) next joined after → JoinsLast (first ∷ second ∷ others) next joined (first ∷ after)
-behind_first first second others after next true h = ap (λ rest. first ∷ rest) h
-behind_first first second others after next false h = (ap (λ rest. first ∷ rest) h.0, ap (λ rest. first ∷ rest) h.1)
+after_first : (first second : StreamAction) (others after : List StreamAction) (next : StreamAction) (joined : Bool) → JoinsLast (second ∷ others) next joined after → JoinsLast (first ∷ second ∷ others) next joined (first ∷ after)
+after_first first second others after next true h = ap (λ rest. first ∷ rest) h
+after_first first second others after next false h = (ap (λ rest. first ∷ rest) h.0, ap (λ rest. first ∷ rest) h.1)
 
 pub joins_at : (actions : List Action) (n : ℕ) (last after : Action) (next : StreamAction) (joined : Bool) → length actions ≡ suc n → last ≡ get_or actions n last
     → JoinsPair (value_of last) next joined (value_of after) → JoinsLast (map value_of actions) next joined (map value_of (set actions n after))
@@ -53,7 +53,7 @@ joins_at (a ∷ []) zero last after next joined len item h = lone (value_of a) n
 joins_at (a ∷ []) (suc n) last after next joined len item h = absurd (omega (arith, len))
 joins_at (a ∷ b ∷ actions) zero last after next joined len item h = absurd (omega (arith, len))
 joins_at (a ∷ b ∷ actions) (suc n) last after next joined len item h =
-    behind_first (value_of a) (value_of b) (map value_of actions) (map value_of (set (b ∷ actions) n after)) next joined (joins_at (b ∷ actions) n last after next joined (cc len) item h)
+    after_first (value_of a) (value_of b) (map value_of actions) (map value_of (set (b ∷ actions) n after)) next joined (joins_at (b ∷ actions) n last after next joined (cc len) item h)
 
 -- an action that shows what it showed changes no list
 pub kept_at : (actions : List Action) (n : ℕ) (last after : Action) → last ≡ get_or actions n last → value_of after ≡ value_of last → map value_of (set actions n after) ≡ map value_of actions

@@ -12,7 +12,7 @@ use Rattle.escape_framing.specs.Segment.{Tail, Begun, Segment, bytes_of, IsSegme
 use Rattle.escape_framing.specs.Dispatch.{Dispatch, dispatches_of, decided_of}
 use Rattle.escape_framing.specs.Decode.{Reading, read_on}
 use Rattle.escape_framing.specs.Cut.{the_cut, tail_of, dispatches, newly_decided}
-use Rattle.escape_framing.proofs.Existence.SevenBitLemmas.{no_pair, no_pair_behind}
+use Rattle.escape_framing.proofs.Existence.SevenBitLemmas.{no_pair, no_pair_after}
 use Rattle.escape_framing.proofs.ReadLemmas.{behind, read_append}
 use Rattle.escape_framing.proofs.UniqueLemmas.{reads_segment}
 use Rattle.escape_stream.specs.StreamAction.{StreamAction}
@@ -44,19 +44,19 @@ pub low_text : (text bytes : List ℕ) → list_all (λ b. nat_lt b 128) text �
 low_text [] bytes h k = k
 low_text (b ∷ text) bytes h k =
     let p = and_parts (nat_lt b 128) (list_all (λ b. nat_lt b 128) text) h in
-    low_stands b (text ++ bytes) p.0 (no_pair_behind (0xC2 ∷ []) (text ++ bytes) (low_text text bytes p.1 k))
+    low_stands b (text ++ bytes) p.0 (no_pair_after (0xC2 ∷ []) (text ++ bytes) (low_text text bytes p.1 k))
 
 -- ESC may stand behind any byte
 pub before_escape : (x : ℕ) → is_c1 x 0x1B ≡ false
 before_escape x = and_right (x == 0xC2) false refl
 
 -- a text without a C1 control, before ESC
-pub escape_behind : (text bytes : List ℕ) → no_pair text ≡ true → no_pair (0x1B ∷ bytes) ≡ true → no_pair (text ++ 0x1B ∷ bytes) ≡ true
-escape_behind [] bytes h k = k
-escape_behind (b ∷ []) bytes h k = pair_stands b 0x1B bytes (before_escape b) k
-escape_behind (b ∷ c ∷ text) bytes h k =
+pub escape_after : (text bytes : List ℕ) → no_pair text ≡ true → no_pair (0x1B ∷ bytes) ≡ true → no_pair (text ++ 0x1B ∷ bytes) ≡ true
+escape_after [] bytes h k = k
+escape_after (b ∷ []) bytes h k = pair_stands b 0x1B bytes (before_escape b) k
+escape_after (b ∷ c ∷ text) bytes h k =
     let p = and_parts (not (is_c1 b c)) (no_pair (c ∷ text)) h in
-    pair_stands b c (text ++ 0x1B ∷ bytes) (not-true (is_c1 b c) p.0) (escape_behind (c ∷ text) bytes p.1 k)
+    pair_stands b c (text ++ 0x1B ∷ bytes) (not-true (is_c1 b c) p.0) (escape_after (c ∷ text) bytes p.1 k)
 
 -- bytes without a C1 control are their own seven-bit form
 own_form : (bytes : List ℕ) → no_pair bytes ≡ true → seven_bit bytes ≡ bytes
@@ -115,7 +115,7 @@ last_form b (c ∷ bytes) h =
     rw e (ap (λ l. b ∷ l) (own_form (c ∷ bytes) p.1))
 
 joined_form : (stream bytes : List ℕ) → no_pair (0xC2 ∷ bytes) ≡ true → seven_bit (stream ++ bytes) ≡ seven_bit stream ++ bytes
-joined_form [] bytes h = own_form bytes (no_pair_behind (0xC2 ∷ []) bytes h)
+joined_form [] bytes h = own_form bytes (no_pair_after (0xC2 ∷ []) bytes h)
 joined_form (b ∷ []) bytes h = last_form b bytes h
 joined_form (b ∷ c ∷ stream) bytes h = by_test (is_c1 b c) refl (joined_form stream bytes h) (joined_form (c ∷ stream) bytes h)
   where
@@ -136,10 +136,10 @@ whole_dispatches : (segments : List Segment) (tail : Tail) → tail ≡ Begun []
 whole_dispatches segments tail e = ap (λ (t : Tail). flat_map dispatches_of segments ++ decided_of t) e ∙ append-nil (flat_map dispatches_of segments)
 
 -- behind a stream that leaves nothing unfinished the bytes decide these actions, and leave nothing unfinished
-pub stream_says_behind : (stream bytes : List ℕ) (actions : List StreamAction) → tail_of stream ≡ Begun [] → Says bytes actions
+pub stream_says_after : (stream bytes : List ℕ) (actions : List StreamAction) → tail_of stream ≡ Begun [] → Says bytes actions
     → (newly_decided_actions stream bytes ≡ actions) × (tail_of (stream ++ bytes) ≡ Begun [])
 unfolding the_cut
-stream_says_behind stream bytes actions e h =
+stream_says_after stream bytes actions e h =
     let r = joined_reading stream bytes e h.unpaired in
     let closed : tail_of (stream ++ bytes) ≡ Begun [] = ap (λ (r : Reading). r.tail) r ∙ h.whole in
     let before : List Dispatch = flat_map dispatches_of (read_on (Begun []) (seven_bit stream)).segments in
@@ -156,4 +156,4 @@ stream_says_behind stream bytes actions e h =
 -- so it is of the bytes alone
 pub stream_says : (bytes : List ℕ) (actions : List StreamAction) → Says bytes actions → (stream_actions bytes ≡ actions) × (tail_of bytes ≡ Begun [])
 unfolding the_cut read_on
-stream_says bytes actions h = stream_says_behind [] bytes actions refl h
+stream_says bytes actions h = stream_says_after [] bytes actions refl h

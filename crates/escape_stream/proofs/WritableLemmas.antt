@@ -14,16 +14,16 @@ use Rattle.escape_framing.specs.Segment.{Begun, OpenDevice, DeviceControl}
 use Rattle.escape_framing.specs.Dispatch.{Data, Exit, dispatches_of}
 use Rattle.escape_framing.specs.Decode.{Reading, ends_before, first_byte, next_byte, read_on}
 use Rattle.escape_framing.specs.Cut.{tail_of}
-use Rattle.escape_framing.proofs.Existence.SevenBitLemmas.{no_pair, no_pair_behind}
+use Rattle.escape_framing.proofs.Existence.SevenBitLemmas.{no_pair, no_pair_after}
 use Rattle.escape_framing.proofs.ReadLemmas.{after, step_waits, step_ends_before}
 use Rattle.escape_framing.proofs.SequenceReading.{stays_device}
 use Rattle.escape_framing.proofs.UniqueLemmas.{reads_tail}
 use Rattle.escape_stream.specs.StreamAction.{StreamAction, print, print_string, control, enter, data_byte, exit, command, csi, esc}
 use Rattle.escape_stream.specs.StreamActions.{actions_of_dispatch, actions_of, stream_actions, newly_decided_actions}
-use Rattle.escape_stream.specs.StreamText.{is_terminator_pair, texts_behind, stream_text}
-use Rattle.escape_stream.specs.StreamWritable.{IsOpening, IsDataByte, IsWritableBehind, IsWritable, string_terminator, terminator_before, read_form_behind, read_form}
+use Rattle.escape_stream.specs.StreamText.{is_terminator_pair, texts_after, stream_text}
+use Rattle.escape_stream.specs.StreamWritable.{IsOpening, IsDataByte, IsWritableAfter, IsWritable, string_terminator, terminator_before, read_form_after, read_form}
 use Rattle.escape_stream.proofs.PlainBytes.{low_byte, is_plain, header_bytes, taken_plain, parameters_plain, parameters_inside, parameters_low}
-use Rattle.escape_stream.proofs.TextSegments.{Says, says_nothing, says_same, stream_says, stream_says_behind, pair_stands, low_stands, low_text, before_escape}
+use Rattle.escape_stream.proofs.TextSegments.{Says, says_nothing, says_same, stream_says, stream_says_after, pair_stands, low_stands, low_text, before_escape}
 use Rattle.escape_stream.proofs.PairText.{says_pair, says_terminator}
 use Rattle.escape_stream.proofs.PrintedText.{says_print, says_text, says_control}
 use Rattle.escape_stream.proofs.CommandText.{final_byte, says_csi, says_command}
@@ -60,7 +60,7 @@ feeds_end header final body before bytes actions p h =
           ∙ ap (λ l. enter l final ∷ ((map data_byte body ++ exit ∷ []) ++ actions)) (taken_plain header p)
           ∙ ap (λ l. enter header final ∷ l) (append_assoc (map data_byte body) (exit ∷ []) actions);
       whole = ap (λ (r : Reading). r.tail) e ∙ h.whole;
-      unpaired = pair_stands before 27 bytes (before_escape before) (no_pair_behind (0xC2 ∷ []) (27 ∷ bytes) h.unpaired);
+      unpaired = pair_stands before 27 bytes (before_escape before) (no_pair_after (0xC2 ∷ []) (27 ∷ bytes) h.unpaired);
     }
   where
     e : read_on (OpenDevice [] header final body) (27 ∷ bytes) ≡ after (DeviceControl [] header final body) (read_on (Begun []) (27 ∷ bytes))
@@ -95,24 +95,24 @@ says_device header final bytes actions o h = record {
     e = reads_tail (OpenDevice [] header final []) bytes (refl, parameters_inside header (header_bytes header o.header_bytes), final_byte final o.low o.high, refl)
 
     behind : no_pair (0xC2 ∷ (header ++ final ∷ bytes)) ≡ true
-    behind = low_text header (final ∷ bytes) (parameters_low header (header_bytes header o.header_bytes)) (low_stands final bytes (low_byte final o.high) (no_pair_behind (final ∷ []) bytes h.unpaired))
+    behind = low_text header (final ∷ bytes) (parameters_low header (header_bytes header o.header_bytes)) (low_stands final bytes (low_byte final o.high) (no_pair_after (final ∷ []) bytes h.unpaired))
 
 -- ---- The lists
 
 -- what is written for the list reads back: where a segment begins, behind what closed a string, and within the data of a
 -- device control string
 record Back (actions : List StreamAction) : Type 0 where
-  start : IsWritableBehind None actions → Says (texts_behind false actions) (read_form_behind false actions)
-  closed : IsWritableBehind None actions → Says (27 ∷ 92 ∷ texts_behind true actions) (read_form_behind true actions)
-  within : (header : List ℕ) (final : ℕ) (body : List ℕ) (before : ℕ) → list_all is_plain header ≡ true → IsWritableBehind (Some before) actions
-      → Feeds header final body before (texts_behind false actions) (enter header final ∷ (map data_byte body ++ read_form_behind false actions))
+  start : IsWritableAfter None actions → Says (texts_after false actions) (read_form_after false actions)
+  closed : IsWritableAfter None actions → Says (27 ∷ 92 ∷ texts_after true actions) (read_form_after true actions)
+  within : (header : List ℕ) (final : ℕ) (body : List ℕ) (before : ℕ) → list_all is_plain header ≡ true → IsWritableAfter (Some before) actions
+      → Feeds header final body before (texts_after false actions) (enter header final ∷ (map data_byte body ++ read_form_after false actions))
 
 -- a list that no string terminator begins, and no part of a device control string
-outside : (actions : List StreamAction) → (IsWritableBehind None actions → Says (texts_behind false actions) (read_form_behind false actions)) → texts_behind true actions ≡ texts_behind false actions
-    → read_form_behind true actions ≡ string_terminator ∷ read_form_behind false actions → ((before : ℕ) → IsWritableBehind (Some before) actions → ⊥) → Back actions
+outside : (actions : List StreamAction) → (IsWritableAfter None actions → Says (texts_after false actions) (read_form_after false actions)) → texts_after true actions ≡ texts_after false actions
+    → read_form_after true actions ≡ string_terminator ∷ read_form_after false actions → ((before : ℕ) → IsWritableAfter (Some before) actions → ⊥) → Back actions
 outside actions start text form n = record {
   start = start;
-  closed = λ w. says_same (ap (λ l. 27 ∷ 92 ∷ l) (sym text)) (sym form) (says_terminator (texts_behind false actions) (read_form_behind false actions) (start w));
+  closed = λ w. says_same (ap (λ l. 27 ∷ 92 ∷ l) (sym text)) (sym form) (says_terminator (texts_after false actions) (read_form_after false actions) (start w));
   within = λ header final body before p w. absurd (n before w);
 }
 
@@ -132,44 +132,44 @@ back : (actions : List StreamAction) → Back actions
 back [] = record { start = λ w. says_nothing; closed = λ w. says_terminator [] [] says_nothing; within = λ header final body before p w. absurd w }
 back (print c ∷ others) =
     let r = back others in
-    outside (print c ∷ others) (λ w. says_print c (texts_behind false others) (read_form_behind false others) w.0.0 w.0.1 (r.start w.1)) refl refl (λ before w. w)
+    outside (print c ∷ others) (λ w. says_print c (texts_after false others) (read_form_after false others) w.0.0 w.0.1 (r.start w.1)) refl refl (λ before w. w)
 back (print_string text ∷ others) =
     let r = back others in
-    outside (print_string text ∷ others) (λ w. says_text text (texts_behind false others) (read_form_behind false others) w.0 (r.start w.1)) refl refl (λ before w. w)
+    outside (print_string text ∷ others) (λ w. says_text text (texts_after false others) (read_form_after false others) w.0 (r.start w.1)) refl refl (λ before w. w)
 back (control n ∷ others) =
     let r = back others in
-    outside (control n ∷ others) (λ w. says_control n (texts_behind false others) (read_form_behind false others) w.0 (r.start w.1)) refl refl (λ before w. w)
+    outside (control n ∷ others) (λ w. says_control n (texts_after false others) (read_form_after false others) w.0 (r.start w.1)) refl refl (λ before w. w)
 back (enter header final ∷ others) =
     let r = back others in
-    outside (enter header final ∷ others) (λ w. says_device header final (texts_behind false others) (enter header final ∷ read_form_behind false others) w.0
+    outside (enter header final ∷ others) (λ w. says_device header final (texts_after false others) (enter header final ∷ read_form_after false others) w.0
     (r.within header final [] final (parameters_plain header (header_bytes header w.0.header_bytes)) w.1)) refl refl (λ before w. w)
 back (data_byte b ∷ others) =
     let r = back others in
     record {
       start = λ w. absurd w.0;
       closed = λ w. absurd w.0;
-      within = λ header final body before p w. feeds_byte header final body before b (texts_behind false others) (enter header final ∷ (map data_byte body ++ data_byte b ∷ read_form_behind false others)) w.0
-          (feeds_same (ap (λ l. enter header final ∷ l) (data_moves body b (read_form_behind false others))) (r.within header final (body ++ b ∷ []) b p w.1));
+      within = λ header final body before p w. feeds_byte header final body before b (texts_after false others) (enter header final ∷ (map data_byte body ++ data_byte b ∷ read_form_after false others)) w.0
+          (feeds_same (ap (λ l. enter header final ∷ l) (data_moves body b (read_form_after false others))) (r.within header final (body ++ b ∷ []) b p w.1));
     }
 back (exit ∷ others) =
     let r = back others in
     record {
       start = λ w. absurd w.0;
       closed = λ w. absurd w.0;
-      within = λ header final body before p w. feeds_end header final body before (92 ∷ texts_behind true others) (read_form_behind true others) p (r.closed w);
+      within = λ header final body before p w. feeds_end header final body before (92 ∷ texts_after true others) (read_form_after true others) p (r.closed w);
     }
 back (command c ∷ others) =
     let r = back others in
-    outside (command c ∷ others) (λ w. says_command c (texts_behind true others) (read_form_behind true others) w.0 (r.closed w.1)) refl refl (λ before w. w)
+    outside (command c ∷ others) (λ w. says_command c (texts_after true others) (read_form_after true others) w.0 (r.closed w.1)) refl refl (λ before w. w)
 back (csi a ∷ others) =
     let r = back others in
-    outside (csi a ∷ others) (λ w. says_csi a (texts_behind false others) (read_form_behind false others) w.0 (r.start w.1)) refl refl (λ before w. w)
+    outside (csi a ∷ others) (λ w. says_csi a (texts_after false others) (read_form_after false others) w.0 (r.start w.1)) refl refl (λ before w. w)
 back (esc e ∷ others) =
     let r = back others in
     record {
-      start = λ w. says_pair e (texts_behind false others) (read_form_behind false others) w.0 (r.start w.1);
-      closed = λ w. pair_closed e (texts_behind false others) (read_form_behind false others) (is_terminator_pair e) refl
-          (says_pair e (texts_behind false others) (read_form_behind false others) w.0 (r.start w.1)) (r.start w.1);
+      start = λ w. says_pair e (texts_after false others) (read_form_after false others) w.0 (r.start w.1);
+      closed = λ w. pair_closed e (texts_after false others) (read_form_after false others) (is_terminator_pair e) refl
+          (says_pair e (texts_after false others) (read_form_after false others) w.0 (r.start w.1)) (r.start w.1);
       within = λ header final body before p w. absurd w;
     }
 
@@ -177,6 +177,6 @@ pub writable_lists : (actions : List StreamAction) → IsWritable actions → (s
 writable_lists actions w = stream_says (stream_text actions) (read_form actions) ((back actions).start w)
 
 -- behind a stream that leaves nothing unfinished, too
-pub writable_behind : (stream : List ℕ) (actions : List StreamAction) → tail_of stream ≡ Begun [] → IsWritable actions
+pub writable_after : (stream : List ℕ) (actions : List StreamAction) → tail_of stream ≡ Begun [] → IsWritable actions
     → (newly_decided_actions stream (stream_text actions) ≡ read_form actions) × (tail_of (stream ++ stream_text actions) ≡ Begun [])
-writable_behind stream actions e w = stream_says_behind stream (stream_text actions) (read_form actions) e ((back actions).start w)
+writable_after stream actions e w = stream_says_after stream (stream_text actions) (read_form actions) e ((back actions).start w)

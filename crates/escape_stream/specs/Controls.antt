@@ -40,7 +40,13 @@ control_number code.Delete = 127
 
 abbrev pub control_codes : List ControlCode
 control_codes =
-    code.Null ∷ code.StartOfHeading ∷ code.StartOfText ∷ code.EndOfText ∷ code.EndOfTransmission ∷ code.Enquiry ∷ code.Acknowledge ∷ code.Bell ∷ code.Backspace ∷ code.HorizontalTab ∷ code.LineFeed ∷ code.VerticalTab ∷ code.FormFeed ∷ code.CarriageReturn ∷ code.ShiftOut ∷ code.ShiftIn ∷ code.DataLinkEscape ∷ code.DeviceControlOne ∷ code.DeviceControlTwo ∷ code.DeviceControlThree ∷ code.DeviceControlFour ∷ code.NegativeAcknowledge ∷ code.SynchronousIdle ∷ code.EndOfTransmissionBlock ∷ code.Cancel ∷ code.EndOfMedium ∷ code.Substitute ∷ code.Escape ∷ code.FileSeparator ∷ code.GroupSeparator ∷ code.RecordSeparator ∷ code.UnitSeparator ∷ code.Delete ∷ []
+    code.Null ∷ code.StartOfHeading ∷ code.StartOfText ∷ code.EndOfText ∷ code.EndOfTransmission ∷ code.Enquiry
+    ∷ code.Acknowledge ∷ code.Bell ∷ code.Backspace ∷ code.HorizontalTab ∷ code.LineFeed ∷ code.VerticalTab
+    ∷ code.FormFeed ∷ code.CarriageReturn ∷ code.ShiftOut ∷ code.ShiftIn ∷ code.DataLinkEscape
+    ∷ code.DeviceControlOne ∷ code.DeviceControlTwo ∷ code.DeviceControlThree ∷ code.DeviceControlFour
+    ∷ code.NegativeAcknowledge ∷ code.SynchronousIdle ∷ code.EndOfTransmissionBlock ∷ code.Cancel ∷ code.EndOfMedium
+    ∷ code.Substitute ∷ code.Escape ∷ code.FileSeparator ∷ code.GroupSeparator ∷ code.RecordSeparator
+    ∷ code.UnitSeparator ∷ code.Delete ∷ []
 
 -- the control character of a byte
 abbrev pub control_named : ℕ → Option ControlCode

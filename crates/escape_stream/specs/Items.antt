@@ -8,11 +8,11 @@ use Rattle.escape_stream.specs.StreamAction.{StreamAction, print}
 -- a text, as bytes, or an action by itself
 pub data Item : Type 0 where
   Text : List ℕ → Item
-  Lone : StreamAction → Item
+  Single : StreamAction → Item
 
 abbrev pub item_of : stream.Piece → Item
 item_of (stream.Text from text) = Text text
-item_of (stream.Lone a) = Lone a
+item_of (stream.Single a) = Single a
 
 abbrev pub items_of : List stream.Piece → List Item
 items_of pieces = map item_of pieces
@@ -24,7 +24,7 @@ items before bytes = items_of (stream.pieces before bytes)
 -- the actions of items: a text prints its characters
 abbrev pub actions_of_item : Item → List StreamAction
 actions_of_item (Text text) = map print (chars text)
-actions_of_item (Lone a) = a ∷ []
+actions_of_item (Single a) = a ∷ []
 
 abbrev pub actions_of_items : List Item → List StreamAction
 actions_of_items items = flat_map actions_of_item items

@@ -4,7 +4,8 @@ use Rattle.escape_stream.specs.StreamAction.{StreamAction, print_string, is_prin
 
 -- two prints became one, or nothing changed, as they are not both prints
 abbrev pub JoinsPair : StreamAction → StreamAction → Bool → StreamAction → Type 0
-JoinsPair last next true after = (is_print last && is_print next ≡ true) × (after ≡ print_string (printed last ++ printed next))
+JoinsPair last next true after =
+    (is_print last && is_print next ≡ true) × (after ≡ print_string (printed last ++ printed next))
 JoinsPair last next false after = (is_print last && is_print next ≡ false) × (after ≡ last)
 
 -- the last action of a list took a print in, or nothing changed, and the action is to stand behind the list

@@ -5,7 +5,8 @@ use Rattle.escape_stream.specs.ParserShown.{Parsing}
 use Rattle.escape_stream.specs.declared.parser.Parser.TheInside.{Inside}
 
 abbrev pub parsing_of : Inside → Parsing
-parsing_of p = record { held = p.framer.held; parameters = p.framer.parameters; body = p.framer.body; failed = p.failed }
+parsing_of p =
+    record { held = p.framer.held; parameters = p.framer.parameters; body = p.framer.body; failed = p.failed }
 
 -- what a parser holds that hasn't failed is held of some stream
 abbrev pub HoldsStream : Inside → Type 0

@@ -13,7 +13,8 @@ abbrev pub by_value : {F : Type 0} → (F → Action → F → Type 0) → F →
 by_value step f value f' = (a : Action) × (value_of a ≡ value) × step f a f'
 
 -- the callback was called at actions of these values, one after the other, and the last call left it like this
-pub record IsCalledAt {F : Type 0} (step : F → Action → F → Type 0) (callback : F) (values : List StreamAction) (last : F) : Type 0 where
+pub record IsCalledAt {F : Type 0} (step : F → Action → F → Type 0) (callback : F) (values : List StreamAction)
+    (last : F) : Type 0 where
   pub calls : FoldsTo (by_value step) callback values last
 
 -- ---- The first actions
@@ -42,16 +43,20 @@ pub record IsShortest (P : List ℕ → Type 0) (bytes : List ℕ) (count : ℕ)
 abbrev pub IsNowhere : (List ℕ → Type 0) → List ℕ → Type 0
 IsNowhere P bytes = (count : ℕ) → count ≤ length bytes → P (take count bytes) → ⊥
 
--- behind the stream, the first action of the shortest prefix that decides one, and its length; none where no prefix does
+-- behind the stream, the first action of the shortest prefix that decides one, and its length; none where no prefix
+-- does
 abbrev pub IsFirst : List ℕ → List ℕ → Option (StreamAction × ℕ) → Type 0
 IsFirst stream bytes None = IsNowhere (DecidesAction stream) bytes
-IsFirst stream bytes (Some found) = IsShortest (DecidesAction stream) bytes found.1 × ((others : List StreamAction) × (newly_decided_actions stream (take found.1 bytes) ≡ found.0 ∷ others))
+IsFirst stream bytes (Some found) =
+    IsShortest (DecidesAction stream) bytes found.1
+    × ((others : List StreamAction) × (newly_decided_actions stream (take found.1 bytes) ≡ found.0 ∷ others))
 
--- behind the stream, the actions of the shortest prefix that decides one and after which no segment is unfinished, and its
--- length; none where there is no such prefix
+-- behind the stream, the actions of the shortest prefix that decides one and after which no segment is unfinished, and
+-- its length; none where there is no such prefix
 abbrev pub IsFirstSettled : List ℕ → List ℕ → Option (List StreamAction × ℕ) → Type 0
 IsFirstSettled stream bytes None = IsNowhere (Settles stream) bytes
-IsFirstSettled stream bytes (Some found) = IsShortest (Settles stream) bytes found.1 × (newly_decided_actions stream (take found.1 bytes) ≡ found.0)
+IsFirstSettled stream bytes (Some found) =
+    IsShortest (Settles stream) bytes found.1 × (newly_decided_actions stream (take found.1 bytes) ≡ found.0)
 
 -- the bytes that were read: those up to what was found, or all
 abbrev pub bytes_read : {A : Type 0} → Option (A × ℕ) → List ℕ → List ℕ

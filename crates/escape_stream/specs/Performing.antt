@@ -9,14 +9,16 @@ use Rattle.escape_stream.specs.declared.perform.Halted.{Halted}
 use Rattle.escape_stream.specs.declared.perform.Halted.TheVariants as halted
 
 -- some first items were performed, in order, and no more
-pub record PerformsSome {P : Type 0} (does : P → Item → P → Type 0) (first : P) (items : List Item) (last : P) : Type 0 where
-  pub done : List Item
-  pub left : List Item
-  pub whole : items ≡ done ++ left
-  pub performed : FoldsTo does first done last
+pub record PerformsSome {P : Type 0} (does : P → Item → P → Type 0) (first : P) (items : List Item) (last : P) : Type 0
+  where
+    pub done : List Item
+    pub left : List Item
+    pub whole : items ≡ done ++ left
+    pub performed : FoldsTo does first done last
 
 -- the items before one were performed, in order, and that one was refused
-pub record StopsAt {P E : Type 0} (does : P → Item → P → Type 0) (refuses : P → Item → E → P → Type 0) (first : P) (items : List Item) (refusal : E) (last : P) : Type 0 where
+pub record StopsAt {P E : Type 0} (does : P → Item → P → Type 0) (refuses : P → Item → E → P → Type 0) (first : P)
+    (items : List Item) (refusal : E) (last : P) : Type 0 where
   pub done : List Item
   pub item : Item
   pub left : List Item
@@ -26,7 +28,8 @@ pub record StopsAt {P E : Type 0} (does : P → Item → P → Type 0) (refuses 
   pub refused : refuses before item refusal last
 
 -- what was performed where not all items were
-abbrev pub HaltsAt : {P E : Type 0} → (P → Item → P → Type 0) → (P → Item → E → P → Type 0) → P → List Item → Halted E → P → Type 0
+abbrev pub HaltsAt : {P E : Type 0} → (P → Item → P → Type 0) → (P → Item → E → P → Type 0) → P → List Item → Halted E
+    → P → Type 0
 HaltsAt does refuses first items halted.Failed last = PerformsSome does first items last
 HaltsAt does refuses first items halted.Memory last = PerformsSome does first items last
 HaltsAt does refuses first items (halted.Refused refusal) last = StopsAt does refuses first items refusal last

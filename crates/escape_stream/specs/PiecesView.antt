@@ -1,10 +1,11 @@
 -- What an iterator of pieces has yet to hand out, and of the parser that it borrows.
-use Rattle.std.specs.Prelude.{◌≡◌, ◌≤◌, ◌⊎◌, ℕ, ◌+◌, ◌-◌, ◌*◌, true, false, List, [], ◌∷◌, ◌++◌, length, take, drop, map, Option, Some, None, Result, Ok, Err, IfOk, OnErr}
+use Rattle.std.specs.Prelude.{◌≡◌, ◌≤◌, ◌⊎◌, ℕ, ◌+◌, ◌-◌, ◌*◌, true, false, List, [], ◌∷◌, ◌++◌, length, take, drop}
+use Rattle.std.specs.Prelude.{map, Option, Some, None, Result, Ok, Err, IfOk, OnErr}
 use base.Fml.{GName}
 use Rattle.std.specs.declared.alloc.AllocError.{AllocError}
 use Rattle.escape_framing.specs.Event.{rank}
 use Rattle.escape_framing.specs.Read.{TakesMemoryAt}
-use Rattle.escape_framing.specs.Framed.{framed_behind, IsReached, IsCarried}
+use Rattle.escape_framing.specs.Framed.{framed_after, IsReached, IsCarried}
 use Rattle.escape_framing.specs.Held.{Held, TakesMemory, hand_out, held_of}
 use Rattle.escape_framing.specs.declared.error.ParseError.{ParseError}
 use Rattle.escape_framing.specs.declared.error.ParseError.TheVariants as refusal
@@ -12,7 +13,7 @@ use Rattle.escape_framing.specs.declared.event.Event.{Event}
 use Rattle.escape_stream.specs.Items as item
 use Rattle.escape_stream.specs.Items.{Item, items_of}
 use Rattle.escape_stream.specs.ParserShown.{Parsing, lending_in}
-use Rattle.escape_stream.specs.Pieces.{Piece, Text, Lone, pieces, pieces_of}
+use Rattle.escape_stream.specs.Pieces.{Piece, Text, Single, pieces, pieces_of}
 use Rattle.escape_stream.specs.Sequences.{Gives, actions_left, event_actions, ActionTakesMemory, FirstTakes}
 use Rattle.escape_stream.specs.StreamActionView.{value_of}
 use Rattle.escape_stream.specs.declared.action.Action.{Action}
@@ -31,16 +32,19 @@ lender_of it = it.parser.ghost_name
 abbrev pub parser_of : Pieces → Parsing
 parser_of it = it.parser.now
 
--- the pieces of the bytes that weren't read yet, and before them what is left of a control sequence, in a call behind `start` bytes
+-- the pieces of the bytes that weren't read yet, and before them what is left of a control sequence, in a call behind
+-- `start` bytes
 abbrev pub open_pieces : ℕ → Pieces → List Piece
 open_pieces start it =
-    map Lone (actions_left it.parser.now.parameters it.sequence) ++ pieces_of (framed_behind start (start + it.count) it.parser.now.held (drop it.count it.bytes.now))
+    map Single (actions_left it.parser.now.parameters it.sequence)
+    ++ pieces_of (framed_after start (start + it.count) it.parser.now.held (drop it.count it.bytes.now))
 
 -- what is held of the stream once all is read
 abbrev pub held_at_end : Pieces → Held
 held_at_end it = (hand_out it.parser.now.held (drop it.count it.bytes.now)).held
 
--- What was read are bytes of a stream, whatever came before the call; a character that has begun in it isn't one to lend.
+-- What was read are bytes of a stream, whatever came before the call; a character that has begun in it isn't one to
+-- lend.
 pub record IsUnderWay (it : Pieces) : Type 0 where
   pub within : it.count ≤ length it.bytes.now
   pub reached : IsReached it.parser.now.held
@@ -50,7 +54,7 @@ pub record IsUnderWay (it : Pieces) : Type 0 where
 abbrev pub FirstTakesMemory : List Piece → Type 0
 FirstTakesMemory [] = ⊥
 FirstTakesMemory (Text from text ∷ pieces) = ⊥
-FirstTakesMemory (Lone action ∷ pieces) = ActionTakesMemory action
+FirstTakesMemory (Single action ∷ pieces) = ActionTakesMemory action
 
 -- so is one of them
 pub record SomeTakesMemory (pieces : List Piece) : Type 0 where
@@ -62,19 +66,21 @@ pub record SomeTakesMemory (pieces : List Piece) : Type 0 where
 -- Bytes behind a stream take memory: behind some of them the body of a command or a header is read, or they hand out an
 -- action that takes memory.
 abbrev pub BytesTakeMemory : List ℕ → List ℕ → Type 0
-BytesTakeMemory stream bytes = ((n : ℕ) × (n ≤ length bytes) × TakesMemory (held_of (stream ++ take n bytes)).kept) ⊎ SomeTakesMemory (pieces stream bytes)
+BytesTakeMemory stream bytes =
+    ((n : ℕ) × (n ≤ length bytes) × TakesMemory (held_of (stream ++ take n bytes)).kept)
+    ⊎ SomeTakesMemory (pieces stream bytes)
 
 -- a piece as a value
 abbrev pub IsPiece : Piece → PieceCode → Type 0
 IsPiece (Text from text) (code.Text t) = t.now ≡ text
 IsPiece (Text from text) (code.Action a) = ⊥
-IsPiece (Lone a) (code.Text t) = ⊥
-IsPiece (Lone a) (code.Action b) = value_of b ≡ a
+IsPiece (Single a) (code.Text t) = ⊥
+IsPiece (Single a) (code.Action b) = value_of b ≡ a
 
 -- the same without its place
 abbrev pub item_handed : PieceCode → Item
 item_handed (code.Text t) = item.Text t.now
-item_handed (code.Action a) = item.Lone (value_of a)
+item_handed (code.Action a) = item.Single (value_of a)
 
 -- the next piece of some, and what is left of them
 abbrev pub GivesPiece : List Piece → Option PieceCode → List Piece → Type 0
@@ -124,22 +130,28 @@ pub record SameBut (old new : Pieces) : Type 0 where
   pub stage : new.stage ≡ old.stage
 
 -- The next action of a control sequence is handed out, unless memory is refused.
-pub record HandsOutOf (old : Pieces) (sequence : Option Sequence) (answer : Result (Option Action) AllocError) (new : Pieces) : Type 0 where
+pub record HandsOutOf (old : Pieces) (sequence : Option Sequence) (answer : Result (Option Action) AllocError)
+    (new : Pieces) : Type 0 where
   pub others : SameBut old new
-  pub gives : IfOk answer (λ next. Gives (actions_left old.parser.now.parameters sequence) next (actions_left old.parser.now.parameters new.sequence))
+  pub gives : IfOk answer
+      (λ next. Gives (actions_left old.parser.now.parameters sequence) next
+      (actions_left old.parser.now.parameters new.sequence))
   pub over : IfOk answer (λ next. next ≡ None → new.sequence ≡ None)
   pub memory : OnErr answer (FirstTakes (actions_left old.parser.now.parameters sequence))
 
 -- The first action of an event is handed out, unless memory is refused; those of a control sequence go on behind it.
-pub record Begins (old : Pieces) (event : Event) (answer : Result (Option Action) AllocError) (new : Pieces) : Type 0 where
-  pub same : lender_of new ≡ lender_of old
-  pub parser : parser_of new ≡ record (parser_of old) { body = (parser_of new).body }
-  pub bytes : new.bytes ≡ old.bytes
-  pub count : new.count ≡ old.count
-  pub stage : new.stage ≡ old.stage
-  pub gives : IfOk answer (λ next. Gives (event_actions (lending_in old.parser.now) event) next (actions_left old.parser.now.parameters new.sequence))
-  pub over : IfOk answer (λ next. next ≡ None → new.sequence ≡ None)
-  pub memory : OnErr answer (FirstTakes (event_actions (lending_in old.parser.now) event))
+pub record Begins (old : Pieces) (event : Event) (answer : Result (Option Action) AllocError) (new : Pieces) : Type 0
+  where
+    pub same : lender_of new ≡ lender_of old
+    pub parser : parser_of new ≡ record (parser_of old) { body = (parser_of new).body }
+    pub bytes : new.bytes ≡ old.bytes
+    pub count : new.count ≡ old.count
+    pub stage : new.stage ≡ old.stage
+    pub gives : IfOk answer
+        (λ next. Gives (event_actions (lending_in old.parser.now) event) next
+        (actions_left old.parser.now.parameters new.sequence))
+    pub over : IfOk answer (λ next. next ≡ None → new.sequence ≡ None)
+    pub memory : OnErr answer (FirstTakes (event_actions (lending_in old.parser.now) event))
 
 -- how often it can be read on at most
 abbrev pub steps_left : Pieces → ℕ
@@ -171,8 +183,8 @@ pub record IsGoing (it : Pieces) : Type 0 where
 abbrev pub IsReady : Pieces → Type 0
 IsReady it = ready_at it.stage it
 
--- What a call of `next` answers: the next piece while there is one, then that there is none, and then so again; in place of
--- a piece that memory is refused, or first of all that the parser had failed, and then nothing more.
+-- What a call of `next` answers: the next piece while there is one, then that there is none, and then so again; in
+-- place of a piece that memory is refused, or first of all that the parser had failed, and then nothing more.
 abbrev pub HandsOutPiece : Pieces → Option (Result PieceCode ParseError) → Pieces → Type 0
 HandsOutPiece old (Some (Ok piece)) new = IsOpen old × IsOpen new × HasGiven old (Some piece) new
 HandsOutPiece old (Some (Err refusal.Memory)) new = IsOpen old × IsOver new × AsksMemory old

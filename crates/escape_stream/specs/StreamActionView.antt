@@ -7,7 +7,8 @@ use Rattle.escape_stream.specs.declared.action.Action.TheVariants as variant
 use Rattle.escape_stream.specs.declared.device.DeviceControlMode.{DeviceControlMode}
 use Rattle.escape_stream.specs.declared.device.DeviceControlMode.TheVariants as mode
 use Rattle.escape_stream.specs.Controls.{control_number}
-use Rattle.escape_stream.specs.StreamAction.{StreamAction, print, print_string, control, enter, data_byte, exit, command, csi, esc}
+use Rattle.escape_stream.specs.StreamAction.{StreamAction, print, print_string, control, enter, data_byte, exit}
+use Rattle.escape_stream.specs.StreamAction.{command, csi, esc}
 
 abbrev pub device_value : DeviceControlMode → StreamAction
 device_value (mode.Enter opening) = enter opening.value.header.items opening.value.byte

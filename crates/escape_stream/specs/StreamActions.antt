@@ -5,7 +5,8 @@ use Rattle.csi_codec.specs.Actions.{csi_reading}
 use Rattle.csi_codec.specs.Escapes.{esc_reading}
 use Rattle.escape_osc.specs.Parts.{parts_of}
 use Rattle.escape_osc.specs.Reading.{osc_reading}
-use Rattle.escape_framing.specs.Dispatch.{Dispatch, Print, Control, Escape, ControlSequence, OperatingSystemCommand, Enter, Data, Exit}
+use Rattle.escape_framing.specs.Dispatch.{Dispatch, Print, Control, Escape, ControlSequence, OperatingSystemCommand}
+use Rattle.escape_framing.specs.Dispatch.{Enter, Data, Exit}
 use Rattle.escape_framing.specs.Cut.{dispatches, newly_decided}
 use Rattle.escape_framing.specs.Placed.{placed_dispatches}
 use Rattle.escape_stream.specs.Controls.{control_named, control_number}
@@ -42,7 +43,8 @@ newly_decided_actions stream more = actions_of (newly_decided stream more)
 
 -- the actions that a stream decides, in order, each with the count of bytes that decides it
 abbrev pub placed_actions : List ℕ → List (ℕ × StreamAction)
-placed_actions stream = flat_map (λ (p : ℕ × Dispatch). map (λ a. (p.0, a)) (actions_of_dispatch p.1)) (placed_dispatches stream)
+placed_actions stream =
+    flat_map (λ (p : ℕ × Dispatch). map (λ a. (p.0, a)) (actions_of_dispatch p.1)) (placed_dispatches stream)
 
 -- The first bytes of the stream, as many as the place says, decide the action at the index, and fewer don't.
 pub record IsPlacedAction (stream : List ℕ) (index place : ℕ) (action : StreamAction) : Type 0 where
@@ -51,7 +53,8 @@ pub record IsPlacedAction (stream : List ℕ) (index place : ℕ) (action : Stre
   -- however the stream goes on behind so many bytes, this action is at the index
   pub decided : (more : List ℕ) → slice_get (stream_actions (take place stream ++ more)) index ≡ Some action
   -- behind fewer bytes the stream can go on so that it is not
-  pub least : (fewer : ℕ) → fewer < place → ((more : List ℕ) → slice_get (stream_actions (take fewer stream ++ more)) index ≡ Some action) → ⊥
+  pub least : (fewer : ℕ) → fewer < place
+      → ((more : List ℕ) → slice_get (stream_actions (take fewer stream ++ more)) index ≡ Some action) → ⊥
 
 -- The stream can go on so that one action comes next, and so that another does: no further one is decided.
 pub record IsUndecidedAction (stream : List ℕ) : Type 0 where
@@ -59,8 +62,8 @@ pub record IsUndecidedAction (stream : List ℕ) : Type 0 where
   pub other : List ℕ
   pub first : StreamAction
   pub second : StreamAction
-  pub behind_first : List StreamAction
-  pub behind_second : List StreamAction
-  pub gives_first : newly_decided_actions stream one ≡ first ∷ behind_first
-  pub gives_second : newly_decided_actions stream other ≡ second ∷ behind_second
+  pub after_first : List StreamAction
+  pub after_second : List StreamAction
+  pub gives_first : newly_decided_actions stream one ≡ first ∷ after_first
+  pub gives_second : newly_decided_actions stream other ≡ second ∷ after_second
   pub differ : first ≢ second

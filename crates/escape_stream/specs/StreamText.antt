@@ -1,4 +1,5 @@
--- The text of actions (ECMA-48 5.2 to 5.4; device control strings 8.3.27, operating system commands 8.3.89, ST 8.3.143).
+-- The text of actions (ECMA-48 5.2 to 5.4; device control strings 8.3.27, operating system commands 8.3.89, ST
+-- 8.3.143).
 use Rattle.std.specs.Prelude.{◌≡◌, ℕ, List, [], ◌∷◌, ◌++◌, Bool, true, false, ◌&&◌, if◌then◌else◌, encode_utf8}
 use Rattle.csi_codec.specs.Sequences.{csi_text}
 use Rattle.csi_codec.specs.Escapes.{esc_text}
@@ -6,7 +7,8 @@ use Rattle.csi_codec.specs.declared.escapes.EscCode.TheVariants as code
 use Rattle.csi_codec.specs.declared.escapes.Esc.{Esc}
 use Rattle.csi_codec.specs.declared.escapes.Esc.TheVariants as pair
 use Rattle.escape_osc.specs.Text as osc
-use Rattle.escape_stream.specs.StreamAction.{StreamAction, print, print_string, control, enter, data_byte, exit, command, csi, esc}
+use Rattle.escape_stream.specs.StreamAction.{StreamAction, print, print_string, control, enter, data_byte, exit}
+use Rattle.escape_stream.specs.StreamAction.{command, csi, esc}
 
 -- the bytes of one action: a print in UTF-8, a control its byte, a device control string its opening, data and ESC \
 abbrev pub action_text : StreamAction → List ℕ
@@ -49,18 +51,18 @@ is_string_terminator (command c) = false
 is_string_terminator (csi a) = false
 
 -- the bytes of an action behind one that closed a string or did not: the terminator is not written twice
-abbrev pub text_behind : Bool → StreamAction → List ℕ
-text_behind closed a = if closed && is_string_terminator a then [] else action_text a
+abbrev pub text_after : Bool → StreamAction → List ℕ
+text_after closed a = if closed && is_string_terminator a then [] else action_text a
 
 -- the bytes of actions behind such a one
-abbrev pub texts_behind : Bool → List StreamAction → List ℕ
-texts_behind closed [] = []
-texts_behind closed (a ∷ others) = text_behind closed a ++ texts_behind (closes_string a) others
+abbrev pub texts_after : Bool → List StreamAction → List ℕ
+texts_after closed [] = []
+texts_after closed (a ∷ others) = text_after closed a ++ texts_after (closes_string a) others
 
 -- the bytes of a list of actions: their texts joined, a string terminator directly behind an operating system command
 -- or the end of a device control string once
 abbrev pub stream_text : List StreamAction → List ℕ
-stream_text actions = texts_behind false actions
+stream_text actions = texts_after false actions
 
 -- ---- Laws
 
@@ -77,4 +79,6 @@ begins_terminated (a ∷ others) = is_string_terminator a
 -- the text of two joined lists is their texts joined, unless the first ends in what closes a string and the second
 -- begins with a string terminator
 abbrev pub TextsJoin : Type 0
-TextsJoin = (a b : List StreamAction) → (ends_closed false a && begins_terminated b) ≡ false → stream_text (a ++ b) ≡ stream_text a ++ stream_text b
+TextsJoin =
+    (a b : List StreamAction) → (ends_closed false a && begins_terminated b) ≡ false
+    → stream_text (a ++ b) ≡ stream_text a ++ stream_text b

@@ -1,5 +1,6 @@
 -- Lists of actions that a byte stream can carry: what is written for them reads back.
-use Rattle.std.specs.Prelude.{◌≡◌, ◌≢◌, ℕ, ◌≤◌, ◌<◌, List, [], ◌∷◌, ◌++◌, All, map, Option, None, Some, Bool, true, false, not, length, ◌&&◌, if◌then◌else◌}
+use Rattle.std.specs.Prelude.{◌≡◌, ◌≢◌, ℕ, ◌≤◌, ◌<◌, List, [], ◌∷◌, ◌++◌, All, map, Option, None, Some, Bool, true}
+use Rattle.std.specs.Prelude.{false, not, length, ◌&&◌, if◌then◌else◌}
 use Rattle.std.specs.Str.{IsUtf8, chars}
 use Rattle.std.specs.Char.{IsScalar}
 use Rattle.text_clusters.specs.Controls.{is_c1, holds_c1}
@@ -21,7 +22,8 @@ use Rattle.escape_osc.specs.Writable as osc
 use Rattle.escape_framing.specs.Bytes.{taken}
 use Rattle.escape_framing.specs.Segment.{IsPrintable, IsControl, Begun}
 use Rattle.escape_framing.specs.Cut.{tail_of}
-use Rattle.escape_stream.specs.StreamAction.{StreamAction, print, print_string, control, enter, data_byte, exit, command, csi, esc}
+use Rattle.escape_stream.specs.StreamAction.{StreamAction, print, print_string, control, enter, data_byte, exit}
+use Rattle.escape_stream.specs.StreamAction.{command, csi, esc}
 use Rattle.escape_stream.specs.StreamText.{closes_string, is_string_terminator, stream_text}
 use Rattle.escape_stream.specs.StreamActions.{stream_actions, newly_decided_actions}
 
@@ -73,18 +75,18 @@ pub record IsDataByte (before byte : ℕ) : Type 0 where
 
 -- actions behind the data byte of a device control string, or outside of one: each device control string stands as its
 -- opening, its data and its end
-abbrev pub IsWritableBehind : Option ℕ → List StreamAction → Type 0
-IsWritableBehind None [] = Unit {0}
-IsWritableBehind None (enter header byte ∷ others) = IsOpening header byte × IsWritableBehind (Some byte) others
-IsWritableBehind None (a ∷ others) = IsWritableAction a × IsWritableBehind None others
-IsWritableBehind (Some before) [] = ⊥
-IsWritableBehind (Some before) (data_byte byte ∷ others) = IsDataByte before byte × IsWritableBehind (Some byte) others
-IsWritableBehind (Some before) (exit ∷ others) = IsWritableBehind None others
-IsWritableBehind (Some before) (a ∷ others) = ⊥
+abbrev pub IsWritableAfter : Option ℕ → List StreamAction → Type 0
+IsWritableAfter None [] = Unit {0}
+IsWritableAfter None (enter header byte ∷ others) = IsOpening header byte × IsWritableAfter (Some byte) others
+IsWritableAfter None (a ∷ others) = IsWritableAction a × IsWritableAfter None others
+IsWritableAfter (Some before) [] = ⊥
+IsWritableAfter (Some before) (data_byte byte ∷ others) = IsDataByte before byte × IsWritableAfter (Some byte) others
+IsWritableAfter (Some before) (exit ∷ others) = IsWritableAfter None others
+IsWritableAfter (Some before) (a ∷ others) = ⊥
 
 -- a list of actions that reads back from its bytes
 abbrev pub IsWritable : List StreamAction → Type 0
-IsWritable actions = IsWritableBehind None actions
+IsWritable actions = IsWritableAfter None actions
 
 -- ---- What is read back
 
@@ -109,12 +111,13 @@ terminator_before closed stands = if closed && not stands then string_terminator
 
 -- a list as its bytes read: prints as characters, and a string terminator behind each operating system command and
 -- each end of a device control string that has none
-abbrev pub read_form_behind : Bool → List StreamAction → List StreamAction
-read_form_behind closed [] = terminator_before closed false
-read_form_behind closed (a ∷ others) = terminator_before closed (is_string_terminator a) ++ characters_of a ++ read_form_behind (closes_string a) others
+abbrev pub read_form_after : Bool → List StreamAction → List StreamAction
+read_form_after closed [] = terminator_before closed false
+read_form_after closed (a ∷ others) =
+    terminator_before closed (is_string_terminator a) ++ characters_of a ++ read_form_after (closes_string a) others
 
 abbrev pub read_form : List StreamAction → List StreamAction
-read_form actions = read_form_behind false actions
+read_form actions = read_form_after false actions
 
 -- every text is UTF-8
 abbrev pub HasTexts : List StreamAction → Type 0
@@ -124,11 +127,13 @@ HasTexts (a ∷ others) = HasTexts others
 
 -- a list as its bytes read has the same bytes
 abbrev pub ReadFormsEncodeAlike : Type 0
-ReadFormsEncodeAlike = (actions : List StreamAction) → HasTexts actions → stream_text (read_form actions) ≡ stream_text actions
+ReadFormsEncodeAlike =
+    (actions : List StreamAction) → HasTexts actions → stream_text (read_form actions) ≡ stream_text actions
 
 -- what is written for a writable list reads back as the list, prints split into characters and string terminators added
 abbrev pub WritableListsReadBack : Type 0
-WritableListsReadBack = (actions : List StreamAction) → IsWritable actions → stream_actions (stream_text actions) ≡ read_form actions
+WritableListsReadBack =
+    (actions : List StreamAction) → IsWritable actions → stream_actions (stream_text actions) ≡ read_form actions
 
 -- and leaves no segment unfinished
 abbrev pub WritableListsEndWhole : Type 0
@@ -136,10 +141,14 @@ WritableListsEndWhole = (actions : List StreamAction) → IsWritable actions →
 
 -- so it is of what the text decides and leaves behind any stream that leaves no segment unfinished
 abbrev pub WritableListsReadOn : Type 0
-WritableListsReadOn = (stream : List ℕ) (actions : List StreamAction) → tail_of stream ≡ Begun [] → IsWritable actions → newly_decided_actions stream (stream_text actions) ≡ read_form actions
+WritableListsReadOn =
+    (stream : List ℕ) (actions : List StreamAction) → tail_of stream ≡ Begun [] → IsWritable actions
+    → newly_decided_actions stream (stream_text actions) ≡ read_form actions
 
 abbrev pub WritableListsEndOn : Type 0
-WritableListsEndOn = (stream : List ℕ) (actions : List StreamAction) → tail_of stream ≡ Begun [] → IsWritable actions → tail_of (stream ++ stream_text actions) ≡ Begun []
+WritableListsEndOn =
+    (stream : List ℕ) (actions : List StreamAction) → tail_of stream ≡ Begun [] → IsWritable actions
+    → tail_of (stream ++ stream_text actions) ≡ Begun []
 
 -- ---- Control sequences that were read
 
@@ -150,10 +159,15 @@ EachIsReadBack ts final (a ∷ others) = (is_exempt ts final a ≡ false → IsR
 
 -- the actions of a spellable list of no more tokens than are kept, with a final byte from @ to ~, can be written
 abbrev pub ReadSequencesAreWritable : Type 0
-ReadSequencesAreWritable = (ts : List CsiParam) (final : ℕ) → is_spellable ts ≡ true → length ts ≤ most_tokens → 64 ≤ final → final ≤ 126 → EachIsReadBack ts final (csi_reading ts false final)
+ReadSequencesAreWritable =
+    (ts : List CsiParam) (final : ℕ) → is_spellable ts ≡ true → length ts ≤ most_tokens → 64 ≤ final → final ≤ 126
+    → EachIsReadBack ts final (csi_reading ts false final)
 
 -- ---- Commands that were read
 
--- what is read from a command's body, of which controls are no part, can be written, unless such a control stood within one of C1
+-- what is read from a command's body, of which controls are no part, can be written, unless such a control stood within
+-- one of C1
 abbrev pub ReadCommandsAreWritable : Type 0
-ReadCommandsAreWritable = (body : List ℕ) → All (λ b. b < 256) body → holds_c1 (taken body) ≡ false → osc.IsWritable (osc_reading (parts_of (taken body)))
+ReadCommandsAreWritable =
+    (body : List ℕ) → All (λ b. b < 256) body → holds_c1 (taken body) ≡ false
+    → osc.IsWritable (osc_reading (parts_of (taken body)))

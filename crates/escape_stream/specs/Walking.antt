@@ -1,10 +1,12 @@
 -- Words of the private steps of a walk over the bytes of a call.
-use Rattle.std.specs.Prelude.{◌≡◌, ◌<◌, ℕ, true, List, [], ◌∷◌, ◌++◌, Option, Some, None, Result, Ok, Err, IfOk, IfSome, OnErr}
+use Rattle.std.specs.Prelude.{◌≡◌, ◌<◌, ℕ, true, List, [], ◌∷◌, ◌++◌, Option, Some, None, Result, Ok, Err, IfOk, IfSome}
+use Rattle.std.specs.Prelude.{OnErr}
 use Rattle.std.specs.List.{FoldsTo}
 use Rattle.std.specs.declared.alloc.AllocError.{AllocError}
 use Rattle.escape_stream.specs.Pieces.{Piece}
 use Rattle.escape_stream.specs.Items.{Item}
-use Rattle.escape_stream.specs.PiecesView.{lender_of, parser_of, open_pieces, held_at_end, item_handed, steps_left, AsksMemory, IsPiece, IsUnderWay, HasGiven, ReadsBody}
+use Rattle.escape_stream.specs.PiecesView.{lender_of, parser_of, open_pieces, held_at_end, item_handed, steps_left}
+use Rattle.escape_stream.specs.PiecesView.{AsksMemory, IsPiece, IsUnderWay, HasGiven, ReadsBody}
 use Rattle.escape_stream.specs.declared.action.Action.{Action}
 use Rattle.escape_stream.specs.declared.perform.Halted.{Halted}
 use Rattle.escape_stream.specs.declared.perform.Halted.TheVariants as halted
@@ -13,7 +15,8 @@ use Rattle.escape_stream.specs.declared.pieces.Piece.TheVariants as code
 use Rattle.escape_stream.specs.declared.pieces.Reading.{Reading}
 
 -- an item was performed, or refused
-abbrev pub Performs : {P E : Type 0} → (P → Item → P → Type 0) → (P → Item → E → P → Type 0) → P → Item → Result (Unit {0}) (Halted E) → P → Type 0
+abbrev pub Performs : {P E : Type 0} → (P → Item → P → Type 0) → (P → Item → E → P → Type 0) → P → Item
+    → Result (Unit {0}) (Halted E) → P → Type 0
 Performs does refuses first item (Ok done) last = does first item last
 Performs does refuses first item (Err halted.Failed) last = ⊥
 Performs does refuses first item (Err halted.Memory) last = ⊥
@@ -57,7 +60,8 @@ pub record HandsOver (done : List PieceCode) (old new : Reading) (start : ℕ) :
   pub whole : open_pieces start old ≡ pieces ++ open_pieces start new
 
 -- a walk has come so far: the performer did what was handed out
-pub record Reaches {P : Type 0} (does : P → Item → P → Type 0) (old : Reading) (first : P) (new : Reading) (last : P) : Type 0 where
+pub record Reaches {P : Type 0} (does : P → Item → P → Type 0) (old : Reading) (first : P) (new : Reading) (last : P) :
+    Type 0 where
   pub done : List PieceCode
   pub performed : FoldsTo (λ before x after. does before (item_handed x) after) first done last
   pub handed : (start : ℕ) → HandsOver done old new start
@@ -66,7 +70,8 @@ pub record Reaches {P : Type 0} (does : P → Item → P → Type 0) (old : Read
   pub bodies : (place : ℕ) → ReadsBody new place → ReadsBody old place
 
 -- a walk that ended: at the end, or early
-pub record WalksAll {P : Type 0} (does : P → Item → P → Type 0) (old : Reading) (first : P) (new : Reading) (last : P) : Type 0 where
+pub record WalksAll {P : Type 0} (does : P → Item → P → Type 0) (old : Reading) (first : P) (new : Reading) (last : P) :
+    Type 0 where
   pub it : Reading
   pub reached : Reaches does old first it last
   pub none : HasGiven it None new
@@ -76,14 +81,17 @@ pub record WalksSome {P : Type 0} (does : P → Item → P → Type 0) (old : Re
   pub reached : Reaches does old first it last
   pub memory : AsksMemory it
 
-pub record WalksUpTo {P E : Type 0} (does : P → Item → P → Type 0) (refuses : P → Item → E → P → Type 0) (old : Reading) (first : P) (refusal : E) (new : Reading) (last : P) : Type 0 where
+pub record WalksUpTo {P E : Type 0} (does : P → Item → P → Type 0) (refuses : P → Item → E → P → Type 0) (old : Reading)
+    (first : P) (refusal : E) (new : Reading) (last : P) : Type 0 where
   pub it : Reading
   pub before : P
   pub reached : Reaches does old first it before
   pub refused : HandsPiece (λ item. refuses before item refusal last) it new
 
-abbrev pub WalksTo : {P E : Type 0} → (P → Item → P → Type 0) → (P → Item → E → P → Type 0) → Reading → P → Result (Unit {0}) (Halted E) → Reading → P → Type 0
+abbrev pub WalksTo : {P E : Type 0} → (P → Item → P → Type 0) → (P → Item → E → P → Type 0) → Reading → P
+    → Result (Unit {0}) (Halted E) → Reading → P → Type 0
 WalksTo does refuses old first (Ok done) new last = WalksAll does old first new last
 WalksTo does refuses old first (Err halted.Failed) new last = ⊥
 WalksTo does refuses old first (Err halted.Memory) new last = WalksSome does old first last
-WalksTo does refuses old first (Err (halted.Refused refusal)) new last = WalksUpTo does refuses old first refusal new last
+WalksTo does refuses old first (Err (halted.Refused refusal)) new last =
+    WalksUpTo does refuses old first refusal new last

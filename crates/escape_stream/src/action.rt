@@ -52,7 +52,8 @@ impl Action {
     /// Appends the action to `dest`. A print behind a print is joined with it as one `PrintString`. Where memory is
     /// refused, `dest` shows what it showed, and the action is dropped.
     pub fn append_to(self, dest: &mut Vec<Action>) -> Result<(), AllocError>
-        ensures ok { OnOk result (map value_of dest.new.items ≡ appended (map value_of dest.old.items) (value_of self)) }
+        ensures ok { OnOk result
+            (map value_of dest.new.items ≡ appended (map value_of dest.old.items) (value_of self)) }
         ensures err { OnErr result (map value_of dest.new.items ≡ map value_of dest.old.items) }
     {
         let joined = join_last(*dest.allocator(), dest, &self)?;
@@ -72,7 +73,8 @@ impl Action {
 
 /// Joins a print with the last action, if that is one too, and says whether it did.
 fn join_last(alloc: Global, actions: &mut [Action], next: &Action) -> Result<bool, AllocError>
-    ensures ok { IfOk result (λ joined. JoinsLast (map value_of actions.old) (value_of next.now) joined (map value_of actions.new)) }
+    ensures ok { IfOk result
+        (λ joined. JoinsLast (map value_of actions.old) (value_of next.now) joined (map value_of actions.new)) }
     ensures err { OnErr result (map value_of actions.new ≡ map value_of actions.old) }
 {
     match actions.len() {

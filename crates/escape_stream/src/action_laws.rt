@@ -5,14 +5,20 @@ ghost use Rattle.escape_stream.specs.StreamAction.{StreamAction};
 ghost use Rattle.escape_framing.specs.Dispatch.{Dispatch};
 ghost use Rattle.escape_framing.specs.Placed.{placed_from};
 ghost use Rattle.escape_stream.specs.Pieces.{pieces, Spells, actions_of_pieces, AreApart};
-ghost use Rattle.escape_stream.specs.StreamActions.{actions_of, stream_actions, newly_decided_actions, placed_actions, IsPlacedAction, IsUndecidedAction};
+ghost use Rattle.escape_stream.specs.StreamActions.{actions_of, stream_actions, newly_decided_actions, placed_actions};
+ghost use Rattle.escape_stream.specs.StreamActions.{IsPlacedAction, IsUndecidedAction};
 
 /// The placed actions are the stream's actions, in order, each with the least count of bytes that decides it however
 /// the stream goes on. Bytes behind a stream newly decide the actions whose places lie in them.
 pub fn action_places()
-    ensures placed { (stream : List ℕ) (index place : ℕ) (action : StreamAction) → slice_get (placed_actions stream) index ≡ Some (place, action) → IsPlacedAction stream index place action }
-    ensures all { (stream : List ℕ) → map (λ (p : ℕ × StreamAction). p.1) (placed_actions stream) ≡ stream_actions stream }
-    ensures in_pieces { (stream more : List ℕ) → newly_decided_actions stream more ≡ map (λ (p : ℕ × StreamAction). p.1) (filter (λ (p : ℕ × StreamAction). nat_lt (length stream) p.0) (placed_actions (stream ++ more))) }
+    ensures placed { (stream : List ℕ) (index place : ℕ) (action : StreamAction)
+        → slice_get (placed_actions stream) index ≡ Some (place, action) → IsPlacedAction stream index place action }
+    ensures all { (stream : List ℕ)
+        → map (λ (p : ℕ × StreamAction). p.1) (placed_actions stream) ≡ stream_actions stream }
+    ensures in_pieces { (stream more : List ℕ)
+        → newly_decided_actions stream more
+        ≡ map (λ (p : ℕ × StreamAction). p.1)
+        (filter (λ (p : ℕ × StreamAction). nat_lt (length stream) p.0) (placed_actions (stream ++ more))) }
 {}
 
 /// An action comes as soon as the bytes so far decide it, since behind those that a stream decides two continuations
@@ -23,14 +29,18 @@ pub fn actions_as_soon_as_decided()
 
 /// Pieces decide what their concatenation decides, in the same order.
 pub fn actions_of_pieces_join()
-    ensures { (stream x y : List ℕ) → newly_decided_actions stream (x ++ y) ≡ newly_decided_actions stream x ++ newly_decided_actions (stream ++ x) y }
+    ensures { (stream x y : List ℕ)
+        → newly_decided_actions stream (x ++ y)
+        ≡ newly_decided_actions stream x ++ newly_decided_actions (stream ++ x) y }
 {}
 
 /// The pieces of a call, their texts character by character, are the actions of the
-/// dispatches that have their places in it, in order, and so those that its bytes newly decide; no text is empty, and two
-/// stand side by side only where a segment of the stream without an action lies between them.
+/// dispatches that have their places in it, in order, and so those that its bytes newly decide; no text is empty, and
+/// two stand side by side only where a segment of the stream without an action lies between them.
 pub fn pieces_are_actions()
-    ensures placed { (stream bytes : List ℕ) → Spells (pieces stream bytes) (actions_of (map (λ (p : ℕ × Dispatch). p.1) (placed_from stream bytes))) }
-    ensures decided { (stream bytes : List ℕ) → actions_of_pieces (pieces stream bytes) ≡ newly_decided_actions stream bytes }
+    ensures placed { (stream bytes : List ℕ)
+        → Spells (pieces stream bytes) (actions_of (map (λ (p : ℕ × Dispatch). p.1) (placed_from stream bytes))) }
+    ensures decided { (stream bytes : List ℕ)
+        → actions_of_pieces (pieces stream bytes) ≡ newly_decided_actions stream bytes }
     ensures apart { (stream bytes : List ℕ) → AreApart (stream ++ bytes) (pieces stream bytes) }
 {}

@@ -1,7 +1,8 @@
 //! The bytes of actions.
 ghost use Rattle.std.specs.Prelude.{◌≡◌, ◌++◌, IfOk, OnOk, map};
 ghost use Rattle.escape_stream.specs.StreamActionView.{device_value, value_of};
-ghost use Rattle.escape_stream.specs.StreamText.{action_text, closes_string, is_string_terminator, stream_text, text_behind};
+ghost use Rattle.escape_stream.specs.StreamText.{action_text, closes_string, is_string_terminator, stream_text};
+ghost use Rattle.escape_stream.specs.StreamText.{text_after};
 
 use crate::action::Action;
 use crate::device::DeviceControlMode;
@@ -18,7 +19,7 @@ pub fn encode(alloc: Global, actions: &[Action]) -> Result<Vec<u8>, AllocError>
     let mut bytes = Vec::new(alloc);
     let mut closed = false;
     for action in actions {
-        append_behind(closed, action, &mut bytes)?;
+        append_after(closed, action, &mut bytes)?;
         closed = closes_string(action);
     }
     Ok(bytes)
@@ -42,8 +43,8 @@ fn is_string_terminator(action: &Action) -> bool
 }
 
 /// Appends the bytes of an action behind one that closed a string or did not.
-fn append_behind(closed: bool, action: &Action, bytes: &mut Vec<u8>) -> Result<(), AllocError>
-    ensures { OnOk result (bytes.new.items ≡ bytes.old.items ++ text_behind closed (value_of action.now)) }
+fn append_after(closed: bool, action: &Action, bytes: &mut Vec<u8>) -> Result<(), AllocError>
+    ensures { OnOk result (bytes.new.items ≡ bytes.old.items ++ text_after closed (value_of action.now)) }
 {
     if closed && is_string_terminator(action) {
         return Ok(());

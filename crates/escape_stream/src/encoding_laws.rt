@@ -1,6 +1,8 @@
 //! Laws of the texts of actions: functions that do nothing, each ensuring one.
 ghost use Rattle.escape_stream.specs.StreamText.{TextsJoin};
-ghost use Rattle.escape_stream.specs.StreamWritable.{ReadFormsEncodeAlike, WritableListsEndWhole, WritableListsReadBack, WritableListsEndOn, WritableListsReadOn, ReadSequencesAreWritable, ReadCommandsAreWritable};
+ghost use Rattle.escape_stream.specs.StreamWritable.{ReadFormsEncodeAlike, WritableListsEndWhole};
+ghost use Rattle.escape_stream.specs.StreamWritable.{WritableListsReadBack, WritableListsEndOn, WritableListsReadOn};
+ghost use Rattle.escape_stream.specs.StreamWritable.{ReadSequencesAreWritable, ReadCommandsAreWritable};
 
 /// The bytes of two joined lists of actions are those of the one and then those of the other, unless the first ends in
 /// an operating system command or the end of a device control string, and the second begins with a `StringTerminator`.
@@ -9,15 +11,15 @@ pub fn encoded_lists_join()
 {}
 
 /// A list of actions whose prints are split into characters, with a `StringTerminator` behind each operating system
-/// command and each end of a device control string that has none, has the same bytes: so the bytes of a list do not tell
-/// the two apart.
+/// command and each end of a device control string that has none, has the same bytes: so the bytes of a list do not
+/// tell the two apart.
 pub fn read_forms_encode_alike()
     ensures { ReadFormsEncodeAlike }
 {}
 
-/// The bytes of a writable list are read as its actions, with prints split into characters and a `StringTerminator` behind
-/// each operating system command and each end of a device control string that has none; and no bytes of it are left
-/// unfinished. So a parser that reads what `encode` wrote hands these out.
+/// The bytes of a writable list are read as its actions, with prints split into characters and a `StringTerminator`
+/// behind each operating system command and each end of a device control string that has none; and no bytes of it are
+/// left unfinished. So a parser that reads what `encode` wrote hands these out.
 pub fn writable_lists_read_back()
     ensures actions { WritableListsReadBack }
     ensures whole { WritableListsEndWhole }
@@ -31,9 +33,9 @@ pub fn writable_lists_read_on()
     ensures whole { WritableListsEndOn }
 {}
 
-/// The control sequences that a spellable list of at most 256 parameters means, with a final byte from `@` to `~`, can be
-/// written: each is the one action of its own bytes; but for what is left of modes behind some that stand, where it begins
-/// with `?` or stands under `s` or `r`.
+/// The control sequences that a spellable list of at most 256 parameters means, with a final byte from `@` to `~`, can
+/// be written: each is the one action of its own bytes; but for what is left of modes behind some that stand, where it
+/// begins with `?` or stands under `s` or `r`.
 pub fn read_sequences_are_writable()
     ensures { ReadSequencesAreWritable }
 {

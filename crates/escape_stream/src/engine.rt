@@ -1,6 +1,7 @@
 //! The walk over the bytes of a call, which finds each text and each action and hands it to a performer.
 ghost use Rattle.std.specs.Prelude.{◌≡◌, ◌<◌, ◌≢◌, true, None, Some, IfOk, OnErr, OnOk, length};
-ghost use Rattle.escape_stream.specs.PiecesView.{item_handed, lender_of, parser_of, steps_left, AsksMemory, Begins, FindsHere, HandsOutOf, IsGoing};
+ghost use Rattle.escape_stream.specs.PiecesView.{item_handed, lender_of, parser_of, steps_left, AsksMemory, Begins};
+ghost use Rattle.escape_stream.specs.PiecesView.{FindsHere, HandsOutOf, IsGoing};
 ghost use Rattle.escape_stream.specs.Walking.{Finds, Performs, WalksTo};
 
 use crate::action::Action;
@@ -54,8 +55,8 @@ impl<'p, 'a> Reading<'p, 'a> {
         }
     }
 
-    // Reads what stands at the front of the bytes that are left, as the framer does: a piece, or bytes that hand nothing out
-    // yet.
+    // Reads what stands at the front of the bytes that are left, as the framer does: a piece, or bytes that hand
+    // nothing out yet.
     #[inline(always)]
     fn read_event(&mut self) -> Result<Option<Piece<'a>>, AllocError>
         requires going { IsGoing self.old }

@@ -1,12 +1,11 @@
 //! The actions of events that are no control sequences.
-ghost use Rattle.std.specs.Prelude.{◌≡◌, IfOk, OnErr, IfSome, None, ◌∷◌, [], map};
-ghost use Rattle.std.specs.List.{prefix_len};
+ghost use Rattle.std.specs.Prelude.{◌≡◌, IfOk, OnErr, map};
 ghost use Rattle.escape_framing.specs.Lending.{Lending};
 ghost use Rattle.escape_osc.specs.CommandView.{command_of};
 ghost use Rattle.escape_osc.specs.Parts.{parts_of};
 ghost use Rattle.escape_osc.specs.Reading.{osc_reading};
 ghost use Rattle.escape_stream.specs.Controls.{control_named};
-ghost use Rattle.escape_stream.specs.Sequences.{FirstTakes, is_in_part, optional_action, own_actions};
+ghost use Rattle.escape_stream.specs.Sequences.{FirstTakes, optional_action, own_actions};
 ghost use Rattle.escape_stream.specs.StreamAction.{command, enter};
 ghost use Rattle.escape_stream.specs.StreamActionView.{value_of};
 ghost use Rattle.escape_stream.specs.StreamActions.{named_control};
@@ -14,6 +13,7 @@ ghost use Rattle.escape_stream.specs.StreamActions.{named_control};
 use crate::action::Action;
 use crate::control::ControlCode;
 use crate::device::{DeviceControlMode, EnterDeviceControlMode};
+use crate::fast::command_of_few;
 use csi_codec::Esc;
 use escape_framing::Event;
 use escape_osc::OperatingSystemCommand;
@@ -33,25 +33,7 @@ fn parts(alloc: Global, body: &[u8]) -> Result<Vec<&[u8]>, AllocError>
     body.split(|byte| *byte == b';').collect(alloc)
 }
 
-// How many bytes stand before the first `;` of a body.
-fn first_len(body: &[u8]) -> usize
-    ensures { result ≡ prefix_len is_in_part body.now }
-{
-    body.iter().take_while(|byte| **byte != b';').count()
-}
-
-// What stands before the first `;` of a body, and behind it.
-fn cut(body: &[u8]) -> Option<(&[u8], &[u8])>
-    ensures some { IfSome result (λ c. parts_of body.now ≡ c.0.now ∷ parts_of c.1.now) }
-    ensures none { result ≡ None → parts_of body.now ≡ body.now ∷ [] }
-{
-    let len = first_len(body);
-    let (first, others) = body.split_at(len);
-    let (_, rest) = others.split_first()?;
-    Some((first, rest))
-}
-
-// The command of a body of any parts.
+// The command of a body of any parts, by a list of them.
 #[inline(never)]
 fn command_of_all(alloc: Global, body: &[u8]) -> Result<OperatingSystemCommand, AllocError>
     ensures { IfOk result (λ c. command_of c ≡ osc_reading (parts_of body.now)) }
@@ -60,20 +42,14 @@ fn command_of_all(alloc: Global, body: &[u8]) -> Result<OperatingSystemCommand, 
     OperatingSystemCommand::parse(alloc, &parts)
 }
 
-// The command of a body, without a list of its parts where they are two or three.
+// The command of a body.
 fn command_of_body(alloc: Global, body: &[u8]) -> Result<OperatingSystemCommand, AllocError>
     ensures { IfOk result (λ c. command_of c ≡ osc_reading (parts_of body.now)) }
 {
-    let Some((first, others)) = cut(body) else {
-        return command_of_all(alloc, body);
-    };
-    let Some((second, third)) = cut(others) else {
-        return OperatingSystemCommand::parse(alloc, &[first, others]);
-    };
-    if cut(third).is_some() {
-        return command_of_all(alloc, body);
+    match command_of_few(alloc, body) {
+        Some(command) => command,
+        None => command_of_all(alloc, body),
     }
-    OperatingSystemCommand::parse(alloc, &[first, second, third])
 }
 
 /// The command of a body, as an action.
@@ -93,13 +69,15 @@ fn enter_action(alloc: Global, header: &[u8], byte: u8) -> Result<Action, AllocE
     Ok(Action::DeviceControl(DeviceControlMode::Enter(opening)))
 }
 
-/// The action of an event, unless it is a control sequence, or a control without a name; with the body that the framer lends.
+/// The action of an event, unless it is a control sequence, or a control without a name; with the body that the framer
+/// lends.
 pub(crate) fn event_action(
     alloc: Global,
     event: Event,
     body: &[u8],
 ) -> Result<Option<Action>, AllocError>
-    ensures action { (l : Lending) → l.body ≡ body.now → IfOk result (λ action. optional_action action ≡ own_actions l event) }
+    ensures action { (l : Lending) → l.body ≡ body.now
+        → IfOk result (λ action. optional_action action ≡ own_actions l event) }
     ensures memory { (l : Lending) → OnErr result (FirstTakes (own_actions l event)) }
 {
     let action = match event {

@@ -1,5 +1,6 @@
 //! The first actions of bytes.
-ghost use Rattle.std.specs.Prelude.{◌≡◌, ◌≢◌, ◌↔◌, ℕ, true, None, IsErrOf, IfOk, OnOk, IsTrue, List, [], ◌++◌, map, is_err};
+ghost use Rattle.std.specs.Prelude.{◌≡◌, ◌≢◌, ◌↔◌, ℕ, true, None, IsErrOf, IfOk, OnOk, IsTrue, List, [], ◌++◌, map};
+ghost use Rattle.std.specs.Prelude.{is_err};
 ghost use Rattle.std.specs.Option.{option_map};
 ghost use Rattle.std.specs.Str.{chars};
 ghost use Rattle.escape_framing.specs.Held.{held_of, nothing_held};
@@ -41,7 +42,8 @@ impl<'t> Perform<'t> for First {
 
     ghost ready = { λ first. ⊤ };
 
-    ghost does = { λ old item new. option_map value_of new.action ≡ first_of (option_map value_of old.action) (actions_of_item item) };
+    ghost does = { λ old item new. option_map value_of new.action
+        ≡ first_of (option_map value_of old.action) (actions_of_item item) };
 
     ghost refuses = { λ old item refusal new. ⊤ };
 
@@ -62,7 +64,8 @@ impl<'t> Perform<'t> for First {
 
 // Pushes a print of each character.
 fn push_prints(actions: &mut Vec<Action>, text: &str) -> Result<(), AllocError>
-    ensures { OnOk result (map value_of actions.new.items ≡ map value_of actions.old.items ++ map print (chars text.now)) }
+    ensures { OnOk result
+        (map value_of actions.new.items ≡ map value_of actions.old.items ++ map print (chars text.now)) }
 {
     for character in text.chars() {
         actions.push(Action::Print(character))?;
@@ -85,7 +88,8 @@ impl<'t> Perform<'t> for Kept {
 
     ghost ready = { λ kept. ⊤ };
 
-    ghost does = { λ old item new. map value_of new.actions.items ≡ map value_of old.actions.items ++ actions_of_item item };
+    ghost does = { λ old item new. map value_of new.actions.items
+        ≡ map value_of old.actions.items ++ actions_of_item item };
 
     ghost refuses = { λ old item refusal new. ⊤ };
 
@@ -100,15 +104,19 @@ impl<'t> Perform<'t> for Kept {
 }
 
 impl Parser {
-    /// Reads the shortest prefix of the bytes that decides an action behind the bytes that were read before, and answers
-    /// the first action and the prefix's length, 1 or more; further actions of that prefix are dropped. Where no prefix
-    /// decides one, all bytes are read, and the answer is `None`. A call that was refused memory answers `Memory`, and
-    /// each later call `Failed`, without reading.
+    /// Reads the shortest prefix of the bytes that decides an action behind the bytes that were read before, and
+    /// answers the first action and the prefix's length, 1 or more; further actions of that prefix are dropped. Where
+    /// no prefix decides one, all bytes are read, and the answer is `None`. A call that was refused memory answers
+    /// `Memory`, and each later call `Failed`, without reading.
     pub fn parse_first(&mut self, bytes: &[u8]) -> Result<Option<(Action, usize)>, ParseError>
         // Where a stream has been read, in any pieces, this is the first action that the bytes newly decide.
-        ensures first { IfOk result (λ found. (stream : List ℕ) → self.old.held ≡ held_of stream → IsFirst stream bytes.now (option_map (λ f. (value_of f.0, f.1)) found)) }
+        ensures first { IfOk result
+            (λ found. (stream : List ℕ) → self.old.held ≡ held_of stream
+            → IsFirst stream bytes.now (option_map (λ f. (value_of f.0, f.1)) found)) }
         // The prefix has then been read too.
-        ensures held { IfOk result (λ found. (stream : List ℕ) → self.old.held ≡ held_of stream → self.new.held ≡ held_of (stream ++ bytes_read found bytes.now)) }
+        ensures held { IfOk result
+            (λ found. (stream : List ℕ) → self.old.held ≡ held_of stream
+            → self.new.held ≡ held_of (stream ++ bytes_read found bytes.now)) }
         // A call fails where an earlier one was refused memory, and only then is that its error.
         ensures failed { IsErrOf result ParseError.Failed ↔ (self.old.failed ≡ true) }
         // A parser has failed once it was refused memory.
@@ -143,17 +151,21 @@ impl Parser {
     }
 
     /// Reads the shortest prefix of the bytes that decides an action behind the bytes that were read before and after
-    /// which no segment is unfinished, and answers its actions and its length, 1 or more. Where there is no such prefix,
-    /// all bytes are read, the actions are dropped, and the answer is `None`. A call that was refused memory answers
-    /// `Memory`, and each later call `Failed`, without reading.
+    /// which no segment is unfinished, and answers its actions and its length, 1 or more. Where there is no such
+    /// prefix, all bytes are read, the actions are dropped, and the answer is `None`. A call that was refused memory
+    /// answers `Memory`, and each later call `Failed`, without reading.
     pub fn parse_first_as_vec(
         &mut self,
         bytes: &[u8],
     ) -> Result<Option<(Vec<Action>, usize)>, ParseError>
         // Where a stream has been read, in any pieces, these are the actions that the prefix newly decides.
-        ensures first { IfOk result (λ found. (stream : List ℕ) → self.old.held ≡ held_of stream → IsFirstSettled stream bytes.now (option_map (λ f. (map value_of f.0.items, f.1)) found)) }
+        ensures first { IfOk result
+            (λ found. (stream : List ℕ) → self.old.held ≡ held_of stream
+            → IsFirstSettled stream bytes.now (option_map (λ f. (map value_of f.0.items, f.1)) found)) }
         // The prefix has then been read too.
-        ensures held { IfOk result (λ found. (stream : List ℕ) → self.old.held ≡ held_of stream → self.new.held ≡ held_of (stream ++ bytes_read found bytes.now)) }
+        ensures held { IfOk result
+            (λ found. (stream : List ℕ) → self.old.held ≡ held_of stream
+            → self.new.held ≡ held_of (stream ++ bytes_read found bytes.now)) }
         // A call fails where an earlier one was refused memory, and only then is that its error.
         ensures failed { IsErrOf result ParseError.Failed ↔ (self.old.failed ≡ true) }
         // A parser has failed once it was refused memory.

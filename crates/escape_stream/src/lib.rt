@@ -11,7 +11,7 @@ mod engine;
 mod event_actions;
 mod fast;
 mod first;
-mod handing;
+mod handover;
 mod parse;
 mod parser;
 mod perform;

@@ -1,5 +1,6 @@
 //! The actions of bytes, called at one by one, or as a list.
-ghost use Rattle.std.specs.Prelude.{◌≡◌, ◌↔◌, ℕ, true, None, IsErrOf, IfOk, IfSome, OnOk, List, [], ◌∷◌, ◌++◌, map, fold, is_err};
+ghost use Rattle.std.specs.Prelude.{◌≡◌, ◌↔◌, ℕ, true, None, IsErrOf, IfOk, IfSome, OnOk, List, [], ◌∷◌, ◌++◌, map};
+ghost use Rattle.std.specs.Prelude.{fold, is_err};
 ghost use Rattle.std.specs.Str.{chars};
 ghost use Rattle.escape_framing.specs.Held.{held_of};
 ghost use Rattle.escape_stream.specs.StreamAction.{appended, print};
@@ -62,7 +63,8 @@ impl<'t, F: FnMut(Action)> Perform<'t> for Calls<F> {
 
     ghost ready = { λ calls. F.IsAlwaysCallable calls.callback };
 
-    ghost does = { λ old item new. IsCalledAt (λ f a f'. F.step f a tt f') old.callback (actions_of_item item) new.callback };
+    ghost does = { λ old item new. IsCalledAt (λ f a f'. F.step f a tt f') old.callback (actions_of_item item)
+        new.callback };
 
     ghost refuses = { λ old item refusal new. ⊥ };
 
@@ -94,7 +96,9 @@ fn first_alone(text: &str) -> Option<char>
 
 // Appends the characters of a text, a print behind a print as one.
 fn append_text(alloc: Global, text: &str, actions: &mut Vec<Action>) -> Result<(), AllocError>
-    ensures { IfOk result (λ _. map value_of actions.new.items ≡ fold appended (map value_of actions.old.items) (map print (chars text.now))) }
+    ensures { IfOk result
+        (λ _. map value_of actions.new.items
+        ≡ fold appended (map value_of actions.old.items) (map print (chars text.now))) }
 {
     if text.is_empty() {
         return Ok(());
@@ -124,7 +128,8 @@ impl<'t> Perform<'t> for Joined {
 
     ghost ready = { λ joined. ⊤ };
 
-    ghost does = { λ old item new. map value_of new.actions.items ≡ fold appended (map value_of old.actions.items) (actions_of_item item) };
+    ghost does = { λ old item new. map value_of new.actions.items
+        ≡ fold appended (map value_of old.actions.items) (actions_of_item item) };
 
     ghost refuses = { λ old item refusal new. ⊤ };
 
@@ -148,11 +153,15 @@ impl Parser {
         callback: F,
     ) -> Result<F, ParseError>
         requires { F.IsAlwaysCallable callback }
-        // Where a stream has been read, in any pieces, the callback is called at each action that the bytes newly decide.
-        ensures called { IfOk result (λ last. (stream : List ℕ) → self.old.held ≡ held_of stream → IsCalledAt (λ f a f'. F.step f a tt f') callback (newly_decided_actions stream bytes.now) last) }
+        // Where a stream has been read, in any pieces, the callback is called at each action that the bytes newly
+        // decide.
+        ensures called { IfOk result
+            (λ last. (stream : List ℕ) → self.old.held ≡ held_of stream
+            → IsCalledAt (λ f a f'. F.step f a tt f') callback (newly_decided_actions stream bytes.now) last) }
         ensures callable { IfOk result (λ last. F.IsAlwaysCallable last) }
         // The bytes have then been read too.
-        ensures held { OnOk result ((stream : List ℕ) → self.old.held ≡ held_of stream → self.new.held ≡ held_of (stream ++ bytes.now)) }
+        ensures held { OnOk result
+            ((stream : List ℕ) → self.old.held ≡ held_of stream → self.new.held ≡ held_of (stream ++ bytes.now)) }
         // A call fails where an earlier one was refused memory, and only then is that its error.
         ensures failed { IsErrOf result ParseError.Failed ↔ (self.old.failed ≡ true) }
         // A parser has failed once it was refused memory.
@@ -165,15 +174,20 @@ impl Parser {
         }
     }
 
-    /// Reads bytes, and calls the callback at each action that they decide behind those that were read before, in order.
-    /// A call that was refused memory answers `Memory`, and each later call `Failed`, without reading. Of what the
-    /// callback borrows nothing can be proved behind the call: `parse_with` gives it back.
+    /// Reads bytes, and calls the callback at each action that they decide behind those that were read before, in
+    /// order. A call that was refused memory answers `Memory`, and each later call `Failed`, without reading. Of what
+    /// the callback borrows nothing can be proved behind the call: `parse_with` gives it back.
     pub fn parse<F: FnMut(Action)>(&mut self, bytes: &[u8], callback: F) -> Result<(), ParseError>
         requires { F.IsAlwaysCallable callback }
-        // Where a stream has been read, in any pieces, the callback is called at each action that the bytes newly decide.
-        ensures called { OnOk result ((stream : List ℕ) → self.old.held ≡ held_of stream → (last : F) × IsCalledAt (λ f a f'. F.step f a tt f') callback (newly_decided_actions stream bytes.now) last) }
+        // Where a stream has been read, in any pieces, the callback is called at each action that the bytes newly
+        // decide.
+        ensures called { OnOk result
+            ((stream : List ℕ) → self.old.held ≡ held_of stream
+            → (last : F)
+            × IsCalledAt (λ f a f'. F.step f a tt f') callback (newly_decided_actions stream bytes.now) last) }
         // The bytes have then been read too.
-        ensures held { OnOk result ((stream : List ℕ) → self.old.held ≡ held_of stream → self.new.held ≡ held_of (stream ++ bytes.now)) }
+        ensures held { OnOk result
+            ((stream : List ℕ) → self.old.held ≡ held_of stream → self.new.held ≡ held_of (stream ++ bytes.now)) }
         // A call fails where an earlier one was refused memory, and only then is that its error.
         ensures failed { IsErrOf result ParseError.Failed ↔ (self.old.failed ≡ true) }
         // A parser has failed once it was refused memory.
@@ -187,9 +201,12 @@ impl Parser {
     /// A call that was refused memory answers `Memory`, and each later call `Failed`, without reading.
     pub fn parse_as_vec(&mut self, bytes: &[u8]) -> Result<Vec<Action>, ParseError>
         // Where a stream has been read, in any pieces, these are the actions that the bytes newly decide.
-        ensures actions { IfOk result (λ actions. (stream : List ℕ) → self.old.held ≡ held_of stream → map value_of actions.items ≡ fold appended [] (newly_decided_actions stream bytes.now)) }
+        ensures actions { IfOk result
+            (λ actions. (stream : List ℕ) → self.old.held ≡ held_of stream
+            → map value_of actions.items ≡ fold appended [] (newly_decided_actions stream bytes.now)) }
         // The bytes have then been read too.
-        ensures held { IfOk result (λ _. (stream : List ℕ) → self.old.held ≡ held_of stream → self.new.held ≡ held_of (stream ++ bytes.now)) }
+        ensures held { IfOk result
+            (λ _. (stream : List ℕ) → self.old.held ≡ held_of stream → self.new.held ≡ held_of (stream ++ bytes.now)) }
         // A call fails where an earlier one was refused memory, and only then is that its error.
         ensures failed { IsErrOf result ParseError.Failed ↔ (self.old.failed ≡ true) }
         // A parser has failed once it was refused memory.

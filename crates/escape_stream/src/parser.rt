@@ -1,5 +1,6 @@
 //! The parser: from bytes to actions.
-ghost use Rattle.std.specs.Prelude.{◌≡◌, ◌↔◌, ℕ, true, false, IfOk, IfSome, OnErr, IsTrue, List, [], ◌++◌, length, Some, None};
+ghost use Rattle.std.specs.Prelude.{◌≡◌, ◌↔◌, ℕ, true, false, IfOk, IfSome, OnErr, IsTrue, List, [], ◌++◌, length};
+ghost use Rattle.std.specs.Prelude.{Some, None};
 ghost use Rattle.escape_framing.specs.Framed.{IsReached};
 ghost use Rattle.escape_framing.specs.Held.{TakesMemory, held_of, nothing_held};
 ghost use Rattle.escape_framing.specs.Read.{whole_command, ReadsEvent};
@@ -7,7 +8,8 @@ ghost use Rattle.escape_osc.specs.Parts.{parts_of};
 ghost use Rattle.escape_osc.specs.Reading.{osc_reading};
 ghost use Rattle.escape_stream.specs.ParserShown.{lending_in};
 ghost use Rattle.escape_stream.specs.Pieces.{pieces};
-ghost use Rattle.escape_stream.specs.PiecesView.{lender_of, parser_of, AsksMemoryLater, BytesTakeMemory, open_pieces, held_at_end, IsUnderWay, IsOpen, HadFailed, IsReady};
+ghost use Rattle.escape_stream.specs.PiecesView.{lender_of, parser_of, AsksMemoryLater, BytesTakeMemory, open_pieces};
+ghost use Rattle.escape_stream.specs.PiecesView.{held_at_end, IsUnderWay, IsOpen, HadFailed, IsReady};
 ghost use Rattle.escape_stream.specs.Sequences.{FirstTakes, Gives, actions_left, optional_action, own_actions};
 ghost use Rattle.escape_stream.specs.StreamAction.{command};
 ghost use Rattle.escape_stream.specs.StreamActionView.{value_of};
@@ -94,11 +96,13 @@ impl Parser {
         self.framer.next(bytes)
     }
 
-    // The body of the operating system command that stands whole at the front of the bytes, and how many bytes are read with
-    // it.
+    // The body of the operating system command that stands whole at the front of the bytes, and how many bytes are read
+    // with it.
     #[inline(always)]
     pub(crate) fn whole_command<'b>(&self, bytes: &'b [u8]) -> Option<(&'b [u8], usize)>
-        ensures { IfSome result (λ c. ReadsEvent self.now.held bytes.now (whole_command c.1) (record (lending_in self.now) { body = c.0.now })) }
+        ensures { IfSome result
+            (λ c. ReadsEvent self.now.held bytes.now (whole_command c.1)
+            (record (lending_in self.now) { body = c.0.now })) }
     {
         self.framer.whole_command(bytes)
     }
@@ -110,8 +114,8 @@ impl Parser {
         command_action(self.alloc, body)
     }
 
-    // The action of an event that was read last, unless it is a control sequence, or a control without a name. The memory of
-    // a body, which was lent for it, is given back.
+    // The action of an event that was read last, unless it is a control sequence, or a control without a name. The
+    // memory of a body, which was lent for it, is given back.
     pub(crate) fn action_of(&mut self, event: Event) -> Result<Option<Action>, AllocError>
         ensures action { IfOk result (λ action. optional_action action ≡ own_actions (lending_in self.old) event) }
         ensures others { self.new ≡ record self.old { body = self.new.body } }
@@ -130,7 +134,9 @@ impl Parser {
         &self,
         sequence: &mut Option<Sequence>,
     ) -> Result<Option<Action>, AllocError>
-        ensures gives { IfOk result (λ next. Gives (actions_left self.now.parameters sequence.old) next (actions_left self.now.parameters sequence.new)) }
+        ensures gives { IfOk result
+            (λ next. Gives (actions_left self.now.parameters sequence.old) next
+            (actions_left self.now.parameters sequence.new)) }
         ensures over { IfOk result (λ next. next ≡ None → sequence.new ≡ None) }
         ensures memory { OnErr result (FirstTakes (actions_left self.now.parameters sequence.old)) }
     {
@@ -157,8 +163,11 @@ impl Parser {
     // Lends what bytes decide.
     pub(crate) fn reading<'p, 'b>(&'p mut self, bytes: &'b [u8]) -> Reading<'p, 'b>
         ensures same { lender_of result ≡ self.entry.ghost_name }
-        ensures memory { AsksMemoryLater result → (stream : List ℕ) → self.old.held ≡ held_of stream → BytesTakeMemory stream bytes.now }
-        ensures pieces { (stream : List ℕ) → self.old.held ≡ held_of stream → IsUnderWay result × (open_pieces (length stream) result ≡ pieces stream bytes.now) × (held_at_end result ≡ held_of (stream ++ bytes.now)) }
+        ensures memory { AsksMemoryLater result → (stream : List ℕ) → self.old.held ≡ held_of stream
+            → BytesTakeMemory stream bytes.now }
+        ensures pieces { (stream : List ℕ) → self.old.held ≡ held_of stream
+            → IsUnderWay result × (open_pieces (length stream) result ≡ pieces stream bytes.now)
+            × (held_at_end result ≡ held_of (stream ++ bytes.now)) }
         ensures ready { IsReady result }
         ensures failed { HadFailed result ↔ (self.old.failed ≡ true) }
         ensures open { IsOpen result ↔ (self.old.failed ≡ false) }
@@ -185,7 +194,9 @@ impl Parser {
     pub fn pieces<'a>(&'a mut self, bytes: &'a [u8]) -> Pieces<'a>
         ensures same { lender_of result ≡ self.entry.ghost_name }
         // Where a stream has been read, in any pieces, what is to come is what these bytes hand out behind it.
-        ensures pieces { (stream : List ℕ) → self.old.held ≡ held_of stream → IsUnderWay result × (open_pieces (length stream) result ≡ pieces stream bytes.now) × (held_at_end result ≡ held_of (stream ++ bytes.now)) }
+        ensures pieces { (stream : List ℕ) → self.old.held ≡ held_of stream
+            → IsUnderWay result × (open_pieces (length stream) result ≡ pieces stream bytes.now)
+            × (held_at_end result ≡ held_of (stream ++ bytes.now)) }
         // They can be asked for, and end.
         ensures ready { IsReady result }
         // A parser that had failed tells so; another one is open, and has failed until the end.

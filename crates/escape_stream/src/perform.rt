@@ -1,6 +1,6 @@
 //! What is done with what a parser reads.
 ghost use Rattle.std.specs.Prelude.{◌≡◌, IfErr, OnOk};
-ghost use Rattle.escape_stream.specs.Items.{Item, Text, Lone};
+ghost use Rattle.escape_stream.specs.Items.{Item, Text, Single};
 ghost use Rattle.escape_stream.specs.StreamActionView.{value_of};
 
 use crate::action::Action;
@@ -32,8 +32,8 @@ pub trait Perform<'t> {
     fn action(&mut self, action: Action) -> Result<(), Self::Refusal>
         requires { ready self.old }
         ensures ready { OnOk result (ready self.new) }
-        ensures done { OnOk result (does self.old (Lone (value_of action)) self.new) }
-        ensures refused { IfErr result (λ refusal. refuses self.old (Lone (value_of action)) refusal self.new) };
+        ensures done { OnOk result (does self.old (Single (value_of action)) self.new) }
+        ensures refused { IfErr result (λ refusal. refuses self.old (Single (value_of action)) refusal self.new) };
 }
 
 /// Why not all that bytes ask for was performed.

@@ -6,13 +6,13 @@ ghost use Rattle.escape_framing.specs.declared.event.Event.TheVariants as event;
 ghost use Rattle.escape_stream.specs.Sequences.{FirstTakes, Gives, actions_left, event_actions};
 
 use crate::action::Action;
-use csi_codec::{CSIPlace, CsiParam};
+use csi_codec::{CsiParam, ParamCursor};
 use std::alloc::{AllocError, Global};
 
 /// A control sequence, and how far its actions were read.
 #[derive(Clone, Copy)]
 pub(crate) struct Sequence {
-    place: CSIPlace,
+    place: ParamCursor,
     control: u8,
 }
 
@@ -20,10 +20,11 @@ impl Sequence {
     /// A control sequence with this final byte, of which nothing was read.
     #[inline(always)]
     pub(crate) fn start(control: u8) -> Sequence
-        ensures { (l : Lending) → actions_left l.parameters (Some result) ≡ event_actions l (event.ControlSequence control) }
+        ensures { (l : Lending)
+            → actions_left l.parameters (Some result) ≡ event_actions l (event.ControlSequence control) }
     {
         Sequence {
-            place: CSIPlace::start(),
+            place: ParamCursor::start(),
             control,
         }
     }
@@ -36,8 +37,10 @@ impl Sequence {
         parameters: &[CsiParam],
         truncated: bool,
     ) -> Result<Option<Action>, AllocError>
-        ensures gives { (p : Parameters) → p.tokens ≡ parameters.now → p.truncated ≡ truncated → IfOk result (λ next. Gives (actions_left p (Some self.old)) next (actions_left p (Some self.new))) }
-        ensures memory { (p : Parameters) → p.tokens ≡ parameters.now → p.truncated ≡ truncated → OnErr result (FirstTakes (actions_left p (Some self.old))) }
+        ensures gives { (p : Parameters) → p.tokens ≡ parameters.now → p.truncated ≡ truncated
+            → IfOk result (λ next. Gives (actions_left p (Some self.old)) next (actions_left p (Some self.new))) }
+        ensures memory { (p : Parameters) → p.tokens ≡ parameters.now → p.truncated ≡ truncated
+            → OnErr result (FirstTakes (actions_left p (Some self.old))) }
     {
         let control = char::from(self.control);
         match self.place.next(alloc, parameters, truncated, control) {

@@ -6,14 +6,14 @@ use Rattle.json.specs.Json.{Json}
 use Rattle.recordings.specs.Events.{Act, Event, Entry, entry_in, json_of}
 use Rattle.recordings.specs.Numerals.{too_late}
 use Rattle.recordings.specs.Order.{AreFrom}
-use Rattle.recordings.specs.Recordings.{Head, Bytes, Bad, Recorded, Reading, head_of, is_passed_over, line_read, lines_of, lines_read, reading_first, recording_by, recording_in, recording_of, time_after, with_act, with_entry, with_time, with_value}
+use Rattle.recordings.specs.Recordings.{Head, Bytes, Bad, Recorded, Reader, head_of, is_passed_over, line_read, lines_of, lines_read, reading_first, recording_by, recording_in, recording_of, time_after, with_act, with_entry, with_time, with_value}
 use Rattle.recordings.specs.declared.fault.Fault.{Fault}
 use Rattle.recordings.specs.declared.fault.Fault.TheVariants.{Back, Late}
 use Rattle.recordings.specs.declared.header.Version.{Version}
 use Rattle.recordings.specs.declared.header.Version.TheVariants.{Two, Three}
 
 -- events are added, none before the time of the last one
-record Adds (before after : Reading) : Type 0 where
+record Adds (before after : Reader) : Type 0 where
   pub more : List Event
   pub events : after.events ≡ before.events ++ more
   -- whatever comes behind them is in order with them
@@ -24,14 +24,14 @@ later early late [] h from = tt
 later early late (event ∷ events) h from = (omega (arith, h, from.0), from.1)
 
 -- a time, and the events as they were
-stays : (before after : Reading) → after.events ≡ before.events → before.time ≤ after.time → Adds before after
+stays : (before after : Reader) → after.events ≡ before.events → before.time ≤ after.time → Adds before after
 stays before after same h = record {
   more = [];
   events = same ∙ sym (append-nil before.events);
   goes = λ others from. later before.time after.time others h from;
 }
 
-acted : (before : Reading) (time : ℕ) (act : Option Act) → before.time ≤ time → Adds before (with_act time act before)
+acted : (before : Reader) (time : ℕ) (act : Option Act) → before.time ≤ time → Adds before (with_act time act before)
 acted before time None h = stays before (with_act time None before) refl h
 acted before time (Some act) h = record {
   more = record { time = time; act = act } ∷ [];
@@ -53,21 +53,21 @@ not_before Three before time is_done now e = by_test (nat_lt (before + time) too
     by_test true same = let is : before + time ≡ now = cc in omega (arith, is)
     by_test false same = absurd cc
 
-timed : (number : ℕ) (before : Reading) (r : Result ℕ Fault) (act : Option Act) → ((now : ℕ) → r ≡ Ok now → before.time ≤ now) → Adds before (with_time number r act before)
+timed : (number : ℕ) (before : Reader) (r : Result ℕ Fault) (act : Option Act) → ((now : ℕ) → r ≡ Ok now → before.time ≤ now) → Adds before (with_time number r act before)
 timed number before (Err fault) act h = stays before (with_time number (Err fault) act before) refl (omega arith)
 timed number before (Ok now) act h = acted before now act (h now refl)
 
-entered : (number : ℕ) (before : Reading) (r : Result Entry Fault) → Adds before (with_entry number r before)
+entered : (number : ℕ) (before : Reader) (r : Result Entry Fault) → Adds before (with_entry number r before)
 entered number before (Err fault) = stays before (with_entry number (Err fault) before) refl (omega arith)
 entered number before (Ok entry) =
     timed number before (time_after before.version before.time entry.time (is_some entry.act)) entry.act
     (λ now e. not_before before.version before.time entry.time (is_some entry.act) now e)
 
-valued : (number : ℕ) (before : Reading) (value : Option Json) → Adds before (with_value number value before)
+valued : (number : ℕ) (before : Reader) (value : Option Json) → Adds before (with_value number value before)
 valued number before None = stays before (with_value number None before) refl (omega arith)
 valued number before (Some event) = entered number before (entry_in event)
 
-line_adds : (number : ℕ) (before : Reading) (line : List ℕ) → Adds before (line_read number before line)
+line_adds : (number : ℕ) (before : Reader) (line : List ℕ) → Adds before (line_read number before line)
 unfolding line_read
 line_adds number before line = by_test (is_some before.fault || is_passed_over before.version line)
   where
@@ -75,7 +75,7 @@ line_adds number before line = by_test (is_some before.fault || is_passed_over b
     by_test true = stays before before refl (omega arith)
     by_test false = valued number before (json_of line)
 
-lines_add : (number : ℕ) (before : Reading) (lines : List (List ℕ)) → Adds before (lines_read number before lines)
+lines_add : (number : ℕ) (before : Reader) (lines : List (List ℕ)) → Adds before (lines_read number before lines)
 lines_add number before [] = stays before before refl (omega arith)
 lines_add number before (line ∷ lines) =
     let first = line_adds number before line in

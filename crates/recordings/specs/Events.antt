@@ -1,5 +1,6 @@
 -- What a line of a recording says: asciicast, versions 2 and 3.
-use Rattle.std.specs.Prelude.{Bool, ℕ, ◌==◌, List, Option, Some, None, Result, Ok, Err, codes, length, nat_lt, option_and_then, if◌then◌else◌}
+use Rattle.std.specs.Prelude.{Bool, ℕ, ◌==◌, List, Option, Some, None, Result, Ok, Err, codes, length, nat_lt}
+use Rattle.std.specs.Prelude.{option_and_then, if◌then◌else◌}
 use Rattle.std.specs.List.{after_first, before_first, position_or_len}
 use Rattle.std.specs.Str.{bytes_eq, is_utf8}
 use Rattle.json.specs.Find.{as_number, as_str, at}
@@ -41,7 +42,8 @@ is_x byte = byte == 120
 -- the size that a text such as 80x24 writes
 unfoldable pub resize_of : List ℕ → Option Act
 resize_of text =
-    if nat_lt (position_or_len is_x text) (length text) then sized (size_of (before_first is_x text)) (size_of (after_first is_x text))
+    if nat_lt (position_or_len is_x text) (length text)
+    then sized (size_of (before_first is_x text)) (size_of (after_first is_x text))
     else None
 
 abbrev pub output_in : Option (List ℕ) → Result (Option Act) Fault
@@ -73,4 +75,5 @@ abbrev pub text_at : ℕ → Json → Option (List ℕ)
 text_at n event = option_and_then as_str (at n event)
 
 unfoldable pub entry_in : Json → Result Entry Fault
-entry_in event = entry_with (option_and_then time_of (option_and_then as_number (at 0 event))) (text_at 1 event) (text_at 2 event)
+entry_in event =
+    entry_with (option_and_then time_of (option_and_then as_number (at 0 event))) (text_at 1 event) (text_at 2 event)

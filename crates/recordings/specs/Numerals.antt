@@ -1,15 +1,16 @@
 -- The times and the counts that texts write.
-use Rattle.std.specs.Prelude.{Bool, ℕ, ◌+◌, ◌-◌, ◌*◌, ◌^◌, ◌==◌, ◌&&◌, List, [], ◌∷◌, ◌++◌, Option, Some, None, length, option_and_then, take, min, nat_lt, nat_le, if◌then◌else◌}
+use Rattle.std.specs.Prelude.{Bool, ℕ, ◌+◌, ◌-◌, ◌*◌, ◌^◌, ◌==◌, ◌&&◌, List, [], ◌∷◌, ◌++◌, Option, Some, None, length}
+use Rattle.std.specs.Prelude.{option_and_then, take, min, nat_lt, nat_le, if◌then◌else◌}
 use Rattle.fast_float.specs.Text.{Parts, scan, has_digits}
 
 -- the number that decimal digits write behind those of another one
-abbrev pub number_behind : ℕ → List ℕ → ℕ
-number_behind n [] = n
-number_behind n (digit ∷ digits) = number_behind (n * 10 + (digit - 48)) digits
+abbrev pub number_after : ℕ → List ℕ → ℕ
+number_after n [] = n
+number_after n (digit ∷ digits) = number_after (n * 10 + (digit - 48)) digits
 
 -- the number that decimal digits write
 abbrev pub number_of : List ℕ → ℕ
-number_of digits = number_behind 0 digits
+number_of digits = number_after 0 digits
 
 -- the greatest number of 64 bits
 abbrev pub greatest : ℕ
@@ -18,7 +19,8 @@ greatest = 2 ^ 64 - 1
 -- how many digits of a number of seconds stand before the point of its microseconds: six more than before its own
 -- point, which the exponent has moved
 abbrev pub micro_point : Parts → ℕ
-micro_point p = if p.exponent_negative then length p.whole + 6 - number_of p.exponent else length p.whole + 6 + number_of p.exponent
+micro_point p =
+    if p.exponent_negative then length p.whole + 6 - number_of p.exponent else length p.whole + 6 + number_of p.exponent
 
 -- the most of these digits that a time may have
 abbrev pub most_digits : ℕ
@@ -44,7 +46,9 @@ is_numeral text p = (p.len == length text) && has_digits p
 -- other text, and none where it is too late
 unfoldable pub time_of : List ℕ → Option ℕ
 time_of text =
-    if is_numeral text (scan text) && (nat_le (micro_point (scan text)) most_digits && nat_lt (micros (scan text)) too_late) then Some (micros (scan text)) else None
+    if is_numeral text (scan text)
+    && (nat_le (micro_point (scan text)) most_digits && nat_lt (micros (scan text)) too_late)
+    then Some (micros (scan text)) else None
 
 -- digits and nothing else
 abbrev pub is_count : List ℕ → Parts → Bool

@@ -2,11 +2,12 @@
 use Rattle.std.specs.Prelude.{map}
 use Rattle.recordings.specs.EventView.{event_of}
 use Rattle.recordings.specs.Recordings as value
-use Rattle.recordings.specs.declared.reading.Reading.{Reading}
+use Rattle.recordings.specs.declared.reader.Reader.{Reader}
 use Rattle.recordings.specs.declared.recording.Recording.{Recording}
 
-abbrev pub reading_of : Reading → value.Reading
+abbrev pub reading_of : Reader → value.Reader
 reading_of r = record { version = r.version; time = r.time; events = map event_of r.events.items; fault = r.fault }
 
 abbrev pub recording_value : Recording → value.Recording
-recording_value r = record { width = r.size.width; height = r.size.height; events = map event_of r.events.items; fault = r.fault }
+recording_value r =
+    record { width = r.size.width; height = r.size.height; events = map event_of r.events.items; fault = r.fault }

@@ -1,5 +1,7 @@
 -- A recording: its header, and its lines in turn.
-use Rattle.std.specs.Prelude.{Bool, true, false, ℕ, ◌+◌, ◌==◌, ◌||◌, List, [], ◌∷◌, ◌++◌, Option, Some, None, Result, Ok, Err, codes, length, slice_index, option_and_then, is_some, nat_le, nat_lt, if◌then◌else◌}
+use Rattle.std.specs.Prelude.{Bool, true, false, ℕ, ◌+◌, ◌==◌, ◌||◌, List, [], ◌∷◌, ◌++◌, Option, Some, None, Result}
+use Rattle.std.specs.Prelude.{Ok, Err, codes, length, slice_index, option_and_then, is_some, nat_le, nat_lt}
+use Rattle.std.specs.Prelude.{if◌then◌else◌}
 use Rattle.std.specs.List.{slice_split}
 use Rattle.json.specs.Find.{as_number, get}
 use Rattle.json.specs.Json.{Json}
@@ -7,7 +9,8 @@ use Rattle.recordings.specs.Events.{Act, Output, Event, Entry, entry_in, json_of
 use Rattle.recordings.specs.Numerals.{count_of, size_of, too_late}
 use Rattle.recordings.specs.declared.fault.BadLine.{BadLine}
 use Rattle.recordings.specs.declared.fault.Fault.{Fault}
-use Rattle.recordings.specs.declared.fault.Fault.TheVariants.{Back, HeaderSize, Late, NotJson, Version as UnknownVersion}
+use Rattle.recordings.specs.declared.fault.Fault.TheVariants.{Back, HeaderSize, Late, NotJson}
+use Rattle.recordings.specs.declared.fault.Fault.TheVariants.{Version as UnknownVersion}
 use Rattle.recordings.specs.declared.header.Version.{Version}
 use Rattle.recordings.specs.declared.header.Version.TheVariants.{Two, Three}
 
@@ -30,17 +33,20 @@ head_of_size version (Some width) (Some height) = Recorded version width height
 
 -- version 2 has its size as width and height
 abbrev pub second_head : Json → Head
-second_head header = head_of_size Two (member_of size_of (codes "width") header) (member_of size_of (codes "height") header)
+second_head header =
+    head_of_size Two (member_of size_of (codes "width") header) (member_of size_of (codes "height") header)
 
 -- version 3 has it as cols and rows of a member term
 abbrev pub term_head : Option Json → Head
 term_head None = Bad HeaderSize
-term_head (Some term) = head_of_size Three (member_of size_of (codes "cols") term) (member_of size_of (codes "rows") term)
+term_head (Some term) =
+    head_of_size Three (member_of size_of (codes "cols") term) (member_of size_of (codes "rows") term)
 
 abbrev pub head_by : Option ℕ → Json → Head
 head_by None header = Bytes
 head_by (Some version) header =
-    if version == 2 then second_head header else (if version == 3 then term_head (get (codes "term") header) else Bad UnknownVersion)
+    if version == 2 then second_head header
+    else (if version == 3 then term_head (get (codes "term") header) else Bad UnknownVersion)
 
 abbrev pub head_in : Option Json → Head
 head_in None = Bytes
@@ -53,7 +59,7 @@ head_of line = head_in (json_of line)
 -- ---- the lines
 
 -- what was read of a recording so far
-pub record Reading : Type 0 where
+pub record Reader : Type 0 where
   pub version : Version
   -- that of the last event
   pub time : ℕ
@@ -72,32 +78,35 @@ time_after Two before time false = Ok before
 time_after Two before time true = if nat_le before time then Ok time else Err Back
 time_after Three before time is_done = if nat_lt (before + time) too_late then Ok (before + time) else Err Late
 
-abbrev pub with_fault : ℕ → Fault → Reading → Reading
+abbrev pub with_fault : ℕ → Fault → Reader → Reader
 with_fault number fault reading = record reading { fault = Some (record { line = number; fault = fault }) }
 
-abbrev pub with_act : ℕ → Option Act → Reading → Reading
+abbrev pub with_act : ℕ → Option Act → Reader → Reader
 with_act time None reading = record reading { time = time }
-with_act time (Some act) reading = record reading { time = time; events = reading.events ++ record { time = time; act = act } ∷ [] }
+with_act time (Some act) reading =
+    record reading { time = time; events = reading.events ++ record { time = time; act = act } ∷ [] }
 
-abbrev pub with_time : ℕ → Result ℕ Fault → Option Act → Reading → Reading
+abbrev pub with_time : ℕ → Result ℕ Fault → Option Act → Reader → Reader
 with_time number (Err fault) act reading = with_fault number fault reading
 with_time number (Ok time) act reading = with_act time act reading
 
-abbrev pub with_entry : ℕ → Result Entry Fault → Reading → Reading
+abbrev pub with_entry : ℕ → Result Entry Fault → Reader → Reader
 with_entry number (Err fault) reading = with_fault number fault reading
-with_entry number (Ok entry) reading = with_time number (time_after reading.version reading.time entry.time (is_some entry.act)) entry.act reading
+with_entry number (Ok entry) reading =
+    with_time number (time_after reading.version reading.time entry.time (is_some entry.act)) entry.act reading
 
-abbrev pub with_value : ℕ → Option Json → Reading → Reading
+abbrev pub with_value : ℕ → Option Json → Reader → Reader
 with_value number None reading = with_fault number NotJson reading
 with_value number (Some event) reading = with_entry number (entry_in event) reading
 
 -- the line of a number is read; none is behind a fault
-unfoldable pub line_read : ℕ → Reading → List ℕ → Reading
+unfoldable pub line_read : ℕ → Reader → List ℕ → Reader
 line_read number reading line =
-    if is_some reading.fault || is_passed_over reading.version line then reading else with_value number (json_of line) reading
+    if is_some reading.fault || is_passed_over reading.version line then reading
+    else with_value number (json_of line) reading
 
 -- lines, of which the first has a number
-abbrev pub lines_read : ℕ → Reading → List (List ℕ) → Reading
+abbrev pub lines_read : ℕ → Reader → List (List ℕ) → Reader
 lines_read number reading [] = reading
 lines_read number reading (line ∷ lines) = lines_read (number + 1) (line_read number reading line) lines
 
@@ -114,11 +123,12 @@ pub record Recording : Type 0 where
 abbrev pub lines_of : List ℕ → List (List ℕ)
 lines_of input = slice_split (λ byte. byte == 10) input
 
-abbrev pub reading_first : Version → Reading
+abbrev pub reading_first : Version → Reader
 reading_first version = record { version = version; time = 0; events = []; fault = None }
 
-abbrev pub recording_read : ℕ → ℕ → Reading → Recording
-recording_read width height reading = record { width = width; height = height; events = reading.events; fault = reading.fault }
+abbrev pub recording_read : ℕ → ℕ → Reader → Recording
+recording_read width height reading =
+    record { width = width; height = height; events = reading.events; fault = reading.fault }
 
 -- the bytes of an application, all of them at the beginning
 abbrev pub bytes_recording : ℕ → ℕ → List ℕ → Recording
@@ -134,7 +144,8 @@ bad_recording width height fault =
 abbrev pub recording_by : Head → ℕ → ℕ → List ℕ → List (List ℕ) → Recording
 recording_by Bytes width height input lines = bytes_recording width height input
 recording_by (Bad fault) width height input lines = bad_recording width height fault
-recording_by (Recorded version columns rows) width height input lines = recording_read columns rows (lines_read 2 (reading_first version) lines)
+recording_by (Recorded version columns rows) width height input lines =
+    recording_read columns rows (lines_read 2 (reading_first version) lines)
 
 abbrev pub recording_in : ℕ → ℕ → List ℕ → List (List ℕ) → Recording
 recording_in width height input [] = bytes_recording width height input

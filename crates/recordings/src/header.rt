@@ -4,7 +4,8 @@ ghost use Rattle.json.specs.Find.{get};
 ghost use Rattle.json.specs.Value.{value_view};
 ghost use Rattle.recordings.specs.Numerals.{count_of, size_of};
 ghost use Rattle.recordings.specs.HeadView.{head_value};
-ghost use Rattle.recordings.specs.Recordings.{head_by, head_in, head_of, head_of_size, member_of, second_head, term_head};
+ghost use Rattle.recordings.specs.Recordings.{head_by, head_in, head_of, head_of_size, member_of, second_head};
+ghost use Rattle.recordings.specs.Recordings.{term_head};
 
 use crate::entry::json_of;
 use crate::fault::Fault;

@@ -7,7 +7,7 @@ mod fault;
 mod header;
 pub mod laws;
 mod numerals;
-mod reading;
+mod reader;
 mod recording;
 mod size;
 

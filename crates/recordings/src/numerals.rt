@@ -1,12 +1,13 @@
 //! The times and the counts that texts write.
 ghost use Rattle.std.specs.Prelude.{◌≡◌, ◌≤◌, ◌<◌, IfSome, min, take};
-ghost use Rattle.recordings.specs.Numerals.{count_of, greatest, micro_point, micros, most_digits, number_behind, number_of, size_of, time_of, zeros};
+ghost use Rattle.recordings.specs.Numerals.{count_of, greatest, micro_point, micros, most_digits, number_after};
+ghost use Rattle.recordings.specs.Numerals.{number_of, size_of, time_of, zeros};
 
 use fast_float::Numeral;
 
 // The number that decimal digits write behind those of another one, or the greatest.
 fn with_digits(value: u64, digits: &[u8]) -> u64
-    ensures { result ≡ min (number_behind value digits.now) greatest }
+    ensures { result ≡ min (number_after value digits.now) greatest }
 {
     let mut value = value;
     for digit in digits {
@@ -56,8 +57,8 @@ fn micros(numeral: &Numeral<'_>, point: usize) -> u64
 
 const TOO_LATE: u64 = 1 << 63;
 
-/// The microseconds of a text that is a decimal number of seconds from 0 on, with or without an exponent; further digits
-/// are cut. None of any other text, and none from 2^63 on.
+/// The microseconds of a text that is a decimal number of seconds from 0 on, with or without an exponent; further
+/// digits are cut. None of any other text, and none from 2^63 on.
 #[tactic(auto, unfolding(crate::specs::Numerals::time_of))]
 pub fn time_of(text: &str) -> Option<u64>
     ensures { result ≡ time_of text.now }

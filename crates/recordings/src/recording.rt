@@ -1,12 +1,13 @@
 //! A recording.
 ghost use Rattle.std.specs.Prelude.{◌≡◌, IfOk, map};
 ghost use Rattle.recordings.specs.RecordingView.{reading_of, recording_value};
-ghost use Rattle.recordings.specs.Recordings.{bad_recording, bytes_recording, lines_of, lines_read, reading_first, recording_of, recording_read};
+ghost use Rattle.recordings.specs.Recordings.{bad_recording, bytes_recording, lines_of, lines_read, reading_first};
+ghost use Rattle.recordings.specs.Recordings.{recording_of, recording_read};
 
 use crate::event::{Act, Event};
 use crate::fault::{BadLine, Fault};
 use crate::header::{Head, Version, read_head};
-use crate::reading::Reading;
+use crate::reader::Reader;
 use crate::size::Size;
 use std::alloc::{AllocError, Global};
 
@@ -29,11 +30,11 @@ fn lines_of(alloc: Global, input: &[u8]) -> Result<Vec<&[u8]>, AllocError>
 }
 
 // What the lines behind a header lead to.
-fn read_lines(alloc: Global, version: Version, lines: &[&[u8]]) -> Result<Reading, AllocError>
+fn read_lines(alloc: Global, version: Version, lines: &[&[u8]]) -> Result<Reader, AllocError>
     ensures { IfOk result (λ reading.
         reading_of reading ≡ lines_read 2 (reading_first version) (map (λ line. line.now) lines.now)) }
 {
-    let mut reading = Reading::new(alloc, version);
+    let mut reading = Reader::new(alloc, version);
     for at in 0..lines.len() {
         reading.read_line(alloc, at + 2, lines[at])?;
     }
@@ -76,10 +77,12 @@ fn lines_recording(
     size: Size,
     lines: &[&[u8]],
 ) -> Result<Recording, AllocError>
-    ensures { IfOk result (λ recording. recording_value recording
-        ≡ recording_read size.width size.height (lines_read 2 (reading_first version) (map (λ line. line.now) lines.now))) }
+    ensures { IfOk result
+        (λ recording. recording_value recording
+        ≡ recording_read size.width size.height
+        (lines_read 2 (reading_first version) (map (λ line. line.now) lines.now))) }
 {
-    let Reading { events, fault, .. } = read_lines(alloc, version, lines)?;
+    let Reader { events, fault, .. } = read_lines(alloc, version, lines)?;
     Ok(Recording {
         size,
         events,
@@ -87,13 +90,14 @@ fn lines_recording(
     })
 }
 
-/// Reads a recording: asciicast of version 2 or 3, where the first line is an object of JSON with a member `version` that
-/// is a number; or else the bytes of an application, which are all written at the beginning to a terminal of this size.
+/// Reads a recording: asciicast of version 2 or 3, where the first line is an object of JSON with a member `version`
+/// that is a number; or else the bytes of an application, which are all written at the beginning to a terminal of this
+/// size.
 ///
 /// Of a recording its size, its outputs (`o`) and its resizes (`r`) are read; events of other codes and empty lines are
 /// passed over, and in version 3 lines that begin with `#`. Times are decimals, of which the digits behind the
-/// microseconds are cut; those of version 3 are from one event, of any code, to the next, and their sums exact. It takes
-/// memory in proportion to the input.
+/// microseconds are cut; those of version 3 are from one event, of any code, to the next, and their sums exact. It
+/// takes memory in proportion to the input.
 #[tactic(auto, unfolding(crate::specs::Recordings::recording_of))]
 pub fn read_recording(alloc: Global, size: Size, input: &[u8]) -> Result<Recording, AllocError>
     ensures { IfOk result (λ recording. recording_value recording ≡ recording_of size.width size.height input.now) }

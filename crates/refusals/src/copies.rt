@@ -4,8 +4,8 @@ use crate::changes::{all_changes, are_equal};
 use crate::outcome::{Outcome, Stop, refused};
 use crate::tally::Tally;
 use cell_base::{Cell, CellAttributes, Hyperlink, ProgramWidth};
-use cell_change::cloned_changes;
 use cell_line::Line;
+use screen_change::cloned_changes;
 use std::alloc::Global;
 use std::io::Write;
 

@@ -5,6 +5,7 @@ use crate::outcome::{Outcome, Stop, refused};
 use crate::tally::Tally;
 use cell_base::{Cell, CellAttributes, Hyperlink, ProgramWidth};
 use cell_line::Line;
+use cell_line::row_writing::{set_blanks, set_text};
 use std::alloc::{AllocError, Global};
 use std::io::Write;
 
@@ -138,7 +139,7 @@ fn columns(alloc: Global) -> Outcome {
         return Ok(false);
     }
     let attrs = CellAttributes::blank();
-    match line.set_text(1..5, LONG, &attrs, &ProgramWidth) {
+    match set_text(&mut line, 1..5, LONG, &attrs, &ProgramWidth) {
         Ok((column, left)) => Ok(column == 3 && left.is_empty() && is_lawful(&line)),
         Err(_) => refused(Stop::Memory, stands(&line)),
     }
@@ -151,7 +152,7 @@ fn blanks(alloc: Global) -> Outcome {
         return Ok(false);
     }
     let attrs = CellAttributes::blank();
-    let blank = line.set_blanks(1..2, &attrs).is_ok();
+    let blank = set_blanks(&mut line, 1..2, &attrs).is_ok();
     if !blank || line.prune_trailing_blanks(NEXT).is_err() {
         return refused(Stop::Memory, stands(&line));
     }

@@ -1,11 +1,10 @@
-//! Makes calls that take memory, and prints `ok` where each did what it must: either it answered rightly, or it was refused
-//! memory, said so under its own name, and left what stands behind a refusal. To be run with each request for memory refused
-//! in turn.
+//! Makes calls that take memory, and prints `ok` where each did what it must: either it answered rightly, or it was
+//! refused memory, said so under its own name, and left what stands behind a refusal. To be run with each request for
+//! memory refused in turn.
 //!
-//! With the word `calls` it makes only values and then those calls that need no memory, and with `values` these values alone.
-//! What the calls request is what the first run requests more than the second: two requests of `flush_changes_older_than`,
-//! which keeps the memory of dropped texts and goes on where its list can't grow. To be run with the word `calls` and every
-//! request refused after those of `values`.
+//! With the word `calls` it makes only values and then those calls that need no memory, and with `values` these values
+//! alone. The first run should make no request more than the second: it is to be run with every request refused after
+//! those.
 #![tactic(auto)]
 
 mod cells;

@@ -27,8 +27,8 @@ struct Wanted {
     replies: &'static [u8],
 }
 
-// What stands behind an answer of which the bytes were refused: the terminal is as it is behind a look, and gives the answer
-// if it is asked again.
+// What stands behind an answer of which the bytes were refused: the terminal is as it is behind a look, and gives the
+// answer if it is asked again.
 fn again(terminal: &mut Plain, shown: &Plain, wanted: &Wanted) -> Outcome {
     let stands = shows(terminal, wanted.rows)? && terminal.current_number() == wanted.number;
     let (number, bytes) = ask(terminal, shown, wanted.since, wanted.is_patch)?;

@@ -40,7 +40,8 @@ fn is_failed<T: Drop>(answer: Result<T, SurfaceError>) -> bool {
     matches!(answer, Err(SurfaceError::Failed))
 }
 
-// Whether each changing call of a surface, and `get_changes`, answers that it has failed, and dropping changes does nothing.
+// Whether each changing call of a surface, and `get_changes`, answers that it has failed, and dropping changes does
+// nothing.
 fn has_failed(alloc: Global, surface: &mut Plain, other: &Plain) -> Outcome {
     let title = Change::Title(String::new(alloc));
     let added = surface.is_failed()

@@ -41,8 +41,8 @@ impl<W: Write> Tally<W> {
         }
     }
 
-    /// Writes `ok` where no check was wrong, and answers the status. One request is refused in a run, so no more than one
-    /// check may be refused memory.
+    /// Writes `ok` where no check was wrong, and answers the status. One request is refused in a run, so no more than
+    /// one check may be refused memory.
     pub fn end(&mut self) -> u8 {
         if self.refused > 1 {
             self.is_wrong = true;

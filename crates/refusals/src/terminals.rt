@@ -194,7 +194,8 @@ fn plays(alloc: Global) -> Outcome {
     Ok(terminal.surface().cursor_position() == (2, 0) && shows(&terminal, "ab \n   \n")?)
 }
 
-// The bytes of each change: of the size of a row, of the cursor's colour and of its shape there are none, whatever the memory.
+// The bytes of each change: of the size of a row, of the cursor's colour and of its shape there are none, whatever the
+// memory.
 fn renderings(alloc: Global) -> Outcome {
     for kind in 0..CHANGES {
         let is_spelled = !matches!(kind, 4 | 9 | 10);

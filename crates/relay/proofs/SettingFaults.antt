@@ -17,7 +17,7 @@ use Rattle.relay.specs.Settings.{Setting, Show, Give, GiveAll, IsCommandLine, Is
 use Rattle.relay.proofs.SettingNumbers.{number_taken}
 use Rattle.relay.proofs.SettingRows.{had_none, row_for}
 use Rattle.relay.proofs.SettingWalk.{Numbered, Columns, Rows, Bytes, IsNew, awaiting, between, held, joined, joined_walk, line, name_for, number_settles, row_named, rows_at, settling, show_walk, walked_over, with_number}
-use Rattle.relay.proofs.SettingWords.{Look, behind_name, dashes, long, short, odd, plain, look, Named, number, show, help, version, unknown, named}
+use Rattle.relay.proofs.SettingWords.{Look, after_name, dashes, long, short, odd, plain, look, Named, number, show, help, version, unknown, named}
 
 abbrev IsFault : Kinds → Type 0
 IsFault kinds = kinds ≡ [] → ⊥
@@ -191,7 +191,7 @@ flag_refused h x rest next = by_test (104 == x) (86 == x) refl refl
         subst (λ found. IsFault (short_fault line.rules false found rest h next)) (sym is) (some_fault kind.UnknownArgument [])
 
 -- what the words give, behind options that have these rows
-record GivenBehind (before : List Row) (words : List Text) : Type 0 where
+record GivenAfter (before : List Row) (words : List Text) : Type 0 where
   pub settings : List Setting
   pub give : GiveAll settings words
   pub range : AllByRecursion IsInRange settings
@@ -207,8 +207,8 @@ older s before (other ∷ others) new =
     let rest = older s before others new.1 in
     ((first.0, rest.0), (ap (λ name. bytes_eq name (name_of other)) (sym (row_named s)) ∙ first.1, rest.1))
 
-given_more : (before : List Row) (s : Setting) (first rest : List Text) → Give s first → IsInRange s → IsNew before s → GivenBehind (before ++ row_for s ∷ []) rest
-    → GivenBehind before (first ++ rest)
+given_more : (before : List Row) (s : Setting) (first rest : List Text) → Give s first → IsInRange s → IsNew before s → GivenAfter (before ++ row_for s ∷ []) rest
+    → GivenAfter before (first ++ rest)
 unfolding IsDistinct
 given_more before s first rest give range new more =
     let old = older s before more.settings more.new in
@@ -222,13 +222,13 @@ given_more before s first rest give range new more =
 
 -- what is pending passes, and the words give options
 abbrev Given : List Row → Option (Text × List Text) → List Text → Type 0
-Given rows pending words = (settling rows pending ≡ []) × GivenBehind (rows_at rows pending) words
+Given rows pending words = (settling rows pending ≡ []) × GivenAfter (rows_at rows pending) words
 
 -- what is to be shown of the words behind the first
 abbrev More : List Text → Type 0
 More rest = (words : List Text) (rows : List Row) (pending : Option (Text × List Text)) → length words ≤ length rest → Passes (between rows pending) words → Given rows pending words
 
-nothing_given : (before : List Row) (words : List Text) → GiveAll [] words → GivenBehind before words
+nothing_given : (before : List Row) (words : List Text) → GiveAll [] words → GivenAfter before words
 unfolding IsDistinct
 nothing_given before words give = record { settings = []; give = give; range = tt; distinct = tt; new = tt }
 
@@ -287,7 +287,7 @@ number_apart k (text ∷ rest) rows pending more p =
     let row = (number_settles k text before taken.0 taken.1).1 in (
       open_k.0,
       given_more before (with_number k text) ((codes "--" ++ name_for k) ∷ text ∷ []) rest (give_apart k text) taken.0 taken.1
-          (subst (λ rs. GivenBehind rs rest) row next.1),
+          (subst (λ rs. GivenAfter rs rest) row next.1),
     )
 
 -- `--name=text`
@@ -338,16 +338,16 @@ word_refused : (rows : List Row) (pending : Option (Text × List Text)) (word : 
     → Passes (between rows pending) (word ∷ rest) → ⊥
 word_refused rows pending word rest fault p = fault (word_passes idle (held rows pending) word (first_passes (between rows pending) word rest p).0)
 
-show_valued : (text : Text) (rows : List Row) (pending : Option (Text × List Text)) → IsFault (word_fault line [] false idle (codes "--" ++ (codes "show" ++ behind_name (Some text))) (held rows pending))
+show_valued : (text : Text) (rows : List Row) (pending : Option (Text × List Text)) → IsFault (word_fault line [] false idle (codes "--" ++ (codes "show" ++ after_name (Some text))) (held rows pending))
 unfolding command_line
 show_valued text rows pending = some_fault kind.TooManyValues []
 
-help_refused : (text : Option Text) (rows : List Row) (pending : Option (Text × List Text)) → IsFault (word_fault line [] false idle (codes "--" ++ (codes "help" ++ behind_name text)) (held rows pending))
+help_refused : (text : Option Text) (rows : List Row) (pending : Option (Text × List Text)) → IsFault (word_fault line [] false idle (codes "--" ++ (codes "help" ++ after_name text)) (held rows pending))
 unfolding command_line
 help_refused None rows pending = fault_second (settling rows pending) _ (some_fault kind.DisplayHelp [])
 help_refused (Some text) rows pending = some_fault kind.TooManyValues []
 
-version_refused : (text : Option Text) (rows : List Row) (pending : Option (Text × List Text)) → IsFault (word_fault line [] false idle (codes "--" ++ (codes "version" ++ behind_name text)) (held rows pending))
+version_refused : (text : Option Text) (rows : List Row) (pending : Option (Text × List Text)) → IsFault (word_fault line [] false idle (codes "--" ++ (codes "version" ++ after_name text)) (held rows pending))
 unfolding command_line
 version_refused None rows pending = fault_second (settling rows pending) _ (some_fault kind.DisplayVersion [])
 version_refused (Some text) rows pending = some_fault kind.TooManyValues []
@@ -362,20 +362,20 @@ abbrev GivenBy : List Row → Option (Text × List Text) → List Text → Text 
 GivenBy rows pending rest word = Given rows pending (word ∷ rest)
 
 number_given : (k : Numbered) (text : Option Text) (rest : List Text) (rows : List Row) (pending : Option (Text × List Text)) → More rest
-    → Passing rows pending rest (codes "--" ++ (name_for k ++ behind_name text)) → GivenBy rows pending rest (codes "--" ++ (name_for k ++ behind_name text))
+    → Passing rows pending rest (codes "--" ++ (name_for k ++ after_name text)) → GivenBy rows pending rest (codes "--" ++ (name_for k ++ after_name text))
 number_given k None rest rows pending more p =
     let same : codes "--" ++ (name_for k ++ []) ≡ codes "--" ++ name_for k = ap (λ name. codes "--" ++ name) (append-nil (name_for k)) in
     subst (GivenBy rows pending rest) (sym same) (number_apart k rest rows pending more (subst (Passing rows pending rest) same p))
 number_given k (Some text) rest rows pending more p = number_joined k text rest rows pending more p
 
 show_word_given : (text : Option Text) (rest : List Text) (rows : List Row) (pending : Option (Text × List Text)) → More rest
-    → Passing rows pending rest (codes "--" ++ (codes "show" ++ behind_name text)) → GivenBy rows pending rest (codes "--" ++ (codes "show" ++ behind_name text))
+    → Passing rows pending rest (codes "--" ++ (codes "show" ++ after_name text)) → GivenBy rows pending rest (codes "--" ++ (codes "show" ++ after_name text))
 show_word_given None rest rows pending more p = show_alone rest rows pending more p
 show_word_given (Some text) rest rows pending more p = absurd (word_refused rows pending _ rest (show_valued text rows pending) p)
 
 module _ (name : Text) (text : Option Text) (rest : List Text) (rows : List Row) (pending : Option (Text × List Text)) (more : More rest) where
   abbrev spelled_with : Text → Text
-  spelled_with known = codes "--" ++ (known ++ behind_name text)
+  spelled_with known = codes "--" ++ (known ++ after_name text)
 
   named_given : Named name → (arg_by_long line.rules name ≡ None → ⊥) → Passing rows pending rest (spelled_with name) → GivenBy rows pending rest (spelled_with name)
   named_given (number k is) known p =

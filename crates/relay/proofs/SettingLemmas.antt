@@ -35,8 +35,8 @@ unfolding command_line
 no_default_fault rows = defaults_pass line.rules rows (refl, (refl, (refl, (refl, (refl, (refl, tt))))))
 
 -- the faults of a walk, and those behind it
-abbrev faults_behind : Held → Option (Text × List Text) → Kinds → Kinds
-faults_behind h stopped kinds =
+abbrev faults_after : Held → Option (Text × List Text) → Kinds → Kinds
+faults_after h stopped kinds =
     let app : App = built command_line in
     or_else kinds (or_else (entered_fault app stopped) (or_else (settle_fault line.rules line.args_override_self h)
     (or_else (defaults_fault (settled line.rules h).rows line.rules) (check_fault line (finished line.rules h) (is_some (entered app stopped))))))
@@ -45,7 +45,7 @@ pub no_faults : (words : List Text) → IsCommandLine (drop 1 words) → faults_
 unfolding command_line faults_in
 no_faults words given =
     let end = walk_ends given.settings (drop 1 words) given.in_range given.once given.given in
-    (λ i. faults_behind (end.held_is i) (end.stopped_is i) (end.fault i)) ∙ rw (end.settles, no_default_fault (settled line.rules (held end.rows end.pending)).rows) refl
+    (λ i. faults_after (end.held_is i) (end.stopped_is i) (end.fault i)) ∙ rw (end.settles, no_default_fault (settled line.rules (held end.rows end.pending)).rows) refl
 
 -- and no other words have none
 pub options_given : (words : List Text) → faults_in words ≡ [] → IsCommandLine (drop 1 words)

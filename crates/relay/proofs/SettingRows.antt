@@ -70,9 +70,9 @@ abbrev pub or_row : Option Row → Option Row → Option Row
 or_row None other = other
 or_row (Some r) other = Some r
 
-found_behind : (id : Text) (rows more : List Row) → find_row id (rows ++ more) ≡ or_row (find_row id rows) (find_row id more)
-found_behind id [] more = refl
-found_behind id (r ∷ rows) more = by_test (bytes_eq r.id id) (found_behind id rows more)
+found_after : (id : Text) (rows more : List Row) → find_row id (rows ++ more) ≡ or_row (find_row id rows) (find_row id more)
+found_after id [] more = refl
+found_after id (r ∷ rows) more = by_test (bytes_eq r.id id) (found_after id rows more)
   where
     by_test : (t : Bool) → find_row id (rows ++ more) ≡ or_row (find_row id rows) (find_row id more)
         → cond t (Some r) (find_row id (rows ++ more)) ≡ or_row (cond t (Some r) (find_row id rows)) (find_row id more)
@@ -128,7 +128,7 @@ default_found id rows a = by_row (has_row a.id rows) refl
     by_row : (t : Bool) → has_row a.id rows ≡ t
         → find_row id (cond t rows (default_rows a.id (reading_by a) a.defaults rows)) ≡ or_row (find_row id rows) (find_row id (default_rows_of a))
     by_row true there = by_id (bytes_eq a.id id) refl there
-    by_row false none = ap (find_row id) (default_adds a rows a.defaults none) ∙ found_behind id rows (default_rows_of a)
+    by_row false none = ap (find_row id) (default_adds a rows a.defaults none) ∙ found_after id rows (default_rows_of a)
 
 -- and so do all of them
 pub defaults_found : (id : Text) (rules : List Rule) (rows : List Row)
@@ -138,4 +138,4 @@ defaults_found id (a ∷ rules) rows =
     let others = find_row id (flat_map default_rows_of rules) in
     defaults_found id rules (with_default rows a) ∙ ap (λ o. or_row o others) (default_found id rows a)
     ∙ or_twice (find_row id rows) (find_row id (default_rows_of a)) others
-    ∙ ap (or_row (find_row id rows)) (sym (found_behind id (default_rows_of a) (flat_map default_rows_of rules)))
+    ∙ ap (or_row (find_row id rows)) (sym (found_after id (default_rows_of a) (flat_map default_rows_of rules)))

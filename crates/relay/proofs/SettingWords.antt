@@ -11,14 +11,14 @@ use Rattle.relay.specs.CommandLine.{command_line}
 use Rattle.relay.proofs.SettingWalk.{Numbered, Columns, Rows, Bytes, line, name_for}
 
 -- what stands behind the name of an option in its word
-abbrev pub behind_name : Option Text → Text
-behind_name None = []
-behind_name (Some text) = codes "=" ++ text
+abbrev pub after_name : Option Text → Text
+after_name None = []
+after_name (Some text) = codes "=" ++ text
 
 -- `--`; `--name` or `--name=text`; `-` with a character; `-` with bytes that begin none; or a plain word
 pub data Look (word : Text) : Type 0 where
   dashes : word ≡ codes "--" → Look word
-  long : (name : Text) → (text : Option Text) → bytes_eq word (codes "--") ≡ false → long_of word ≡ Some (name, text) → word ≡ codes "--" ++ (name ++ behind_name text) → Look word
+  long : (name : Text) → (text : Option Text) → bytes_eq word (codes "--") ≡ false → long_of word ≡ Some (name, text) → word ≡ codes "--" ++ (name ++ after_name text) → Look word
   short : (byte : ℕ) → (flags : Text) → (x : ℕ) → bytes_eq word (codes "--") ≡ false → long_of word ≡ None → short_of word ≡ Some (byte ∷ flags)
       → slice_get (chars (byte ∷ flags)) 0 ≡ Some x → Look word
   odd : (byte : ℕ) → (flags : Text) → bytes_eq word (codes "--") ≡ false → long_of word ≡ None → short_of word ≡ Some (byte ∷ flags)
@@ -29,27 +29,27 @@ pub data Look (word : Text) : Type 0 where
 abbrev is_sign : ℕ → Bool
 is_sign byte = byte == 61
 
-abbrev text_behind : Text → Option Text
-text_behind word = cond (has_byte 61 word) (Some (after_first is_sign word)) None
+abbrev text_after : Text → Option Text
+text_after word = cond (has_byte 61 word) (Some (after_first is_sign word)) None
 
 -- a word's name, and what stands behind it, are the word
-parts : (word : Text) → word ≡ before_first is_sign word ++ behind_name (text_behind word)
+parts : (word : Text) → word ≡ before_first is_sign word ++ after_name (text_after word)
 parts [] = refl
 parts (byte ∷ rest) = by_test (is_sign byte) refl (parts rest)
   where
-    by_test : (t : Bool) → is_sign byte ≡ t → rest ≡ before_first is_sign rest ++ behind_name (text_behind rest)
-        → byte ∷ rest ≡ before_first is_sign (byte ∷ rest) ++ behind_name (text_behind (byte ∷ rest))
+    by_test : (t : Bool) → is_sign byte ≡ t → rest ≡ before_first is_sign rest ++ after_name (text_after rest)
+        → byte ∷ rest ≡ before_first is_sign (byte ∷ rest) ++ after_name (text_after (byte ∷ rest))
     by_test true e more = rw e (ap (λ b. b ∷ rest) (eqb-true byte 61 e))
     by_test false e more =
         let n = position_or_len is_sign rest in
         let one : suc n ≡ 1 + n = omega arith in
         let two : suc (n + 1) ≡ 1 + n + 1 = omega arith in
-        let front : byte ∷ rest ≡ take (suc n) (byte ∷ rest) ++ behind_name (cond (has_byte 61 rest) (Some (drop (suc (n + 1)) (byte ∷ rest))) None) = ap (λ r. byte ∷ r) more in
-        rw e (front ∙ (λ i. take (one i) (byte ∷ rest) ++ behind_name (cond (has_byte 61 rest) (Some (drop (two i) (byte ∷ rest))) None)))
+        let front : byte ∷ rest ≡ take (suc n) (byte ∷ rest) ++ after_name (cond (has_byte 61 rest) (Some (drop (suc (n + 1)) (byte ∷ rest))) None) = ap (λ r. byte ∷ r) more in
+        rw e (front ∙ (λ i. take (one i) (byte ∷ rest) ++ after_name (cond (has_byte 61 rest) (Some (drop (two i) (byte ∷ rest))) None)))
 
 look_long : (rest : Text) → Look (45 ∷ 45 ∷ rest)
 look_long [] = dashes refl
-look_long (byte ∷ rest) = long (before_first is_sign (byte ∷ rest)) (text_behind (byte ∷ rest)) refl refl (ap (λ r. 45 ∷ 45 ∷ r) (parts (byte ∷ rest)))
+look_long (byte ∷ rest) = long (before_first is_sign (byte ∷ rest)) (text_after (byte ∷ rest)) refl refl (ap (λ r. 45 ∷ 45 ∷ r) (parts (byte ∷ rest)))
 
 look_short : (byte : ℕ) (flags : Text) → (byte == 45) ≡ false → Look (45 ∷ byte ∷ flags)
 look_short byte flags e = by_first (slice_get (chars (byte ∷ flags)) 0) refl

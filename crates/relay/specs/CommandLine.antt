@@ -1,10 +1,12 @@
 -- The command line of the program: its options, and what words give for them, as the kit's `clap` reads words.
-use Rattle.std.specs.Prelude.{◌≢◌, ℕ, pos, Bool, ◌&&◌, nat_lt, nat_le, true, false, List, [], ◌∷◌, Option, Some, None, codes, if◌then◌else◌}
+use Rattle.std.specs.Prelude.{◌≢◌, ℕ, pos, Bool, ◌&&◌, nat_lt, nat_le, true, false, List, [], ◌∷◌, Option, Some, None}
+use Rattle.std.specs.Prelude.{codes, if◌then◌else◌}
 use Rattle.std.specs.Str.{bytes_eq}
 use Rattle.std.specs.Str.Parse.{digits_value, without_leading_plus}
 use Rattle.clap.specs.Simple.{on_top}
 use Rattle.clap.specs.ValueTests.{is_unsigned_in}
-use Rattle.clap.specs.Words.{App, IsAmong, Rule, Text, Kinds, new_app, new_rule, with_rule, matches_of, one_of, fault_of}
+use Rattle.clap.specs.Words.{App, IsAmong, Rule, Text, Kinds, new_app, new_rule, with_rule, matches_of, one_of}
+use Rattle.clap.specs.Words.{fault_of}
 use Rattle.clap.specs.declared.error.kind.ErrorKind.{ErrorKind}
 use Rattle.clap.specs.declared.error.kind.ErrorKind.TheVariants as kind
 use Rattle.clap.specs.declared.builder.action.ArgAction.TheVariants.{SetTrue}

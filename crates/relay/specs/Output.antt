@@ -3,7 +3,7 @@ use Rattle.std.specs.Prelude.{ℕ, Bool, List, if◌then◌else◌}
 use Rattle.clap.specs.Words.{Text}
 use Rattle.cell_base.specs.Cluster.{program_width}
 use Rattle.terminal.specs.Shown.{rows_shown}
-use Rattle.terminal_update.specs.Updates.{updates}
+use Rattle.terminal_viewers.specs.Updates.{updates}
 use Rattle.relay.specs.CommandLine.{width_in, height_in, every_in, show_in}
 
 -- of an input the rows, each with a line feed behind it, where these are to be shown, and else the updates

@@ -46,8 +46,8 @@ const BOTH: &[u8] =
 
 const ROWS: &[u8] = b"foob\naarb\naz  \n";
 
-/// On some bytes and a writer that fails behind so many flushes the words have that status, and this is written. With status 1
-/// it is told that writing failed.
+/// On some bytes and a writer that fails behind so many flushes the words have that status, and this is written. With
+/// status 1 it is told that writing failed.
 fn assert_run<R: Abort + AllocGlobal>(
     rt: &R,
     words: &[&str],

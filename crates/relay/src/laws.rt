@@ -10,10 +10,14 @@ ghost use Rattle.relay.specs.Settings.{IsCommandLine, width_given, height_given,
 /// that they don't give has its default. The first word is the program's name, whatever it is.
 pub fn settings()
     ensures taken { (words : List Text) → (faults_in words ≡ []) ↔ IsCommandLine (drop 1 words) }
-    ensures width { (words : List Text) (line : IsCommandLine (drop 1 words)) → width_in words ≡ width_given line.settings }
-    ensures height { (words : List Text) (line : IsCommandLine (drop 1 words)) → height_in words ≡ height_given line.settings }
-    ensures every { (words : List Text) (line : IsCommandLine (drop 1 words)) → every_in words ≡ every_given line.settings }
-    ensures show { (words : List Text) (line : IsCommandLine (drop 1 words)) → show_in words ≡ show_given line.settings }
+    ensures width { (words : List Text) (line : IsCommandLine (drop 1 words))
+        → width_in words ≡ width_given line.settings }
+    ensures height { (words : List Text) (line : IsCommandLine (drop 1 words))
+        → height_in words ≡ height_given line.settings }
+    ensures every { (words : List Text) (line : IsCommandLine (drop 1 words))
+        → every_in words ≡ every_given line.settings }
+    ensures show { (words : List Text) (line : IsCommandLine (drop 1 words))
+        → show_in words ≡ show_given line.settings }
 {}
 
 /// A law, which needs no call: without options the screen has 80 columns and 24 rows, an update is
@@ -28,11 +32,18 @@ pub fn defaults()
 
 /// A law, which needs no call: each option has the number that stands behind it, or its default.
 pub fn numbers()
-    ensures taken { faults_in (codes "relay" ∷ codes "--width" ∷ codes "4" ∷ codes "--height" ∷ codes "0003" ∷ codes "--show" ∷ []) ≡ [] }
-    ensures width { width_in (codes "relay" ∷ codes "--width" ∷ codes "4" ∷ codes "--height" ∷ codes "0003" ∷ codes "--show" ∷ []) ≡ 4 }
-    ensures height { height_in (codes "relay" ∷ codes "--width" ∷ codes "4" ∷ codes "--height" ∷ codes "0003" ∷ codes "--show" ∷ []) ≡ 3 }
-    ensures every { every_in (codes "relay" ∷ codes "--width" ∷ codes "4" ∷ codes "--height" ∷ codes "0003" ∷ codes "--show" ∷ []) ≡ 4096 }
-    ensures show { show_in (codes "relay" ∷ codes "--width" ∷ codes "4" ∷ codes "--height" ∷ codes "0003" ∷ codes "--show" ∷ []) ≡ true }
+    ensures taken { faults_in
+        (codes "relay" ∷ codes "--width" ∷ codes "4" ∷ codes "--height" ∷ codes "0003" ∷ codes "--show" ∷ []) ≡ [] }
+    ensures width { width_in
+        (codes "relay" ∷ codes "--width" ∷ codes "4" ∷ codes "--height" ∷ codes "0003" ∷ codes "--show" ∷ []) ≡ 4 }
+    ensures height { height_in
+        (codes "relay" ∷ codes "--width" ∷ codes "4" ∷ codes "--height" ∷ codes "0003" ∷ codes "--show" ∷ []) ≡ 3 }
+    ensures every { every_in
+        (codes "relay" ∷ codes "--width" ∷ codes "4" ∷ codes "--height" ∷ codes "0003" ∷ codes "--show" ∷ [])
+        ≡ 4096 }
+    ensures show { show_in
+        (codes "relay" ∷ codes "--width" ∷ codes "4" ∷ codes "--height" ∷ codes "0003" ∷ codes "--show" ∷ [])
+        ≡ true }
 {}
 
 /// A law, which needs no call: help is asked for, a number out of its range and an unknown option

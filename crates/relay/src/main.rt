@@ -10,7 +10,8 @@ mod service;
 #[cfg(test)]
 mod tests;
 
-use service::{refuse_ill_formed, serve, tell};
+pub use service::serve;
+use service::{refuse_ill_formed, tell};
 use std::env;
 use std::io::ErrorKind;
 use std::process::ExitCode;

@@ -1,7 +1,8 @@
 //! What the words of a command line give.
 ghost use Rattle.std.specs.Prelude.{◌≡◌, ◌<◌, ◌≤◌, false, IfOk, map};
 ghost use Rattle.clap.specs.Words.{FailsBy, app_of, found_of, one_text, rule_of};
-ghost use Rattle.relay.specs.CommandLine.{chosen, command_line, named, number_rule, flag_rule, faults_in, number_or, width_in, height_in, every_in, is_true, show_in};
+ghost use Rattle.relay.specs.CommandLine.{chosen, command_line, named, number_rule, flag_rule, faults_in, number_or};
+ghost use Rattle.relay.specs.CommandLine.{width_in, height_in, every_in, is_true, show_in};
 
 use clap::{Arg, ArgAction, ArgMatches, Command, Error, value_parser};
 use std::alloc::{AllocError, Global};

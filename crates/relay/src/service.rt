@@ -75,10 +75,13 @@ fn fault_of(error: RunError) -> &'static str {
 fn explain<T: Write, F: Write>(alloc: Global, error: &Error, writer: &mut T, faults: &mut F) -> u8
     ensures status { result ≤ 2 }
     ensures memory { kind_of error.now ≡ ErrorKind.OutOfMemory → result ≡ FAULT }
-    ensures asked { result ≡ 0 → (kind_of error.now ≡ ErrorKind.DisplayHelp) ⊎ (kind_of error.now ≡ ErrorKind.DisplayVersion) }
-    ensures shown { (kind_of error.now ≡ ErrorKind.DisplayHelp) ⊎ (kind_of error.now ≡ ErrorKind.DisplayVersion) → result ≢ BAD_WORDS }
+    ensures asked { result ≡ 0
+        → (kind_of error.now ≡ ErrorKind.DisplayHelp) ⊎ (kind_of error.now ≡ ErrorKind.DisplayVersion) }
+    ensures shown { (kind_of error.now ≡ ErrorKind.DisplayHelp) ⊎ (kind_of error.now ≡ ErrorKind.DisplayVersion)
+        → result ≢ BAD_WORDS }
     ensures quiet { result ≡ 0 → Keeps (F.contents faults.old) (F.contents faults.new) }
-    ensures nothing { kind_of error.now ≡ ErrorKind.OutOfMemory → Keeps (T.contents writer.old) (T.contents writer.new) }
+    ensures nothing { kind_of error.now ≡ ErrorKind.OutOfMemory
+        → Keeps (T.contents writer.old) (T.contents writer.new) }
     ensures refused { result ≡ BAD_WORDS → Keeps (T.contents writer.old) (T.contents writer.new) }
 {
     if error.kind() == ErrorKind::OutOfMemory {
@@ -106,10 +109,14 @@ fn answer<R: Read, T: Write>(
     requires reader { reader.old.has_failed ≡ false }
     requires unread { reader.old.reads ≡ 0 }
     requires writer { writer.old.has_failed ≡ false }
-    ensures ok { OnOk result (IfSome (R.remaining reader.old.inner) (λ input.
-        Appends (T.contents writer.old.inner) (T.contents writer.new.inner) (written options.is_show options.width options.height options.every input))) }
-    ensures err { OnErr result (IfSome (R.remaining reader.old.inner) (λ input.
-        AppendsPrefix (T.contents writer.old.inner) (T.contents writer.new.inner) (written options.is_show options.width options.height options.every input))) }
+    ensures ok { OnOk result
+        (IfSome (R.remaining reader.old.inner)
+        (λ input. Appends (T.contents writer.old.inner) (T.contents writer.new.inner)
+        (written options.is_show options.width options.height options.every input))) }
+    ensures err { OnErr result
+        (IfSome (R.remaining reader.old.inner)
+        (λ input. AppendsPrefix (T.contents writer.old.inner) (T.contents writer.new.inner)
+        (written options.is_show options.width options.height options.every input))) }
 {
     let Options {
         width,
@@ -131,10 +138,14 @@ fn relay<R: Read, T: Write>(
     reader: &mut R,
     writer: &mut T,
 ) -> Result<(), RunError>
-    ensures ok { OnOk result (IfSome (R.remaining reader.old) (λ input.
-        Appends (T.contents writer.old) (T.contents writer.new) (written options.is_show options.width options.height options.every input))) }
-    ensures err { OnErr result (IfSome (R.remaining reader.old) (λ input.
-        AppendsPrefix (T.contents writer.old) (T.contents writer.new) (written options.is_show options.width options.height options.every input))) }
+    ensures ok { OnOk result
+        (IfSome (R.remaining reader.old)
+        (λ input. Appends (T.contents writer.old) (T.contents writer.new)
+        (written options.is_show options.width options.height options.every input))) }
+    ensures err { OnErr result
+        (IfSome (R.remaining reader.old)
+        (λ input. AppendsPrefix (T.contents writer.old) (T.contents writer.new)
+        (written options.is_show options.width options.height options.every input))) }
 {
     let mut reader = Watched::new(reader);
     let mut writer = Watched::new(Lent { inner: writer });
@@ -164,7 +175,8 @@ pub fn serve<S: AsStr, R: Read, T: Write, F: Write>(
     ensures runs { faults_in (map S.text words.now) ≡ [] → result ≤ 1 }
     // Other words have status 0 only where they ask for help or for the version.
     ensures asked { result ≡ 0 → faults_in (map S.text words.now) ≢ []
-        → IsAmong ErrorKind.DisplayHelp (faults_in (map S.text words.now)) ⊎ IsAmong ErrorKind.DisplayVersion (faults_in (map S.text words.now)) }
+        → IsAmong ErrorKind.DisplayHelp (faults_in (map S.text words.now))
+        ⊎ IsAmong ErrorKind.DisplayVersion (faults_in (map S.text words.now)) }
     ensures quiet { result ≡ 0 → Keeps (F.contents faults.old) (F.contents faults.new) }
     // Status 2 is for a mistake, and not for words that only ask for help or for the version.
     ensures mistaken { result ≡ BAD_WORDS → HasMistake (faults_in (map S.text words.now)) }

@@ -7,11 +7,11 @@ use Rattle.unicode_segmentation.specs.Grapheme.{graphemes}
 use Rattle.cell_base.specs.Attributes.{Attributes}
 use Rattle.cell_base.specs.CellContent.{CellContent}
 use Rattle.cell_base.specs.SameAttributes.{same_attributes}
-use Rattle.cell_change.specs.CellChanges.{attributes_due, runs_written, cells_written, pen_behind}
-use Rattle.cell_change.specs.CellRuns.{CellRun, before_runs, cell_runs}
-use Rattle.cell_change.specs.ChangeValue.{ChangeValue, AllAttributes, Text}
-use Rattle.cell_change.specs.Texts.{texts}
-use Rattle.cell_change.proofs.TextLemmas.{by_test, clusters_of_texts}
+use Rattle.screen_change.specs.CellChanges.{attributes_due, runs_written, cells_written, last_pen}
+use Rattle.screen_change.specs.CellRuns.{CellRun, before_runs, cell_runs}
+use Rattle.screen_change.specs.ChangeValue.{ChangeValue, AllAttributes, Text}
+use Rattle.screen_change.specs.Texts.{texts}
+use Rattle.screen_change.proofs.TextLemmas.{by_test, clusters_of_texts}
 use Rattle.screen_difference.specs.Difference.{Stretch, cells_of, alone, longer, before_stretches, stretches, stretch_written, stretches_written, difference}
 use Rattle.screen_difference.specs.DrawnCells.{HavePlaces, clusters_of, printed}
 use Rattle.screen_difference.specs.FreshCells.{PlacedCell}
@@ -108,7 +108,7 @@ printed_stretches : (pen : Option Attributes) (ss : List Stretch) → AllAlone s
 unfolding cells_of_stretches
 printed_stretches pen [] p = refl
 printed_stretches pen (s ∷ ss) p =
-    let behind : Option Attributes = Some (pen_behind s.first.attributes s.others) in
+    let behind : Option Attributes = Some (last_pen s.first.attributes s.others) in
     flat_map-append clusters_of (stretch_written pen s) (stretches_written behind ss) ∙ (λ i. printed_stretch pen s p.0 i ++ printed_stretches behind ss p.1 i)
 
 before_texts : (c : PlacedCell) (ss : List Stretch) → cells_of_stretches (before_stretches c ss) ≡ c.cell.text ∷ cells_of_stretches ss

@@ -9,22 +9,22 @@ use Rattle.cell_base.specs.declared.attributes.Position.TheVariants.{Absolute}
 use Rattle.cell_base.specs.CellContent.{CellContent}
 use Rattle.cell_base.specs.Row.{Row, columns_of}
 use Rattle.cell_base.specs.Screen.{Screen, IsScreen, height, write_columns}
-use Rattle.cell_change.specs.CellChanges.{cells_written, pen_behind}
-use Rattle.cell_change.specs.ChangeValue.{AllAttributes}
-use Rattle.cell_change.proofs.TextLemmas.{by_test}
+use Rattle.screen_change.specs.CellChanges.{cells_written, last_pen}
+use Rattle.screen_change.specs.ChangeValue.{AllAttributes}
+use Rattle.screen_change.proofs.TextLemmas.{by_test}
 use Rattle.cell_edits.specs.CellList.{cell_columns}
-use Rattle.cell_rows.proofs.LawfulScreens.{write_columns_is}
+use Rattle.cell_base.proofs.LawfulScreens.{write_columns_is}
 use Rattle.screen_difference.specs.Difference.{Stretch, cells_of, alone, longer, before_stretches, stretches, position, stretch_written, stretches_written, difference}
 use Rattle.screen_difference.specs.DrawnCells.{drawn, all_drawn, HasPlace, HavePlaces}
 use Rattle.screen_difference.specs.FreshCells.{PlacedCell}
-use Rattle.screen_difference.proofs.FreshLemmas.{differs}
+use Rattle.screen_difference.proofs.SideLemmas.{differs}
 use Rattle.screen_effects.specs.Display.{Display, IsDisplay}
 use Rattle.screen_effects.specs.Effect.{on_screen, with_pen, effect, replay}
 use Rattle.screen_effects.specs.Positions.{column_place}
 use Rattle.screen_effects.proofs.EffectLaws.{effect_is, replay_is}
 use Rattle.screen_effects.proofs.StrokeLaws.{whole_columns}
-use Rattle.screen_replay.specs.WrittenCells.{AreSound, columns_beside}
-use Rattle.screen_replay.proofs.WrittenLemmas.{written_are_shown, write_again}
+use Rattle.screen_effects.specs.WrittenCells.{AreSound, joined_columns}
+use Rattle.screen_effects.proofs.WrittenLemmas.{written_are_shown, write_again}
 
 -- ---- stretches that are drawn
 
@@ -32,10 +32,10 @@ abbrev placed_at : ℕ → ℕ → Screen → Screen
 placed_at column row s = record s { column = column; row = row }
 
 abbrev stretch_drawn : Screen → Stretch → Screen
-stretch_drawn s t = with_pen (pen_behind t.first.attributes t.others) (write_columns (columns_beside (cells_of t)) (placed_at t.column t.row s))
+stretch_drawn s t = with_pen (last_pen t.first.attributes t.others) (write_columns (joined_columns (cells_of t)) (placed_at t.column t.row s))
 
 record StretchFits (width_of : List ℕ → ℕ) (width rows : ℕ) (t : Stretch) : Type 0 where
-  in_columns : t.column + length (columns_beside (cells_of t)) ≤ width
+  in_columns : t.column + length (joined_columns (cells_of t)) ≤ width
   in_rows : t.row < rows
   sound : AreSound width_of (cells_of t)
 
@@ -60,7 +60,7 @@ module _ (width_of : List ℕ → ℕ) where
   stretch_is : (d : Display) (t : Stretch) → IsDisplay d → StretchFits width_of d.screen.width (height d.screen) t
       → replay width_of d (stretch_written (Some d.screen.pen) t) ≡ on_screen (λ s. stretch_drawn s t) d
   stretch_is d t h p =
-      let some = some_columns t.first (columns_beside t.others) in
+      let some = some_columns t.first (joined_columns t.others) in
       let fits = p.in_columns in
       let there = position_is d t.column t.row (omega arith) p.in_rows in
       let lawful : IsDisplay (on_screen (placed_at t.column t.row) d) = subst IsDisplay there (effect_is width_of d (position t.column t.row) h) in
@@ -71,7 +71,7 @@ module _ (width_of : List ℕ → ℕ) where
       → replay width_of d (stretch_written None t) ≡ on_screen (λ s. stretch_drawn s t) d
   first_is d t h p =
       let a = t.first.attributes in
-      let some = some_columns t.first (columns_beside t.others) in
+      let some = some_columns t.first (joined_columns t.others) in
       let fits = p.in_columns in
       let there = position_is d t.column t.row (omega arith) p.in_rows in
       let lawful : IsDisplay (on_screen (placed_at t.column t.row) d) = subst IsDisplay there (effect_is width_of d (position t.column t.row) h) in
@@ -129,9 +129,9 @@ module _ (width_of : List ℕ → ℕ) where
       let column : t.column ≡ c.column + length (cell_columns c.cell) = sym ((unsigned_Decides (c.column + c.cell.width) t.column).0 both.1) ∙ ap (λ n. c.column + n) (sym count) in
       let start : Screen = placed_at c.column c.row s in
       let fits = p.in_columns in
-      let pen = pen_behind t.first.attributes t.others in
-      (λ i. with_pen pen (write_columns (columns_beside (cells_of t)) (placed_at (column i) (row i) (drawn s c))))
-      ∙ ap (with_pen pen) (write_again start (cell_columns c.cell) (columns_beside (cells_of t)) (placed_screen s c.column c.row h (omega arith) p.in_rows) (whole_columns c.cell.text (nat_le 2 c.cell.width) c.cell.attributes) (omega arith))
+      let pen = last_pen t.first.attributes t.others in
+      (λ i. with_pen pen (write_columns (joined_columns (cells_of t)) (placed_at (column i) (row i) (drawn s c))))
+      ∙ ap (with_pen pen) (write_again start (cell_columns c.cell) (joined_columns (cells_of t)) (placed_screen s c.column c.row h (omega arith) p.in_rows) (whole_columns c.cell.text (nat_le 2 c.cell.width) c.cell.attributes) (omega arith))
 
   one_more : (ts : List Stretch) (s : Screen) (c : PlacedCell) → IsScreen s → HasPlace width_of s.width (height s) c → fold stretch_drawn (drawn s c) ts ≡ fold stretch_drawn s (before_stretches c ts)
   one_more [] s c h p = ap (λ (r : Row). with_pen c.cell.attributes (write_columns r (placed_at c.column c.row s))) (sym (append-nil (cell_columns c.cell)))
@@ -163,7 +163,7 @@ module _ (width_of : List ℕ → ℕ) where
       let column : c.column + c.cell.width ≡ t.column = (unsigned_Decides (c.column + c.cell.width) t.column).0 both.1 in
       let rest = q.0.in_columns in
       let both_fit : StretchesFit width_of width rows (longer c t ∷ ts) =
-      (record { in_columns = omega (arith, length-append (cell_columns c.cell) (columns_beside (cells_of t))); in_rows = p.in_rows; sound = (p.sound, q.0.sound) }, q.1) in
+      (record { in_columns = omega (arith, length-append (cell_columns c.cell) (joined_columns (cells_of t))); in_rows = p.in_rows; sound = (p.sound, q.0.sound) }, q.1) in
       subst (StretchesFit width_of width rows) (sym (ap (λ b. if b then longer c t ∷ ts else alone c ∷ t ∷ ts) e)) both_fit)
       (λ e.
       let both_fit : StretchesFit width_of width rows (alone c ∷ t ∷ ts) =

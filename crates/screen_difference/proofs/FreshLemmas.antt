@@ -1,25 +1,24 @@
 -- Fresh cells of rows that are walked from the left.
-use Rattle.std.proofs.Common.{◌≡◌, ℕ, zero, suc, ◌+◌, ◌-◌, ◌<◌, ◌≤◌, ◌^◌, ◌∙◌, ◌⊎◌, Bool, true, false, List, [], ◌∷◌, ◌++◌, append_assoc, length, take, drop, map, refl, sym, ap, inl, inr, arith}
+use Rattle.std.proofs.Common.{◌≡◌, ℕ, zero, suc, ◌+◌, ◌-◌, ◌<◌, ◌≤◌, ◌^◌, ◌∙◌, ◌⊎◌, Bool, true, false, List, [], ◌∷◌, ◌++◌, append_assoc, length, take, drop, refl, sym, ap, subst, inl, inr, arith}
 use Rattle.std.specs.Prelude.{◌&&◌, ◌||◌, ◌==◌, not, nat_lt, min, if◌then◌else◌}
 use Rattle.std.specs.Cmp.{unsigned_Decides}
 use Rattle.std.proofs.lemmas.Bool.{ltb-true, ltb-false}
 use Rattle.std.proofs.lemmas.List.{length-take-le, length-drop, take_min}
-use Rattle.cell_base.specs.Row.{Narrow, LeftHalf, RightHalf, Row, closed_end, closed_start}
+use Rattle.cell_base.specs.Row.{Row, closed_start}
 use Rattle.cell_base.specs.SameCell.{same_cell, same_cell_decides}
-use Rattle.cell_change.proofs.TextLemmas.{by_test}
+use Rattle.screen_change.proofs.TextLemmas.{by_test}
 use Rattle.cell_line.specs.LineContent.{LineContent}
 use Rattle.cell_views.specs.Region.{region}
-use Rattle.cell_edits.specs.RowEdits.{cut, cut_front}
-use Rattle.cell_edits.specs.VisibleCells.{VisibleCell, visible_at, visible_from}
+use Rattle.cell_edits.specs.RowEdits.{cut, cut_prefix}
+use Rattle.cell_edits.specs.VisibleCells.{VisibleCell, visible_from}
 use Rattle.cell_views.proofs.KeptLemmas.{AreInOrder, in_order}
-use Rattle.cell_rows.proofs.RowLemmas.{length-closed_start}
+use Rattle.cell_base.specs.WholeRow.{IsWhole}
+use Rattle.cell_base.proofs.RowLemmas.{length-closed_end, length-closed_start, whole-front, whole-behind}
 use Rattle.screen_difference.specs.FreshCells.{columns_from, fresh, is_shown, row_fresh, rows_fresh, rows_of, shared_width}
-use Rattle.screen_difference.specs.ShownCells.{begins_with, from_column, moved, passed_fresh, Fit}
+use Rattle.screen_difference.specs.ShownCells.{begins_with, from_column, passed_fresh, side_by_side, HaveRoom}
+use Rattle.screen_difference.proofs.SideLemmas.{differs, room_visible, side_visible}
 
 -- ---- old cells that are passed
-
-pub differs : (a b : ℕ) → (a < b) ⊎ (b < a) → (a == b) ≡ false
-differs a b h = by_test (a == b) (λ t. let e = (unsigned_Decides a b).0 t in elim h [ inl p ↦ absurd (omega arith) | inr p ↦ absurd (omega arith) ]) (λ f. f)
 
 pub or_false : (b : Bool) → (b || false) ≡ b
 or_false true = refl
@@ -58,7 +57,7 @@ first_shown at (o ∷ olds) v p =
     ∙ or_false (o.column == v.column && same_cell o.cell v.cell)
     ∙ sym (ap (λ t. begins_with (if t then from_column v.column olds else o ∷ olds) v.column v.cell) e))
 
-from_lower : (at bt : ℕ) (cells : List VisibleCell) → at ≤ bt → AreInOrder bt cells → AreInOrder at cells
+pub from_lower : (at bt : ℕ) (cells : List VisibleCell) → at ≤ bt → AreInOrder bt cells → AreInOrder at cells
 from_lower at bt [] h p = tt
 from_lower at bt (v ∷ cells) h p = let q = p.0 in (omega arith, p.1)
 
@@ -94,37 +93,30 @@ passed_is_fresh at bt olds (v ∷ news) p q =
 
 -- ---- columns of the new side, where they stand on the old one
 
-moved_visible : (x other_x at bt : ℕ) (row : Row) → other_x ≤ at → at - other_x + x ≡ bt → map (moved x other_x) (visible_from at row) ≡ visible_from bt row
-moved_visible x other_x at bt [] h e = refl
-moved_visible x other_x at bt (Narrow t a ∷ row) h e = (λ i. visible_at (e i) t 1 a ∷ moved_visible x other_x (at + 1) (bt + 1) row (omega arith) (omega arith) i)
-moved_visible x other_x at bt (LeftHalf t a ∷ row) h e = (λ i. visible_at (e i) t 2 a ∷ moved_visible x other_x (at + 1) (bt + 1) row (omega arith) (omega arith) i)
-moved_visible x other_x at bt (RightHalf a ∷ row) h e = moved_visible x other_x (at + 1) (bt + 1) row (omega arith) (omega arith)
-
-fit_closed : (x other_x at : ℕ) (row : Row) → other_x ≤ at → at - other_x + x + length row < 2 ^ 64 → Fit x other_x (visible_from at (closed_end row))
-fit_closed x other_x at [] h l = tt
-fit_closed x other_x at (Narrow t a ∷ []) h l = (h, omega arith, tt)
-fit_closed x other_x at (LeftHalf t a ∷ []) h l = (h, omega arith, tt)
-fit_closed x other_x at (RightHalf a ∷ []) h l = tt
-fit_closed x other_x at (Narrow t a ∷ y ∷ row) h l = (h, omega arith, fit_closed x other_x (at + 1) (y ∷ row) (omega arith) (omega arith))
-fit_closed x other_x at (LeftHalf t a ∷ y ∷ row) h l = (h, omega arith, fit_closed x other_x (at + 1) (y ∷ row) (omega arith) (omega arith))
-fit_closed x other_x at (RightHalf a ∷ y ∷ row) h l = fit_closed x other_x (at + 1) (y ∷ row) (omega arith) (omega arith)
+pub whole_part : (x n : ℕ) (r : Row) → IsWhole r → IsWhole (columns_from x n r)
+whole_part x n r p = whole-front n (closed_start (drop x r)) (whole-behind x r p)
 
 region_is : (start count : ℕ) (row : Row) → region start (start + count) row ≡ visible_from start (columns_from start count row)
-region_is start count row = let e : start + count - start ≡ count = omega arith in ap (λ n. visible_from start (cut n (cut_front start row))) e
+region_is start count row = let e : start + count - start ≡ count = omega arith in ap (λ n. visible_from start (cut n (cut_prefix start row))) e
 
 -- the cells of a region have their places
-pub region_fits : (x other_x count : ℕ) (row : Row) → other_x + count ≤ length row → x + count < 2 ^ 64 → Fit x other_x (region other_x (other_x + count) row)
-region_fits x other_x count row h l =
+pub region_room : (x other_x count : ℕ) (row : Row) → IsWhole row → other_x + count ≤ length row → x + count < 2 ^ 64 → HaveRoom x (region other_x (other_x + count) row)
+region_room x other_x count row w h l =
+    let part : Row = columns_from other_x count row in
     let behind = length-drop other_x row in
     let front = length-closed_start (drop other_x row) in
     let taken = length-take-le count (closed_start (drop other_x row)) (omega arith) in
-    rw (region_is other_x count row) (fit_closed x other_x other_x (take count (closed_start (drop other_x row))) (omega arith) (omega arith))
+    let all = length-closed_end (take count (closed_start (drop other_x row))) in
+    subst (HaveRoom x) (sym (region_is other_x count row)) (room_visible other_x x part (whole_part other_x count row w) (omega arith))
+
+-- those that a region has, side by side from a column on
+region_side : (x other_x count : ℕ) (row : Row) → IsWhole row → side_by_side x (region other_x (other_x + count) row) ≡ visible_from x (columns_from other_x count row)
+region_side x other_x count row w = ap (side_by_side x) (region_is other_x count row) ∙ side_visible other_x x (columns_from other_x count row) (whole_part other_x count row w)
 
 -- what a walk over both regions finds
-pub row_is_fresh : (x other_x count : ℕ) (old new : Row) → passed_fresh (region x (x + count) old) (map (moved x other_x) (region other_x (other_x + count) new)) ≡ fresh (visible_from x (columns_from x count old)) (visible_from x (columns_from other_x count new))
-row_is_fresh x other_x count old new =
-    (λ i. passed_fresh (region_is x count old i) (map (moved x other_x) (region_is other_x count new i)))
-    ∙ ap (passed_fresh (visible_from x (columns_from x count old))) (moved_visible x other_x other_x x (columns_from other_x count new) (omega arith) (omega arith))
+pub row_is_fresh : (x other_x count : ℕ) (old new : Row) → IsWhole old → IsWhole new → passed_fresh (side_by_side x (region x (x + count) old)) (side_by_side x (region other_x (other_x + count) new)) ≡ fresh (visible_from x (columns_from x count old)) (visible_from x (columns_from other_x count new))
+row_is_fresh x other_x count old new o w =
+    (λ i. passed_fresh (region_side x x count old o i) (region_side x other_x count new w i))
     ∙ passed_is_fresh x x (visible_from x (columns_from x count old)) (visible_from x (columns_from other_x count new)) (in_order x (columns_from x count old)) (in_order x (columns_from other_x count new))
 
 pub none_fresh : (x other_x width : ℕ) (old new : Row) → shared_width width x old other_x new ≡ 0 → row_fresh x other_x width old new ≡ []
@@ -142,16 +134,11 @@ shown_there (old ∷ done) rest v = ap (λ b. (old.column == v.column && same_ce
     or_true true = refl
     or_true false = refl
 
-none_left : (done news : List VisibleCell) → fresh (done ++ news) news ≡ []
-none_left done [] = refl
-none_left done (v ∷ news) =
-    ap (λ b. if not b then v ∷ fresh (done ++ v ∷ news) news else fresh (done ++ v ∷ news) news) (shown_there done news v)
-    ∙ ap (λ olds. fresh olds news) (sym (append_assoc done (v ∷ []) news)) ∙ none_left (done ++ v ∷ []) news
-
--- none of rows that are the same
-pub kept_fresh : (x other_x width : ℕ) (old new : Row) → x ≡ other_x → old ≡ new → row_fresh x other_x width old new ≡ []
-kept_fresh x other_x width old new e h =
-    (λ i. row_fresh x (sym e i) width old (sym h i)) ∙ none_left [] (visible_from x (columns_from x (shared_width width x old x old) old))
+pub all_shown : (done news rest : List VisibleCell) → fresh (done ++ (news ++ rest)) news ≡ []
+all_shown done [] rest = refl
+all_shown done (v ∷ news) rest =
+    ap (λ b. if not b then v ∷ fresh (done ++ v ∷ (news ++ rest)) news else fresh (done ++ v ∷ (news ++ rest)) news) (shown_there done (news ++ rest) v)
+    ∙ ap (λ olds. fresh olds news) (sym (append_assoc done (v ∷ []) (news ++ rest))) ∙ all_shown (done ++ v ∷ []) news rest
 
 -- ---- rows in turn
 
@@ -161,10 +148,10 @@ rows_end compare number (old ∷ olds) [] e = refl
 rows_end compare number (old ∷ olds) (new ∷ news) e = absurd (omega arith)
 
 -- columns of the lines from one on, and of the first ones
-pub columns_behind : (n : ℕ) (lines : List LineContent) → rows_of (drop n lines) ≡ drop n (rows_of lines)
-columns_behind zero lines = refl
-columns_behind (suc n) [] = refl
-columns_behind (suc n) (line ∷ lines) = columns_behind n lines
+pub columns_after : (n : ℕ) (lines : List LineContent) → rows_of (drop n lines) ≡ drop n (rows_of lines)
+columns_after zero lines = refl
+columns_after (suc n) [] = refl
+columns_after (suc n) (line ∷ lines) = columns_after n lines
 
 columns_before : (n : ℕ) (lines : List LineContent) → rows_of (take n lines) ≡ take n (rows_of lines)
 columns_before zero lines = refl
@@ -173,4 +160,4 @@ columns_before (suc n) (line ∷ lines) = ap (λ (rows : List Row). line.columns
 
 -- the columns of the first so many lines from one on
 pub columns_within : (y n m : ℕ) (lines olds : List LineContent) → olds ≡ drop y lines → m ≡ min n (length olds) → rows_of (take m olds) ≡ take n (drop y (rows_of lines))
-columns_within y n m lines olds e f = ap rows_of (ap (λ k. take k olds) f ∙ take_min n olds) ∙ columns_before n olds ∙ ap (take n) (ap rows_of e ∙ columns_behind y lines)
+columns_within y n m lines olds e f = ap rows_of (ap (λ k. take k olds) f ∙ take_min n olds) ∙ columns_before n olds ∙ ap (take n) (ap rows_of e ∙ columns_after y lines)

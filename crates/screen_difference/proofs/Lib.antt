@@ -1,9 +1,16 @@
+pub mod AroundLemmas
 pub mod ClusterLemmas
+pub mod DrawingLemmas
 pub mod DrawnLemmas
 pub mod FreshLemmas
 pub mod PartLemmas
 pub mod PlaceLemmas
 pub mod RegionLemmas
 pub mod RowLemmas
+pub mod SideLemmas
 pub mod SpaceLemmas
 pub mod StretchLemmas
+pub mod TextLemmas
+pub mod CellPrints
+pub mod DifferencePrints
+pub mod JoinLemmas

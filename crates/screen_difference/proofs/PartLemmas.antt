@@ -3,8 +3,8 @@ use Rattle.std.proofs.Common.{◌≡◌, ℕ, zero, suc, ◌+◌, ◌-◌, ◌<�
 use Rattle.std.proofs.lemmas.List.{length-drop, length-take-le, drop-append-le, take-append-le, drop-drop, drop-take, take_at}
 use Rattle.std.proofs.Math.Seq.{take-append-add, drop-append-add}
 use Rattle.cell_base.specs.Row.{Column, Narrow, LeftHalf, RightHalf, Row, closed_end, closed_start, set_columns}
-use Rattle.cell_rows.specs.WholeRow.{IsWhole}
-use Rattle.cell_rows.proofs.RowLemmas.{length-closed_end, length-closed_start, whole_ends}
+use Rattle.cell_base.specs.WholeRow.{IsWhole}
+use Rattle.cell_base.proofs.RowLemmas.{length-closed_end, length-closed_start, whole_ends}
 use Rattle.screen_difference.specs.FreshCells.{columns_from}
 
 -- ---- rows that are closed at an end, and cut
@@ -64,11 +64,11 @@ end_append (y ∷ []) x r = refl
 end_append (y ∷ z ∷ l) x r = ap (λ (s : Row). y ∷ s) (end_append (z ∷ l) x r)
 
 -- columns behind whole ones
-end_behind : (l a b : Row) → IsWhole a → 0 < length a → closed_end ((l ++ a) ++ b) ≡ (l ++ a) ++ closed_end b
-end_behind l [] b p h = absurd (omega arith)
-end_behind l (x ∷ a) [] p h =
+end_after : (l a b : Row) → IsWhole a → 0 < length a → closed_end ((l ++ a) ++ b) ≡ (l ++ a) ++ closed_end b
+end_after l [] b p h = absurd (omega arith)
+end_after l (x ∷ a) [] p h =
     ap closed_end (append-nil (l ++ x ∷ a)) ∙ end_append l x a ∙ ap (λ (r : Row). l ++ r) (whole_ends (x ∷ a) p) ∙ sym (append-nil (l ++ x ∷ a))
-end_behind l (x ∷ a) (y ∷ b) p h = end_append (l ++ x ∷ a) y b
+end_after l (x ∷ a) (y ∷ b) p h = end_append (l ++ x ∷ a) y b
 
 whole_begins : (a b : Row) → IsWhole a → 0 < length a → closed_start (a ++ b) ≡ a ++ b
 whole_begins [] b p h = absurd (omega arith)
@@ -87,8 +87,8 @@ take_less (suc k) (suc n) (x ∷ r) h = ap (λ (s : Row). x ∷ s) (take_less k 
 dropped_front : (x k : ℕ) (row : Row) → drop x (take (x + k) row) ≡ take k (drop x row)
 dropped_front x k row = drop-take x k row
 
-set_behind : (x k : ℕ) (row cols : Row) → x + k ≤ length row → drop x (set_columns row (x + k) cols) ≡ set_columns (drop x row) k cols
-set_behind x k row cols h =
+set_after : (x k : ℕ) (row cols : Row) → x + k ≤ length row → drop x (set_columns row (x + k) cols) ≡ set_columns (drop x row) k cols
+set_after x k row cols h =
     let front : Row = closed_end (take (x + k) row) in
     let back : Row = closed_start (drop (x + k + length cols) row) in
     let count : length front ≡ x + k = length-closed_end (take (x + k) row) ∙ length-take-le (x + k) row h in
@@ -124,7 +124,7 @@ set_cut n k m row cols e w p h =
     let taken : length (take n row) ≡ n = length-take-le n row w in
     ap (λ j. closed_end (take j ((front ++ cols) ++ back))) (sym more)
     ∙ ap closed_end (take-append-add (front ++ cols) back m)
-    ∙ end_behind front cols (take m back) p h
+    ∙ end_after front cols (take m back) p h
     ∙ (λ i. (closed_end (sym (take_end k (take n row) (omega arith) ∙ take_less k n row (omega arith)) i) ++ cols)
     ++ (ap closed_end (take_start m (drop (k + length cols) row)) ∙ sym (both_ends (take m (drop (k + length cols) row)))
     ∙ ap closed_start (ap closed_end (sym (dropped_front (k + length cols) m row) ∙ ap (λ j. drop (k + length cols) (take j row)) e) ∙ sym (drop_end (k + length cols) (take n row)))) i)
@@ -135,7 +135,7 @@ set_in_part x n k row cols f h p s =
     let e : k + length cols + (n - (k + length cols)) ≡ n = omega arith in
     let rest = length-drop x row in
     let closed = length-closed_start (drop x row) in
-    ap (λ (r : Row). closed_end (take n (closed_start r))) (set_behind x k row cols (omega arith))
+    ap (λ (r : Row). closed_end (take n (closed_start r))) (set_after x k row cols (omega arith))
     ∙ ap (λ (r : Row). closed_end (take n r)) (set_started k (drop x row) cols p s)
     ∙ set_cut n k (n - (k + length cols)) (closed_start (drop x row)) cols e (omega arith) p s
 

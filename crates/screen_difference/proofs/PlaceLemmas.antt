@@ -4,18 +4,19 @@ use Rattle.std.specs.Prelude.{⊤, nat_le, filter, fold, if◌then◌else◌}
 use Rattle.std.proofs.lemmas.Bool.Decides.{nat_tests}
 use Rattle.std.proofs.lemmas.List.{length-drop, length-take-le}
 use Rattle.cell_base.specs.Row.{Narrow, LeftHalf, RightHalf, Row, space, columns_of, closed_end, closed_start, set_columns}
-use Rattle.cell_change.proofs.TextLemmas.{by_test}
+use Rattle.screen_change.proofs.TextLemmas.{by_test}
 use Rattle.cell_edits.specs.CellList.{cell_columns}
 use Rattle.cell_edits.specs.VisibleCells.{VisibleCell, visible_from}
-use Rattle.cell_rows.specs.WholeRow.{IsWhole}
-use Rattle.cell_rows.proofs.RowLemmas.{length-closed_end, length-closed_start, length-set_columns, whole-front, whole-behind}
+use Rattle.cell_base.specs.WholeRow.{IsWhole}
+use Rattle.cell_base.proofs.RowLemmas.{length-closed_end, length-closed_start, length-set_columns}
 use Rattle.screen_difference.specs.DrawnCells.{HavePlaces}
 use Rattle.screen_difference.specs.FreshCells.{columns_from, fresh, placed, row_fresh, shared_width}
 use Rattle.screen_difference.specs.Redrawn.{IsKept, ShowsPart, ShowsRow}
+use Rattle.screen_difference.proofs.FreshLemmas.{whole_part}
 use Rattle.screen_difference.proofs.PartLemmas.{end_again, start_again, set_in_part, set_front, set_back}
 use Rattle.screen_difference.proofs.RowLemmas.{fresh_drawn}
 use Rattle.screen_effects.proofs.StrokeLaws.{whole_columns}
-use Rattle.screen_replay.specs.WrittenCells.{IsSoundText, IsSoundRow}
+use Rattle.screen_effects.specs.WrittenCells.{IsSoundText, IsSoundRow}
 
 -- ---- sound rows
 
@@ -51,9 +52,6 @@ module _ (width_of : List ℕ → ℕ) (blank_is : IsSoundText width_of space fa
 
   sound_part : (x n : ℕ) (r : Row) → IsSoundRow width_of r → IsSoundRow width_of (columns_from x n r)
   sound_part x n r p = sound_ended (take n (closed_start (drop x r))) (sound_taken n (closed_start (drop x r)) (sound_started (drop x r) (sound_dropped x r p)))
-
-whole_part : (x n : ℕ) (r : Row) → IsWhole r → IsWhole (columns_from x n r)
-whole_part x n r p = whole-front n (closed_start (drop x r)) (whole-behind x r p)
 
 length_part : (x n : ℕ) (r : Row) → x + n ≤ length r → length (columns_from x n r) ≡ n
 length_part x n r h =

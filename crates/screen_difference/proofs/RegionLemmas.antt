@@ -8,11 +8,11 @@ use Rattle.std.proofs.lemmas.List.Sums.{fold-append}
 use Rattle.std.proofs.Math.Seq.{get_or-append_seam, set-append_seam}
 use Rattle.cell_base.specs.Row.{Row, space, closed_end, set_columns}
 use Rattle.cell_base.specs.Screen.{Screen, IsScreen, height}
-use Rattle.cell_change.proofs.TextLemmas.{by_test}
+use Rattle.screen_change.proofs.TextLemmas.{by_test}
 use Rattle.cell_edits.specs.CellList.{cell_columns}
 use Rattle.cell_edits.specs.VisibleCells.{VisibleCell, visible_from}
-use Rattle.cell_rows.specs.WholeRow.{IsWhole}
-use Rattle.cell_rows.proofs.RowLemmas.{whole_ends, whole_starts}
+use Rattle.cell_base.specs.WholeRow.{IsWhole}
+use Rattle.cell_base.proofs.RowLemmas.{whole_ends, whole_starts}
 use Rattle.screen_difference.specs.Difference.{difference}
 use Rattle.screen_difference.specs.DrawnCells.{drawn, all_drawn, HavePlaces}
 use Rattle.screen_difference.specs.FreshCells.{PlacedCell, columns_from, fresh, lines_fresh, placed, region_fresh, row_fresh, rows_fresh, screen_fresh, shared_width}
@@ -22,7 +22,7 @@ use Rattle.screen_difference.proofs.PlaceLemmas.{row_shown, row_places, set_visi
 use Rattle.screen_difference.proofs.RowLemmas.{fresh_drawn}
 use Rattle.screen_effects.specs.Display.{Display, IsDisplay}
 use Rattle.screen_effects.specs.Effect.{on_screen, replay}
-use Rattle.screen_replay.specs.WrittenCells.{IsSoundText, IsSoundRow}
+use Rattle.screen_effects.specs.WrittenCells.{IsSoundText, IsSoundRow}
 
 -- ---- rows of which each becomes its own
 
@@ -131,8 +131,8 @@ module _ (width_of : List ℕ → ℕ) (blank_is : IsSoundText width_of space fa
   drop_none zero = refl
   drop_none (suc m) = refl
 
-  none_behind : (y n : ℕ) (rows : List Row) → length rows ≤ y → take n (drop y rows) ≡ []
-  none_behind y n rows l = ap (take n) (drop_all y rows l) ∙ take_none n
+  none_after : (y n : ℕ) (rows : List Row) → length rows ≤ y → take n (drop y rows) ≡ []
+  none_after y n rows l = ap (take n) (drop_all y rows l) ∙ take_none n
 
   -- the cells of rows that are within a screen have their places
   pub cells_places : (s : Screen) (h : IsScreen s) (news : List Row) (y n : ℕ) → All IsWhole news → All (IsSoundRow width_of) news → HavePlaces width_of s.width (height s) (rows_fresh compared y (take n (drop y s.rows)) news)
@@ -145,7 +145,7 @@ module _ (width_of : List ℕ → ℕ) (blank_is : IsSoundText width_of space fa
       rows_places s.width (height s) y (take n (drop y s.rows)) news (omega arith) (All-take (λ row. length row ≡ s.width) n (drop y s.rows) (All-drop (λ row. length row ≡ s.width) y s.rows h.even)) w p)
       (λ e.
       let l : length s.rows ≤ y = grind (arith, nat_tests) in
-      subst (λ (rs : List Row). HavePlaces width_of s.width (height s) (rows_fresh compared y rs news)) (sym (none_behind y n s.rows l)) tt)
+      subst (λ (rs : List Row). HavePlaces width_of s.width (height s) (rows_fresh compared y rs news)) (sym (none_after y n s.rows l)) tt)
 
   -- the rows above stay, and those behind are redrawn
   record Redraws (y n : ℕ) (news before after : List Row) : Type 0 where
@@ -170,7 +170,7 @@ module _ (width_of : List ℕ → ℕ) (blank_is : IsSoundText width_of space fa
       })
       (λ e.
       let l : length rows ≤ y = grind (arith, nat_tests) in
-      let none : olds ≡ [] = none_behind y n rows l in
+      let none : olds ≡ [] = none_after y n rows l in
       let is : fold row_drawn rows cells ≡ rows = ap (λ (rs : List Row). fold row_drawn rows (rows_fresh compared y rs news)) none in record {
         above = ap (take y) is;
         behind = ap (drop y) is ∙ drop_all y rows l ∙ sym (ap (λ (rs : List Row). redrawn compared rs news ++ below) none ∙ ap (drop n) (drop_all y rows l) ∙ drop_none n);

@@ -8,12 +8,12 @@ use Rattle.cell_base.specs.Attributes.{Attributes}
 use Rattle.cell_base.specs.CellContent.{CellContent}
 use Rattle.cell_base.specs.Row.{Column, Narrow, LeftHalf, RightHalf, Row, closed_end, closed_start, set_columns}
 use Rattle.cell_base.specs.SameCell.{same_cell, same_cell_decides}
-use Rattle.cell_change.proofs.TextLemmas.{by_test}
+use Rattle.screen_change.proofs.TextLemmas.{by_test}
 use Rattle.cell_edits.specs.CellList.{cell_columns}
 use Rattle.cell_edits.specs.VisibleCells.{VisibleCell, visible_at, visible_from}
 use Rattle.cell_views.proofs.KeptLemmas.{in_order}
-use Rattle.cell_rows.specs.WholeRow.{IsWhole}
-use Rattle.cell_rows.proofs.RowLemmas.{length-closed_start, whole_ends, whole-append, whole-behind}
+use Rattle.cell_base.specs.WholeRow.{IsWhole}
+use Rattle.cell_base.proofs.RowLemmas.{length-closed_start, whole_ends, whole-append, whole-behind}
 use Rattle.screen_difference.specs.FreshCells.{fresh, is_shown}
 use Rattle.screen_difference.proofs.FreshLemmas.{none_later, not_here, or_false}
 
@@ -53,10 +53,10 @@ shows_wide at t a (RightHalf b) row e =
     absurd (false≢true (sym (none_later (at + 1) (visible_from (at + 1) row) (visible_at at t 2 a) (omega arith) (in_order (at + 1) row)) ∙ e))
 
 -- cells before a column are of no concern from it on
-one_behind : (at : ℕ) (x : Column) (row : Row) (v : VisibleCell) → at < v.column → is_shown (visible_from at (x ∷ row)) v ≡ is_shown (visible_from (at + 1) row) v
-one_behind at (Narrow t a) row v h = not_here (visible_at at t 1 a) (visible_from (at + 1) row) v (inl h)
-one_behind at (LeftHalf t a) row v h = not_here (visible_at at t 2 a) (visible_from (at + 1) row) v (inl h)
-one_behind at (RightHalf a) row v h = refl
+one_after : (at : ℕ) (x : Column) (row : Row) (v : VisibleCell) → at < v.column → is_shown (visible_from at (x ∷ row)) v ≡ is_shown (visible_from (at + 1) row) v
+one_after at (Narrow t a) row v h = not_here (visible_at at t 1 a) (visible_from (at + 1) row) v (inl h)
+one_after at (LeftHalf t a) row v h = not_here (visible_at at t 2 a) (visible_from (at + 1) row) v (inl h)
+one_after at (RightHalf a) row v h = refl
 
 -- ---- old columns that are what the new ones are, wherever a cell isn't drawn
 
@@ -80,7 +80,7 @@ all_agree : (at : ℕ) (all : List VisibleCell) (news olds : Row) → length new
 all_agree at all [] olds e same = tt
 all_agree at all (n ∷ news) [] e same = absurd (omega arith)
 all_agree at all (n ∷ news) (x ∷ olds) e same =
-    (agrees n, all_agree (at + 1) all news olds (omega arith) (λ v h. same v (omega arith) ∙ one_behind at x olds v (omega arith)))
+    (agrees n, all_agree (at + 1) all news olds (omega arith) (λ v h. same v (omega arith) ∙ one_after at x olds v (omega arith)))
   where
     agrees : (m : Column) → Agrees (λ v. not (is_shown all v)) at m x
     agrees (Narrow t a) = decided at (is_shown all (visible_at at t 1 a)) (x ≡ Narrow t a) (λ f. shows_narrow at t a x olds (sym (same (visible_at at t 1 a) (omega arith)) ∙ f))

@@ -5,7 +5,7 @@ use Rattle.std.specs.Str.{chars}
 use Rattle.unicode_segmentation.specs.Grapheme.{graphemes}
 use Rattle.unicode_segmentation.proofs.Computing.{unicode_segmentation}
 use Rattle.cell_base.specs.Row.{space}
-use Rattle.screen_replay.specs.WrittenCells.{IsSoundText}
+use Rattle.screen_effects.specs.WrittenCells.{IsSoundText}
 
 space_alone : graphemes true (32 ∷ []) ≡ (32 ∷ []) ∷ []
 unfolding unicode_segmentation chars

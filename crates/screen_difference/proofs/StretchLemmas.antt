@@ -6,11 +6,11 @@ use Rattle.std.proofs.lemmas.Bool.{and_parts}
 use Rattle.std.proofs.lemmas.List.{append-nil}
 use Rattle.cell_base.specs.Attributes.{Attributes}
 use Rattle.cell_base.specs.CellContent.{CellContent}
-use Rattle.cell_change.specs.CellChanges.{cells_written, pen_behind}
-use Rattle.cell_change.specs.ChangeValue.{ChangeValue, AllAttributes}
-use Rattle.cell_change.specs.Written.{Written, begun, finished, with_change, with_cells}
-use Rattle.cell_change.proofs.RunLemmas.{cells_are_written, pen_is_behind, nothing_written, change_written}
-use Rattle.cell_change.proofs.TextLemmas.{by_test}
+use Rattle.screen_change.specs.CellChanges.{cells_written, last_pen}
+use Rattle.screen_change.specs.ChangeValue.{ChangeValue, AllAttributes}
+use Rattle.screen_change.specs.Written.{Written, begun, finished, with_change, with_cells}
+use Rattle.screen_change.proofs.RunLemmas.{cells_are_written, pen_is_after, nothing_written, change_written}
+use Rattle.screen_change.proofs.TextLemmas.{by_test}
 use Rattle.screen_difference.specs.Difference.{Stretch, cells_of, alone, longer, before_stretches, stretches, position, stretches_written, difference}
 use Rattle.screen_difference.specs.Drawing.{Drawing, first_moved, moved_to, with_placed, with_all}
 use Rattle.screen_difference.specs.FreshCells.{PlacedCell}
@@ -58,22 +58,22 @@ by_stretches d (c ∷ cells) = by_stretches (with_placed d c) cells ∙ one_more
 -- ---- what stretches write
 
 -- cells behind a change
-behind_change : (change : ChangeValue) (w : Written) (cells : List CellContent) → finished (with_cells (with_change change w) cells) ≡ finished w ++ change ∷ cells_written w.pen cells
-behind_change change w cells = cells_are_written (with_change change w) cells refl ∙ append_assoc (finished w) (change ∷ []) (cells_written w.pen cells)
+after_change : (change : ChangeValue) (w : Written) (cells : List CellContent) → finished (with_cells (with_change change w) cells) ≡ finished w ++ change ∷ cells_written w.pen cells
+after_change change w cells = cells_are_written (with_change change w) cells refl ∙ append_assoc (finished w) (change ∷ []) (cells_written w.pen cells)
 
 all_apart : (d : Drawing) (ss : List Stretch) → finished (fold apart d ss).written ≡ finished d.written ++ stretches_written (Some d.written.pen) ss
 all_apart d [] = sym (append-nil (finished d.written))
 all_apart d (s ∷ ss) =
     let w : Written = with_change (position s.column s.row) d.written in
     all_apart (apart d s) ss
-    ∙ (λ i. behind_change (position s.column s.row) d.written (cells_of s) i ++ stretches_written (Some (pen_is_behind w (cells_of s) i)) ss)
-    ∙ append_assoc (finished d.written) (position s.column s.row ∷ cells_written d.written.pen (cells_of s)) (stretches_written (Some (pen_behind s.first.attributes s.others)) ss)
+    ∙ (λ i. after_change (position s.column s.row) d.written (cells_of s) i ++ stretches_written (Some (pen_is_after w (cells_of s) i)) ss)
+    ∙ append_assoc (finished d.written) (position s.column s.row ∷ cells_written d.written.pen (cells_of s)) (stretches_written (Some (last_pen s.first.attributes s.others)) ss)
 
 -- nothing, and then the first stretch
 first_written : (s : Stretch) → finished (with_cells (first_moved s.row s.column s.first.attributes) (cells_of s)) ≡ position s.column s.row ∷ AllAttributes s.first.attributes ∷ cells_written s.first.attributes (cells_of s)
 first_written s =
     let a = s.first.attributes in
-    behind_change (AllAttributes a) (with_change (position s.column s.row) (begun a)) (cells_of s)
+    after_change (AllAttributes a) (with_change (position s.column s.row) (begun a)) (cells_of s)
     ∙ ap (λ (cs : List ChangeValue). cs ++ AllAttributes a ∷ cells_written a (cells_of s)) (change_written (position s.column s.row) (begun a) ∙ ap (λ (cs : List ChangeValue). cs ++ position s.column s.row ∷ []) (nothing_written a))
 
 all_written : (d : Drawing) (pen : Attributes) (ss : List Stretch) → d.has_begun ≡ false → d.written ≡ begun pen → finished (all_joined d ss).written ≡ stretches_written None ss
@@ -83,7 +83,7 @@ all_written d pen (s ∷ ss) n e =
     let begins : joined d s ≡ stretch_done w s = ap (λ t. stretch_done (if t then (if d.row == s.row && d.column == s.column then d.written else with_change (position s.column s.row) d.written) else w) s) n in
     ap (λ (x : Drawing). finished (fold apart x ss).written) begins
     ∙ all_apart (stretch_done w s) ss
-    ∙ (λ i. first_written s i ++ stretches_written (Some (pen_is_behind w (cells_of s) i)) ss)
+    ∙ (λ i. first_written s i ++ stretches_written (Some (pen_is_after w (cells_of s) i)) ss)
 
 -- cells that are pushed into a new writer are their difference
 pub pushed_is_difference : (d : Drawing) (pen : Attributes) (cells : List PlacedCell) → d.has_begun ≡ false → d.written ≡ begun pen → finished (with_all d cells).written ≡ difference cells

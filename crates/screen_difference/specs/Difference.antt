@@ -3,8 +3,8 @@ use Rattle.std.specs.Prelude.{ℕ, ◌+◌, ◌&&◌, ◌==◌, List, [], ◌∷
 use Rattle.cell_base.specs.declared.attributes.Position.TheVariants.{Absolute}
 use Rattle.cell_base.specs.Attributes.{Attributes}
 use Rattle.cell_base.specs.CellContent.{CellContent}
-use Rattle.cell_change.specs.CellChanges.{cells_written, pen_behind}
-use Rattle.cell_change.specs.ChangeValue.{ChangeValue, AllAttributes, CursorPosition}
+use Rattle.screen_change.specs.CellChanges.{cells_written, last_pen}
+use Rattle.screen_change.specs.ChangeValue.{ChangeValue, AllAttributes, CursorPosition}
 use Rattle.screen_difference.specs.FreshCells.{PlacedCell}
 
 -- cells side by side in a row: its number, the first one's column, that cell, and the others
@@ -40,15 +40,20 @@ stretches (c ∷ cells) = before_stretches c (stretches cells)
 abbrev pub position : ℕ → ℕ → ChangeValue
 position column row = CursorPosition (Absolute column) (Absolute row)
 
--- a stretch, where the last attributes that were written are these: its place, and the changes that write its cells; where no attributes were written, those of its first cell are
+-- a stretch, where the last attributes that were written are these: its place, and the changes that write its cells;
+-- where no attributes were written, those of its first cell are
 abbrev pub stretch_written : Option Attributes → Stretch → List ChangeValue
-stretch_written None stretch = position stretch.column stretch.row ∷ AllAttributes stretch.first.attributes ∷ cells_written stretch.first.attributes (cells_of stretch)
+stretch_written None stretch =
+    position stretch.column stretch.row ∷ AllAttributes stretch.first.attributes
+    ∷ cells_written stretch.first.attributes (cells_of stretch)
 stretch_written (Some pen) stretch = position stretch.column stretch.row ∷ cells_written pen (cells_of stretch)
 
 abbrev pub stretches_written : Option Attributes → List Stretch → List ChangeValue
 stretches_written pen [] = []
-stretches_written pen (stretch ∷ stretches) = stretch_written pen stretch ++ stretches_written (Some (pen_behind stretch.first.attributes stretch.others)) stretches
+stretches_written pen (stretch ∷ stretches) =
+    stretch_written pen stretch ++ stretches_written (Some (last_pen stretch.first.attributes stretch.others)) stretches
 
--- the changes that write the cells: each stretch with a position before it, and attributes wherever they aren't the last ones written
+-- the changes that write the cells: each stretch with a position before it, and attributes wherever they aren't the
+-- last ones written
 abbrev pub difference : List PlacedCell → List ChangeValue
 difference cells = stretches_written None (stretches cells)

@@ -3,15 +3,16 @@ use Rattle.std.specs.Prelude.{ℕ, ◌+◌, ◌<◌, ◌≤◌, ⊤, true, nat_l
 use Rattle.std.specs.List.{flat_map}
 use Rattle.unicode_segmentation.specs.Grapheme.{graphemes}
 use Rattle.cell_base.specs.Screen.{Screen, write_columns}
-use Rattle.cell_change.specs.ChangeValue.{ChangeValue, Text}
+use Rattle.screen_change.specs.ChangeValue.{ChangeValue, Text}
 use Rattle.cell_edits.specs.CellList.{cell_columns}
 use Rattle.screen_difference.specs.FreshCells.{PlacedCell}
 use Rattle.screen_effects.specs.Effect.{with_pen}
-use Rattle.screen_replay.specs.WrittenCells.{IsSoundText}
+use Rattle.screen_effects.specs.WrittenCells.{IsSoundText}
 
 -- the cell stands at its place, the cursor behind it, and the pen has its attributes
 abbrev pub drawn : Screen → PlacedCell → Screen
-drawn screen c = with_pen c.cell.attributes (write_columns (cell_columns c.cell) (record screen { column = c.column; row = c.row }))
+drawn screen c =
+    with_pen c.cell.attributes (write_columns (cell_columns c.cell) (record screen { column = c.column; row = c.row }))
 
 abbrev pub all_drawn : List PlacedCell → Screen → Screen
 all_drawn cells screen = fold drawn screen cells

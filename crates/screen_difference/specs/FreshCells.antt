@@ -1,12 +1,13 @@
 -- The cells of the new side of a comparison that the old side doesn't show. Columns and rows count from 0.
-use Rattle.std.specs.Prelude.{ℕ, ◌+◌, ◌-◌, Bool, ◌&&◌, ◌==◌, not, min, List, [], ◌∷◌, ◌++◌, length, take, drop, filter, map}
+use Rattle.std.specs.Prelude.{ℕ, ◌+◌, ◌-◌, Bool, ◌&&◌, ◌==◌, not, min, List, [], ◌∷◌, ◌++◌, length, take, drop, filter}
+use Rattle.std.specs.Prelude.{map}
 use Rattle.std.specs.List.{list_any}
 use Rattle.cell_base.specs.CellContent.{CellContent}
 use Rattle.cell_base.specs.Row.{Row}
 use Rattle.cell_base.specs.SameCell.{same_cell}
 use Rattle.cell_base.specs.Screen.{Screen, height}
 use Rattle.cell_line.specs.LineContent.{LineContent}
-use Rattle.cell_edits.specs.RowEdits.{cut, cut_front}
+use Rattle.cell_edits.specs.RowEdits.{cut, cut_prefix}
 use Rattle.cell_edits.specs.VisibleCells.{VisibleCell, visible_from}
 
 -- a visible cell with its row and first column
@@ -17,7 +18,7 @@ pub record PlacedCell : Type 0 where
 
 -- so many columns of a row, from one on; a half that an edge leaves alone is a blank with its wide cell's attributes
 abbrev pub columns_from : ℕ → ℕ → Row → Row
-columns_from start width row = cut width (cut_front start row)
+columns_from start width row = cut width (cut_prefix start row)
 
 -- how many of so many columns both rows have, each from a column of its own on
 abbrev pub shared_width : ℕ → ℕ → Row → ℕ → Row → ℕ
@@ -31,7 +32,8 @@ is_shown cells v = list_any (λ old. old.column == v.column && same_cell old.cel
 abbrev pub fresh : List VisibleCell → List VisibleCell → List VisibleCell
 fresh olds news = filter (λ v. not (is_shown olds v)) news
 
--- the fresh cells of some columns of a new row, from `other_x` on, against those of the old row from `x` on, where they have their columns; columns that either row lacks are left out
+-- the fresh cells of some columns of a new row, from `other_x` on, against those of the old row from `x` on, where they
+-- have their columns; columns that either row lacks are left out
 abbrev pub row_fresh : ℕ → ℕ → ℕ → Row → Row → List VisibleCell
 row_fresh x other_x width old new =
     let count = shared_width width x old other_x new in
@@ -45,11 +47,14 @@ placed row cells = map (λ v. record { row = row; column = v.column; cell = v.ce
 abbrev pub rows_fresh : (Row → Row → List VisibleCell) → ℕ → List Row → List Row → List PlacedCell
 rows_fresh compare number [] news = []
 rows_fresh compare number (old ∷ olds) [] = []
-rows_fresh compare number (old ∷ olds) (new ∷ news) = placed number (compare old new) ++ rows_fresh compare (number + 1) olds news
+rows_fresh compare number (old ∷ olds) (new ∷ news) =
+    placed number (compare old new) ++ rows_fresh compare (number + 1) olds news
 
--- of a region of the old rows, whose top left is at column `x` and row `y`, against the one of the new rows at `other_x` and `other_y`
+-- of a region of the old rows, whose top left is at column `x` and row `y`, against the one of the new rows at
+-- `other_x` and `other_y`
 abbrev pub region_fresh : List Row → ℕ → ℕ → ℕ → ℕ → List Row → ℕ → ℕ → List PlacedCell
-region_fresh olds x y width height news other_x other_y = rows_fresh (row_fresh x other_x width) y (take height (drop y olds)) (drop other_y news)
+region_fresh olds x y width height news other_x other_y =
+    rows_fresh (row_fresh x other_x width) y (take height (drop y olds)) (drop other_y news)
 
 -- of whole new rows against the old ones from one on
 abbrev pub lines_fresh : List Row → ℕ → List Row → List PlacedCell

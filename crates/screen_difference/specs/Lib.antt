@@ -5,3 +5,4 @@ pub mod DrawnCells
 pub mod FreshCells
 pub mod Redrawn
 pub mod ShownCells
+pub mod Prints

@@ -8,7 +8,8 @@ use Rattle.screen_effects.specs.Display.{Display}
 abbrev pub IsKept : (Row → Row) → Row → Row → Type 0
 IsKept closed before after = (after ≡ before) ⊎ (after ≡ closed before)
 
--- from a column on a row shows these columns, where a cell that an edge cuts counts as a blank; before and behind them it is as it was, but that of a wide cell which straddles the edge the half outside may have become a blank
+-- from a column on a row shows these columns, where a cell that an edge cuts counts as a blank; before and behind them
+-- it is as it was, but that of a wide cell which straddles the edge the half outside may have become a blank
 pub record ShowsPart (start : ℕ) (columns before after : Row) : Type 0 where
   pub within : columns_from start (length columns) after ≡ columns
   pub front : IsKept closed_end (take start before) (take start after)
@@ -17,7 +18,8 @@ pub record ShowsPart (start : ℕ) (columns before after : Row) : Type 0 where
 
 -- it shows some columns of a new row, from `other_x` on, as far as both have them
 abbrev pub ShowsRow : ℕ → ℕ → ℕ → Row → Row → Row → Type 0
-ShowsRow x other_x width new before after = ShowsPart x (columns_from other_x (shared_width width x before other_x new) new) before after
+ShowsRow x other_x width new before after =
+    ShowsPart x (columns_from other_x (shared_width width x before other_x new) new) before after
 
 -- each row shows its new one; a row that has none is as it was
 abbrev pub RowsShow : (Row → Row → Row → Type 0) → List Row → List Row → List Row → Type 0
@@ -25,13 +27,16 @@ RowsShow shows news [] [] = ⊤
 RowsShow shows news [] (after ∷ afters) = ⊥
 RowsShow shows news (before ∷ befores) [] = ⊥
 RowsShow shows [] (before ∷ befores) (after ∷ afters) = (after ≡ before) × RowsShow shows [] befores afters
-RowsShow shows (new ∷ news) (before ∷ befores) (after ∷ afters) = shows new before after × RowsShow shows news befores afters
+RowsShow shows (new ∷ news) (before ∷ befores) (after ∷ afters) =
+    shows new before after × RowsShow shows news befores afters
 
 -- the rows of a region show the new ones, and the others are as they were
-pub record ShowsRegion (x y width height : ℕ) (news : List Row) (other_x other_y : ℕ) (before after : List Row) : Type 0 where
-  pub above : take y after ≡ take y before
-  pub within : RowsShow (ShowsRow x other_x width) (drop other_y news) (take height (drop y before)) (take height (drop y after))
-  pub below : drop (y + height) after ≡ drop (y + height) before
+pub record ShowsRegion (x y width height : ℕ) (news : List Row) (other_x other_y : ℕ) (before after : List Row) : Type 0
+  where
+    pub above : take y after ≡ take y before
+    pub within : RowsShow (ShowsRow x other_x width) (drop other_y news) (take height (drop y before))
+        (take height (drop y after))
+    pub below : drop (y + height) after ≡ drop (y + height) before
 
 -- the rows from one on show whole new ones
 pub record ShowsLines (y : ℕ) (news before after : List Row) : Type 0 where

@@ -1,32 +1,35 @@
 -- Old cells that are passed while new ones are compared with them.
-use Rattle.std.specs.Prelude.{ℕ, ◌+◌, ◌-◌, ◌<◌, ◌≤◌, ◌^◌, ⊤, Bool, false, ◌&&◌, ◌==◌, nat_lt, List, [], ◌∷◌, Option, Some, None, if◌then◌else◌}
+use Rattle.std.specs.Prelude.{ℕ, ◌+◌, ◌<◌, ◌^◌, ⊤, Bool, false, ◌&&◌, ◌==◌, nat_lt, List, [], ◌∷◌, if◌then◌else◌}
+use Rattle.cell_base.specs.Attributes.{Attributes}
 use Rattle.cell_base.specs.CellContent.{CellContent}
+use Rattle.cell_base.specs.Row.{Row}
 use Rattle.cell_base.specs.SameCell.{same_cell}
-use Rattle.cell_views.specs.CellRefView.{shown_by}
+use Rattle.cell_edits.specs.VisibleCells.{VisibleCell, visible_at, visible_from}
 use Rattle.cell_views.specs.Region.{region_left}
-use Rattle.cell_edits.specs.VisibleCells.{VisibleCell}
-use Rattle.cell_views.specs.declared.cell_ref.CellRef.{CellRef}
-use Rattle.cell_views.specs.declared.region.RegionIter.{RegionIter}
+use Rattle.screen_difference.specs.FreshCells.{columns_from, fresh}
 use Rattle.screen_difference.specs.declared.shown_cells.ShownCells.{ShownCells}
 
--- a cell, and those that are left behind it; none where there is no such cell
-abbrev pub behind_next : Option CellRef → RegionIter → List VisibleCell
-behind_next None cells = []
-behind_next (Some next) cells = shown_by next ∷ region_left cells
+-- cells, side by side from a column on
+abbrev pub side_by_side : ℕ → List VisibleCell → List VisibleCell
+side_by_side at [] = []
+side_by_side at (v ∷ cells) = record v { column = at } ∷ side_by_side (at + v.cell.width) cells
+
+-- there each ends at a number that a column can be
+abbrev pub HaveRoom : ℕ → List VisibleCell → Type 0
+HaveRoom at [] = ⊤
+HaveRoom at (v ∷ cells) = (at + v.cell.width < 2 ^ 64) × HaveRoom (at + v.cell.width) cells
 
 -- the cells that are left
 abbrev pub shown_left : ShownCells → List VisibleCell
-shown_left s = behind_next s.next s.cells
+shown_left s = side_by_side s.column (region_left s.cells)
+
+abbrev pub Fits : ShownCells → Type 0
+Fits s = HaveRoom s.column (region_left s.cells)
 
 -- the cells from a column on
 abbrev pub from_column : ℕ → List VisibleCell → List VisibleCell
 from_column column [] = []
 from_column column (old ∷ olds) = if nat_lt old.column column then from_column column olds else old ∷ olds
-
--- whether the first of them begins before a column
-abbrev pub begins_before : ℕ → List VisibleCell → Bool
-begins_before column [] = false
-begins_before column (old ∷ olds) = nat_lt old.column column
 
 -- whether the first of them begins at a column and is this cell
 abbrev pub begins_with : List VisibleCell → ℕ → CellContent → Bool
@@ -40,11 +43,15 @@ passed_fresh olds (v ∷ news) =
     let rest = from_column v.column olds in
     if begins_with rest v.column v.cell then passed_fresh rest news else v ∷ passed_fresh rest news
 
--- a cell of columns from `other_x` on, where they stand from `x` on
-abbrev pub moved : ℕ → ℕ → VisibleCell → VisibleCell
-moved x other_x v = record v { column = v.column - other_x + x }
+-- the cells of a new text's bytes, from a column on, that differ from the old text's
+abbrev pub differing : ℕ → List ℕ → List ℕ → Attributes → List VisibleCell
+differing at olds [] attributes = []
+differing at [] (new ∷ news) attributes = []
+differing at (old ∷ olds) (new ∷ news) attributes =
+    if old == new then differing (at + 1) olds news attributes
+    else visible_at at (new ∷ []) 1 attributes ∷ differing (at + 1) olds news attributes
 
--- each of the cells stands at such a column, and its end is a number that a column can be
-abbrev pub Fit : ℕ → ℕ → List VisibleCell → Type 0
-Fit x other_x [] = ⊤
-Fit x other_x (v ∷ cells) = (other_x ≤ v.column) × (v.column - other_x + x + v.cell.width < 2 ^ 64) × Fit x other_x cells
+-- the fresh cells of so many columns of a new row, from `other_x` on, against those of the old row from `x` on
+abbrev pub columns_fresh : ℕ → ℕ → ℕ → Row → Row → List VisibleCell
+columns_fresh x other_x count old new =
+    fresh (visible_from x (columns_from x count old)) (visible_from x (columns_from other_x count new))

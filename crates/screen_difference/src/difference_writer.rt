@@ -1,15 +1,18 @@
 //! Changes that write cells where they have their places.
-ghost use Rattle.std.specs.Prelude.{◌≡◌, ◌+◌, ◌<◌, ◌^◌, List, map, OnOk, IfOk};
+ghost use Rattle.std.specs.Prelude.{◌≡◌, ◌+◌, ◌<◌, ◌^◌, true, List, length, map, OnOk, IfOk};
+ghost use Rattle.std.specs.List.{list_all};
+ghost use Rattle.text_clusters.specs.Plain.{is_printable};
 ghost use Rattle.cell_base.specs.Attributes.{Attributes};
-ghost use Rattle.cell_change.specs.ValueOf.{value_of};
+ghost use Rattle.screen_change.specs.ValueOf.{value_of};
+ghost use Rattle.cell_edits.specs.VisibleCells.{visible_each};
 ghost use Rattle.cell_views.specs.CellRefView.{shown_by};
 ghost use Rattle.screen_difference.specs.Difference.{difference, position};
 ghost use Rattle.screen_difference.specs.Drawing.{first_moved, moved_to, new_drawing, with_all, with_placed};
-ghost use Rattle.screen_difference.specs.FreshCells.{PlacedCell};
+ghost use Rattle.screen_difference.specs.FreshCells.{placed, PlacedCell};
 
 use cell_base::{CellAttributes, Position};
-use cell_change::{CellWriter, Change};
 use cell_line::CellRef;
+use screen_change::{CellWriter, Change};
 use std::alloc::{AllocError, Global};
 use std::marker::Model;
 
@@ -101,7 +104,8 @@ impl<'a> DifferenceWriter<'a> {
         cell: &CellRef<'a>,
     ) -> Result<(), AllocError>
         requires { column + (shown_by cell.now).cell.width < 2 ^ 64 }
-        ensures { OnOk result (self.new ≡ with_placed self.old (record { row = row; column = column; cell = (shown_by cell.now).cell })) }
+        ensures { OnOk result
+            (self.new ≡ with_placed self.old (record { row = row; column = column; cell = (shown_by cell.now).cell })) }
     {
         self.move_to(row, column, cell.attrs())?;
         self.writer.push_cell(cell.str(), cell.attrs())?;
@@ -111,9 +115,34 @@ impl<'a> DifferenceWriter<'a> {
         Ok(())
     }
 
+    /// Writes plain cells side by side, a cell for each character of a text in printable ASCII, all with the same
+    /// attributes.
+    pub(crate) fn push_plain(
+        &mut self,
+        row: usize,
+        column: usize,
+        text: &str,
+        attrs: &'a CellAttributes,
+    ) -> Result<(), AllocError>
+        requires printable { list_all is_printable text.now ≡ true }
+        requires room { column + length text.now < 2 ^ 64 }
+        ensures { OnOk result (self.new ≡ with_all self.old (placed row (visible_each column text.now attrs.now))) }
+    {
+        if text.is_empty() {
+            return Ok(());
+        }
+        self.move_to(row, column, attrs)?;
+        self.writer.push_plain(text, attrs)?;
+        self.has_begun = true;
+        self.row = row;
+        self.column = column + text.len();
+        Ok(())
+    }
+
     /// The changes.
     pub(crate) fn finish(self) -> Result<Vec<Change>, AllocError>
-        ensures { (pen : Attributes) (cells : List PlacedCell) → self.entry ≡ with_all (new_drawing pen) cells → IfOk result (λ changes. map value_of changes.items ≡ difference cells) }
+        ensures { (pen : Attributes) (cells : List PlacedCell) → self.entry ≡ with_all (new_drawing pen) cells
+            → IfOk result (λ changes. map value_of changes.items ≡ difference cells) }
     {
         let changes = self.writer.finish()?;
         Ok(changes)

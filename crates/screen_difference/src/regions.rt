@@ -1,6 +1,6 @@
 //! Differences of regions, of lines and of screens.
 ghost use Rattle.std.specs.Prelude.{◌≡◌, ◌+◌, ◌<◌, ◌^◌, [], ◌∷◌, drop, length, map, IfOk, OnOk};
-ghost use Rattle.cell_change.specs.ValueOf.{value_of};
+ghost use Rattle.screen_change.specs.ValueOf.{value_of};
 ghost use Rattle.screen_difference.specs.Difference.{difference};
 ghost use Rattle.screen_difference.specs.Drawing.{with_all};
 ghost use Rattle.screen_difference.specs.FreshCells.{lines_fresh, region_fresh, row_fresh, rows_fresh, rows_of};
@@ -8,8 +8,8 @@ ghost use Rattle.screen_difference.specs.FreshCells.{lines_fresh, region_fresh, 
 use crate::difference_writer::DifferenceWriter;
 use crate::rows::write_row;
 use cell_base::CellAttributes;
-use cell_change::Change;
 use cell_line::Line;
+use screen_change::Change;
 use std::alloc::{AllocError, Global};
 
 // The lines from one on.
@@ -31,7 +31,10 @@ fn write_region<'a>(
     width: usize,
 ) -> Result<(), AllocError>
     requires { number + length olds.now < 2 ^ 64 }
-    ensures { OnOk result (writer.new ≡ with_all writer.old (rows_fresh (row_fresh x other_x width) number (rows_of olds.now) (rows_of news.now))) }
+    ensures { OnOk result
+        (writer.new
+        ≡ with_all writer.old
+        (rows_fresh (row_fresh x other_x width) number (rows_of olds.now) (rows_of news.now))) }
 {
     for at in 0..olds.len().min(news.len()) {
         write_row(writer, number + at, x, &olds[at], other_x, &news[at], width)?;
@@ -47,13 +50,50 @@ fn write_lines<'a>(
     news: &[&'a Line],
 ) -> Result<(), AllocError>
     requires { number + length olds.now < 2 ^ 64 }
-    ensures { OnOk result (writer.new ≡ with_all writer.old (rows_fresh (λ old new. row_fresh 0 0 (length new) old new) number (rows_of olds.now) (rows_of (map (λ line. line.now) news.now)))) }
+    ensures { OnOk result
+        (writer.new
+        ≡ with_all writer.old
+        (rows_fresh (λ old new. row_fresh 0 0 (length new) old new) number (rows_of olds.now)
+        (rows_of (map (λ line. line.now) news.now)))) }
 {
     for at in 0..olds.len().min(news.len()) {
         let new = news[at];
         write_row(writer, number + at, 0, &olds[at], 0, new, new.len())?;
     }
     Ok(())
+}
+
+// The changes of `diff_region`. The attributes are of no concern.
+fn region_changes<'a>(
+    alloc: Global,
+    attrs: &'a CellAttributes,
+    lines: &[Line],
+    x: usize,
+    y: usize,
+    width: usize,
+    height: usize,
+    others: &'a [Line],
+    other_x: usize,
+    other_y: usize,
+) -> Result<Vec<Change>, AllocError>
+    ensures { IfOk result
+        (λ changes. map value_of changes.items
+        ≡ difference (region_fresh (rows_of lines.now) x y width height (rows_of others.now) other_x other_y)) }
+{
+    let mut writer = DifferenceWriter::new(alloc, attrs);
+    let olds = lines_from(lines, y);
+    let olds = &olds[..height.min(olds.len())];
+    write_region(
+        &mut writer,
+        y,
+        x,
+        olds,
+        other_x,
+        lines_from(others, other_y),
+        width,
+    )?;
+    let changes = writer.finish()?;
+    Ok(changes)
 }
 
 /// The changes that make a region of some lines, whose top left is at column `x` and row `y`, show
@@ -70,21 +110,30 @@ pub fn diff_region(
     other_x: usize,
     other_y: usize,
 ) -> Result<Vec<Change>, AllocError>
-    ensures { IfOk result (λ changes. map value_of changes.items ≡ difference (region_fresh (rows_of lines.now) x y width height (rows_of others.now) other_x other_y)) }
+    ensures { IfOk result
+        (λ changes. map value_of changes.items
+        ≡ difference (region_fresh (rows_of lines.now) x y width height (rows_of others.now) other_x other_y)) }
 {
     let attrs = CellAttributes::blank();
-    let mut writer = DifferenceWriter::new(alloc, &attrs);
-    let olds = lines_from(lines, y);
-    let olds = &olds[..height.min(olds.len())];
-    write_region(
-        &mut writer,
-        y,
-        x,
-        olds,
-        other_x,
-        lines_from(others, other_y),
-        width,
+    let changes = region_changes(
+        alloc, &attrs, lines, x, y, width, height, others, other_x, other_y,
     )?;
+    Ok(changes)
+}
+
+// The changes of `diff_lines`. The attributes are of no concern.
+fn line_changes<'a>(
+    alloc: Global,
+    attrs: &'a CellAttributes,
+    lines: &[Line],
+    others: &'a [&'a Line],
+) -> Result<Vec<Change>, AllocError>
+    ensures { IfOk result
+        (λ changes. map value_of changes.items
+        ≡ difference (lines_fresh (rows_of lines.now) 0 (rows_of (map (λ line. line.now) others.now)))) }
+{
+    let mut writer = DifferenceWriter::new(alloc, attrs);
+    write_lines(&mut writer, 0, lines, others)?;
     let changes = writer.finish()?;
     Ok(changes)
 }
@@ -95,11 +144,29 @@ pub fn diff_lines(
     lines: &[Line],
     others: &[&Line],
 ) -> Result<Vec<Change>, AllocError>
-    ensures { IfOk result (λ changes. map value_of changes.items ≡ difference (lines_fresh (rows_of lines.now) 0 (rows_of (map (λ line. line.now) others.now)))) }
+    ensures { IfOk result
+        (λ changes. map value_of changes.items
+        ≡ difference (lines_fresh (rows_of lines.now) 0 (rows_of (map (λ line. line.now) others.now)))) }
 {
     let attrs = CellAttributes::blank();
-    let mut writer = DifferenceWriter::new(alloc, &attrs);
-    write_lines(&mut writer, 0, lines, others)?;
+    let changes = line_changes(alloc, &attrs, lines, others)?;
+    Ok(changes)
+}
+
+// The changes of `diff_against_numbered_line`. The attributes are of no concern.
+fn numbered_line_changes<'a>(
+    alloc: Global,
+    attrs: &'a CellAttributes,
+    lines: &[Line],
+    row: usize,
+    other: &'a Line,
+) -> Result<Vec<Change>, AllocError>
+    ensures { IfOk result
+        (λ changes. map value_of changes.items
+        ≡ difference (lines_fresh (rows_of lines.now) row (rows_of (other.now ∷ [])))) }
+{
+    let mut writer = DifferenceWriter::new(alloc, attrs);
+    write_lines(&mut writer, row, lines_from(lines, row), &[other])?;
     let changes = writer.finish()?;
     Ok(changes)
 }
@@ -112,12 +179,12 @@ pub fn diff_against_numbered_line(
     row: usize,
     other: &Line,
 ) -> Result<Vec<Change>, AllocError>
-    ensures { IfOk result (λ changes. map value_of changes.items ≡ difference (lines_fresh (rows_of lines.now) row (rows_of (other.now ∷ [])))) }
+    ensures { IfOk result
+        (λ changes. map value_of changes.items
+        ≡ difference (lines_fresh (rows_of lines.now) row (rows_of (other.now ∷ [])))) }
 {
     let attrs = CellAttributes::blank();
-    let mut writer = DifferenceWriter::new(alloc, &attrs);
-    write_lines(&mut writer, row, lines_from(lines, row), &[other])?;
-    let changes = writer.finish()?;
+    let changes = numbered_line_changes(alloc, &attrs, lines, row, other)?;
     Ok(changes)
 }
 
@@ -129,7 +196,9 @@ pub fn diff_screens(
     lines: &[Line],
     others: &[Line],
 ) -> Result<Vec<Change>, AllocError>
-    ensures { IfOk result (λ changes. map value_of changes.items ≡ difference (region_fresh (rows_of lines.now) 0 0 width (length lines.now) (rows_of others.now) 0 0)) }
+    ensures { IfOk result
+        (λ changes. map value_of changes.items
+        ≡ difference (region_fresh (rows_of lines.now) 0 0 width (length lines.now) (rows_of others.now) 0 0)) }
 {
     diff_region(alloc, lines, 0, 0, width, lines.len(), others, 0, 0)
 }

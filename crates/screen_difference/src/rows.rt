@@ -1,43 +1,119 @@
 //! Rows that are compared.
-ghost use Rattle.std.specs.Prelude.{◌≡◌, map, IsTrue, OnOk};
+ghost use Rattle.std.specs.Prelude.{◌≡◌, ◌+◌, ◌<◌, ◌≤◌, ◌^◌, [], length, IfOk, OnOk};
 ghost use Rattle.cell_views.specs.Region.{region_left};
 ghost use Rattle.screen_difference.specs.Drawing.{with_all};
 ghost use Rattle.screen_difference.specs.FreshCells.{placed, row_fresh};
-ghost use Rattle.screen_difference.specs.ShownCells.{moved, passed_fresh, shown_left, Fit};
+ghost use Rattle.screen_difference.specs.ShownCells.{columns_fresh, passed_fresh, shown_left, side_by_side, Fits};
+ghost use Rattle.screen_difference.specs.ShownCells.{HaveRoom};
 
 use crate::difference_writer::DifferenceWriter;
+use crate::fresh_cells::{write_cell, write_plain};
 use crate::shown_cells::ShownCells;
+use cell_line::laws::lines_are_whole;
 use cell_line::{Line, RegionIter};
 use std::alloc::AllocError;
 
-// Writes the new cells, which stand from `other_x` on, that the old ones, from `x` on, don't show.
+// Writes the fresh ones of the cells that are left first: as many plain ones as stand there, or another one. Returns
+// how many columns they take; 0 where none is left.
+fn write_next<'a>(
+    writer: &mut DifferenceWriter<'a>,
+    row: usize,
+    column: usize,
+    olds: &mut ShownCells<'_>,
+    news: &mut RegionIter<'a>,
+) -> Result<usize, AllocError>
+    requires room { HaveRoom column (region_left news.old) }
+    requires fits { Fits olds.old }
+    ensures written { IfOk result (λ count.
+        with_all writer.new (placed row (
+        passed_fresh (shown_left olds.new) (side_by_side (column + count) (region_left news.new))))
+        ≡ with_all writer.old (placed row (
+        passed_fresh (shown_left olds.old) (side_by_side column (region_left news.old))))) }
+    ensures room { IfOk result (λ count. HaveRoom (column + count) (region_left news.new)) }
+    ensures small { IfOk result (λ count. 0 < count → column + count < 2 ^ 64) }
+    ensures fewer { IfOk result (λ count.
+        0 < count → length (region_left news.new) < length (region_left news.old)) }
+    ensures none { IfOk result (λ count. count ≡ 0 → region_left news.new ≡ []) }
+    ensures fits { Fits olds.new }
+{
+    if let Some((text, attrs)) = news.pass_plain(usize::MAX) {
+        write_plain(writer, row, column, olds, text, attrs)?;
+        return Ok(text.len());
+    }
+    let Some(cell) = news.next() else {
+        return Ok(0);
+    };
+    write_cell(writer, row, column, olds, &cell)?;
+    Ok(cell.width())
+}
+
+// Writes the new cells, which stand side by side from a column on, that the old ones don't show.
 fn write_cells<'a>(
     writer: &mut DifferenceWriter<'a>,
     row: usize,
-    x: usize,
+    mut column: usize,
     mut olds: ShownCells<'_>,
-    other_x: usize,
-    news: RegionIter<'a>,
+    mut news: RegionIter<'a>,
 ) -> Result<(), AllocError>
-    requires { Fit x other_x (region_left news) }
-    ensures { OnOk result (writer.new ≡ with_all writer.old (placed row (passed_fresh (shown_left olds.entry) (map (moved x other_x) (region_left news.entry))))) }
+    requires room { HaveRoom column (region_left news) }
+    requires fits { Fits olds }
+    ensures { OnOk result (writer.new ≡ with_all writer.old (placed row (
+        passed_fresh (shown_left olds.entry) (side_by_side column (region_left news.entry))))) }
 {
-    for cell in news {
-        let column = cell.cell_index() - other_x + x;
-        olds.pass(column);
-        if !olds.is_next(column, &cell) {
-            writer.push(row, column, &cell)?;
+    loop {
+        let count = write_next(writer, row, column, &mut olds, &mut news)?;
+        if count == 0 {
+            return Ok(());
         }
+        column += count;
     }
-    Ok(())
 }
 
-// Whether the columns of two lines, each from one of its own on, are the same, since the lines are kept alike.
-fn are_kept_alike(x: usize, old: &Line, other_x: usize, new: &Line) -> bool
-    ensures place { IsTrue result → x ≡ other_x }
-    ensures columns { IsTrue result → old.now.columns ≡ new.now.columns }
+// How many of the first columns of a part are passed, and how many are then to be compared: outside of these, lines
+// that stand in the same columns show the same.
+fn unequal_part(x: usize, old: &Line, other_x: usize, new: &Line, count: usize) -> (usize, usize)
+    requires within { x + count ≤ length old.now.columns }
+    requires other_within { other_x + count ≤ length new.now.columns }
+    ensures part { result.0 + result.1 ≤ count }
+    ensures fresh { columns_fresh (x + result.0) (other_x + result.0) result.1 old.now.columns new.now.columns
+        ≡ columns_fresh x other_x count old.now.columns new.now.columns }
 {
-    x == other_x && old.is_kept_as(new)
+    if x != other_x {
+        return (0, count);
+    }
+    let (start, stop) = old.unequal_columns(new);
+    let passed = start.saturating_sub(x).min(count);
+    let behind = stop.saturating_sub(x).min(count);
+    (passed, behind - passed)
+}
+
+// Writes the fresh cells of so many columns of a line, from `other_x` on, against those of the old line from `x` on.
+fn write_columns<'a>(
+    writer: &mut DifferenceWriter<'a>,
+    row: usize,
+    x: usize,
+    old: &Line,
+    other_x: usize,
+    new: &'a Line,
+    count: usize,
+) -> Result<(), AllocError>
+    requires within { x + count ≤ length old.now.columns }
+    requires other_within { other_x + count ≤ length new.now.columns }
+    requires small { x + count < 2 ^ 64 }
+    requires other_small { other_x + count < 2 ^ 64 }
+    ensures { OnOk result
+        (writer.new
+        ≡ with_all writer.old (placed row (columns_fresh x other_x count old.now.columns new.now.columns))) }
+{
+    if count == 0 {
+        return Ok(());
+    }
+    lines_are_whole(old);
+    lines_are_whole(new);
+    let olds = ShownCells::new(x, old.visible_cells_between(x..x + count));
+    let news = new.visible_cells_between(other_x..other_x + count);
+    write_cells(writer, row, x, olds, news)?;
+    Ok(())
 }
 
 /// Writes the fresh cells of some columns of a line, from `other_x` on, against those of the old line
@@ -51,19 +127,16 @@ pub(crate) fn write_row<'a>(
     new: &'a Line,
     width: usize,
 ) -> Result<(), AllocError>
-    ensures { OnOk result (writer.new ≡ with_all writer.old (placed row (row_fresh x other_x width old.now.columns new.now.columns))) }
+    ensures { OnOk result
+        (writer.new ≡ with_all writer.old (placed row (row_fresh x other_x width old.now.columns new.now.columns))) }
 {
-    if are_kept_alike(x, old, other_x, new) {
-        return Ok(());
-    }
     let count = width
         .min(old.len().saturating_sub(x))
         .min(new.len().saturating_sub(other_x));
     if count == 0 {
         return Ok(());
     }
-    let olds = ShownCells::new(old.visible_cells_between(x..x + count));
-    let news = new.visible_cells_between(other_x..other_x + count);
-    write_cells(writer, row, x, olds, other_x, news)?;
+    let (passed, left) = unequal_part(x, old, other_x, new, count);
+    write_columns(writer, row, x + passed, old, other_x + passed, new, left)?;
     Ok(())
 }

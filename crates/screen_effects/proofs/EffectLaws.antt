@@ -11,11 +11,11 @@ use Rattle.cell_base.specs.declared.color.ColorAttribute.{ColorAttribute}
 use Rattle.cell_base.specs.Attributes.{plain, blank_of}
 use Rattle.cell_base.specs.Row.{Row, blank, plain_row, closed_end}
 use Rattle.cell_base.specs.Screen.{Screen, IsScreen, height}
-use Rattle.cell_change.specs.ChangeValue.{ChangeValue, Attribute, AllAttributes, Text, ClearScreen, ClearToEndOfLine, ClearToEndOfScreen, CursorPosition, CursorColor, CursorShape, CursorVisibility, LineAttribute, ScrollRegionUp, ScrollRegionDown, Title}
-use Rattle.cell_rows.specs.WholeRow.{IsWhole}
-use Rattle.cell_rows.proofs.RowLemmas.{length-closed_end, length-set_columns, whole-append, whole-front, whole-blanks, whole-set_columns}
+use Rattle.screen_change.specs.ChangeValue.{ChangeValue, Attribute, AllAttributes, Text, ClearScreen, ClearToEndOfLine, ClearToEndOfScreen, CursorPosition, CursorColor, CursorShape, CursorVisibility, LineAttribute, ScrollRegionUp, ScrollRegionDown, Title}
+use Rattle.cell_base.specs.WholeRow.{IsWhole}
+use Rattle.cell_base.proofs.RowLemmas.{length-closed_end, length-set_columns, whole-append, whole-front, whole-blanks, whole-set_columns}
 use Rattle.screen_effects.specs.Display.{Display, IsDisplay}
-use Rattle.screen_effects.specs.Effect.{on_screen, blank_row, cursor_row, cleared_behind, cleared_screen, cleared_line, cleared_below, scrolled_up, scrolled_down, effect, replay}
+use Rattle.screen_effects.specs.Effect.{on_screen, blank_row, cursor_row, cleared_after, cleared_screen, cleared_line, cleared_below, scrolled_up, scrolled_down, effect, replay}
 use Rattle.screen_effects.specs.Positions.{place, column_place}
 use Rattle.screen_effects.specs.Regions.{moved_up, moved_down, in_region}
 use Rattle.screen_effects.specs.Resize.{fitted, resized_row, resized}
@@ -51,12 +51,12 @@ blank_width width color = length-replicate width (blank (blank_of color))
 blank_whole : (width : ℕ) (color : ColorAttribute) → IsWhole (blank_row width color)
 blank_whole width color = whole-blanks width (blank_of color)
 
-pub same_width : (width column : ℕ) (color : ColorAttribute) (row : Row) → length row ≡ width → column ≤ width → length (cleared_behind column color row) ≡ width
+pub same_width : (width column : ℕ) (color : ColorAttribute) (row : Row) → length row ≡ width → column ≤ width → length (cleared_after column color row) ≡ width
 same_width width column color row e h =
     let n = blank_width (length row - column) color in
     length-set_columns row column (blank_row (length row - column) color) (omega arith) ∙ e
 
-still_whole : (column : ℕ) (color : ColorAttribute) (row : Row) → IsWhole row → IsWhole (cleared_behind column color row)
+still_whole : (column : ℕ) (color : ColorAttribute) (row : Row) → IsWhole row → IsWhole (cleared_after column color row)
 still_whole column color row w = whole-set_columns row column _ w (blank_whole (length row - column) color)
 
 pub screen_cleared_is : (color : ColorAttribute) (d : Display) → IsDisplay d → IsDisplay (on_screen (cleared_screen color) d)
@@ -79,12 +79,12 @@ line_cleared_is color d h =
     let new = same_width s.width s.column color row even h.lawful.column_in in record {
       lawful = record {
         wide_enough = h.lawful.wide_enough;
-        even = All-set (IsEven s.width) s.rows s.row (cleared_behind s.column color row) new h.lawful.even;
+        even = All-set (IsEven s.width) s.rows s.row (cleared_after s.column color row) new h.lawful.even;
         column_in = h.lawful.column_in;
         row_in = let g = h.lawful.row_in in omega (arith, length-set {A = Row});
       };
-      whole = All-set IsWhole s.rows s.row (cleared_behind s.column color row) (still_whole s.column color row (h.whole s.row [] h.lawful.row_in)) h.whole;
-      sized = h.sized ∙ sym (length-set {A = Row} s.rows s.row (cleared_behind s.column color row));
+      whole = All-set IsWhole s.rows s.row (cleared_after s.column color row) (still_whole s.column color row (h.whole s.row [] h.lawful.row_in)) h.whole;
+      sized = h.sized ∙ sym (length-set {A = Row} s.rows s.row (cleared_after s.column color row));
     }
 
 -- a row between others
@@ -100,7 +100,7 @@ below_height color s h =
     let g = h.row_in in
     let front = length-take s.row s.rows in
     let behind = length-replicate (height s - (s.row + 1)) (blank_row s.width color) in
-    let both = length-append (take s.row s.rows) (cleared_behind s.column color (cursor_row s) ∷ replicate (height s - (s.row + 1)) (blank_row s.width color)) in
+    let both = length-append (take s.row s.rows) (cleared_after s.column color (cursor_row s) ∷ replicate (height s - (s.row + 1)) (blank_row s.width color)) in
     omega arith
 
 pub below_cleared_is : (color : ColorAttribute) (d : Display) → IsDisplay d → IsDisplay (on_screen (cleared_below color) d)

@@ -8,9 +8,9 @@ use Rattle.cell_base.specs.declared.attributes.LineAttribute.TheVariants.{Single
 use Rattle.cell_base.specs.Attributes.{Attributes, plain}
 use Rattle.cell_base.specs.Row.{Row, plain_row, columns_of}
 use Rattle.cell_base.specs.Screen.{Screen, IsScreen, height, scrolled, line_feed, carriage_return, write_columns, cluster_columns, put}
-use Rattle.cell_rows.specs.WholeRow.{IsWhole}
-use Rattle.cell_rows.proofs.LawfulScreens.{new_screen_is, line_feed_is, carriage_return_is, put_is}
-use Rattle.cell_rows.proofs.RowLemmas.{whole-blanks, whole-set_columns}
+use Rattle.cell_base.specs.WholeRow.{IsWhole}
+use Rattle.cell_base.proofs.LawfulScreens.{new_screen_is, line_feed_is, carriage_return_is, put_is}
+use Rattle.cell_base.proofs.RowLemmas.{whole-blanks, whole-set_columns}
 use Rattle.screen_effects.specs.Display.{Display, IsDisplay, new_display}
 use Rattle.screen_effects.specs.Strokes.{Stroke, CarriageReturn, LineFeed, Cluster, stroke_on, scrolls, stroke_done}
 

@@ -4,7 +4,7 @@ use Rattle.cell_base.specs.declared.attributes.CursorShape.{CursorShape}
 use Rattle.cell_base.specs.declared.attributes.LineAttribute.{LineAttribute}
 use Rattle.cell_base.specs.declared.attributes.LineAttribute.TheVariants.{SingleWidthLine}
 use Rattle.cell_base.specs.Screen.{Screen, IsScreen, new_screen}
-use Rattle.cell_rows.specs.WholeRow.{IsWhole}
+use Rattle.cell_base.specs.WholeRow.{IsWhole}
 
 -- the screen; for each of its rows whether it has single or double width and height; and the shape, if one was set
 pub record Display : Type 0 where
@@ -14,7 +14,8 @@ pub record Display : Type 0 where
 
 -- a new screen, whose rows have single width, and no shape
 abbrev pub new_display : ℕ → ℕ → Display
-new_display width height = record { screen = new_screen width height; sizes = replicate height SingleWidthLine; shape = None }
+new_display width height =
+    record { screen = new_screen width height; sizes = replicate height SingleWidthLine; shape = None }
 
 -- what each display keeps: a lawful screen, whole rows, and a size for each
 pub record IsDisplay (display : Display) : Type 0 where

@@ -6,3 +6,5 @@ pub mod Regions
 pub mod Effect
 pub mod Resize
 pub mod Samples
+pub mod WrittenCells
+pub mod Parts

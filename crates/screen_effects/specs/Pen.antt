@@ -1,6 +1,7 @@
 -- What changes of attributes do to the pen.
 use Rattle.cell_base.specs.Attributes.{Attributes}
-use Rattle.cell_base.specs.AttributeValue.{AttributeValue, Intensity, Underline, Italic, Blink, Reverse, StrikeThrough, Invisible, Foreground, Background, Hyperlink}
+use Rattle.cell_base.specs.AttributeValue.{AttributeValue, Intensity, Underline, Italic, Blink, Reverse, StrikeThrough}
+use Rattle.cell_base.specs.AttributeValue.{Invisible, Foreground, Background, Hyperlink}
 
 -- the attributes with one of them set
 abbrev pub with_attribute : Attributes → AttributeValue → Attributes

@@ -3,7 +3,8 @@ use Rattle.std.specs.Prelude.{ℕ, ◌+◌, ◌-◌, pos, negsuc, min, ◌==◌,
 use Rattle.cell_base.specs.declared.attributes.Position.{Position}
 use Rattle.cell_base.specs.declared.attributes.Position.TheVariants.{Relative, Absolute, EndRelative}
 
--- of `size` places the one named, going from the current one; past the last it is the last, and before the first the first
+-- of `size` places the one named, going from the current one; past the last it is the last, and before the first the
+-- first
 abbrev pub place : ℕ → ℕ → Position → ℕ
 place size from (Absolute at) = min at (size - 1)
 place size from (EndRelative back) = min (size - back) (size - 1)

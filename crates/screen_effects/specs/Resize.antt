@@ -13,7 +13,8 @@ fitted other size xs = take size xs ++ replicate (size - length xs) other
 abbrev pub resized_row : ℕ → Row → Row
 resized_row width row = closed_end (take width row) ++ plain_row (width - length row)
 
--- the top left stays, plain blanks are added at the right and below, and the cursor stays within the last column and row, so that no wrap is pending
+-- the top left stays, plain blanks are added at the right and below, and the cursor stays within the last column and
+-- row, so that no wrap is pending
 abbrev pub resized_screen : ℕ → ℕ → Screen → Screen
 resized_screen width height screen = record screen {
   width = width;
@@ -23,4 +24,6 @@ resized_screen width height screen = record screen {
 }
 
 abbrev pub resized : ℕ → ℕ → Display → Display
-resized width height display = record display { screen = resized_screen width height display.screen; sizes = fitted SingleWidthLine height display.sizes }
+resized width height display =
+    record display
+    { screen = resized_screen width height display.screen; sizes = fitted SingleWidthLine height display.sizes }

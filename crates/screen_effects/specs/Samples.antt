@@ -3,7 +3,7 @@ use Rattle.std.specs.Prelude.{ℕ, List, [], ◌∷◌, map}
 use Rattle.cell_base.specs.declared.attributes.Position.TheVariants.{Absolute}
 use Rattle.cell_base.specs.Cluster.{program_width}
 use Rattle.cell_base.specs.Row.{row_text}
-use Rattle.cell_change.specs.ChangeValue.{ChangeValue, CursorPosition}
+use Rattle.screen_change.specs.ChangeValue.{ChangeValue, CursorPosition}
 use Rattle.screen_effects.specs.Display.{Display, new_display}
 use Rattle.screen_effects.specs.Effect.{replay}
 
@@ -14,7 +14,8 @@ pub record Seen : Type 0 where
   pub row : ℕ
 
 abbrev pub seen_on : Display → Seen
-seen_on display = record { rows = map row_text display.screen.rows; column = display.screen.column; row = display.screen.row }
+seen_on display =
+    record { rows = map row_text display.screen.rows; column = display.screen.column; row = display.screen.row }
 
 -- of a new display of a size behind some changes
 abbrev pub seen : ℕ → ℕ → List ChangeValue → Seen

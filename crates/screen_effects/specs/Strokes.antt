@@ -1,5 +1,6 @@
 -- What a text does on a screen: moves, and clusters that are put.
-use Rattle.std.specs.Prelude.{ℕ, ◌+◌, Bool, true, false, ◌&&◌, ◌==◌, nat_lt, List, [], ◌∷◌, ◌++◌, length, map, drop, fold, if◌then◌else◌}
+use Rattle.std.specs.Prelude.{ℕ, ◌+◌, Bool, true, false, ◌&&◌, ◌==◌, nat_lt, List, [], ◌∷◌, ◌++◌, length, map, drop}
+use Rattle.std.specs.Prelude.{fold, if◌then◌else◌}
 use Rattle.std.specs.List.{flat_map}
 use Rattle.std.specs.Char.{is_ascii_control}
 use Rattle.cell_base.specs.declared.attributes.LineAttribute.TheVariants.{SingleWidthLine}
@@ -21,7 +22,8 @@ with_byte byte parts = Plain (byte ∷ []) ∷ parts
 -- a text cut at its controls: each by itself, and between them texts as long as may be
 abbrev pub text_parts : List ℕ → List TextPart
 text_parts [] = []
-text_parts (byte ∷ text) = if is_ascii_control byte then Control byte ∷ text_parts text else with_byte byte (text_parts text)
+text_parts (byte ∷ text) =
+    if is_ascii_control byte then Control byte ∷ text_parts text else with_byte byte (text_parts text)
 
 -- a move of the cursor, or a cluster that is put
 pub data Stroke : Type 0 where
@@ -50,7 +52,8 @@ stroke_on width_of screen (Cluster text) = put width_of screen text
 abbrev pub needs_next_row : (List ℕ → ℕ) → Screen → Stroke → Bool
 needs_next_row width_of screen CarriageReturn = false
 needs_next_row width_of screen LineFeed = true
-needs_next_row width_of screen (Cluster text) = nat_lt screen.width (screen.column + length (cluster_columns width_of screen text))
+needs_next_row width_of screen (Cluster text) =
+    nat_lt screen.width (screen.column + length (cluster_columns width_of screen text))
 
 -- whether the rows scroll for it: the cursor is in the last one, and it needs the next
 abbrev pub scrolls : (List ℕ → ℕ) → Screen → Stroke → Bool
@@ -60,7 +63,8 @@ scrolls width_of screen stroke = screen.row + 1 == height screen && needs_next_r
 abbrev pub stroke_done : (List ℕ → ℕ) → Display → Stroke → Display
 stroke_done width_of display stroke = record display {
   screen = stroke_on width_of display.screen stroke;
-  sizes = if scrolls width_of display.screen stroke then drop 1 display.sizes ++ SingleWidthLine ∷ [] else display.sizes;
+  sizes =
+      if scrolls width_of display.screen stroke then drop 1 display.sizes ++ SingleWidthLine ∷ [] else display.sizes;
 }
 
 abbrev pub text_done : (List ℕ → ℕ) → Display → List ℕ → Display

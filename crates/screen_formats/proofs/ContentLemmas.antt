@@ -8,7 +8,7 @@ use Rattle.std.proofs.lemmas.Bool.{eqb-true, or_parts}
 use Rattle.std.proofs.lemmas.List.Folds.{list_any-append}
 use Rattle.cell_edits.proofs.CellLemmas.{by_test}
 use Rattle.screen_formats.specs.Content.{untagged, content, piece_content, pieces_content, is_end, AreNamed, IsNamed, AreTagged}
-use Rattle.screen_formats.specs.Escape.{entity_of, escaped, escaped_char, held, is_markup, put_before, read_behind}
+use Rattle.screen_formats.specs.Escape.{entity_of, escaped, escaped_char, held, is_markup, put_before, read_after}
 use Rattle.screen_formats.specs.Pieces.{Attribute, Piece, Opening, Closing, Words, attribute_text, piece_text, pieces_text}
 use Rattle.screen_formats.specs.declared.escape.Markup.{Markup}
 use Rattle.screen_formats.proofs.EscapeLemmas.{is_special, own_bytes, text_back}
@@ -118,12 +118,12 @@ put_nothing : (text : Option (List ℕ)) → put_before [] text ≡ text
 put_nothing None = refl
 put_nothing (Some t) = refl
 
-piece_back : (markup : Markup) (piece : Piece) (rest : List ℕ) → read_behind None (bare markup piece ++ rest) ≡ put_before (piece_content markup piece) (read_behind None rest)
-piece_back markup (Opening name attributes) rest = sym (put_nothing (read_behind None rest))
-piece_back markup (Closing name) rest = sym (put_nothing (read_behind None rest))
+piece_back : (markup : Markup) (piece : Piece) (rest : List ℕ) → read_after None (bare markup piece ++ rest) ≡ put_before (piece_content markup piece) (read_after None rest)
+piece_back markup (Opening name attributes) rest = sym (put_nothing (read_after None rest))
+piece_back markup (Closing name) rest = sym (put_nothing (read_after None rest))
 piece_back markup (Words text) rest = text_back markup text rest
 
-pieces_back : (markup : Markup) (pieces : List Piece) → read_behind None (flat_map (bare markup) pieces) ≡ Some (pieces_content markup pieces)
+pieces_back : (markup : Markup) (pieces : List Piece) → read_after None (flat_map (bare markup) pieces) ≡ Some (pieces_content markup pieces)
 pieces_back markup [] = refl
 pieces_back markup (piece ∷ pieces) =
     piece_back markup piece (flat_map (bare markup) pieces)
@@ -131,4 +131,4 @@ pieces_back markup (piece ∷ pieces) =
 
 pub content_back : (markup : Markup) (pieces : List Piece) → AreTagged pieces → content (pieces_text markup pieces) ≡ Some (pieces_content markup pieces)
 unfolding pieces_text
-content_back markup pieces named = ap (read_behind None) (bare_pieces markup pieces named) ∙ pieces_back markup pieces
+content_back markup pieces named = ap (read_after None) (bare_pieces markup pieces named) ∙ pieces_back markup pieces

@@ -12,7 +12,7 @@ use Rattle.std.proofs.lemmas.Str.{encode_ascii, chars_past_char, chars-nil, insi
 use lib.Utf8.{encode}
 use Rattle.cell_edits.proofs.CellLemmas.{by_test}
 use Rattle.screen_formats.specs.declared.escape.Markup.{Markup}
-use Rattle.screen_formats.specs.Escape.{entity_of, escaped, escaped_char, held, held_text, is_markup, put_before, read_behind, unescaped}
+use Rattle.screen_formats.specs.Escape.{entity_of, escaped, escaped_char, held, held_text, is_markup, put_before, read_after, unescaped}
 
 -- ---- bytes that are read as they are
 
@@ -27,18 +27,18 @@ put_none : (text : Option (List ℕ)) → put_before [] text ≡ text
 put_none None = refl
 put_none (Some t) = refl
 
-plain_byte : (b : ℕ) (text : List ℕ) → is_special b ≡ false → read_behind None (b ∷ text) ≡ put_before (b ∷ []) (read_behind None text)
+plain_byte : (b : ℕ) (text : List ℕ) → is_special b ≡ false → read_after None (b ∷ text) ≡ put_before (b ∷ []) (read_after None text)
 plain_byte b text e =
     let parts = or_parts (b == 38) (is_markup b) e in
     rw (parts.0, parts.1) refl
 
-plain_bytes : (bytes rest : List ℕ) → list_any is_special bytes ≡ false → read_behind None (bytes ++ rest) ≡ put_before bytes (read_behind None rest)
-plain_bytes [] rest e = sym (put_none (read_behind None rest))
+plain_bytes : (bytes rest : List ℕ) → list_any is_special bytes ≡ false → read_after None (bytes ++ rest) ≡ put_before bytes (read_after None rest)
+plain_bytes [] rest e = sym (put_none (read_after None rest))
 plain_bytes (b ∷ bytes) rest e =
     let parts = or_parts (is_special b) (list_any is_special bytes) e in
     plain_byte b (bytes ++ rest) parts.0
     ∙ ap (put_before (b ∷ [])) (plain_bytes bytes rest parts.1)
-    ∙ put_joined (b ∷ []) bytes (read_behind None rest)
+    ∙ put_joined (b ∷ []) bytes (read_after None rest)
 
 -- ---- the bytes of a character above ASCII are such
 
@@ -66,7 +66,7 @@ own_bytes c e = by_size (cases_lt c 128)
 
 -- the rest is read as it is behind the character
 abbrev ReadsBack : ℕ → Type 0
-ReadsBack c = (rest : List ℕ) → read_behind None (escaped_char c ++ rest) ≡ put_before (encode_utf8 c) (read_behind None rest)
+ReadsBack c = (rest : List ℕ) → read_after None (escaped_char c ++ rest) ≡ put_before (encode_utf8 c) (read_after None rest)
 
 amp_back : ReadsBack 38
 unfolding encode_utf8
@@ -96,7 +96,7 @@ same_back : (c d : ℕ) → (c == d) ≡ true → ReadsBack d → ReadsBack c
 same_back c d e p = subst ReadsBack (sym (eqb-true c d e)) p
 
 plain_back : (c : ℕ) → entity_of c ≡ None → is_special c ≡ false → ReadsBack c
-plain_back c none plain rest = ap (λ e. read_behind None (unwrap_or e (encode_utf8 c) ++ rest)) none ∙ plain_bytes (encode_utf8 c) rest (own_bytes c plain)
+plain_back c none plain rest = ap (λ e. read_after None (unwrap_or e (encode_utf8 c) ++ rest)) none ∙ plain_bytes (encode_utf8 c) rest (own_bytes c plain)
 
 char_back : (c : ℕ) → ReadsBack c
 char_back c =
@@ -109,20 +109,20 @@ char_back c =
     plain_back c (rw (amp, lt, gt, quot, apostrophe, return) refl) (rw (amp, lt, gt, quot, apostrophe) refl)))))))
 
 -- the rest is read as it is behind the text
-chars_back : (markup : Markup) (cs rest : List ℕ) → read_behind None (flat_map (λ c. escaped_char (held markup c)) cs ++ rest) ≡ put_before (flat_map (λ c. encode_utf8 (held markup c)) cs) (read_behind None rest)
-chars_back markup [] rest = sym (put_none (read_behind None rest))
+chars_back : (markup : Markup) (cs rest : List ℕ) → read_after None (flat_map (λ c. escaped_char (held markup c)) cs ++ rest) ≡ put_before (flat_map (λ c. encode_utf8 (held markup c)) cs) (read_after None rest)
+chars_back markup [] rest = sym (put_none (read_after None rest))
 chars_back markup (c ∷ cs) rest =
-    ap (read_behind None) (append_assoc (escaped_char (held markup c)) (flat_map (λ c. escaped_char (held markup c)) cs) rest)
+    ap (read_after None) (append_assoc (escaped_char (held markup c)) (flat_map (λ c. escaped_char (held markup c)) cs) rest)
     ∙ char_back (held markup c) (flat_map (λ c. escaped_char (held markup c)) cs ++ rest)
     ∙ ap (put_before (encode_utf8 (held markup c))) (chars_back markup cs rest)
-    ∙ put_joined (encode_utf8 (held markup c)) (flat_map (λ c. encode_utf8 (held markup c)) cs) (read_behind None rest)
+    ∙ put_joined (encode_utf8 (held markup c)) (flat_map (λ c. encode_utf8 (held markup c)) cs) (read_after None rest)
 
-pub text_back : (markup : Markup) (text rest : List ℕ) → read_behind None (escaped markup text ++ rest) ≡ put_before (held_text markup text) (read_behind None rest)
+pub text_back : (markup : Markup) (text rest : List ℕ) → read_after None (escaped markup text ++ rest) ≡ put_before (held_text markup text) (read_after None rest)
 text_back markup text rest = chars_back markup (chars text) rest
 
 pub escaped_back : (markup : Markup) (text : List ℕ) → unescaped (escaped markup text) ≡ Some (held_text markup text)
 escaped_back markup text =
-    ap (read_behind None) (sym (append-nil (escaped markup text)))
+    ap (read_after None) (sym (append-nil (escaped markup text)))
     ∙ text_back markup text []
     ∙ ap Some (append-nil (held_text markup text))
 

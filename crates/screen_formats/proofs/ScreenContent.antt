@@ -16,7 +16,7 @@ use Rattle.screen_formats.specs.Html.{html_pieces, html_row, html_rows, html_run
 use Rattle.screen_formats.specs.Links.{link_uri}
 use Rattle.screen_formats.specs.Pieces.{Piece, Opening, Closing, Words, element}
 use Rattle.screen_formats.specs.Runs.{Run, runs_of}
-use Rattle.screen_formats.specs.Svg.{column_units, placed_text, rectangle, row_units, sized_opening, svg_cursor, svg_front, svg_letters, svg_opening, svg_paper, svg_part, svg_pieces, svg_row, svg_rows, svg_text, svg_text_of, Text}
+use Rattle.screen_formats.specs.Svg.{column_units, placed_text, rectangle, row_units, sized_opening, svg_cursor, svg_head, svg_letters, svg_opening, svg_paper, svg_part, svg_pieces, svg_row, svg_rows, svg_text, svg_text_of, Text}
 use Rattle.screen_formats.specs.declared.escape.Markup.{Markup}
 use Rattle.screen_formats.specs.declared.escape.Markup.TheVariants.{Html, Xml}
 use Rattle.screen_formats.proofs.ContentLemmas.{content_back}
@@ -127,7 +127,7 @@ opening_holds width height = (((refl, (refl, (refl, (refl, (refl, (refl, (refl, 
 title_holds : (title : Text) → Holds Xml (Opening (codes "title") [] ∷ Words title ∷ Closing (codes "title") ∷ []) (held_text Xml title)
 title_holds title = (((refl, tt), (tt, (refl, tt))), append-nil (held_text Xml title))
 
-front_holds : (width height title : Text) → Holds Xml (svg_front width height title) (held_text Xml title)
+front_holds : (width height title : Text) → Holds Xml (svg_head width height title) (held_text Xml title)
 front_holds width height title =
     let behind = rectangle (codes "0") (codes "0") width height (hex_color default_background) [] in
     let titled = holds_both Xml (element (codes "title") [] title) behind (held_text Xml title) [] (title_holds title) (rectangle_holds (codes "0") (codes "0") width height (hex_color default_background) []) in
@@ -141,7 +141,7 @@ svg_holds screen =
     let closed = Closing (codes "svg") ∷ Words (10 ∷ []) ∷ [] in
     let back = holds_both Xml (svg_cursor screen) closed [] (10 ∷ []) (cursor_holds screen) (closing Xml (codes "svg") refl) in
     let rows = holds_both Xml (svg_rows 0 screen.rows) (svg_cursor screen ++ closed) (flat_map (row_content Xml) screen.rows) (10 ∷ []) (svg_rows_hold 0 screen.rows) back in
-    holds_both Xml (svg_front width height screen.title) (svg_rows 0 screen.rows ++ (svg_cursor screen ++ closed)) (held_text Xml screen.title) (flat_map (row_content Xml) screen.rows ++ 10 ∷ []) (front_holds width height screen.title) rows
+    holds_both Xml (svg_head width height screen.title) (svg_rows 0 screen.rows ++ (svg_cursor screen ++ closed)) (held_text Xml screen.title) (flat_map (row_content Xml) screen.rows ++ 10 ∷ []) (front_holds width height screen.title) rows
 
 pub svg_read : (screen : Screen) → content (svg_text screen) ≡ Some (svg_content screen)
 svg_read screen = content_back Xml (svg_pieces screen) (svg_holds screen).0 ∙ ap Some (svg_holds screen).1

@@ -6,7 +6,9 @@ use Rattle.cell_base.specs.Attributes.{Attributes}
 use Rattle.cell_base.specs.Row.{Row}
 use Rattle.cell_base.specs.Screen.{Screen}
 use Rattle.cell_base.specs.declared.color.ColorAttribute.{ColorAttribute}
-use Rattle.cell_base.specs.declared.color.ColorAttribute.TheVariants.{Default, PaletteIndex, TrueColorWithDefaultFallback, TrueColorWithPaletteFallback}
+use Rattle.cell_base.specs.declared.color.ColorAttribute.TheVariants.{Default, PaletteIndex}
+use Rattle.cell_base.specs.declared.color.ColorAttribute.TheVariants.{TrueColorWithDefaultFallback}
+use Rattle.cell_base.specs.declared.color.ColorAttribute.TheVariants.{TrueColorWithPaletteFallback}
 use Rattle.cell_edits.specs.VisibleCells.{visible_cells}
 use Rattle.screen_formats.specs.Links.{link_uri}
 use Rattle.screen_formats.specs.Looks.{Text, align_look, blink_look, intensity_look, text_if, underline_look}
@@ -30,18 +32,24 @@ look_codes a =
 unfoldable pub color_code : Text → ColorAttribute → Text
 color_code layer Default = []
 color_code layer (PaletteIndex n) = 59 ∷ (layer ++ (codes ";5;" ++ decimal n))
-color_code layer (TrueColorWithDefaultFallback c) = 59 ∷ (layer ++ (codes ";2;" ++ (decimal c.0 ++ 59 ∷ (decimal c.1 ++ 59 ∷ decimal c.2))))
-color_code layer (TrueColorWithPaletteFallback c n) = 59 ∷ (layer ++ (codes ";2;" ++ (decimal c.0 ++ 59 ∷ (decimal c.1 ++ 59 ∷ decimal c.2))))
+color_code layer (TrueColorWithDefaultFallback c) =
+    59 ∷ (layer ++ (codes ";2;" ++ (decimal c.0 ++ 59 ∷ (decimal c.1 ++ 59 ∷ decimal c.2))))
+color_code layer (TrueColorWithPaletteFallback c n) =
+    59 ∷ (layer ++ (codes ";2;" ++ (decimal c.0 ++ 59 ∷ (decimal c.1 ++ 59 ∷ decimal c.2))))
 
 -- with `:`, so that a terminal which doesn't know it passes over it as a whole
 unfoldable pub underline_color_code : ColorAttribute → Text
 underline_color_code Default = []
 underline_color_code (PaletteIndex n) = codes ";58:5:" ++ decimal n
-underline_color_code (TrueColorWithDefaultFallback c) = codes ";58:2::" ++ (decimal c.0 ++ 58 ∷ (decimal c.1 ++ 58 ∷ decimal c.2))
-underline_color_code (TrueColorWithPaletteFallback c n) = codes ";58:2::" ++ (decimal c.0 ++ 58 ∷ (decimal c.1 ++ 58 ∷ decimal c.2))
+underline_color_code (TrueColorWithDefaultFallback c) =
+    codes ";58:2::" ++ (decimal c.0 ++ 58 ∷ (decimal c.1 ++ 58 ∷ decimal c.2))
+underline_color_code (TrueColorWithPaletteFallback c n) =
+    codes ";58:2::" ++ (decimal c.0 ++ 58 ∷ (decimal c.1 ++ 58 ∷ decimal c.2))
 
 unfoldable pub color_codes : Attributes → Text
-color_codes a = color_code (codes "38") a.foreground ++ (color_code (codes "48") a.background ++ underline_color_code a.underline_color)
+color_codes a =
+    color_code (codes "38") a.foreground
+    ++ (color_code (codes "48") a.background ++ underline_color_code a.underline_color)
 
 -- ---- runs and rows
 
@@ -51,10 +59,15 @@ sent_uri uri = if list_all is_printable uri then uri else []
 
 -- in a link, where there is one
 unfoldable pub sent_text : Text → Text → Text
-sent_text uri text = if length uri == 0 then text else 27 ∷ (codes "]8;;" ++ (uri ++ 27 ∷ 92 ∷ (text ++ 27 ∷ codes "]8;;\u{1b}\\")))
+sent_text uri text =
+    if length uri == 0 then text else 27 ∷ (codes "]8;;" ++ (uri ++ 27 ∷ 92 ∷ (text ++ 27 ∷ codes "]8;;\u{1b}\\")))
 
 unfoldable pub ansi_run : Run → Text
-ansi_run run = 27 ∷ (codes "[0" ++ (look_codes run.attributes ++ (color_codes run.attributes ++ 109 ∷ sent_text (sent_uri (link_uri run.attributes)) run.text)))
+ansi_run run =
+    27
+    ∷ (codes "[0"
+    ++ (look_codes run.attributes
+    ++ (color_codes run.attributes ++ 109 ∷ sent_text (sent_uri (link_uri run.attributes)) run.text)))
 
 -- plain attributes and a line feed
 abbrev pub row_end : Text

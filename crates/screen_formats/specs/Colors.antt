@@ -1,11 +1,14 @@
 -- The colours of cells, as red, green and blue from 0 to 255.
-use Rattle.std.specs.Prelude.{ℕ, ◌+◌, ◌-◌, ◌*◌, ◌/◌, ◌%◌, Bool, true, false, not, ◌||◌, ◌==◌, nat_lt, List, [], ◌∷◌, ◌++◌, slice_index_or, if◌then◌else◌}
+use Rattle.std.specs.Prelude.{ℕ, ◌+◌, ◌-◌, ◌*◌, ◌/◌, ◌%◌, Bool, true, false, not, ◌||◌, ◌==◌, nat_lt, List, [], ◌∷◌}
+use Rattle.std.specs.Prelude.{◌++◌, slice_index_or, if◌then◌else◌}
 use Rattle.cell_base.specs.Attributes.{Attributes}
 use Rattle.cell_base.specs.ColorText.{hex_byte}
 use Rattle.cell_base.specs.declared.attributes.Intensity.{Intensity}
 use Rattle.cell_base.specs.declared.attributes.Intensity.TheVariants.{Normal, Bold, Half}
 use Rattle.cell_base.specs.declared.color.ColorAttribute.{ColorAttribute}
-use Rattle.cell_base.specs.declared.color.ColorAttribute.TheVariants.{Default, PaletteIndex, TrueColorWithDefaultFallback, TrueColorWithPaletteFallback}
+use Rattle.cell_base.specs.declared.color.ColorAttribute.TheVariants.{Default, PaletteIndex}
+use Rattle.cell_base.specs.declared.color.ColorAttribute.TheVariants.{TrueColorWithDefaultFallback}
+use Rattle.cell_base.specs.declared.color.ColorAttribute.TheVariants.{TrueColorWithPaletteFallback}
 
 abbrev pub Rgb : Type 0
 Rgb = ℕ × ℕ × ℕ
@@ -14,8 +17,11 @@ Rgb = ℕ × ℕ × ℕ
 
 -- black, red, green, yellow, blue, magenta, cyan and white, and then the bright ones
 abbrev pub system_colors : List Rgb
-system_colors = (0, 0, 0) ∷ (205, 0, 0) ∷ (0, 205, 0) ∷ (205, 205, 0) ∷ (0, 0, 238) ∷ (205, 0, 205) ∷ (0, 205, 205) ∷ (229, 229, 229)
-    ∷ (127, 127, 127) ∷ (255, 0, 0) ∷ (0, 255, 0) ∷ (255, 255, 0) ∷ (92, 92, 255) ∷ (255, 0, 255) ∷ (0, 255, 255) ∷ (255, 255, 255) ∷ []
+system_colors =
+    (0, 0, 0) ∷ (205, 0, 0) ∷ (0, 205, 0) ∷ (205, 205, 0) ∷ (0, 0, 238) ∷ (205, 0, 205) ∷ (0, 205, 205)
+    ∷ (229, 229, 229)
+    ∷ (127, 127, 127) ∷ (255, 0, 0) ∷ (0, 255, 0) ∷ (255, 255, 0) ∷ (92, 92, 255) ∷ (255, 0, 255) ∷ (0, 255, 255)
+    ∷ (255, 255, 255) ∷ []
 
 abbrev pub system_color : ℕ → Rgb
 system_color n = slice_index_or system_colors n (0, 0, 0)
@@ -31,7 +37,9 @@ abbrev pub grey : ℕ → ℕ
 grey step = 8 + 10 * step
 
 abbrev pub palette_color : ℕ → Rgb
-palette_color n = if nat_lt n 16 then system_color n else (if nat_lt n 232 then cube_color (n - 16) else (grey (n - 232), grey (n - 232), grey (n - 232)))
+palette_color n =
+    if nat_lt n 16 then system_color n
+    else (if nat_lt n 232 then cube_color (n - 16) else (grey (n - 232), grey (n - 232), grey (n - 232)))
 
 -- ---- the colours of a cell
 
@@ -48,8 +56,9 @@ color_of default (PaletteIndex n) = palette_color n
 color_of default (TrueColorWithDefaultFallback c) = (c.0, c.1, c.2)
 color_of default (TrueColorWithPaletteFallback c n) = (c.0, c.1, c.2)
 
-abbrev pub front_color : Attributes → Rgb
-front_color a = if a.reverse then color_of default_background a.background else color_of default_foreground a.foreground
+abbrev pub foreground_color : Attributes → Rgb
+foreground_color a =
+    if a.reverse then color_of default_background a.background else color_of default_foreground a.foreground
 
 -- the colour behind the text
 abbrev pub paper : Attributes → Rgb
@@ -66,7 +75,7 @@ dimmed Half front behind = midway front behind
 
 -- the colour of the text; one that is hidden has that of what is behind it
 abbrev pub ink : Attributes → Rgb
-ink a = if a.invisible then paper a else dimmed a.intensity (front_color a) (paper a)
+ink a = if a.invisible then paper a else dimmed a.intensity (foreground_color a) (paper a)
 
 abbrev pub is_default : ColorAttribute → Bool
 is_default Default = true

@@ -1,5 +1,6 @@
 -- Texts in HTML and XML: between tags, and in quotes as the value of an attribute.
-use Rattle.std.specs.Prelude.{ℕ, Bool, not, ◌||◌, ◌==◌, nat_le, List, [], ◌∷◌, ◌++◌, codes, Option, Some, None, unwrap_or, option_map, option_and_then, if◌then◌else◌}
+use Rattle.std.specs.Prelude.{ℕ, Bool, not, ◌||◌, ◌==◌, nat_le, List, [], ◌∷◌, ◌++◌, codes, Option, Some, None}
+use Rattle.std.specs.Prelude.{unwrap_or, option_map, option_and_then, if◌then◌else◌}
 use Rattle.std.specs.List.{flat_map}
 use Rattle.std.specs.Char.{encode_utf8}
 use Rattle.std.specs.Int.{is_in_range}
@@ -12,7 +13,8 @@ use Rattle.screen_formats.specs.declared.escape.Markup.TheVariants.{Html, Xml}
 -- the characters that a text of HTML can hold, all but NUL, and of XML (XML 1.0, production 2: Char)
 abbrev pub can_hold : Markup → ℕ → Bool
 can_hold Html c = not (c == 0)
-can_hold Xml c = c == 9 || c == 10 || c == 13 || is_in_range 0x20 0xD7FF c || is_in_range 0xE000 0xFFFD c || nat_le 0x1_0000 c
+can_hold Xml c =
+    c == 9 || c == 10 || c == 13 || is_in_range 0x20 0xD7FF c || is_in_range 0xE000 0xFFFD c || nat_le 0x1_0000 c
 
 -- U+FFFD stands for a character that can't be held
 abbrev pub held : Markup → ℕ → ℕ
@@ -57,16 +59,16 @@ abbrev pub put_before : List ℕ → Option (List ℕ) → Option (List ℕ)
 put_before front text = option_map (λ t. front ++ t) text
 
 -- what a text reads as, behind the name so far of an entity or behind none
-abbrev pub read_behind : Option (List ℕ) → List ℕ → Option (List ℕ)
-read_behind None [] = Some []
-read_behind (Some name) [] = None
-read_behind None (b ∷ text) =
-    if b == 38 then read_behind (Some []) text else
-    (if is_markup b then None else put_before (b ∷ []) (read_behind None text))
-read_behind (Some name) (b ∷ text) =
-    if b == 59 then option_and_then (λ c. put_before (c ∷ []) (read_behind None text)) (named name)
-    else read_behind (Some (name ++ b ∷ [])) text
+abbrev pub read_after : Option (List ℕ) → List ℕ → Option (List ℕ)
+read_after None [] = Some []
+read_after (Some name) [] = None
+read_after None (b ∷ text) =
+    if b == 38 then read_after (Some []) text else
+    (if is_markup b then None else put_before (b ∷ []) (read_after None text))
+read_after (Some name) (b ∷ text) =
+    if b == 59 then option_and_then (λ c. put_before (c ∷ []) (read_after None text)) (named name)
+    else read_after (Some (name ++ b ∷ [])) text
 
 -- what a text reads as: nothing where a tag begins or ends in it, a quote stands in it, or an entity of another name
 abbrev pub unescaped : List ℕ → Option (List ℕ)
-unescaped text = read_behind None text
+unescaped text = read_after None text

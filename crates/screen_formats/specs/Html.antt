@@ -22,7 +22,8 @@ is_uneven run = run.width == 2 || not (list_all is_printable run.text)
 
 -- such cells take their columns whatever the font; `ch` is the width of a digit
 abbrev pub width_style : Bool → ℕ → List ℕ
-width_style is_set columns = if is_set then codes "display:inline-block;width:" ++ decimal columns ++ codes "ch;" else []
+width_style is_set columns =
+    if is_set then codes "display:inline-block;width:" ++ decimal columns ++ codes "ch;" else []
 
 abbrev pub ink_style : Attributes → List ℕ
 ink_style a = color_style (codes "color") (hex_color (ink a))
@@ -36,10 +37,13 @@ abbrev pub html_name : List ℕ → List ℕ
 html_name uri = if length uri == 0 then codes "span" else codes "a"
 
 abbrev pub html_element : List ℕ → List ℕ → List ℕ → List ℕ → List Piece
-html_element uri words style text = element (html_name uri) ((codes "href", uri) ∷ (codes "class", words) ∷ (codes "style", style) ∷ []) text
+html_element uri words style text =
+    element (html_name uri) ((codes "href", uri) ∷ (codes "class", words) ∷ (codes "style", style) ∷ []) text
 
 unfoldable pub html_run : Run → List Piece
-html_run run = html_element (link_uri run.attributes) (look_words run.attributes) (html_style run.attributes (is_uneven run) run.columns) run.text
+html_run run =
+    html_element (link_uri run.attributes) (look_words run.attributes)
+    (html_style run.attributes (is_uneven run) run.columns) run.text
 
 -- the runs of a row, and a line feed
 abbrev pub html_row : Row → List Piece
@@ -49,10 +53,14 @@ abbrev pub html_rows : List Row → List Piece
 html_rows rows = flat_map html_row rows
 
 unfoldable pub screen_style : List ℕ
-screen_style = color_style (codes "color") (hex_color default_foreground) ++ (color_style (codes "background-color") (hex_color default_background) ++ codes "line-height:1.25;")
+screen_style =
+    color_style (codes "color") (hex_color default_foreground)
+    ++ (color_style (codes "background-color") (hex_color default_background) ++ codes "line-height:1.25;")
 
 abbrev pub html_pieces : Screen → List Piece
-html_pieces screen = Opening (codes "pre") ((codes "class", codes "screen") ∷ (codes "style", screen_style) ∷ []) ∷ html_rows screen.rows ++ Closing (codes "pre") ∷ Words (10 ∷ []) ∷ []
+html_pieces screen =
+    Opening (codes "pre") ((codes "class", codes "screen") ∷ (codes "style", screen_style) ∷ []) ∷ html_rows screen.rows
+    ++ Closing (codes "pre") ∷ Words (10 ∷ []) ∷ []
 
 abbrev pub html_text : Screen → List ℕ
 html_text screen = pieces_text Html (html_pieces screen)

@@ -6,7 +6,9 @@ use Rattle.cell_base.specs.Screen.{Screen}
 use Rattle.cell_base.specs.declared.attributes.SemanticType.{SemanticType}
 use Rattle.cell_base.specs.declared.attributes.SemanticType.TheVariants.{Output, Input, Prompt}
 use Rattle.cell_base.specs.declared.color.ColorAttribute.{ColorAttribute}
-use Rattle.cell_base.specs.declared.color.ColorAttribute.TheVariants.{Default, PaletteIndex, TrueColorWithDefaultFallback, TrueColorWithPaletteFallback}
+use Rattle.cell_base.specs.declared.color.ColorAttribute.TheVariants.{Default, PaletteIndex}
+use Rattle.cell_base.specs.declared.color.ColorAttribute.TheVariants.{TrueColorWithDefaultFallback}
+use Rattle.cell_base.specs.declared.color.ColorAttribute.TheVariants.{TrueColorWithPaletteFallback}
 use Rattle.cell_edits.specs.VisibleCells.{visible_cells}
 use Rattle.serde_json.specs.Data.{Data, boolean, number, unsigned, string, array, object, member, no_members}
 use Rattle.serde_json.specs.View.{items_of}
@@ -76,7 +78,9 @@ screen_object cursor height rows title width =
     no_members)))))
 
 abbrev pub screen_data : Screen → Data
-screen_data screen = screen_object (cursor_data screen.column screen.row screen.visible) (length screen.rows) (rows_data screen.rows) screen.title screen.width
+screen_data screen =
+    screen_object (cursor_data screen.column screen.row screen.visible) (length screen.rows) (rows_data screen.rows)
+    screen.title screen.width
 
 abbrev pub json_text : Screen → List ℕ
 json_text screen = compact_text (screen_data screen)

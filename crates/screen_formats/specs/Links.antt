@@ -6,7 +6,9 @@ use Rattle.cell_base.specs.Link.{Link}
 
 -- a page, a file or an address to write to: no script
 abbrev pub has_scheme : List ℕ → Bool
-has_scheme uri = starts_with nat_eq uri (codes "http:") || starts_with nat_eq uri (codes "https:") || (starts_with nat_eq uri (codes "mailto:") || starts_with nat_eq uri (codes "file:"))
+has_scheme uri =
+    starts_with nat_eq uri (codes "http:") || starts_with nat_eq uri (codes "https:")
+    || (starts_with nat_eq uri (codes "mailto:") || starts_with nat_eq uri (codes "file:"))
 
 -- the URI, or none of one that isn't written
 abbrev pub written_uri : Option Link → List ℕ

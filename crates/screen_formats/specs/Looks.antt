@@ -4,7 +4,8 @@ use Rattle.cell_base.specs.Attributes.{Attributes}
 use Rattle.cell_base.specs.declared.attributes.Intensity.{Intensity}
 use Rattle.cell_base.specs.declared.attributes.Intensity.TheVariants.{Normal, Bold, Half}
 use Rattle.cell_base.specs.declared.attributes.Underline.{Underline}
-use Rattle.cell_base.specs.declared.attributes.Underline.TheVariants.{None as no_underline, Single, Double, Curly, Dotted, Dashed}
+use Rattle.cell_base.specs.declared.attributes.Underline.TheVariants.{None as no_underline, Single, Double, Curly}
+use Rattle.cell_base.specs.declared.attributes.Underline.TheVariants.{Dotted, Dashed}
 use Rattle.cell_base.specs.declared.attributes.Blink.{Blink}
 use Rattle.cell_base.specs.declared.attributes.Blink.TheVariants.{None as no_blink, Slow, Rapid}
 use Rattle.cell_base.specs.declared.attributes.VerticalAlign.{VerticalAlign}
@@ -19,7 +20,8 @@ Text = List ℕ
 abbrev pub text_if : Bool → Text → Text
 text_if holds text = if holds then text else []
 
--- a look: its word, with a space behind it; its parameter of SGR (ECMA-48 8.3.117), behind a `;`; and its declaration of CSS
+-- a look: its word, with a space behind it; its parameter of SGR (ECMA-48 8.3.117), behind a `;`; and its declaration
+-- of CSS
 pub record Look : Type 0 where
   pub word : Text
   pub code : Text
@@ -38,10 +40,14 @@ intensity_look Half = record { word = codes "dim "; code = codes ";2"; style = [
 abbrev pub underline_look : Underline → Look
 underline_look no_underline = plain_look
 underline_look Single = record { word = codes "underline "; code = codes ";4"; style = [] }
-underline_look Double = record { word = codes "double-underline "; code = codes ";21"; style = codes "text-decoration-style:double;" }
-underline_look Curly = record { word = codes "curly-underline "; code = codes ";4:3"; style = codes "text-decoration-style:wavy;" }
-underline_look Dotted = record { word = codes "dotted-underline "; code = codes ";4:4"; style = codes "text-decoration-style:dotted;" }
-underline_look Dashed = record { word = codes "dashed-underline "; code = codes ";4:5"; style = codes "text-decoration-style:dashed;" }
+underline_look Double =
+    record { word = codes "double-underline "; code = codes ";21"; style = codes "text-decoration-style:double;" }
+underline_look Curly =
+    record { word = codes "curly-underline "; code = codes ";4:3"; style = codes "text-decoration-style:wavy;" }
+underline_look Dotted =
+    record { word = codes "dotted-underline "; code = codes ";4:4"; style = codes "text-decoration-style:dotted;" }
+underline_look Dashed =
+    record { word = codes "dashed-underline "; code = codes ";4:5"; style = codes "text-decoration-style:dashed;" }
 
 -- whether a text blinks
 abbrev pub blink_look : Blink → Look
@@ -73,7 +79,9 @@ look_words a =
 
 -- the lines of a text: under it, above it and through it
 abbrev pub lines_style : Attributes → Text
-lines_style a = text_if (is_underlined a.underline) (codes "underline ") ++ text_if a.overline (codes "overline ") ++ text_if a.strikethrough (codes "line-through ")
+lines_style a =
+    text_if (is_underlined a.underline) (codes "underline ") ++ text_if a.overline (codes "overline ")
+    ++ text_if a.strikethrough (codes "line-through ")
 
 -- a declaration whose value is a colour
 abbrev pub color_style : Text → Text → Text
@@ -83,7 +91,9 @@ abbrev pub lines_declared : Text → Text
 lines_declared lines = if length lines == 0 then [] else codes "text-decoration:" ++ lines ++ 59 ∷ []
 
 abbrev pub underline_color_style : Attributes → Text
-underline_color_style a = if is_default a.underline_color then [] else color_style (codes "text-decoration-color") (hex_color (color_of (ink a) a.underline_color))
+underline_color_style a =
+    if is_default a.underline_color then []
+    else color_style (codes "text-decoration-color") (hex_color (color_of (ink a) a.underline_color))
 
 -- how a text looks, less its colours
 abbrev pub look_style : Attributes → Text

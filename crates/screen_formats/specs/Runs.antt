@@ -5,7 +5,8 @@ use Rattle.cell_base.specs.SameAttributes.{same_attributes}
 use Rattle.cell_edits.specs.VisibleCells.{VisibleCell, first_column, texts_joined}
 use Rattle.cell_views.specs.Groups.{groups_by}
 
--- the attributes and the width in columns of each cell, the first column, how many columns the cells take, and their texts, joined
+-- the attributes and the width in columns of each cell, the first column, how many columns the cells take, and their
+-- texts, joined
 pub record Run : Type 0 where
   pub attributes : Attributes
   pub width : ℕ
@@ -23,7 +24,14 @@ first_width (v ∷ cells) = v.cell.width
 
 -- what cells that look alike are as a run
 abbrev pub run_of : List VisibleCell → Run
-run_of cells = record { attributes = first_attributes cells; width = first_width cells; column = first_column cells; columns = sum_by (λ v. v.cell.width) cells; text = texts_joined cells }
+run_of cells =
+    record {
+      attributes = first_attributes cells;
+      width = first_width cells;
+      column = first_column cells;
+      columns = sum_by (λ v. v.cell.width) cells;
+      text = texts_joined cells;
+    }
 
 -- whether a cell looks as those of a run: it has the same attributes, and takes as many columns
 abbrev pub goes_on : Run → VisibleCell → Bool

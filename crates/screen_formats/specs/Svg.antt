@@ -1,5 +1,6 @@
 -- A screen as SVG: a column is 10 units wide, and a row 20 units high.
-use Rattle.std.specs.Prelude.{Bool, true, false, ℕ, ◌+◌, ◌-◌, ◌*◌, ◌==◌, min, List, [], ◌∷◌, ◌++◌, codes, decimal, length, if◌then◌else◌}
+use Rattle.std.specs.Prelude.{Bool, true, false, ℕ, ◌+◌, ◌-◌, ◌*◌, ◌==◌, min, List, [], ◌∷◌, ◌++◌, codes, decimal}
+use Rattle.std.specs.Prelude.{length, if◌then◌else◌}
 use Rattle.std.specs.List.{flat_map}
 use Rattle.cell_base.specs.Attributes.{Attributes}
 use Rattle.cell_base.specs.Row.{Row}
@@ -30,16 +31,22 @@ base_line row = decimal (20 * row + 15)
 
 unfoldable pub rectangle : Text → Text → Text → Text → Text → Text → List Piece
 rectangle x y width height fill opacity =
-    element (codes "rect") ((codes "x", x) ∷ (codes "y", y) ∷ (codes "width", width) ∷ (codes "height", height) ∷ (codes "fill", fill) ∷ (codes "fill-opacity", opacity) ∷ []) []
+    element (codes "rect")
+    ((codes "x", x) ∷ (codes "y", y) ∷ (codes "width", width) ∷ (codes "height", height) ∷ (codes "fill", fill)
+    ∷ (codes "fill-opacity", opacity) ∷ []) []
 
 -- a text that is as long as its columns, of which no space is dropped
 unfoldable pub placed_text : Text → Text → Text → Text → Text → Text → List Piece
 placed_text x y len words style text =
-    element (codes "text") ((codes "x", x) ∷ (codes "y", y) ∷ (codes "textLength", len) ∷ (codes "xml:space", codes "preserve") ∷ (codes "class", words) ∷ (codes "style", style) ∷ []) text
+    element (codes "text")
+    ((codes "x", x) ∷ (codes "y", y) ∷ (codes "textLength", len) ∷ (codes "xml:space", codes "preserve")
+    ∷ (codes "class", words) ∷ (codes "style", style) ∷ []) text
 
 -- in a link, where there is one
 abbrev pub linked : Text → List Piece → List Piece
-linked uri pieces = if length uri == 0 then pieces else Opening (codes "a") ((codes "href", uri) ∷ []) ∷ (pieces ++ Closing (codes "a") ∷ [])
+linked uri pieces =
+    if length uri == 0 then pieces
+    else Opening (codes "a") ((codes "href", uri) ∷ []) ∷ (pieces ++ Closing (codes "a") ∷ [])
 
 -- ---- runs
 
@@ -49,10 +56,14 @@ svg_style a = color_style (codes "fill") (hex_color (ink a)) ++ look_style a
 -- what is behind a run, if a colour is seen there
 unfoldable pub svg_paper : ℕ → Run → List Piece
 svg_paper row run =
-    if has_background run.attributes then rectangle (column_units run.column) (row_units row) (column_units run.columns) (codes "20") (hex_color (paper run.attributes)) [] else []
+    if has_background run.attributes
+    then rectangle (column_units run.column) (row_units row) (column_units run.columns) (codes "20")
+    (hex_color (paper run.attributes)) [] else []
 
 abbrev pub svg_letters : ℕ → Run → List Piece
-svg_letters row run = placed_text (column_units run.column) (base_line row) (column_units run.columns) (look_words run.attributes) (svg_style run.attributes) run.text
+svg_letters row run =
+    placed_text (column_units run.column) (base_line row) (column_units run.columns) (look_words run.attributes)
+    (svg_style run.attributes) run.text
 
 unfoldable pub svg_text_of : ℕ → Run → List Piece
 svg_text_of row run = linked (link_uri run.attributes) (svg_letters row run)
@@ -79,7 +90,9 @@ svg_rows row (columns ∷ rows) = svg_row row columns ++ svg_rows (row + 1) rows
 -- the cursor, if it is shown; in the last column where a wrap is pending
 unfoldable pub svg_cursor : Screen → List Piece
 svg_cursor screen =
-    if screen.visible then rectangle (column_units (min screen.column (screen.width - 1))) (row_units screen.row) (codes "10") (codes "20") (hex_color default_foreground) (codes "0.5") else []
+    if screen.visible
+    then rectangle (column_units (min screen.column (screen.width - 1))) (row_units screen.row) (codes "10")
+    (codes "20") (hex_color default_foreground) (codes "0.5") else []
 
 unfoldable pub sized_opening : Text → Text → Text → List Piece
 sized_opening width height view_box =
@@ -98,15 +111,15 @@ unfoldable pub svg_opening : Text → Text → List Piece
 svg_opening width height = sized_opening width height (codes "0 0 " ++ (width ++ 32 ∷ height))
 
 -- the picture's size, the title, and what is behind everything
-abbrev pub svg_front : Text → Text → Text → List Piece
-svg_front width height title =
+abbrev pub svg_head : Text → Text → Text → List Piece
+svg_head width height title =
     svg_opening width height
     ++ (element (codes "title") [] title
     ++ rectangle (codes "0") (codes "0") width height (hex_color default_background) [])
 
 abbrev pub svg_pieces : Screen → List Piece
 svg_pieces screen =
-    svg_front (column_units screen.width) (row_units (length screen.rows)) screen.title
+    svg_head (column_units screen.width) (row_units (length screen.rows)) screen.title
     ++ (svg_rows 0 screen.rows
     ++ (svg_cursor screen
     ++ (Closing (codes "svg") ∷ Words (10 ∷ []) ∷ [])))

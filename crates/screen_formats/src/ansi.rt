@@ -3,7 +3,8 @@ ghost use Rattle.std.specs.Prelude.{◌≡◌, ◌++◌, map, IfOk, OnOk};
 ghost use Rattle.std.specs.String.{string_bytes};
 ghost use Rattle.std.specs.List.{flat_map};
 ghost use Rattle.cell_surface.specs.Surface.{shown_by};
-ghost use Rattle.screen_formats.specs.Ansi.{ansi_row, ansi_run, ansi_text, color_code, color_codes, look_codes, sent_text, sent_uri, underline_color_code};
+ghost use Rattle.screen_formats.specs.Ansi.{ansi_row, ansi_run, ansi_text, color_code, color_codes, look_codes};
+ghost use Rattle.screen_formats.specs.Ansi.{sent_text, sent_uri, underline_color_code};
 
 use crate::links::link_uri;
 use crate::looks::{align_look, blink_look, intensity_look, text_if, underline_look};

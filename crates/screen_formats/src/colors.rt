@@ -1,7 +1,9 @@
 //! The colours of cells: those of xterm's palette of 256, direct ones, and what stands for the default ones.
 ghost use Rattle.std.specs.Prelude.{◌≡◌, ◌<◌, slice_index_or, IfOk};
 ghost use Rattle.std.specs.String.{string_bytes};
-ghost use Rattle.screen_formats.specs.Colors.{color_of, default_background, default_foreground, front_color, grey, has_background, hex_color, ink, level, midway, palette_color, paper, system_color};
+ghost use Rattle.screen_formats.specs.Colors.{color_of, default_background, default_foreground, foreground_color, grey};
+ghost use Rattle.screen_formats.specs.Colors.{has_background, hex_color, ink, level, midway, palette_color, paper};
+ghost use Rattle.screen_formats.specs.Colors.{system_color};
 
 use cell_base::{CellAttributes, ColorAttribute, Intensity};
 use std::alloc::{AllocError, Global};
@@ -90,8 +92,8 @@ fn midway(one: Rgb, other: Rgb) -> Rgb
 }
 
 // The colour of a text, were it neither hidden nor half as bright.
-fn front_color(attrs: &CellAttributes) -> Rgb
-    ensures { result ≡ front_color attrs.now }
+fn foreground_color(attrs: &CellAttributes) -> Rgb
+    ensures { result ≡ foreground_color attrs.now }
 {
     if attrs.reverse() {
         color_of(DEFAULT_BACKGROUND, attrs.background())
@@ -119,9 +121,9 @@ pub fn ink(attrs: &CellAttributes) -> Rgb
         return paper(attrs);
     }
     if attrs.intensity() == Intensity::Half {
-        return midway(front_color(attrs), paper(attrs));
+        return midway(foreground_color(attrs), paper(attrs));
     }
-    front_color(attrs)
+    foreground_color(attrs)
 }
 
 // Whether a colour was set behind a text, or both change places.

@@ -2,7 +2,8 @@
 ghost use Rattle.std.specs.Prelude.{◌≡◌, ◌++◌, map, IfOk, OnOk};
 ghost use Rattle.std.specs.String.{string_bytes};
 ghost use Rattle.cell_surface.specs.Surface.{shown_by};
-ghost use Rattle.screen_formats.specs.Html.{background_style, html_element, html_name, html_row, html_rows, html_run, html_style, html_text, ink_style, is_uneven, screen_style, width_style};
+ghost use Rattle.screen_formats.specs.Html.{background_style, html_element, html_name, html_row, html_rows, html_run};
+ghost use Rattle.screen_formats.specs.Html.{html_style, html_text, ink_style, is_uneven, screen_style, width_style};
 ghost use Rattle.screen_formats.specs.Pieces.{pieces_text};
 ghost use Rattle.screen_formats.specs.declared.escape.Markup.TheVariants.{Html};
 
@@ -152,8 +153,8 @@ fn screen_style(alloc: Global) -> Result<String, AllocError>
 /// Writes a screen as HTML: an element `pre` of class `screen`, in which each row has a line feed behind it. A run is a
 /// `span`, or an `a` where it has a link of the scheme http, https, mailto or file. Its class tells how it looks, in
 /// the
-/// words of `look_words`, and its style is complete but for texts that blink or are raised or lowered. Cells that a font
-/// may give other widths take their columns.
+/// words of `look_words`, and its style is complete but for texts that blink or are raised or lowered. Cells that a
+/// font may give other widths take their columns.
 ///
 /// Of a surface that has failed nothing is said but that its cells are written.
 pub fn write_html<W: Widths + Drop>(

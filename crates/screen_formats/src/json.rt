@@ -6,7 +6,8 @@ ghost use Rattle.cell_surface.specs.Surface.{shown_by};
 ghost use Rattle.serde_json.specs.Data.{number, put as with_member, string, unsigned};
 ghost use Rattle.serde_json.specs.Read.{read};
 ghost use Rattle.serde_json.specs.View.{members_view, view};
-ghost use Rattle.screen_formats.specs.Json.{attributes_data, color_text, colors_data, cursor_data, json_text, row_data, rows_data, run_data, screen_data, semantic_word};
+ghost use Rattle.screen_formats.specs.Json.{attributes_data, color_text, colors_data, cursor_data, json_text, row_data};
+ghost use Rattle.screen_formats.specs.Json.{rows_data, run_data, screen_data, semantic_word};
 
 use crate::colors::hex_color;
 use crate::links::link_uri;

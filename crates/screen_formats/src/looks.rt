@@ -2,7 +2,9 @@
 ghost use Rattle.std.specs.Prelude.{◌≡◌, ◌++◌, IfOk};
 ghost use Rattle.std.specs.String.{string_bytes};
 ghost use Rattle.screen_formats.specs.Colors.{hex_color};
-ghost use Rattle.screen_formats.specs.Looks.{align_look, blink_look, color_style, intensity_look, lines_declared, lines_style, look_style, look_words, text_if, underline_color_style, underline_look};
+ghost use Rattle.screen_formats.specs.Looks.{align_look, blink_look, color_style, intensity_look, lines_declared};
+ghost use Rattle.screen_formats.specs.Looks.{lines_style, look_style, look_words, text_if, underline_color_style};
+ghost use Rattle.screen_formats.specs.Looks.{underline_look};
 
 use crate::colors::{Rgb, color_of, ink};
 use cell_base::{Blink, CellAttributes, ColorAttribute, Intensity, Underline, VerticalAlign};
@@ -15,8 +17,8 @@ pub(crate) fn text_if(holds: bool, text: &str) -> &str
     if holds { text } else { "" }
 }
 
-/// A look: its word, with a space behind it; its parameter of SGR, behind a `;`; and its declaration of CSS. Each is empty
-/// where there is none.
+/// A look: its word, with a space behind it; its parameter of SGR, behind a `;`; and its declaration of CSS. Each is
+/// empty where there is none.
 #[derive(Clone, Copy)]
 pub(crate) struct Look {
     pub(crate) word: &'static str,

@@ -68,7 +68,7 @@ impl<'a> Run<'a> {
 }
 
 // The cell joins a run, or begins one behind it.
-fn push_behind<'a>(
+fn push_after<'a>(
     alloc: Global,
     runs: &mut Vec<Run<'a>>,
     mut last: Run<'a>,
@@ -96,7 +96,7 @@ fn push_cell<'a>(
     ensures { OnOk result (runs.new.items ≡ with_cell runs.old.items (shown_by cell.now)) }
 {
     match runs.pop() {
-        Some(last) => push_behind(alloc, runs, last, cell)?,
+        Some(last) => push_after(alloc, runs, last, cell)?,
         None => runs.push(Run::of_cell(alloc, cell)?)?,
     }
     Ok(())

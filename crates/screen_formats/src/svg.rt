@@ -4,7 +4,9 @@ ghost use Rattle.std.specs.String.{string_bytes};
 ghost use Rattle.std.specs.List.{flat_map};
 ghost use Rattle.cell_surface.specs.Surface.{shown_by};
 ghost use Rattle.screen_formats.specs.Pieces.{Closing, Words, pieces_text};
-ghost use Rattle.screen_formats.specs.Svg.{base_line, column_units, placed_text, rectangle, row_units, sized_opening, svg_cursor, svg_front, svg_letters, svg_opening, svg_paper, svg_part, svg_row, svg_rows, svg_runs, svg_style, svg_text, svg_text_of};
+ghost use Rattle.screen_formats.specs.Svg.{base_line, column_units, placed_text, rectangle, row_units, sized_opening};
+ghost use Rattle.screen_formats.specs.Svg.{svg_cursor, svg_head, svg_letters, svg_opening, svg_paper, svg_part};
+ghost use Rattle.screen_formats.specs.Svg.{svg_row, svg_rows, svg_runs, svg_style, svg_text, svg_text_of};
 ghost use Rattle.screen_formats.specs.declared.escape.Markup.TheVariants.{Xml};
 
 use crate::colors::{
@@ -298,7 +300,7 @@ fn push_svg_opening<'a>(
 }
 
 // Writes what comes before the rows: the picture's tag, the title, and what is behind everything.
-fn push_front<'a>(
+fn push_head<'a>(
     alloc: Global,
     out: &mut String,
     width: &'a str,
@@ -306,7 +308,7 @@ fn push_front<'a>(
     title: &str,
 ) -> Result<(), AllocError>
     ensures { OnOk result
-        (string_bytes out.new ≡ string_bytes out.old ++ pieces_text Xml (svg_front width.now height.now title.now)) }
+        (string_bytes out.new ≡ string_bytes out.old ++ pieces_text Xml (svg_head width.now height.now title.now)) }
 {
     let fill = hex_color(alloc, DEFAULT_BACKGROUND)?;
     push_svg_opening(alloc, out, width, height)?;
@@ -344,7 +346,7 @@ pub fn write_svg<W: Widths + Drop>(
     let (width, height) = surface.dimensions();
     let width = column_units(alloc, width)?;
     let height = row_units(alloc, height)?;
-    push_front(alloc, out, &width, &height, surface.title())?;
+    push_head(alloc, out, &width, &height, surface.title())?;
     push_rows(alloc, out, surface.screen_lines())?;
     push_cursor(alloc, out, surface)?;
     push_end(out)?;

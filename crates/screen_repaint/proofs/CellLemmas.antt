@@ -8,15 +8,15 @@ use Rattle.cell_base.specs.declared.color.ColorAttribute.{ColorAttribute}
 use Rattle.cell_base.specs.Attributes.{Attributes, blank_of}
 use Rattle.cell_base.specs.CellContent.{CellContent}
 use Rattle.cell_base.specs.Row.{Row, Narrow, LeftHalf, RightHalf, space, blank, columns_of, closed_end, closed_start, set_columns}
-use Rattle.cell_change.specs.CellRuns.{is_blank_of}
-use Rattle.cell_change.specs.UpToLast.{up_to_last}
-use Rattle.cell_change.proofs.TextLemmas.{by_test}
+use Rattle.screen_change.specs.CellRuns.{is_blank_of}
+use Rattle.cell_base.specs.UpToLast.{up_to_last}
+use Rattle.screen_change.proofs.TextLemmas.{by_test}
 use Rattle.cell_edits.specs.VisibleCells.{visible_from, contents}
-use Rattle.cell_rows.specs.WholeRow.{IsWhole}
-use Rattle.cell_rows.proofs.RowLemmas.{whole-append, whole_ends}
-use Rattle.screen_effects.specs.Effect.{blank_row, cleared_behind}
+use Rattle.cell_base.specs.WholeRow.{IsWhole}
+use Rattle.cell_base.proofs.RowLemmas.{whole-append, whole_ends}
+use Rattle.screen_effects.specs.Effect.{blank_row, cleared_after}
 use Rattle.screen_effects.proofs.StrokeLaws.{whole_columns}
-use Rattle.screen_replay.specs.WrittenCells.{AreSound, IsSoundRow, IsSoundText, columns_beside}
+use Rattle.screen_effects.specs.WrittenCells.{AreSound, IsSoundRow, IsSoundText, joined_columns}
 use Rattle.screen_repaint.specs.Repaint.{row_cells, is_blank_row}
 use Rattle.screen_repaint.proofs.EndLemmas.{blank_parts}
 
@@ -55,7 +55,7 @@ mapped_copies {A} (y ∷ xs) x = ap (λ (l : List A). x ∷ l) (mapped_copies xs
 
 -- ---- the cells of a row
 
-pub row_again : (at : ℕ) (row : Row) → IsWhole row → columns_beside (contents (visible_from at row)) ≡ row
+pub row_again : (at : ℕ) (row : Row) → IsWhole row → joined_columns (contents (visible_from at row)) ≡ row
 row_again at [] p = refl
 row_again at (Narrow text attributes ∷ row) p = ap (λ (r : Row). Narrow text attributes ∷ r) (row_again (at + 1) row p)
 row_again at (RightHalf attributes ∷ row) p = absurd p
@@ -65,9 +65,9 @@ row_again at (LeftHalf text attributes ∷ LeftHalf other others ∷ row) p = ab
 row_again at (LeftHalf text attributes ∷ RightHalf others ∷ row) p =
     ap (λ (r : Row). LeftHalf text attributes ∷ RightHalf attributes ∷ r) (row_again (at + 1 + 1) row p.1) ∙ ap (λ (a : Attributes). LeftHalf text attributes ∷ RightHalf a ∷ row) (sym p.0)
 
-pub whole_cells : (cells : List CellContent) → IsWhole (columns_beside cells)
+pub whole_cells : (cells : List CellContent) → IsWhole (joined_columns cells)
 whole_cells [] = tt
-whole_cells (cell ∷ cells) = whole-append (columns_of cell.text (nat_le 2 cell.width) cell.attributes) (columns_beside cells) (whole_columns cell.text (nat_le 2 cell.width) cell.attributes) (whole_cells cells)
+whole_cells (cell ∷ cells) = whole-append (columns_of cell.text (nat_le 2 cell.width) cell.attributes) (joined_columns cells) (whole_columns cell.text (nat_le 2 cell.width) cell.attributes) (whole_cells cells)
 
 module _ (width_of : List ℕ → ℕ) (narrow : width_of space ≡ 1) where
   pub sound_cells : (at : ℕ) (row : Row) → IsSoundRow width_of row → AreSound width_of (contents (visible_from at row))
@@ -85,7 +85,7 @@ module _ (width_of : List ℕ → ℕ) (narrow : width_of space ≡ 1) where
       let thin : nat_le 2 cell.width ≡ false = sym p.width ∙ ap (λ t. nat_le 2 (width_of t)) text ∙ ap (λ n. nat_le 2 n) narrow in
       λ i. columns_of (text i) (thin i) (parts.1 i)
 
-  pub all_blanks : (color : ColorAttribute) (cells : List CellContent) → AreSound width_of cells → list_all (is_blank_of color) cells ≡ true → columns_beside cells ≡ replicate (length cells) (blank (blank_of color))
+  pub all_blanks : (color : ColorAttribute) (cells : List CellContent) → AreSound width_of cells → list_all (is_blank_of color) cells ≡ true → joined_columns cells ≡ replicate (length cells) (blank (blank_of color))
   all_blanks color [] p e = refl
   all_blanks color (cell ∷ cells) p e =
       let parts = and_parts (is_blank_of color cell) (list_all (is_blank_of color) cells) e in
@@ -94,7 +94,7 @@ module _ (width_of : List ℕ → ℕ) (narrow : width_of space ≡ 1) where
   -- as many blanks of a colour stand behind these cells, which are sound
   pub record Fronts (color : ColorAttribute) (cells kept : List CellContent) : Type 0 where
     pub blanks : ℕ
-    pub same : columns_beside cells ≡ columns_beside kept ++ replicate blanks (blank (blank_of color))
+    pub same : joined_columns cells ≡ joined_columns kept ++ replicate blanks (blank (blank_of color))
     pub sound : AreSound width_of kept
 
   not_any : (color : ColorAttribute) (cells : List CellContent) → list_any (λ cell. not (is_blank_of color cell)) cells ≡ false → list_all (is_blank_of color) cells ≡ true
@@ -121,7 +121,7 @@ module _ (width_of : List ℕ → ℕ) (narrow : width_of space ≡ 1) where
       longer c cs kept q f =
           let own : Row = columns_of c.text (nat_le 2 c.width) c.attributes in record {
             blanks = f.blanks;
-            same = ap (λ (r : Row). own ++ r) f.same ∙ sym (append_assoc own (columns_beside kept) (replicate f.blanks (blank (blank_of color))));
+            same = ap (λ (r : Row). own ++ r) f.same ∙ sym (append_assoc own (joined_columns kept) (replicate f.blanks (blank (blank_of color))));
             sound = (q, f.sound);
           }
 
@@ -156,7 +156,7 @@ set_at_start columns m width a e =
     ∙ ap (λ (r : Row). columns ++ closed_start r) (dropped_copies (length columns) m width (blank a) e)
     ∙ ap (λ (r : Row). columns ++ r) (starts_closed m a)
 
-pub cleared_is : (columns : Row) (m : ℕ) (a : Attributes) (color : ColorAttribute) → IsWhole columns → cleared_behind (length columns) color (columns ++ replicate m (blank a)) ≡ columns ++ blank_row m color
+pub cleared_is : (columns : Row) (m : ℕ) (a : Attributes) (color : ColorAttribute) → IsWhole columns → cleared_after (length columns) color (columns ++ replicate m (blank a)) ≡ columns ++ blank_row m color
 cleared_is columns m a color w =
     let row : Row = columns ++ replicate m (blank a) in
     let count : length row ≡ length columns + m = length-append columns (replicate m (blank a)) ∙ ap (λ n. length columns + n) (length-of m (blank a)) in

@@ -6,7 +6,7 @@ use Rattle.std.specs.Str.{bytes_eq}
 use Rattle.std.proofs.lemmas.Bool.{false≢true, and_parts}
 use Rattle.std.proofs.lemmas.List.Folds.{list_any-append}
 use Rattle.std.proofs.lemmas.List.Sums.{fold-append}
-use Rattle.cell_change.proofs.TextLemmas.{by_test}
+use Rattle.screen_change.proofs.TextLemmas.{by_test}
 use Rattle.std.proofs.Math.Bool.{or-false}
 use Rattle.std.specs.Option.{option_map}
 use Rattle.cell_base.specs.declared.color.ColorAttribute.{ColorAttribute}
@@ -14,13 +14,13 @@ use Rattle.cell_base.specs.Attributes.{Attributes, blank_of}
 use Rattle.cell_base.specs.CellContent.{CellContent}
 use Rattle.cell_base.specs.Row.{Row, Narrow, LeftHalf, RightHalf, space}
 use Rattle.cell_base.specs.SameAttributes.{same_attributes, same_attributes_decides}
-use Rattle.cell_change.specs.CellRuns.{is_blank_of, background_at_end, less_blanks}
-use Rattle.cell_change.specs.UpToLast.{up_to_last}
+use Rattle.screen_change.specs.CellRuns.{is_blank_of, background_at_end, less_blanks}
+use Rattle.cell_base.specs.UpToLast.{up_to_last}
 use Rattle.cell_edits.specs.VisibleCells.{visible_from, contents}
 use Rattle.std.proofs.lemmas.Bool.Decides.{nat_tests}
 use Rattle.std.proofs.lemmas.List.{length-map}
 use Rattle.cell_line.specs.LineContent.{LineContent}
-use Rattle.cell_rows.specs.WholeRow.{IsWhole}
+use Rattle.cell_base.specs.WholeRow.{IsWhole}
 use Rattle.screen_repaint.specs.PaintedRows.{AreFilled, IsTail, rows_of}
 use Rattle.screen_repaint.specs.Repaint.{row_cells, is_blank_row}
 use Rattle.screen_repaint.specs.Ends.{End, no_cells, ends_in, with_cell, end_of, are_blanks_with, passing_at_end}
@@ -96,7 +96,7 @@ own_blank cell e = (blank_parts cell.attributes.background cell e).1
 
 -- ---- one cell more
 
-abbrev stepped : End → CellContent → Bool → Bool → End
+abbrev pub stepped : End → CellContent → Bool → Bool → End
 stepped end cell blank goes =
     if blank then (if goes then record end { cells = end.cells + 1 } else record { cells = end.cells + 1; kept = end.cells; blanks = Some cell.attributes })
     else record { cells = end.cells + 1; kept = end.cells + 1; blanks = None }
@@ -266,8 +266,8 @@ last_still : (row : Row) (rows : List Row) (blanks : Option Attributes) → 0 < 
 last_still row [] blanks m e = absurd (omega (arith, m))
 last_still row (next ∷ rows) blanks m e = e
 
-last_behind : (row : Row) (rows : List Row) (attributes : Attributes) → 0 < length rows → last_blanks None (row ∷ rows) ≡ Some attributes → last_blanks None rows ≡ Some attributes
-last_behind row rows attributes m e = last_still row rows (Some attributes) m e
+last_after : (row : Row) (rows : List Row) (attributes : Attributes) → 0 < length rows → last_blanks None (row ∷ rows) ≡ Some attributes → last_blanks None rows ≡ Some attributes
+last_after row rows attributes m e = last_still row rows (Some attributes) m e
 
 -- ---- as many at the end as pass
 
@@ -330,9 +330,9 @@ tail_rows attributes n (row ∷ rows) long last f = (
   λ color. by_count attributes color n row rows long (last (omega arith)) f,
   by_test (are_blanks_with attributes (row_cells row))
       (λ e. subst (λ b. IsTail (passing_at_end (λ r. are_blanks_with attributes (row_cells r)) (if b then n else length rows) rows) (Some attributes) rows) (sym e)
-      (tail_rows attributes n rows (omega (arith, long)) (λ m. last_behind row rows attributes m (last (omega arith))) f.1))
+      (tail_rows attributes n rows (omega (arith, long)) (λ m. last_after row rows attributes m (last (omega arith))) f.1))
       (λ e. subst (λ b. IsTail (passing_at_end (λ r. are_blanks_with attributes (row_cells r)) (if b then n else length rows) rows) (Some attributes) rows) (sym e)
-      (tail_rows attributes (length rows) rows (omega arith) (λ m. last_behind row rows attributes m (last (omega arith))) f.1)),
+      (tail_rows attributes (length rows) rows (omega arith) (λ m. last_after row rows attributes m (last (omega arith))) f.1)),
 )
 
 pub no_tail : (count : ℕ) (rows : List Row) → (0 < length rows → last_blanks None rows ≡ None) → AreFilled rows → IsTail count None rows

@@ -6,23 +6,23 @@ use Rattle.cell_base.specs.declared.color.ColorAttribute.{ColorAttribute}
 use Rattle.cell_base.specs.declared.color.ColorAttribute.TheVariants.{TrueColorWithPaletteFallback, TrueColorWithDefaultFallback, PaletteIndex, Default}
 use Rattle.cell_base.specs.Attributes.{Attributes, blank_of}
 use Rattle.cell_base.specs.CellContent.{CellContent}
-use Rattle.cell_change.specs.ChangeValue.{ChangeValue, Text, AllAttributes, ClearToEndOfLine, ClearToEndOfScreen}
-use Rattle.cell_change.specs.CellChanges.{attributes_due, runs_written, cells_written, pen_behind, clear_due}
-use Rattle.cell_change.specs.Texts.{texts, stay_apart}
-use Rattle.cell_change.specs.Written.{Written, finished, with_change, with_cell, with_cells}
-use Rattle.cell_change.proofs.TextLemmas.{by_test, no_texts, one_text, each_text}
-use Rattle.cell_change.proofs.RunLemmas.{cells_are_written, pen_is_behind}
-use Rattle.cell_change.specs.CellRuns.{CellRun, before_runs, cell_runs, background_at_end, less_blanks}
+use Rattle.screen_change.specs.ChangeValue.{ChangeValue, Text, AllAttributes, ClearToEndOfLine, ClearToEndOfScreen}
+use Rattle.screen_change.specs.CellChanges.{attributes_due, runs_written, cells_written, last_pen, clear_due}
+use Rattle.screen_change.specs.Texts.{texts, stay_apart}
+use Rattle.screen_change.specs.Written.{Written, finished, with_change, with_cell, with_cells}
+use Rattle.screen_change.proofs.TextLemmas.{by_test, no_texts, one_text, each_text}
+use Rattle.screen_change.proofs.RunLemmas.{cells_are_written, pen_is_after}
+use Rattle.screen_change.specs.CellRuns.{CellRun, before_runs, cell_runs, background_at_end, less_blanks}
 use Rattle.cell_base.specs.SameAttributes.{same_attributes, same_attributes_decides}
 use Rattle.cell_base.specs.Row.{Row}
 use Rattle.cell_base.specs.declared.cell_attributes.CellAttributes.{CellAttributes}
 use Rattle.std.specs.Option.{option_map}
 use Rattle.std.proofs.lemmas.List.{length-take-le}
-use Rattle.screen_replay.proofs.WrittenLemmas.{joined, stands, runs_pen, pen_is}
+use Rattle.screen_effects.proofs.WrittenLemmas.{joined, stands, runs_pen, pen_is}
 use Rattle.screen_repaint.proofs.EndLemmas.{ends, kept_cells}
 use Rattle.screen_repaint.specs.Ends.{end_of, ends_in}
 use Rattle.std.proofs.lemmas.Bool.{false≢true, or_parts}
-use Rattle.screen_repaint.specs.PaintedRows.{IsTail, LeadsOn, behind_moves, ended, with_changes, moves, rows_of, rest_of}
+use Rattle.screen_repaint.specs.PaintedRows.{IsTail, LeadsOn, after_moves, ended, with_changes, moves, rows_of, rest_of}
 use Rattle.cell_line.specs.LineContent.{LineContent}
 use Rattle.std.proofs.lemmas.Bool.Decides.{nat_tests}
 use Rattle.cell_line.proofs.ChangeLemmas.{clear_of}
@@ -52,9 +52,9 @@ one_clear change pen w e = λ i. record { changes = finished w ++ change ∷ [];
 
 -- ---- moves
 
-pub pen_behind_moves : (n : ℕ) (pen : Attributes) → pen_left pen (moves n) ≡ pen
-pen_behind_moves zero pen = refl
-pen_behind_moves (suc n) pen = pen_behind_moves n pen
+pub pen_after_moves : (n : ℕ) (pen : Attributes) → pen_left pen (moves n) ≡ pen
+pen_after_moves zero pen = refl
+pen_after_moves (suc n) pen = pen_after_moves n pen
 
 replicate_more : {A : Type 0} (n : ℕ) (x : A) → replicate n x ++ x ∷ [] ≡ replicate (suc n) x
 replicate_more zero x = refl
@@ -117,19 +117,19 @@ runs_left (run ∷ runs) pen =
     ∙ due_pen pen run.attributes)
     ∙ runs_left runs run.attributes
 
-pub cells_leave : (cells : List CellContent) (pen : Attributes) → pen_left pen (cells_written pen cells) ≡ pen_behind pen cells
+pub cells_leave : (cells : List CellContent) (pen : Attributes) → pen_left pen (cells_written pen cells) ≡ last_pen pen cells
 cells_leave cells pen = runs_left (cell_runs cells) pen ∙ pen_is cells pen
 
 -- ---- a row
 
-cells_behind : (w : Written) (cells : List CellContent) → w.cells ≡ [] → ended (with_cells w cells) ≡ with_changes (cells_written w.pen cells) w
-cells_behind w cells e = λ i. record { changes = cells_are_written w cells e i; pen = (pen_is_behind w cells ∙ sym (cells_leave cells w.pen)) i; cells = [] }
+cells_after : (w : Written) (cells : List CellContent) → w.cells ≡ [] → ended (with_cells w cells) ≡ with_changes (cells_written w.pen cells) w
+cells_after w cells e = λ i. record { changes = cells_are_written w cells e i; pen = (pen_is_after w cells ∙ sym (cells_leave cells w.pen)) i; cells = [] }
 
 pub row_written : (w v : Written) (cells : List CellContent) (below_too : Bool) (background : Option ColorAttribute) → w.cells ≡ [] → background ≡ background_at_end cells
     → v ≡ with_changes (end_cleared background below_too) (ended (with_cells w (take (end_of cells).kept cells))) → v ≡ with_changes (row_painted w.pen cells below_too) w
 row_written w v cells below_too background e b is =
     is
-    ∙ ap (with_changes (end_cleared background below_too)) (cells_behind w (take (end_of cells).kept cells) e)
+    ∙ ap (with_changes (end_cleared background below_too)) (cells_after w (take (end_of cells).kept cells) e)
     ∙ more (cells_written w.pen (take (end_of cells).kept cells)) (end_cleared background below_too) w
     ∙ (λ i. with_changes (cells_written w.pen (kept_cells cells i) ++ end_cleared (b i) below_too) w)
 
@@ -235,17 +235,17 @@ next_some : (cs : List ChangeValue) → are_some (in_next_row cs) ≡ are_some c
 next_some [] = refl
 next_some (c ∷ cs) = refl
 
-one_more : (n : ℕ) (cs : List ChangeValue) → behind_moves n (in_next_row cs) ≡ behind_moves (suc n) cs
+one_more : (n : ℕ) (cs : List ChangeValue) → after_moves n (in_next_row cs) ≡ after_moves (suc n) cs
 one_more n [] = refl
 one_more n (c ∷ cs) = sym (append_assoc (moves n) (moves 1) (c ∷ cs)) ∙ ap (λ (ms : List ChangeValue). ms ++ c ∷ cs) (replicate_more n _)
 
-behind_one : (cs : List ChangeValue) → in_next_row cs ≡ behind_moves 1 cs
-behind_one [] = refl
-behind_one (c ∷ cs) = refl
+after_one : (cs : List ChangeValue) → in_next_row cs ≡ after_moves 1 cs
+after_one [] = refl
+after_one (c ∷ cs) = refl
 
-behind_some : (n : ℕ) (a b : List ChangeValue) → are_some a ≡ true → behind_moves n (a ++ b) ≡ (moves n ++ a) ++ b
-behind_some n [] b e = absurd (false≢true e)
-behind_some n (x ∷ a) b e = sym (append_assoc (moves n) (x ∷ a) b)
+after_some : (n : ℕ) (a b : List ChangeValue) → are_some a ≡ true → after_moves n (a ++ b) ≡ (moves n ++ a) ++ b
+after_some n [] b e = absurd (false≢true e)
+after_some n (x ∷ a) b e = sym (append_assoc (moves n) (x ∷ a) b)
 
 -- blanks that rows below go with are painted
 never_both : (pen : Attributes) (cells : List CellContent) (below : List Row) → are_some (row_painted pen cells (go_with_blanks (background_at_end cells) below)) ≡ false → go_with_blanks (background_at_end cells) below ≡ false
@@ -282,41 +282,41 @@ module _ (whole w : Written) (some painted : Bool) (count : ℕ) (row : Row) (be
       let count_is : next ≡ suc count = omega (arith, n) in record {
         is_ended = leads.is_ended;
         same =
-            ap (λ n. with_changes (behind_moves n (others w.pen)) w) count_is
+            ap (λ n. with_changes (after_moves n (others w.pen)) w) count_is
             ∙ ap (λ (cs : List ChangeValue). with_changes cs w) (sym (one_more count (others w.pen)))
-            ∙ ap (λ (cs : List ChangeValue). with_changes (behind_moves count cs) w) (sym all)
+            ∙ ap (λ (cs : List ChangeValue). with_changes (after_moves count cs) w) (sym all)
             ∙ leads.same;
         any = ap (λ b. painted || b) (sym (next_some (others w.pen)) ∙ ap are_some (sym all)) ∙ leads.any;
       }
 
   module _ (moved next : Written) (left : List Row) (m : ℕ) (p : moved ≡ with_changes (moves count) w) (q : next ≡ with_changes (row_painted moved.pen (row_cells row) too) moved) where
     pen_moved : moved.pen ≡ w.pen
-    pen_moved = ap (λ (v : Written). v.pen) p ∙ pen_behind_moves count w.pen
+    pen_moved = ap (λ (v : Written). v.pen) p ∙ pen_after_moves count w.pen
 
     next_is : next ≡ with_changes (moves count ++ own) w
     next_is =
         q ∙ ap (λ (pen : Attributes). with_changes (row_painted pen (row_cells row) too) moved) pen_moved ∙ ap (with_changes own) p ∙ more (moves count) own w
 
     next_pen : next.pen ≡ pen_left w.pen own
-    next_pen = ap (λ (v : Written). v.pen) next_is ∙ fold-append pen_after w.pen (moves count) own ∙ ap (λ (pen : Attributes). pen_left pen own) (pen_behind_moves count w.pen)
+    next_pen = ap (λ (v : Written). v.pen) next_is ∙ fold-append pen_after w.pen (moves count) own ∙ ap (λ (pen : Attributes). pen_left pen own) (pen_after_moves count w.pen)
 
     -- where the rest goes with the row's blanks, or is still to be painted
-    all_is : are_some own ≡ true → (too ≡ true → left ≡ []) → (too ≡ false → (left ≡ below) × (m ≡ 1)) → with_changes (behind_moves m (rows_painted next.pen left)) next ≡ whole
+    all_is : are_some own ≡ true → (too ≡ true → left ≡ []) → (too ≡ false → (left ≡ below) × (m ≡ 1)) → with_changes (after_moves m (rows_painted next.pen left)) next ≡ whole
     all_is e ends goes =
         by_test too
         (λ t.
-        ap (λ (rows : List Row). with_changes (behind_moves m (rows_painted next.pen rows)) next) (ends t)
+        ap (λ (rows : List Row). with_changes (after_moves m (rows_painted next.pen rows)) next) (ends t)
         ∙ nothing_more next (ap (λ (v : Written). v.cells) q)
         ∙ next_is
-        ∙ ap (λ (cs : List ChangeValue). with_changes cs w) (sym (append-nil (moves count ++ own)) ∙ sym (behind_some count own [] e) ∙ ap (behind_moves count) (append-nil own))
-        ∙ ap (λ b. with_changes (behind_moves count (if b then own else own ++ in_next_row (others (pen_left w.pen own)))) w) (sym t)
+        ∙ ap (λ (cs : List ChangeValue). with_changes cs w) (sym (append-nil (moves count ++ own)) ∙ sym (after_some count own [] e) ∙ ap (after_moves count) (append-nil own))
+        ∙ ap (λ b. with_changes (after_moves count (if b then own else own ++ in_next_row (others (pen_left w.pen own)))) w) (sym t)
         ∙ leads.same)
         (λ t.
-        (λ i. with_changes (behind_moves ((goes t).1 i) (rows_painted (next_pen i) ((goes t).0 i))) (next_is i))
-        ∙ ap (λ (cs : List ChangeValue). with_changes cs (with_changes (moves count ++ own) w)) (sym (behind_one (others (pen_left w.pen own))))
+        (λ i. with_changes (after_moves ((goes t).1 i) (rows_painted (next_pen i) ((goes t).0 i))) (next_is i))
+        ∙ ap (λ (cs : List ChangeValue). with_changes cs (with_changes (moves count ++ own) w)) (sym (after_one (others (pen_left w.pen own))))
         ∙ more (moves count ++ own) (in_next_row (others (pen_left w.pen own))) w
-        ∙ ap (λ (cs : List ChangeValue). with_changes cs w) (sym (behind_some count own (in_next_row (others (pen_left w.pen own))) e))
-        ∙ ap (λ b. with_changes (behind_moves count (if b then own else own ++ in_next_row (others (pen_left w.pen own)))) w) (sym t)
+        ∙ ap (λ (cs : List ChangeValue). with_changes cs w) (sym (after_some count own (in_next_row (others (pen_left w.pen own))) e))
+        ∙ ap (λ b. with_changes (after_moves count (if b then own else own ++ in_next_row (others (pen_left w.pen own)))) w) (sym t)
         ∙ leads.same)
 
     some_is : are_some own ≡ true → true ≡ some

@@ -6,12 +6,12 @@ use Rattle.cell_base.specs.declared.color.ColorAttribute.TheVariants.{Default}
 use Rattle.cell_base.specs.Attributes.{Attributes, plain}
 use Rattle.cell_base.specs.Row.{Row}
 use Rattle.cell_base.specs.SameAttributes.{same_attributes}
-use Rattle.cell_change.specs.CellChanges.{attributes_due}
-use Rattle.cell_change.specs.ChangeValue.{ChangeValue, AllAttributes, ClearScreen, CursorPosition, CursorVisibility}
+use Rattle.screen_change.specs.CellChanges.{attributes_due}
+use Rattle.screen_change.specs.ChangeValue.{ChangeValue, AllAttributes, ClearScreen, CursorPosition, CursorVisibility}
 use Rattle.cell_base.specs.declared.attributes.Position.TheVariants.{Absolute}
-use Rattle.cell_change.specs.Written.{Written, begun, finished, with_attributes}
-use Rattle.cell_change.proofs.TextLemmas.{by_test}
-use Rattle.cell_rows.specs.WholeRow.{IsWhole}
+use Rattle.screen_change.specs.Written.{Written, begun, finished, with_attributes}
+use Rattle.screen_change.proofs.TextLemmas.{by_test}
+use Rattle.cell_base.specs.WholeRow.{IsWhole}
 use Rattle.screen_effects.specs.Display.{Display}
 use Rattle.screen_repaint.specs.PaintedRows.{AreFilled, with_changes}
 use Rattle.screen_repaint.specs.Repaint.{pen_left, are_some, rows_painted, cursor_placed, cursor_shown, title_due, repaint}

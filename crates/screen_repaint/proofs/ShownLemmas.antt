@@ -10,17 +10,17 @@ use Rattle.cell_base.specs.declared.color.ColorAttribute.TheVariants.{TrueColorW
 use Rattle.cell_base.specs.Attributes.{Attributes, plain, blank_of}
 use Rattle.cell_base.specs.CellContent.{CellContent}
 use Rattle.cell_base.specs.Row.{Row, space, blank, plain_row, set_columns}
-use Rattle.cell_change.specs.CellChanges.{cells_written, clear_due, pen_behind}
-use Rattle.cell_change.specs.CellRuns.{background_at_end, less_blanks}
-use Rattle.cell_change.specs.ChangeValue.{ChangeValue, ClearToEndOfLine, ClearToEndOfScreen, CursorPosition}
-use Rattle.cell_change.proofs.TextLemmas.{by_test}
-use Rattle.cell_rows.specs.WholeRow.{IsWhole}
+use Rattle.screen_change.specs.CellChanges.{cells_written, clear_due, last_pen}
+use Rattle.screen_change.specs.CellRuns.{background_at_end, less_blanks}
+use Rattle.screen_change.specs.ChangeValue.{ChangeValue, ClearToEndOfLine, ClearToEndOfScreen, CursorPosition}
+use Rattle.screen_change.proofs.TextLemmas.{by_test}
+use Rattle.cell_base.specs.WholeRow.{IsWhole}
 use Rattle.screen_effects.specs.Display.{Display, IsDisplay}
-use Rattle.screen_effects.specs.Effect.{blank_row, cleared_behind, effect, replay}
+use Rattle.screen_effects.specs.Effect.{blank_row, cleared_after, effect, replay}
 use Rattle.screen_effects.specs.Positions.{column_place}
 use Rattle.screen_effects.proofs.EffectLaws.{effect_is, replay_is}
-use Rattle.screen_replay.specs.WrittenCells.{AreSound, columns_beside}
-use Rattle.screen_replay.proofs.WrittenLemmas.{written_are_shown}
+use Rattle.screen_effects.specs.WrittenCells.{AreSound, joined_columns}
+use Rattle.screen_effects.proofs.WrittenLemmas.{written_are_shown}
 use Rattle.screen_repaint.specs.Repaint.{are_some, pen_after, pen_left, row_cells, go_with_blanks, end_cleared, row_painted, in_next_row, rows_painted}
 use Rattle.screen_repaint.proofs.CellLemmas.{AreGood, Fronts, element_at, element_set, front_of, length-of, row_again, whole_cells, sound_cells, front_kept, blank_rows_are, set_at_start, cleared_is}
 use Rattle.screen_repaint.proofs.PaintLemmas.{cells_leave}
@@ -44,17 +44,17 @@ module _ (width_of : List ℕ → ℕ) (narrow : width_of space ≡ 1) (d : Disp
 
   -- ---- one row
 
-  cells_shown : (done : List Row) (n m : ℕ) (pen : Attributes) (kept : List CellContent) → IsDisplay (starts done (suc n) pen) → AreSound width_of kept → length (columns_beside kept) + m ≡ width
+  cells_shown : (done : List Row) (n m : ℕ) (pen : Attributes) (kept : List CellContent) → IsDisplay (starts done (suc n) pen) → AreSound width_of kept → length (joined_columns kept) + m ≡ width
       → replay width_of (starts done (suc n) pen) (cells_written pen kept)
-      ≡ at_place (done ++ (columns_beside kept ++ replicate m (blank plain)) ∷ replicate n (plain_row width)) (length (columns_beside kept)) (length done) (pen_left pen (cells_written pen kept))
+      ≡ at_place (done ++ (joined_columns kept ++ replicate m (blank plain)) ∷ replicate n (plain_row width)) (length (joined_columns kept)) (length done) (pen_left pen (cells_written pen kept))
   cells_shown done n m pen [] h p e =
       let same : width ≡ m = omega (arith, e) in
       ap (λ k. at_place (done ++ replicate k (blank plain) ∷ replicate n (plain_row width)) 0 (length done) pen) same
   cells_shown done n m pen (cell ∷ cells) h p e =
       let kept : List CellContent = cell ∷ cells in
-      let columns : Row = columns_beside kept in
+      let columns : Row = joined_columns kept in
       let rest : List Row = replicate n (plain_row width) in
-      let behind : Attributes = pen_behind pen kept in
+      let behind : Attributes = last_pen pen kept in
       let at : 0 + length columns ≡ length columns = omega arith in
       written_are_shown width_of (starts done (suc n) pen) kept h p (omega arith) (omega (arith, e))
       ∙ ap (λ (r : Row). at_place (slice_set (done ++ plain_row width ∷ rest) (length done) (set_columns r 0 columns)) (0 + length columns) (length done) behind) (element_at done (plain_row width) [] rest)
@@ -66,14 +66,14 @@ module _ (width_of : List ℕ → ℕ) (narrow : width_of space ≡ 1) (d : Disp
   abbrev row_left : Row → ℕ → Row
   row_left columns m = columns ++ replicate m (blank plain)
 
-  behind_cleared : (done rest : List Row) (columns : Row) (m : ℕ) (color : ColorAttribute) → IsWhole columns
-      → cleared_behind (length columns) color (slice_index_or (done ++ row_left columns m ∷ rest) (length done) []) ≡ columns ++ blank_row m color
-  behind_cleared done rest columns m color w = ap (cleared_behind (length columns) color) (element_at done (row_left columns m) [] rest) ∙ cleared_is columns m plain color w
+  after_cleared : (done rest : List Row) (columns : Row) (m : ℕ) (color : ColorAttribute) → IsWhole columns
+      → cleared_after (length columns) color (slice_index_or (done ++ row_left columns m ∷ rest) (length done) []) ≡ columns ++ blank_row m color
+  after_cleared done rest columns m color w = ap (cleared_after (length columns) color) (element_at done (row_left columns m) [] rest) ∙ cleared_is columns m plain color w
 
   line_cleared : (done rest : List Row) (columns : Row) (m : ℕ) (color : ColorAttribute) (pen : Attributes) → IsWhole columns
       → effect width_of (at_place (done ++ row_left columns m ∷ rest) (length columns) (length done) pen) (ClearToEndOfLine color) ≡ at_place (done ++ (columns ++ blank_row m color) ∷ rest) (length columns) (length done) (blank_of color)
   line_cleared done rest columns m color pen w =
-      ap (λ (r : Row). at_place (slice_set (done ++ row_left columns m ∷ rest) (length done) r) (length columns) (length done) (blank_of color)) (behind_cleared done rest columns m color w)
+      ap (λ (r : Row). at_place (slice_set (done ++ row_left columns m ∷ rest) (length done) r) (length columns) (length done) (blank_of color)) (after_cleared done rest columns m color w)
       ∙ ap (λ (rows : List Row). at_place rows (length columns) (length done) (blank_of color)) (element_set done (row_left columns m) (columns ++ blank_row m color) rest)
 
   line_shown : (done rest : List Row) (columns : Row) (m : ℕ) (color : ColorAttribute) (pen : Attributes) → IsWhole columns
@@ -92,7 +92,7 @@ module _ (width_of : List ℕ → ℕ) (narrow : width_of space ≡ 1) (d : Disp
       let all = length-append done (row_left columns m ∷ rest) in
       let some : length rest ≡ n = length-of n (plain_row width) in
       let count : length rows - (length done + 1) ≡ n = omega (arith, all, some) in
-      λ i. at_place (front_of done (row_left columns m ∷ rest) i ++ behind_cleared done rest columns m color w i ∷ replicate (count i) (blank_row width color)) (length columns) (length done) (blank_of color)
+      λ i. at_place (front_of done (row_left columns m ∷ rest) i ++ after_cleared done rest columns m color w i ∷ replicate (count i) (blank_row width color)) (length columns) (length done) (blank_of color)
 
   -- the rows below: plain still, unless they went with the row's blanks
   abbrev under : Bool → List Row → List Row
@@ -125,21 +125,21 @@ module _ (width_of : List ℕ → ℕ) (narrow : width_of space ≡ 1) (d : Disp
   own_shown None done below row pen h g =
       let cells : List CellContent = row_cells row in
       let rest : List Row = replicate (length below) (plain_row width) in
-      let again : columns_beside cells ≡ row = row_again 0 row g.1 in
-      let count : length (columns_beside cells) + 0 ≡ width = let n = ap length again in let wide = g.0 in omega (arith, n, wide) in record {
-        column = length (columns_beside cells);
+      let again : joined_columns cells ≡ row = row_again 0 row g.1 in
+      let count : length (joined_columns cells) + 0 ≡ width = let n = ap length again in let wide = g.0 in omega (arith, n, wide) in record {
+        column = length (joined_columns cells);
         shown =
             ap (λ (cs : List ChangeValue). replay width_of (starts done (length (row ∷ below)) pen) cs) (append-nil (cells_written pen cells))
             ∙ cells_shown done (length below) 0 pen cells h (sound_cells width_of narrow 0 row g.2) count
-            ∙ ap (λ (r : Row). at_place (done ++ r ∷ rest) (length (columns_beside cells)) (length done) (pen_left pen (cells_written pen cells))) (append-nil (columns_beside cells) ∙ again)
-            ∙ ap (λ (cs : List ChangeValue). at_place (done ++ row ∷ rest) (length (columns_beside cells)) (length done) (pen_left pen cs)) (sym (append-nil (cells_written pen cells)));
+            ∙ ap (λ (r : Row). at_place (done ++ r ∷ rest) (length (joined_columns cells)) (length done) (pen_left pen (cells_written pen cells))) (append-nil (joined_columns cells) ∙ again)
+            ∙ ap (λ (cs : List ChangeValue). at_place (done ++ row ∷ rest) (length (joined_columns cells)) (length done) (pen_left pen cs)) (sym (append-nil (cells_written pen cells)));
       }
   own_shown (Some color) done below row pen h g =
       let cells : List CellContent = row_cells row in
       let kept : List CellContent = less_blanks (Some color) cells in
       let too : Bool = go_with_blanks (Some color) below in
       let front : Fronts width_of narrow color cells kept = front_kept width_of narrow color cells (sound_cells width_of narrow 0 row g.2) in
-      let columns : Row = columns_beside kept in
+      let columns : Row = joined_columns kept in
       let m : ℕ = front.blanks in
       let is : columns ++ blank_row m color ≡ row = sym front.same ∙ row_again 0 row g.1 in
       let both = length-append columns (blank_row m color) in
@@ -199,9 +199,9 @@ module _ (width_of : List ℕ → ℕ) (narrow : width_of space ≡ 1) (d : Disp
   }
 
   -- changes behind a row's own
-  behind_own : (start between : Display) (own others : List ChangeValue) (rows : List Row) (pen : Attributes) → replay width_of start own ≡ between
+  after_own : (start between : Display) (own others : List ChangeValue) (rows : List Row) (pen : Attributes) → replay width_of start own ≡ between
       → Painted rows (pen_left (pen_left pen own) others) (replay width_of between others) → Painted rows (pen_left pen (own ++ others)) (replay width_of start (own ++ others))
-  behind_own start between own others rows pen e p = record {
+  after_own start between own others rows pen e p = record {
     column = p.column;
     row = p.row;
     shown =
@@ -230,5 +230,5 @@ module _ (width_of : List ℕ → ℕ) (narrow : width_of space ≡ 1) (d : Disp
       let rest = rows_shown below (done ++ row ∷ []) next
       (λ n. subst IsDisplay (ap (λ (e : Display). effect width_of e move) alone ∙ moved done row (length below) one.column next n) (effect_is width_of (replay width_of start own) move (replay_is width_of own start lawful))) g.3 in
       subst (λ b. Painted (done ++ row ∷ below) (pen_left pen (if b then own else own ++ in_next_row others)) (replay width_of start (if b then own else own ++ in_next_row others))) (sym t)
-      (behind_own start (at_place (done ++ row ∷ replicate (length below) (plain_row width)) one.column (length done) next) own (in_next_row others) (done ++ row ∷ below) pen alone
+      (after_own start (at_place (done ++ row ∷ replicate (length below) (plain_row width)) one.column (length done) next) own (in_next_row others) (done ++ row ∷ below) pen alone
       (next_shown others done below row one.column next (some_below next below) rest)))

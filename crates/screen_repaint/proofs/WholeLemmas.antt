@@ -11,16 +11,16 @@ use Rattle.cell_base.specs.declared.color.ColorAttribute.TheVariants.{Default}
 use Rattle.cell_base.specs.Attributes.{Attributes, plain}
 use Rattle.cell_base.specs.Row.{Row, space, plain_row}
 use Rattle.cell_base.specs.Screen.{Screen}
-use Rattle.cell_change.specs.CellChanges.{attributes_due}
-use Rattle.cell_change.specs.ChangeValue.{ChangeValue, Attribute, AllAttributes, Text, ClearScreen, ClearToEndOfLine, ClearToEndOfScreen, CursorPosition, CursorColor, CursorShape, CursorVisibility, LineAttribute, ScrollRegionUp, ScrollRegionDown, Title}
-use Rattle.cell_change.proofs.TextLemmas.{by_test}
-use Rattle.cell_rows.specs.WholeRow.{IsWhole}
+use Rattle.screen_change.specs.CellChanges.{attributes_due}
+use Rattle.screen_change.specs.ChangeValue.{ChangeValue, Attribute, AllAttributes, Text, ClearScreen, ClearToEndOfLine, ClearToEndOfScreen, CursorPosition, CursorColor, CursorShape, CursorVisibility, LineAttribute, ScrollRegionUp, ScrollRegionDown, Title}
+use Rattle.screen_change.proofs.TextLemmas.{by_test}
+use Rattle.cell_base.specs.WholeRow.{IsWhole}
 use Rattle.screen_effects.specs.Display.{Display, IsDisplay}
 use Rattle.screen_effects.specs.Effect.{on_screen, effect, replay}
 use Rattle.screen_effects.specs.Positions.{place, column_place}
 use Rattle.screen_effects.proofs.EffectLaws.{replay_is}
-use Rattle.screen_replay.specs.WrittenCells.{IsSoundDisplay, IsSoundRow}
-use Rattle.screen_replay.proofs.WrittenLemmas.{due_replayed}
+use Rattle.screen_effects.specs.WrittenCells.{IsSoundDisplay, IsSoundRow}
+use Rattle.screen_effects.proofs.WrittenLemmas.{due_replayed}
 use Rattle.screen_repaint.specs.Repaint.{are_some, pen_left, rows_painted, cursor_placed, cursor_shown, repaint, repaint_with, title_due}
 use Rattle.screen_repaint.specs.Shown.{AreTitles, IsTitle, shape_or, shown_on, title_after, title_left, title_or}
 use Rattle.screen_repaint.proofs.CellLemmas.{AreGood, mapped_copies}

@@ -1,12 +1,14 @@
 -- Rows that are being painted.
-use Rattle.std.specs.Prelude.{◌≡◌, ⊤, ℕ, Bool, ◌&&◌, ◌||◌, ◌<◌, nat_le, pos, List, [], ◌∷◌, ◌++◌, length, map, replicate, Option, if◌then◌else◌}
+use Rattle.std.specs.Prelude.{◌≡◌, ⊤, ℕ, ◌-◌, Bool, ◌&&◌, ◌||◌, ◌<◌, ◌≤◌, nat_le, pos, List, [], ◌∷◌, ◌++◌, length}
+use Rattle.std.specs.Prelude.{take, map, replicate, Option, if◌then◌else◌}
 use Rattle.std.specs.List.{list_all}
 use Rattle.cell_base.specs.declared.attributes.Position.TheVariants.{Absolute, Relative}
 use Rattle.cell_base.specs.declared.color.ColorAttribute.{ColorAttribute}
 use Rattle.cell_base.specs.Attributes.{Attributes, blank_of}
 use Rattle.cell_base.specs.Row.{Row}
-use Rattle.cell_change.specs.ChangeValue.{ChangeValue, CursorPosition}
-use Rattle.cell_change.specs.Written.{Written, finished}
+use Rattle.screen_change.specs.ChangeValue.{ChangeValue, CursorPosition}
+use Rattle.screen_change.specs.Written.{Written, finished, with_cells}
+use Rattle.cell_edits.specs.VisibleCells.{VisibleCell, contents}
 use Rattle.cell_line.specs.LineContent.{LineContent}
 use Rattle.screen_repaint.specs.Ends.{ends_in}
 use Rattle.screen_repaint.specs.Repaint.{are_some, is_blank_row, row_cells, pen_left, rows_painted}
@@ -20,22 +22,25 @@ ended written = record written { changes = finished written; cells = [] }
 
 -- other changes behind, and no text goes on
 abbrev pub with_changes : List ChangeValue → Written → Written
-with_changes changes written = record { changes = written.changes ++ changes; pen = pen_left written.pen changes; cells = [] }
+with_changes changes written =
+    record { changes = written.changes ++ changes; pen = pen_left written.pen changes; cells = [] }
 
 -- to the start of a row further down
 abbrev pub moves : ℕ → List ChangeValue
 moves count = replicate count (CursorPosition (Absolute 0) (Relative (pos 1)))
 
 -- moves before changes, if there are any
-abbrev pub behind_moves : ℕ → List ChangeValue → List ChangeValue
-behind_moves count [] = []
-behind_moves count (change ∷ changes) = moves count ++ change ∷ changes
+abbrev pub after_moves : ℕ → List ChangeValue → List ChangeValue
+after_moves count [] = []
+after_moves count (change ∷ changes) = moves count ++ change ∷ changes
 
 -- whether rows are blanks of one colour is told by how many rows at the end have blanks with some attributes alone
 abbrev pub IsTail : ℕ → Option Attributes → List Row → Type 0
 IsTail count blanks [] = ⊤
 IsTail count blanks (row ∷ rows) =
-    ((color : ColorAttribute) → list_all (is_blank_row color) (row ∷ rows) ≡ (ends_in blanks (blank_of color) && nat_le (length (row ∷ rows)) count)) × IsTail count blanks rows
+    ((color : ColorAttribute)
+    → list_all (is_blank_row color) (row ∷ rows)
+    ≡ (ends_in blanks (blank_of color) && nat_le (length (row ∷ rows)) count)) × IsTail count blanks rows
 
 -- each row has a cell
 abbrev pub AreFilled : List Row → Type 0
@@ -46,8 +51,17 @@ AreFilled (row ∷ rows) = (0 < length (row_cells row)) × AreFilled rows
 abbrev pub rest_of : Bool → List LineContent → List LineContent
 rest_of below_too below = if below_too then [] else below
 
+-- so many of the cells that are left were written: what is written with the next ones, at most so many in all, is the
+-- same; where none was, none is to be
+pub record WritesOn (most : ℕ) (old : Written) (left : List VisibleCell) (count : ℕ) (new : Written)
+    (rest : List VisibleCell) : Type 0 where
+  pub same : with_cells new (take (most - count) (contents rest)) ≡ with_cells old (take most (contents left))
+  pub within : count ≤ most
+  pub none : count ≡ 0 → take most (contents rest) ≡ []
+
 -- what is left to be painted makes of what was written the whole, and whether that is anything
-pub record LeadsOn (whole : Written) (some : Bool) (written : Written) (painted : Bool) (count : ℕ) (left : List Row) : Type 0 where
+pub record LeadsOn (whole : Written) (some : Bool) (written : Written) (painted : Bool) (count : ℕ) (left : List Row) :
+    Type 0 where
   pub is_ended : written.cells ≡ []
-  pub same : with_changes (behind_moves count (rows_painted written.pen left)) written ≡ whole
+  pub same : with_changes (after_moves count (rows_painted written.pen left)) written ≡ whole
   pub any : (painted || are_some (rows_painted written.pen left)) ≡ some

@@ -1,5 +1,6 @@
 -- The changes that paint a display on any screen of its size.
-use Rattle.std.specs.Prelude.{ℕ, Bool, true, false, not, ◌&&◌, ◌==◌, pos, List, [], ◌∷◌, ◌++◌, fold, Option, Some, None, if◌then◌else◌}
+use Rattle.std.specs.Prelude.{ℕ, Bool, true, false, not, ◌&&◌, ◌==◌, pos, List, [], ◌∷◌, ◌++◌, fold, Option, Some, None}
+use Rattle.std.specs.Prelude.{if◌then◌else◌}
 use Rattle.std.specs.List.{list_all}
 use Rattle.cell_base.specs.declared.attributes.CursorShape.{CursorShape as Shape}
 use Rattle.cell_base.specs.declared.attributes.CursorVisibility.TheVariants.{Hidden, Visible}
@@ -9,9 +10,10 @@ use Rattle.cell_base.specs.declared.color.ColorAttribute.TheVariants.{Default}
 use Rattle.cell_base.specs.Attributes.{Attributes, plain, blank_of}
 use Rattle.cell_base.specs.CellContent.{CellContent}
 use Rattle.cell_base.specs.Row.{Row}
-use Rattle.cell_change.specs.CellChanges.{attributes_due, cells_written, clear_due}
-use Rattle.cell_change.specs.CellRuns.{is_blank_of, background_at_end, less_blanks}
-use Rattle.cell_change.specs.ChangeValue.{ChangeValue, Attribute, AllAttributes, ClearScreen, ClearToEndOfLine, ClearToEndOfScreen, CursorPosition, CursorShape, CursorVisibility, Title}
+use Rattle.screen_change.specs.CellChanges.{attributes_due, cells_written, clear_due}
+use Rattle.screen_change.specs.CellRuns.{is_blank_of, background_at_end, less_blanks}
+use Rattle.screen_change.specs.ChangeValue.{ChangeValue, Attribute, AllAttributes, ClearScreen, ClearToEndOfLine}
+use Rattle.screen_change.specs.ChangeValue.{ClearToEndOfScreen, CursorPosition, CursorShape, CursorVisibility, Title}
 use Rattle.cell_edits.specs.VisibleCells.{visible_cells, contents}
 use Rattle.screen_effects.specs.Display.{Display}
 use Rattle.screen_effects.specs.Pen.{with_attribute}
@@ -36,11 +38,13 @@ pen_left pen changes = fold pen_after pen changes
 abbrev pub row_cells : Row → List CellContent
 row_cells row = contents (visible_cells row)
 
--- whether a row has blanks of a colour and nothing else: a blank of one colour is a cell whose text is one space, and whose attributes are plain but for that background
+-- whether a row has blanks of a colour and nothing else: a blank of one colour is a cell whose text is one space, and
+-- whose attributes are plain but for that background
 abbrev pub is_blank_row : ColorAttribute → Row → Bool
 is_blank_row color row = list_all (is_blank_of color) (row_cells row)
 
--- whether the rows below go with a row's blanks in one clear: there are some, all are blanks of the same colour, and it isn't the default
+-- whether the rows below go with a row's blanks in one clear: there are some, all are blanks of the same colour, and it
+-- isn't the default
 abbrev pub go_with_blanks : Option ColorAttribute → List Row → Bool
 go_with_blanks None below = false
 go_with_blanks (Some Default) below = false
@@ -80,7 +84,8 @@ are_some (change ∷ changes) = true
 
 -- the cursor's place; none where nothing was painted and it is home
 abbrev pub cursor_placed : Bool → ℕ → ℕ → List ChangeValue
-cursor_placed painted column row = if not painted && (column == 0 && row == 0) then [] else CursorPosition (Absolute column) (Absolute row) ∷ []
+cursor_placed painted column row =
+    if not painted && (column == 0 && row == 0) then [] else CursorPosition (Absolute column) (Absolute row) ∷ []
 
 abbrev pub shape_due : Option Shape → List ChangeValue
 shape_due None = []

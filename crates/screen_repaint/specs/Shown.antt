@@ -1,7 +1,7 @@
 -- What a repaint leaves of another display.
 use Rattle.std.specs.Prelude.{⊤, ℕ, Bool, List, [], ◌∷◌, Option, Some, None, if◌then◌else◌}
 use Rattle.cell_base.specs.declared.attributes.CursorShape.{CursorShape as Shape}
-use Rattle.cell_change.specs.ChangeValue.{ChangeValue, Title}
+use Rattle.screen_change.specs.ChangeValue.{ChangeValue, Title}
 use Rattle.screen_effects.specs.Display.{Display}
 
 abbrev pub IsTitle : ChangeValue → Type 0

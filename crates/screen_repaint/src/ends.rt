@@ -1,19 +1,21 @@
 //! How rows end.
-ghost use Rattle.std.specs.Prelude.{◌≡◌, ◌+◌, ◌<◌, ◌^◌, ◌&&◌, fold, length, map};
+ghost use Rattle.std.specs.Prelude.{◌≡◌, ◌+◌, ◌<◌, ◌^◌, ◌&&◌, ◌==◌, [], length, MatchOption};
 ghost use Rattle.std.specs.Option.{option_map};
-ghost use Rattle.std.specs.List.{list_all};
+ghost use Rattle.std.specs.List.{list_all, suffix_len};
 ghost use Rattle.std.specs.Str.{bytes_eq};
+ghost use Rattle.cell_base.specs.Attributes.{blank_of as attributes_of};
 ghost use Rattle.cell_base.specs.Row.{space};
 ghost use Rattle.cell_base.specs.SameAttributes.{same_attributes};
-ghost use Rattle.cell_change.specs.CellRuns.{is_blank_of};
-ghost use Rattle.cell_views.specs.CellRefView.{shown_by};
+ghost use Rattle.screen_change.specs.CellRuns.{is_blank_of};
+ghost use Rattle.cell_views.specs.CellRefView.{cells_left, shown_by};
 ghost use Rattle.screen_repaint.specs.PaintedRows.{AreFilled, IsTail, rows_of};
 ghost use Rattle.screen_repaint.specs.Repaint.{row_cells};
-ghost use Rattle.screen_repaint.specs.Ends.{are_blanks_with, end_of, passing_at_end, with_cell, ends_in};
+ghost use Rattle.screen_repaint.specs.Ends.{PassesOn, PassesSpaces, are_blanks_with, blanks_at_end, end_of};
+ghost use Rattle.screen_repaint.specs.Ends.{passing_at_end, with_blanks, with_others, ends_in};
 
 use cell_base::CellAttributes;
-use cell_line::{CellRef, Line};
-use screen_canvas::blank_of;
+use cell_line::{CellRef, Line, VisibleCellIter};
+use screen_grid::blank_of;
 use std::marker::Model;
 
 /// How many cells a row has, how many of them stand before the blanks of one background at its end,
@@ -35,12 +37,38 @@ impl<'a> Model for RowEnd<'a> {
     ghost view = { end_shown };
 }
 
+// Whether the attributes are plain but for the background.
+fn is_plain(attrs: &CellAttributes) -> bool
+    ensures { result ≡ same_attributes attrs.now (attributes_of attrs.now.background) }
+{
+    *attrs == blank_of(attrs.background())
+}
+
 // Whether the cell is one space, plain but for its background.
-#[tactic(auto, unfolding(cell_change::specs::CellRuns::is_blank_of))]
+#[tactic(auto, unfolding(screen_change::specs::CellRuns::is_blank_of))]
 fn is_blank(cell: &CellRef<'_>) -> bool
     ensures { result ≡ is_blank_of (shown_by cell.now).cell.attributes.background (shown_by cell.now).cell }
 {
-    cell.str() == " " && *cell.attrs() == blank_of(cell.attrs().background())
+    cell.str() == " " && is_plain(cell.attrs())
+}
+
+// How many spaces there are at the end of a text.
+fn spaces_at_end(text: &str) -> usize
+    ensures { result ≡ suffix_len (λ byte. byte == 32) text.now }
+{
+    let from_end = text.as_bytes().iter().rev();
+    from_end.take_while(|byte| **byte == b' ').count()
+}
+
+// How many cells of a text, one for each of its bytes, are blanks at the end.
+fn blanks_at_end(text: &str, attrs: &CellAttributes) -> usize
+    ensures { result ≡ blanks_at_end text.now attrs.now }
+{
+    let spaces = spaces_at_end(text);
+    if spaces == 0 || !is_plain(attrs) {
+        return 0;
+    }
+    spaces
 }
 
 // Whether there are blanks, and they have these attributes.
@@ -68,31 +96,42 @@ impl<'a> RowEnd<'a> {
         self.blanks
     }
 
-    // Another cell.
-    fn with_cell(&self, cell: &CellRef<'a>) -> RowEnd<'a>
-        requires { self.now.cells + 1 < 2 ^ 64 }
-        ensures { result ≡ with_cell self.now (shown_by cell.now).cell }
+    // So many other cells, and then so many blanks with these attributes.
+    fn push(&mut self, others: usize, blanks: usize, attrs: &'a CellAttributes)
+        requires { self.old.cells + (others + blanks) < 2 ^ 64 }
+        ensures { self.new ≡ with_blanks blanks attrs.now (with_others others self.old) }
     {
-        let cells = self.cells + 1;
-        if !is_blank(cell) {
-            return RowEnd {
-                cells,
-                kept: cells,
-                blanks: None,
-            };
+        if others > 0 {
+            self.cells += others;
+            self.kept = self.cells;
+            self.blanks = None;
         }
-        if ends_in(self.blanks, cell.attrs()) {
-            return RowEnd {
-                cells,
-                kept: self.kept,
-                blanks: self.blanks,
-            };
+        if blanks == 0 {
+            return;
         }
-        RowEnd {
-            cells,
-            kept: self.cells,
-            blanks: Some(cell.attrs()),
+        if !ends_in(self.blanks, attrs) {
+            self.kept = self.cells;
+            self.blanks = Some(attrs);
         }
+        self.cells += blanks;
+    }
+
+    // The next of the cells that are left: as many as are one text, or else one. Answers whether any was left.
+    fn push_next(&mut self, cells: &mut VisibleCellIter<'a>) -> bool
+        requires { self.old.cells + length (cells_left cells.old) < 2 ^ 64 }
+        ensures { PassesOn self.old (cells_left cells.old) self.new (cells_left cells.new) result }
+    {
+        if let Some((text, attrs)) = cells.pass_plain(usize::MAX) {
+            let blanks = blanks_at_end(text, attrs);
+            self.push(text.len() - blanks, blanks, attrs);
+            return true;
+        }
+        let Some(cell) = cells.next() else {
+            return false;
+        };
+        let blanks = usize::from(is_blank(&cell));
+        self.push(1 - blanks, blanks, cell.attrs());
+        true
     }
 }
 
@@ -106,25 +145,47 @@ pub(crate) fn row_end(line: &Line) -> RowEnd<'_>
         kept: 0,
         blanks: None,
     };
-    for cell in line.visible_cells() {
-        end = end.with_cell(&cell);
-    }
+    let mut cells = line.visible_cells();
+    while end.push_next(&mut cells) {}
     end
 }
 
 // Whether the cell is a space with these attributes.
 fn is_space_with(cell: &CellRef<'_>, attrs: &CellAttributes) -> bool
-    ensures { result ≡ (bytes_eq (shown_by cell.now).cell.text space && same_attributes (shown_by cell.now).cell.attributes attrs.now) }
+    ensures { result
+        ≡ (bytes_eq (shown_by cell.now).cell.text space
+        && same_attributes (shown_by cell.now).cell.attributes attrs.now) }
 {
     cell.str() == " " && *cell.attrs() == *attrs
+}
+
+// Whether a text is spaces alone.
+fn is_spaces(text: &str) -> bool
+    ensures { result ≡ list_all (λ byte. byte == 32) text.now }
+{
+    text.as_bytes().iter().all(|byte| *byte == b' ')
+}
+
+// Whether the next of the cells that are left, as many as are one text, or else one, are spaces with these attributes.
+// `None`: none is left.
+fn pass_spaces(cells: &mut VisibleCellIter<'_>, attrs: &CellAttributes) -> Option<bool>
+    ensures { MatchOption result (cells_left cells.old ≡ [])
+        (λ are. PassesSpaces attrs.now (cells_left cells.old) (cells_left cells.new) are) }
+{
+    if let Some((text, own)) = cells.pass_plain(usize::MAX) {
+        return Some(is_spaces(text) && *own == *attrs);
+    }
+    let cell = cells.next()?;
+    Some(is_space_with(&cell, attrs))
 }
 
 // Whether all cells of a line are spaces with these attributes.
 pub(crate) fn is_blank_with(line: &Line, attrs: &CellAttributes) -> bool
     ensures { result ≡ are_blanks_with attrs.now (row_cells line.now.columns) }
 {
-    for cell in line.visible_cells() {
-        if !is_space_with(&cell, attrs) {
+    let mut cells = line.visible_cells();
+    while let Some(are_spaces) = pass_spaces(&mut cells, attrs) {
+        if !are_spaces {
             return false;
         }
     }
@@ -133,7 +194,8 @@ pub(crate) fn is_blank_with(line: &Line, attrs: &CellAttributes) -> bool
 
 // How many lines at the end have spaces with these attributes and nothing else.
 pub(crate) fn blank_lines_at_end(lines: &[Line], attrs: &CellAttributes) -> usize
-    ensures { result ≡ passing_at_end (λ l. are_blanks_with attrs.now (row_cells l.columns)) (length lines.now) lines.now }
+    ensures { result
+        ≡ passing_at_end (λ l. are_blanks_with attrs.now (row_cells l.columns)) (length lines.now) lines.now }
 {
     let mut count = lines.len();
     let mut left = lines;

@@ -1,20 +1,24 @@
 //! The changes that paint rows.
-ghost use Rattle.std.specs.Prelude.{◌≡◌, ◌&&◌, ◌==◌, not, nat_le, List, [], true, false, ◌+◌, ◌<◌, ◌≤◌, length, take, if◌then◌else◌, IfOk, OnOk, Some};
+ghost use Rattle.std.specs.Prelude.{◌≡◌, ◌&&◌, ◌==◌, not, nat_le, List, [], true, false, ◌+◌, ◌<◌, ◌≤◌, length, take};
+ghost use Rattle.std.specs.Prelude.{if◌then◌else◌, IfOk, OnOk, Some};
 ghost use Rattle.std.specs.Option.{option_map};
 ghost use Rattle.cell_base.specs.Attributes.{Attributes, blank_of};
 ghost use Rattle.cell_base.specs.CellContent.{CellContent};
 ghost use Rattle.cell_base.specs.Row.{Row};
-ghost use Rattle.cell_change.specs.CellChanges.{clear_due};
-ghost use Rattle.cell_change.specs.CellRuns.{background_at_end};
-ghost use Rattle.cell_change.specs.Written.{with_cells};
+ghost use Rattle.screen_change.specs.CellChanges.{clear_due};
+ghost use Rattle.screen_change.specs.CellRuns.{background_at_end};
+ghost use Rattle.screen_change.specs.Written.{with_cells};
+ghost use Rattle.cell_views.specs.CellRefView.{cells_left};
 ghost use Rattle.screen_repaint.specs.Ends.{end_of, ends_in};
-ghost use Rattle.screen_repaint.specs.PaintedRows.{AreFilled, IsTail, rest_of, ended, moves, rows_of, with_changes};
-ghost use Rattle.screen_repaint.specs.Repaint.{are_some, end_cleared, go_with_blanks, row_cells, row_painted, rows_painted};
+ghost use Rattle.screen_repaint.specs.PaintedRows.{AreFilled, IsTail, WritesOn, rest_of, ended, moves, rows_of};
+ghost use Rattle.screen_repaint.specs.PaintedRows.{with_changes};
+ghost use Rattle.screen_repaint.specs.Repaint.{are_some, end_cleared, go_with_blanks, row_cells, row_painted};
+ghost use Rattle.screen_repaint.specs.Repaint.{rows_painted};
 
 use crate::ends::{RowEnd, blank_tail, ends_in, row_end};
 use cell_base::{CellAttributes, ColorAttribute, Position};
-use cell_change::{CellWriter, Change};
-use cell_line::Line;
+use cell_line::{Line, VisibleCellIter};
+use screen_change::{CellWriter, Change};
 use std::alloc::AllocError;
 
 // Moves to the start of a row further down.
@@ -31,6 +35,30 @@ fn write_moves(writer: &mut CellWriter<'_>, count: usize) -> Result<(), AllocErr
     Ok(())
 }
 
+// Writes the next of the cells that are left: as many as are one text and at most so many, or else one. Answers how
+// many; 0 where none is left, or to be written.
+fn write_next<'a>(
+    writer: &mut CellWriter<'a>,
+    cells: &mut VisibleCellIter<'a>,
+    most: usize,
+) -> Result<usize, AllocError>
+    ensures { IfOk result
+        (λ count. WritesOn most writer.old (cells_left cells.old) count writer.new (cells_left cells.new)) }
+{
+    if let Some((text, attrs)) = cells.pass_plain(most) {
+        writer.push_plain(text, attrs)?;
+        return Ok(text.len());
+    }
+    if most == 0 {
+        return Ok(0);
+    }
+    let Some(cell) = cells.next() else {
+        return Ok(0);
+    };
+    writer.push_cell(cell.str(), cell.attrs())?;
+    Ok(1)
+}
+
 // Writes the first cells of a line.
 fn write_cells<'a>(
     writer: &mut CellWriter<'a>,
@@ -39,15 +67,15 @@ fn write_cells<'a>(
 ) -> Result<(), AllocError>
     ensures { OnOk result (writer.new ≡ with_cells writer.old (take count (row_cells line.now.columns))) }
 {
+    let mut cells = line.visible_cells();
     let mut left = count;
-    for cell in line.visible_cells() {
-        if left == 0 {
+    loop {
+        let written = write_next(writer, &mut cells, left)?;
+        if written == 0 {
             return Ok(());
         }
-        writer.push_cell(cell.str(), cell.attrs())?;
-        left -= 1;
+        left -= written;
     }
-    Ok(())
 }
 
 // Clears the blanks at a row's end, and the rows below with them.
@@ -56,8 +84,12 @@ fn write_clear<'a>(
     blanks: Option<&'a CellAttributes>,
     below_too: bool,
 ) -> Result<(), AllocError>
-    requires { (attributes : Attributes) → option_map (λ a. a.now) blanks ≡ Some attributes → attributes ≡ blank_of attributes.background }
-    ensures { OnOk result (writer.new ≡ with_changes (end_cleared (option_map (λ a. a.now.background) blanks.entry) below_too) (ended writer.old)) }
+    requires { (attributes : Attributes) → option_map (λ a. a.now) blanks ≡ Some attributes
+        → attributes ≡ blank_of attributes.background }
+    ensures { OnOk result
+        (writer.new
+        ≡ with_changes (end_cleared (option_map (λ a. a.now.background) blanks.entry) below_too)
+        (ended writer.old)) }
 {
     let Some(attrs) = blanks else {
         writer.end_texts()?;
@@ -84,7 +116,8 @@ fn write_row<'a>(
 ) -> Result<(), AllocError>
     requires end { end.now ≡ end_of (row_cells line.now.columns) }
     requires ended { writer.old.cells ≡ [] }
-    ensures { OnOk result (writer.new ≡ with_changes (row_painted writer.old.pen (row_cells line.now.columns) below_too) writer.old) }
+    ensures { OnOk result
+        (writer.new ≡ with_changes (row_painted writer.old.pen (row_cells line.now.columns) below_too) writer.old) }
 {
     write_cells(writer, line, end.kept())?;
     write_clear(writer, end.blanks(), below_too)?;
@@ -103,7 +136,8 @@ fn is_coloured(color: ColorAttribute) -> bool
 
 // Whether anything is painted of a row that ends so.
 fn is_painted(end: &RowEnd<'_>) -> bool
-    ensures { (pen : Attributes) (cells : List CellContent) (below : List Row) → end.now ≡ end_of cells → result ≡ are_some (row_painted pen cells (go_with_blanks (background_at_end cells) below)) }
+    ensures { (pen : Attributes) (cells : List CellContent) (below : List Row) → end.now ≡ end_of cells
+        → result ≡ are_some (row_painted pen cells (go_with_blanks (background_at_end cells) below)) }
 {
     if end.kept() > 0 {
         return true;
@@ -122,7 +156,9 @@ fn are_all(
     lines: &[Line],
     attrs: &CellAttributes,
 ) -> bool
-    ensures { result ≡ (not (length lines.now == 0) && (ends_in (option_map (λ a. a.now) blanks.entry) attrs.now && nat_le (length lines.now) count)) }
+    ensures { result
+        ≡ (not (length lines.now == 0)
+        && (ends_in (option_map (λ a. a.now) blanks.entry) attrs.now && nat_le (length lines.now) count)) }
 {
     if lines.is_empty() {
         return false;
@@ -136,7 +172,10 @@ fn go_with(
     tail: (usize, Option<&CellAttributes>),
     below: &[Line],
 ) -> bool
-    ensures { IsTail tail.entry.0 (option_map (λ a. a.now) tail.entry.1) (rows_of below.now) → ((attributes : Attributes) → option_map (λ a. a.now) blanks.entry ≡ Some attributes → attributes ≡ blank_of attributes.background) → result ≡ go_with_blanks (option_map (λ a. a.now.background) blanks.entry) (rows_of below.now) }
+    ensures { IsTail tail.entry.0 (option_map (λ a. a.now) tail.entry.1) (rows_of below.now)
+        → ((attributes : Attributes) → option_map (λ a. a.now) blanks.entry ≡ Some attributes
+        → attributes ≡ blank_of attributes.background)
+        → result ≡ go_with_blanks (option_map (λ a. a.now.background) blanks.entry) (rows_of below.now) }
 {
     let Some(attrs) = blanks else {
         return false;
@@ -158,7 +197,8 @@ pub(crate) fn paint_rows<'a>(
 ) -> Result<bool, AllocError>
     requires filled { AreFilled (rows_of lines.now) }
     requires ended { writer.old.cells ≡ [] }
-    ensures written { OnOk result (writer.new ≡ with_changes (rows_painted writer.old.pen (rows_of lines.now)) writer.old) }
+    ensures written { OnOk result
+        (writer.new ≡ with_changes (rows_painted writer.old.pen (rows_of lines.now)) writer.old) }
     ensures any { IfOk result (λ any. any ≡ are_some (rows_painted writer.old.pen (rows_of lines.now))) }
 {
     let tail = blank_tail(lines);

@@ -3,18 +3,18 @@ ghost use Rattle.std.specs.Prelude.{◌≡◌, ◌&&◌, ◌==◌, [], ◌∷◌
 ghost use Rattle.cell_base.specs.declared.attributes.CursorVisibility.TheVariants.{Hidden};
 ghost use Rattle.cell_base.specs.declared.color.ColorAttribute.TheVariants.{Default};
 ghost use Rattle.cell_base.specs.Attributes.{plain};
-ghost use Rattle.cell_change.specs.CellChanges.{attributes_due};
-ghost use Rattle.cell_change.specs.ChangeValue.{ClearScreen, CursorVisibility as Visibility};
-ghost use Rattle.cell_change.specs.ValueOf.{value_of};
-ghost use Rattle.screen_canvas.specs.Canvas.{IsDrawn, display_of};
+ghost use Rattle.screen_change.specs.CellChanges.{attributes_due};
+ghost use Rattle.screen_change.specs.ChangeValue.{ClearScreen, CursorVisibility as Visibility};
+ghost use Rattle.screen_change.specs.ValueOf.{value_of};
+ghost use Rattle.screen_grid.specs.Grid.{IsDrawn, display_of};
 ghost use Rattle.screen_effects.specs.Effect.{is_visible};
 ghost use Rattle.screen_repaint.specs.PaintedRows.{with_changes};
 ghost use Rattle.screen_repaint.specs.Repaint.{cursor_placed, cursor_shown, pen_after, repaint, shape_due, title_due};
 
 use crate::rows::paint_rows;
 use cell_base::{CellAttributes, ColorAttribute, CursorShape, CursorVisibility, Position, Widths};
-use cell_change::{CellWriter, Change};
-use screen_canvas::Canvas;
+use screen_change::{CellWriter, Change};
+use screen_grid::Grid;
 use std::alloc::{AllocError, Global};
 
 // Another change, which leaves the pen as it is.
@@ -119,32 +119,39 @@ fn write_cursor(
     Ok(())
 }
 
-/// The changes that paint a canvas on any screen of its size, from a clear on: the title, unless it is
+// The changes of `repaint`, given the attributes of a plain pen.
+fn repaint_from<'a, W: Widths + Drop>(
+    alloc: Global,
+    grid: &'a Grid<W>,
+    attrs: &'a CellAttributes,
+) -> Result<Vec<Change>, AllocError>
+    requires drawn { IsDrawn grid.now }
+    requires plain { attrs.now ≡ plain }
+    ensures { IfOk result (λ changes. map value_of changes.items ≡ repaint (display_of grid.now)) }
+{
+    let pen = grid.pen();
+    let mut writer = CellWriter::new(alloc, attrs);
+    write_clear(&mut writer)?;
+    write_title(alloc, &mut writer, grid.title())?;
+    let painted = paint_rows(&mut writer, grid.lines())?;
+    write_place(&mut writer, grid.cursor_position(), painted)?;
+    write_pen(&mut writer, pen)?;
+    write_cursor(&mut writer, grid.cursor_visibility(), grid.cursor_shape())?;
+    let changes = writer.finish()?;
+    Ok(changes)
+}
+
+/// The changes that paint a grid on any screen of its size, from a clear on: the title, unless it is
 /// empty; row by row the cells, each run of neighbours of equal attributes behind these, unless the
 /// pen has them, and a clear for the blanks of one background at a row's end, unless it is the
 /// default one; where all rows below are blanks of that background too, one clear to the end of the
 /// screen stands for them. Then the cursor's place, the pen, and the cursor with its shape, if it is
 /// shown.
-pub fn repaint<W: Widths + Drop>(
-    alloc: Global,
-    canvas: &Canvas<W>,
-) -> Result<Vec<Change>, AllocError>
-    requires { IsDrawn canvas.now }
-    ensures { IfOk result (λ changes. map value_of changes.items ≡ repaint (display_of canvas.now)) }
+pub fn repaint<W: Widths + Drop>(alloc: Global, grid: &Grid<W>) -> Result<Vec<Change>, AllocError>
+    requires { IsDrawn grid.now }
+    ensures { IfOk result (λ changes. map value_of changes.items ≡ repaint (display_of grid.now)) }
 {
     let plain = CellAttributes::blank();
-    let pen = canvas.pen();
-    let mut writer = CellWriter::new(alloc, &plain);
-    write_clear(&mut writer)?;
-    write_title(alloc, &mut writer, canvas.title())?;
-    let painted = paint_rows(&mut writer, canvas.lines())?;
-    write_place(&mut writer, canvas.cursor_position(), painted)?;
-    write_pen(&mut writer, pen)?;
-    write_cursor(
-        &mut writer,
-        canvas.cursor_visibility(),
-        canvas.cursor_shape(),
-    )?;
-    let changes = writer.finish()?;
+    let changes = repaint_from(alloc, grid, &plain)?;
     Ok(changes)
 }

@@ -24,14 +24,14 @@ later time event h = lt-leb event.time time h
 none_by : (time late : ℕ) (events : List Event) → time < late → AreFrom late events → filter (is_by time) events ≡ []
 none_by time late [] h from = refl
 none_by time late (event ∷ events) h from =
-    let behind_time : time < event.time = omega (arith, h, from.0) in
-    rw (later time event behind_time) (none_by time event.time events behind_time from.1)
+    let after_time : time < event.time = omega (arith, h, from.0) in
+    rw (later time event after_time) (none_by time event.time events after_time from.1)
 
 all_later : (time late : ℕ) (events : List Event) → time < late → AreFrom late events → filter (λ event. not (is_by time event)) events ≡ events
 all_later time late [] h from = refl
 all_later time late (event ∷ events) h from =
-    let behind_time : time < event.time = omega (arith, h, from.0) in
-    rw (later time event behind_time) (ap (λ es. event ∷ es) (all_later time event.time events behind_time from.1))
+    let after_time : time < event.time = omega (arith, h, from.0) in
+    rw (later time event after_time) (ap (λ es. event ∷ es) (all_later time event.time events after_time from.1))
 
 pub until_is : (time early : ℕ) (events : List Event) → AreFrom early events → until time events ≡ filter (is_by time) events
 until_is time early [] from = refl
@@ -42,13 +42,13 @@ until_is time early (event ∷ events) from =
     rw is (ap (λ n. take n (event ∷ events)) more ∙ ap (λ es. event ∷ es) (until_is time event.time events from.1)))
     (λ is. rw is (sym (none_by time event.time events (leb-false event.time time is) from.1)))
 
-pub behind_is : (time early : ℕ) (events : List Event) → AreFrom early events → behind time events ≡ filter (λ event. not (is_by time event)) events
-behind_is time early [] from = refl
-behind_is time early (event ∷ events) from =
+pub after_is : (time early : ℕ) (events : List Event) → AreFrom early events → behind time events ≡ filter (λ event. not (is_by time event)) events
+after_is time early [] from = refl
+after_is time early (event ∷ events) from =
     by_test (is_by time event)
     (λ is.
     let more : 1 + prefix_len (is_by time) events ≡ suc (prefix_len (is_by time) events) = omega arith in
-    rw is (ap (λ n. drop n (event ∷ events)) more ∙ behind_is time event.time events from.1))
+    rw is (ap (λ n. drop n (event ∷ events)) more ∙ after_is time event.time events from.1))
     (λ is. rw is (ap (λ es. event ∷ es) (sym (all_later time event.time events (leb-false event.time time is) from.1))))
 
 pub one_screen : (format : Format) (at : Option ℕ) (recording : Recording) → recording.fault ≡ None

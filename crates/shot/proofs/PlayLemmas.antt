@@ -8,7 +8,8 @@ use Rattle.recordings.specs.Events as recorded
 use Rattle.recordings.specs.EventView.{event_of}
 use Rattle.recordings.specs.declared.event.Event.{Event}
 use Rattle.shot.specs.Play.{is_by, step_of, steps_of, until, view_at}
-use Rattle.terminal.specs.Terminal.{Terminal, GoesBy, StandsAt}
+use Rattle.terminal.specs.Headline.{GoesBy, StandsAt}
+use Rattle.terminal.specs.Terminal.{Terminal}
 use Rattle.terminal_table.specs.History.{Look}
 use Rattle.terminal_table.specs.Meaning.{View, after}
 use Rattle.terminal_table.proofs.JoinLemmas.{after_joins}

@@ -5,10 +5,11 @@ use Rattle.std.specs.Io.KnownBytes.{Appends}
 use Rattle.recordings.specs.Events as recorded
 use Rattle.shot.specs.Pictures.{picture}
 use Rattle.shot.specs.Play.{behind, view_at}
-use Rattle.shot.specs.Shots.{pictures, times_behind}
+use Rattle.shot.specs.Shots.{pictures, times_after}
 use Rattle.shot.specs.Writing.{IsWriting}
 use Rattle.shot.specs.declared.format.Format.{Format}
-use Rattle.terminal.specs.Terminal.{Terminal, StandsAt}
+use Rattle.terminal.specs.Headline.{StandsAt}
+use Rattle.terminal.specs.Terminal.{Terminal}
 use Rattle.terminal_table.specs.Meaning.{View}
 
 appends_none : (a : Option (List ℕ)) → Appends a a []
@@ -45,9 +46,9 @@ writing_next format view events step count t u rest next time later left old out
   stands = stands w.now w.stands;
   appends = appends_both old out new w.done (picture format (view_at w.now rest later).state.screen) w.appends (appends w.now w.stands);
   whole = λ others.
-      append_assoc w.done (picture format (view_at w.now rest later).state.screen) (pictures format (view_at w.now rest later) next (times_behind later step left others))
-      ∙ ap (λ es. w.done ++ (picture format (view_at w.now rest later).state.screen ++ pictures format (view_at w.now rest later) es (times_behind later step left others))) is
-      ∙ ap (λ l. w.done ++ pictures format w.now rest (l ∷ times_behind l step left others)) at
+      append_assoc w.done (picture format (view_at w.now rest later).state.screen) (pictures format (view_at w.now rest later) next (times_after later step left others))
+      ∙ ap (λ es. w.done ++ (picture format (view_at w.now rest later).state.screen ++ pictures format (view_at w.now rest later) es (times_after later step left others))) is
+      ∙ ap (λ l. w.done ++ pictures format w.now rest (l ∷ times_after l step left others)) at
       ∙ w.whole others;
 }
 
@@ -55,7 +56,7 @@ writing_next format view events step count t u rest next time later left old out
 pub written_last : {W : Type 0} (format : Format) (view : View) (events : List recorded.Event) (step count : ℕ) (t : Terminal W) (rest : List recorded.Event) (time last : ℕ) (old out new : Option (List ℕ))
     → IsWriting format view events step count t rest time 0 old out
     → ((v : View) → StandsAt t v → Appends out new (picture format (view_at v rest last).state.screen))
-    → Appends old new (pictures format view events (times_behind 0 step count (last ∷ [])))
+    → Appends old new (pictures format view events (times_after 0 step count (last ∷ [])))
 written_last format view events step count t rest time last old out new w appends =
     let screen = picture format (view_at w.now rest last).state.screen in
     subst (Appends old new) (ap (λ l. w.done ++ l) (sym (append-nil screen)) ∙ w.whole (last ∷ []))
@@ -63,7 +64,7 @@ written_last format view events step count t rest time last old out new w append
 
 pub written_all : {W : Type 0} (format : Format) (view : View) (events : List recorded.Event) (step count : ℕ) (t : Terminal W) (rest : List recorded.Event) (time : ℕ) (old new : Option (List ℕ))
     → IsWriting format view events step count t rest time 0 old new
-    → Appends old new (pictures format view events (times_behind 0 step count []))
+    → Appends old new (pictures format view events (times_after 0 step count []))
 written_all format view events step count t rest time old new w =
     subst (Appends old new) (sym (append-nil w.done) ∙ w.whole []) w.appends
 

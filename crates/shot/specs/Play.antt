@@ -33,4 +33,5 @@ view_at view events time = after program_width view (steps_of (until time events
 -- the screens at some times, each looked at behind the ones before it
 abbrev pub screens_at : View → List recorded.Event → List ℕ → List Screen
 screens_at view events [] = []
-screens_at view events (time ∷ times) = (view_at view events time).state.screen ∷ screens_at (view_at view events time) (behind time events) times
+screens_at view events (time ∷ times) =
+    (view_at view events time).state.screen ∷ screens_at (view_at view events time) (behind time events) times

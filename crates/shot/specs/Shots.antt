@@ -1,5 +1,6 @@
 -- What is written of a recording.
-use Rattle.std.specs.Prelude.{ℕ, zero, suc, ◌+◌, ◌-◌, ◌/◌, ◌==◌, Bool, nat_le, nat_lt, ◌||◌, ◌&&◌, not, List, [], ◌∷◌, Option, Some, None, is_some, length, map, slice_index, unwrap_or, if◌then◌else◌}
+use Rattle.std.specs.Prelude.{ℕ, zero, suc, ◌+◌, ◌-◌, ◌/◌, ◌==◌, Bool, nat_le, nat_lt, ◌||◌, ◌&&◌, not, List, [], ◌∷◌}
+use Rattle.std.specs.Prelude.{Option, Some, None, is_some, length, map, slice_index, unwrap_or, if◌then◌else◌}
 use Rattle.std.specs.List.{flat_map}
 use Rattle.recordings.specs.Events as recorded
 use Rattle.recordings.specs.Recordings.{Recording}
@@ -16,22 +17,24 @@ last_time events = slice_index (map (λ (event : recorded.Event). event.time) ev
 abbrev pub end_of : Option ℕ → List recorded.Event → ℕ
 end_of at events = unwrap_or at (last_time events)
 
--- whether all that is done up to the end is known: behind a line that is wrong there may be more events at the last time
+-- whether all that is done up to the end is known: behind a line that is wrong there may be more events at the last
+-- time
 abbrev pub is_known : Option ℕ → Recording → Bool
-is_known at recording = not (is_some recording.fault) || nat_lt (end_of at recording.events) (last_time recording.events)
+is_known at recording =
+    not (is_some recording.fault) || nat_lt (end_of at recording.events) (last_time recording.events)
 
 -- how many multiples of a step from 1 on are below a time; of a step 0 none
 abbrev pub count_below : ℕ → ℕ → ℕ
 count_below step time = if step == 0 then 0 else (time - 1) / step
 
 -- so many times, each a step behind the one before it, and then others
-abbrev pub times_behind : ℕ → ℕ → ℕ → List ℕ → List ℕ
-times_behind time step zero others = others
-times_behind time step (suc count) others = (time + step) ∷ times_behind (time + step) step count others
+abbrev pub times_after : ℕ → ℕ → ℕ → List ℕ → List ℕ
+times_after time step zero others = others
+times_after time step (suc count) others = (time + step) ∷ times_after (time + step) step count others
 
 -- the multiples of a step below a time, and then others
 abbrev pub multiples : ℕ → ℕ → List ℕ → List ℕ
-multiples step time others = times_behind 0 step (count_below step time) others
+multiples step time others = times_after 0 step (count_below step time) others
 
 -- the multiples of the step below the end, and the end; of a recording with a line that is wrong those that are known
 abbrev pub times_of : Option ℕ → ℕ → Recording → List ℕ
@@ -44,7 +47,8 @@ abbrev pub pictures : Format → View → List recorded.Event → List ℕ → L
 pictures format view events times = flat_map (picture format) (screens_at view events times)
 
 unfoldable pub shots : Format → Option ℕ → ℕ → Recording → List ℕ
-shots format at step recording = pictures format (new_view recording.width recording.height) recording.events (times_of at step recording)
+shots format at step recording =
+    pictures format (new_view recording.width recording.height) recording.events (times_of at step recording)
 
 -- a number of columns or rows that is given, where it is from 1 to 4096, or else the recording's
 abbrev pub chosen : ℕ → Option ℕ → ℕ
@@ -53,4 +57,5 @@ chosen other (Some given) = if nat_lt 0 given && nat_le given 4096 then given el
 
 -- a recording whose size at first is another one
 abbrev pub with_size : Option ℕ → Option ℕ → Recording → Recording
-with_size width height recording = record recording { width = chosen recording.width width; height = chosen recording.height height }
+with_size width height recording =
+    record recording { width = chosen recording.width width; height = chosen recording.height height }

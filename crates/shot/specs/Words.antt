@@ -50,7 +50,8 @@ seconds_of option (Some text) = time_by option (time_of text)
 abbrev pub with_step : Format → Option ℕ → Reading (Option ℕ) → Reading Shots
 with_step format at (Err option) = Err option
 with_step format at (Ok None) = Ok (record { format = format; at = at; step = 0 })
-with_step format at (Ok (Some step)) = if step == 0 then Err (Some (codes "step")) else Ok (record { format = format; at = at; step = step })
+with_step format at (Ok (Some step)) =
+    if step == 0 then Err (Some (codes "step")) else Ok (record { format = format; at = at; step = step })
 
 abbrev pub with_times : Format → Reading (Option ℕ) → Reading (Option ℕ) → Reading Shots
 with_times format (Err option) step = Err option
@@ -58,4 +59,5 @@ with_times format (Ok at) step = with_step format at step
 
 -- what the texts of the options `format`, `at` and `step` ask for
 unfoldable pub asked_by : Option Text → Option Text → Option Text → Reading Shots
-asked_by format at step = with_times (option_map_or format_of format form.Text) (seconds_of (codes "at") at) (seconds_of (codes "step") step)
+asked_by format at step =
+    with_times (option_map_or format_of format form.Text) (seconds_of (codes "at") at) (seconds_of (codes "step") step)

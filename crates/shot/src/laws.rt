@@ -19,8 +19,8 @@ pub fn events_are_cut_at_a_time()
         → behind time events ≡ filter (λ event. not (is_by time event)) events }
 {}
 
-/// Without a step one screen is written of a recording without a wrong line: that of a new terminal of its size behind the
-/// events up to the time that is asked for, and a look.
+/// Without a step one screen is written of a recording without a wrong line: that of a new terminal of its size behind
+/// the events up to the time that is asked for, and a look.
 pub fn one_screen_is_that_of_the_time()
     ensures { (format : Format) (at : Option ℕ) (recording : Recording) → recording.fault ≡ None
         → shots format at 0 recording ≡ picture format (meaning program_width recording.width recording.height

@@ -6,7 +6,7 @@ ghost use Rattle.cell_base.specs.Cluster.{program_width};
 ghost use Rattle.recordings.specs.EventView.{act_of, event_of};
 ghost use Rattle.shot.specs.Pictures.{picture};
 ghost use Rattle.shot.specs.Play.{behind, is_by, step_of, steps_of, until, view_at};
-ghost use Rattle.terminal.specs.Terminal.{GoesBy, StandsAt};
+ghost use Rattle.terminal.specs.Headline.{GoesBy, StandsAt};
 ghost use Rattle.terminal_table.specs.Meaning.{View, after};
 
 use crate::error::ShotError;

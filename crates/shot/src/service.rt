@@ -58,10 +58,13 @@ fn fault_of(error: ShotError) -> &'static str {
 fn explain<T: Write, F: Write>(alloc: Global, error: &Error, writer: &mut T, faults: &mut F) -> u8
     ensures status { result ≤ 2 }
     ensures memory { kind_of error.now ≡ ErrorKind.OutOfMemory → result ≡ FAULT }
-    ensures asked { result ≡ 0 → (kind_of error.now ≡ ErrorKind.DisplayHelp) ⊎ (kind_of error.now ≡ ErrorKind.DisplayVersion) }
-    ensures shown { (kind_of error.now ≡ ErrorKind.DisplayHelp) ⊎ (kind_of error.now ≡ ErrorKind.DisplayVersion) → result ≢ BAD_WORDS }
+    ensures asked { result ≡ 0
+        → (kind_of error.now ≡ ErrorKind.DisplayHelp) ⊎ (kind_of error.now ≡ ErrorKind.DisplayVersion) }
+    ensures shown { (kind_of error.now ≡ ErrorKind.DisplayHelp) ⊎ (kind_of error.now ≡ ErrorKind.DisplayVersion)
+        → result ≢ BAD_WORDS }
     ensures quiet { result ≡ 0 → Keeps (F.contents faults.old) (F.contents faults.new) }
-    ensures nothing { kind_of error.now ≡ ErrorKind.OutOfMemory → Keeps (T.contents writer.old) (T.contents writer.new) }
+    ensures nothing { kind_of error.now ≡ ErrorKind.OutOfMemory
+        → Keeps (T.contents writer.old) (T.contents writer.new) }
     ensures refused { result ≡ BAD_WORDS → Keeps (T.contents writer.old) (T.contents writer.new) }
 {
     if error.kind() == ErrorKind::OutOfMemory {
@@ -91,11 +94,12 @@ pub fn explain_words<T: Write, F: Write>(
     // Status 0 is only for words that ask for help or for the version, and status 2 is not for these.
     ensures asked { result ≡ 0
         → (kind_in words.now ≡ Some ErrorKind.DisplayHelp) ⊎ (kind_in words.now ≡ Some ErrorKind.DisplayVersion) }
-    ensures shown { (kind_in words.now ≡ Some ErrorKind.DisplayHelp) ⊎ (kind_in words.now ≡ Some ErrorKind.DisplayVersion)
-        → result ≢ BAD_WORDS }
+    ensures shown { (kind_in words.now ≡ Some ErrorKind.DisplayHelp)
+        ⊎ (kind_in words.now ≡ Some ErrorKind.DisplayVersion) → result ≢ BAD_WORDS }
     ensures seconds { kind_in words.now ≡ None → result ≡ BAD_WORDS }
     ensures quiet { result ≡ 0 → Keeps (F.contents faults.old) (F.contents faults.new) }
-    ensures nothing { kind_in words.now ≡ Some ErrorKind.OutOfMemory → Keeps (T.contents writer.old) (T.contents writer.new) }
+    ensures nothing { kind_in words.now ≡ Some ErrorKind.OutOfMemory
+        → Keeps (T.contents writer.old) (T.contents writer.new) }
     ensures refused { result ≡ BAD_WORDS → Keeps (T.contents writer.old) (T.contents writer.new) }
 {
     match words {
@@ -198,9 +202,9 @@ fn answer<T: Write, F: Write>(
     }
 }
 
-/// Reads an input of a name to its end, and writes what is asked for of it. It answers the status: 0; or 1 with one line
-/// on `faults`, where the input can't be read or a line of it is wrong, or where writing or memory failed; what was
-/// written before stands.
+/// Reads an input of a name to its end, and writes what is asked for of it. It answers the status: 0; or 1 with one
+/// line on `faults`, where the input can't be read or a line of it is wrong, or where writing or memory failed; what
+/// was written before stands.
 pub fn serve<R: Read, T: Write, F: Write>(
     alloc: Global,
     options: Options<'_>,
@@ -212,7 +216,9 @@ pub fn serve<R: Read, T: Write, F: Write>(
     ensures status { result ≤ 1 }
     ensures quiet { result ≡ 0 → Keeps (F.contents faults.old) (F.contents faults.new) }
     ensures whole { result ≡ 0 → IfSome (R.remaining reader.old) (λ input. (recording_of 80 24 input).fault ≡ None) }
-    ensures shows { result ≡ 0 → IfSome (R.remaining reader.old) (λ input. Appends (T.contents writer.old) (T.contents writer.new)
+    ensures shows { result ≡ 0
+        → IfSome (R.remaining reader.old)
+        (λ input. Appends (T.contents writer.old) (T.contents writer.new)
         (shots options.entry.asked.format options.entry.asked.at options.entry.asked.step
         (with_size options.entry.width options.entry.height (recording_of 80 24 input)))) }
 {

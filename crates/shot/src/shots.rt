@@ -5,7 +5,7 @@ ghost use Rattle.recordings.specs.EventView.{event_of};
 ghost use Rattle.recordings.specs.RecordingView.{recording_value};
 ghost use Rattle.shot.specs.Shots.{count_below, last_time, multiples, pictures, shots, times_of};
 ghost use Rattle.shot.specs.Writing.{IsWriting};
-ghost use Rattle.terminal.specs.Terminal.{StandsAt};
+ghost use Rattle.terminal.specs.Headline.{StandsAt};
 ghost use Rattle.terminal_table.specs.Meaning.{View};
 
 use crate::error::ShotError;
@@ -48,9 +48,10 @@ fn write_steps<'a, T: Write>(
     writer: &mut T,
 ) -> Result<&'a [Event], ShotError>
     requires { count * step < 2 ^ 64 }
-    ensures { IfOk result (λ rest. (view : View) → StandsAt terminal.old view
-        → IsWriting format view (map event_of events.entry.now) step count terminal.new (map event_of rest.now) (count * step) 0
-        (T.contents writer.old) (T.contents writer.new)) }
+    ensures { IfOk result
+        (λ rest. (view : View) → StandsAt terminal.old view
+        → IsWriting format view (map event_of events.entry.now) step count terminal.new (map event_of rest.now)
+        (count * step) 0 (T.contents writer.old) (T.contents writer.new)) }
 {
     let mut rest = events;
     let mut time = 0;
@@ -121,9 +122,11 @@ fn write_by<T: Write>(
     asked: Shots,
     writer: &mut T,
 ) -> Result<(), ShotError>
-    ensures { OnOk result ((view : View) → StandsAt terminal.old view
+    ensures { OnOk result
+        ((view : View) → StandsAt terminal.old view
         → Appends (T.contents writer.old) (T.contents writer.new)
-        (pictures asked.format view (recording_value recording.now).events (times_of asked.at asked.step (recording_value recording.now)))) }
+        (pictures asked.format view (recording_value recording.now).events
+        (times_of asked.at asked.step (recording_value recording.now)))) }
 {
     let events = recording.events.as_slice();
     let last = last_time(events);
@@ -152,9 +155,10 @@ fn write_by<T: Write>(
     Ok(())
 }
 
-/// Plays a recording to a new terminal of its size, and writes the screen at the time that is asked for, as it is behind
-/// all that is done at that time or before it; and before it those at each multiple of the step. A screen is looked at
-/// behind those before it. Of a recording with a line that is wrong those are written that no more events can change.
+/// Plays a recording to a new terminal of its size, and writes the screen at the time that is asked for, as it is
+/// behind all that is done at that time or before it; and before it those at each multiple of the step. A screen is
+/// looked at behind those before it. Of a recording with a line that is wrong those are written that no more events can
+/// change.
 pub fn write_shots<T: Write>(
     alloc: Global,
     recording: &Recording,

@@ -3,30 +3,32 @@ use Rattle.std.proofs.Common.{◌≡◌, ℕ, ◌≤◌, ◌^◌, ◌⊎◌, inl
 use Rattle.std.specs.Io.KnownBytes.{Appends}
 use Rattle.cell_base.specs.Screen.{Screen, height}
 use Rattle.cell_surface.specs.Surface.{number_of}
-use Rattle.change_log.specs.LogSteps.{Sized}
+use Rattle.screen_log.specs.LogSteps.{Sized}
 use Rattle.terminal.specs.Fed.{AnswersAt}
 use Rattle.terminal.specs.Sent.{IsAt, IsCounted, Lightens, Sent, looked, lightened, update_at}
 use Rattle.terminal.specs.Shown.{AppendsPrefix}
-use Rattle.terminal.specs.Terminal.{Terminal, StandsAt, GoesBy, NeedsNumber, state_in}
+use Rattle.terminal.specs.Headline.{StandsAt, GoesBy}
+use Rattle.terminal.specs.Refusals.{NeedsNumber}
+use Rattle.terminal.specs.Terminal.{Terminal, state_in}
 use Rattle.terminal.proofs.GoLemmas.{actions_join, stays}
 use Rattle.terminal_render.specs.Lists.{all_rendered}
 use Rattle.terminal_steps.proofs.NumberLemmas.{fold_number}
 use Rattle.terminal_table.specs.History.{History, Piece, Look, Forget}
 use Rattle.terminal_table.specs.Logged.{logged, log_after}
 use Rattle.terminal_table.specs.Meaning.{after}
-use Rattle.terminal_update.specs.Update.{bytes_of, painted_anew, update_of}
-use Rattle.terminal_update.specs.Updates.{Standing, standing_behind}
-use Rattle.terminal_update.specs.Viewers.{AnswersAs, AreFed}
-use Rattle.terminal_update.proofs.KeptLemmas.{answers_itself, answers_behind, answers_with_replies, answers_behind_forget, answers_alike}
-use Rattle.terminal_update.proofs.PieceLemmas.{standings_join, standings_cut}
+use Rattle.terminal_viewers.specs.Update.{bytes_of, painted_anew, update_of}
+use Rattle.terminal_viewers.specs.Updates.{Standing, standing_after}
+use Rattle.terminal_viewers.specs.Viewers.{AnswersAs, AreFed}
+use Rattle.terminal_viewers.proofs.KeptLemmas.{answers_itself, answers_after, answers_with_replies, answers_after_forget, answers_alike}
+use Rattle.terminal_viewers.proofs.PieceLemmas.{standings_join, standings_cut}
 
 -- ---- standings
 
 -- one piece behind another is both
-pub pieces_join : (f : List ℕ → ℕ) (s : Standing) (x y : List ℕ) → standing_behind f (standing_behind f s (Piece x ∷ [])) (Piece y ∷ []) ≡ standing_behind f s (Piece (x ++ y) ∷ [])
+pub pieces_join : (f : List ℕ → ℕ) (s : Standing) (x y : List ℕ) → standing_after f (standing_after f s (Piece x ∷ [])) (Piece y ∷ []) ≡ standing_after f s (Piece (x ++ y) ∷ [])
 pieces_join f s x y = sym (standings_join f s (Piece x ∷ []) (Piece y ∷ [])) ∙ standings_cut actions_join f s x y []
 
-pub number_rises : (f : List ℕ → ℕ) (s : Standing) (h : History) → s.log.log.number ≤ (standing_behind f s h).log.log.number
+pub number_rises : (f : List ℕ → ℕ) (s : Standing) (h : History) → s.log.log.number ≤ (standing_after f s h).log.log.number
 number_rises f s h = fold_number (logged f s.view h) s.log
 
 -- The same is sent to a viewer at number 0, to which nothing is due, and at the number from which one answers as the other.
@@ -43,17 +45,17 @@ module _ {W : Type 0} (width_of : W → List ℕ → ℕ) (w : W) where
   f = width_of w
 
   -- where a terminal that goes on stands
-  pub goes_at : (t u : Terminal W) (s : Standing) (h : History) → t.surface.canvas.widths ≡ w → IsAt t s → GoesBy width_of t u h → IsAt u (standing_behind f s h)
+  pub goes_at : (t u : Terminal W) (s : Standing) (h : History) → t.surface.grid.widths ≡ w → IsAt t s → GoesBy width_of t u h → IsAt u (standing_after f s h)
   goes_at t u s h e at g = record {
     stands = subst (λ x. StandsAt u (after (width_of x) s.view h)) e (g.stands s.view at.stands);
     log = g.log s.view at.stands ∙ (λ i. log_after (width_of (e i)) s.view (at.log i) h);
   }
 
-  pub needs_at : (t : Terminal W) (s : Standing) (h : History) → t.surface.canvas.widths ≡ w → IsAt t s → NeedsNumber width_of t h → 2 ^ 64 ≤ (standing_behind f s h).log.log.number
+  pub needs_at : (t : Terminal W) (s : Standing) (h : History) → t.surface.grid.widths ≡ w → IsAt t s → NeedsNumber width_of t h → 2 ^ 64 ≤ (standing_after f s h).log.log.number
   needs_at t s h e at n = subst (λ x. 2 ^ 64 ≤ x.log.number) (λ i. log_after (width_of (e i)) s.view (at.log i) h) (n s.view at.stands)
 
   -- where one stands that has forgotten changes, and dropped its replies
-  pub lightened_at : (t v : Terminal W) (s : Standing) (number : ℕ) → t.surface.canvas.widths ≡ w → IsAt t s → Lightens width_of t v number → IsAt v (lightened f number s)
+  pub lightened_at : (t v : Terminal W) (s : Standing) (number : ℕ) → t.surface.grid.widths ≡ w → IsAt t s → Lightens width_of t v number → IsAt v (lightened f number s)
   lightened_at t v s number e at l =
       let there = goes_at t l.forgotten s (Forget number ∷ []) e at l.goes in
       subst (λ (x : Terminal W). IsAt x (lightened f number s)) (sym l.dropped) (record {
@@ -62,10 +64,10 @@ module _ {W : Type 0} (width_of : W → List ℕ → ℕ) (w : W) where
       })
 
   -- what a viewer is sent behind a look, by what the terminal shows then
-  update_there : (t u : Terminal W) (s : Standing) (number : ℕ) → t.surface.canvas.widths ≡ w → IsAt t s → GoesBy width_of t u (Look ∷ []) → update_of (state_in u).screen u.surface.log number ≡ update_at (looked f s) number
+  update_there : (t u : Terminal W) (s : Standing) (number : ℕ) → t.surface.grid.widths ≡ w → IsAt t s → GoesBy width_of t u (Look ∷ []) → update_of (state_in u).screen u.surface.log number ≡ update_at (looked f s) number
   update_there t u s number e at g = let there = goes_at t u s (Look ∷ []) e at g in λ i. update_of (there.stands.state i).screen (there.log i) number
 
-  pub sent_is : (t u v : Terminal W) (s : Standing) (number next : ℕ) (bytes : List ℕ) (old new : Option (List ℕ)) → t.surface.canvas.widths ≡ w → IsAt t s → GoesBy width_of t u (Look ∷ [])
+  pub sent_is : (t u v : Terminal W) (s : Standing) (number next : ℕ) (bytes : List ℕ) (old new : Option (List ℕ)) → t.surface.grid.widths ≡ w → IsAt t s → GoesBy width_of t u (Look ∷ [])
       → bytes ≡ update_of (state_in u).screen u.surface.log number → next ≡ number_of u.surface → Appends old new bytes → Lightens width_of u v next → Sent f s number next v old new
   sent_is t u v s number next bytes old new e at g b n a l =
       let there = goes_at t u s (Look ∷ []) e at g in
@@ -75,7 +77,7 @@ module _ {W : Type 0} (width_of : W → List ℕ → ℕ) (w : W) where
         at = lightened_at u v (looked f s) next (g.widths ∙ e) there l;
       }
 
-  pub some_is : (t u : Terminal W) (s : Standing) (number : ℕ) (bytes : List ℕ) (old new : Option (List ℕ)) → t.surface.canvas.widths ≡ w → IsAt t s → GoesBy width_of t u (Look ∷ [])
+  pub some_is : (t u : Terminal W) (s : Standing) (number : ℕ) (bytes : List ℕ) (old new : Option (List ℕ)) → t.surface.grid.widths ≡ w → IsAt t s → GoesBy width_of t u (Look ∷ [])
       → bytes ≡ update_of (state_in u).screen u.surface.log number → AppendsPrefix old new bytes → AppendsPrefix old new (update_at (looked f s) number)
   some_is t u s number bytes old new e at g b a = subst (AppendsPrefix old new) (b ∙ update_there t u s number e at g) a
 
@@ -85,15 +87,15 @@ module _ {W : Type 0} (width_of : W → List ℕ → ℕ) (w : W) where
   answers_first number t s at counted = record { kept = s; at = at; answers = answers_itself number s counted }
 
   -- bytes are fed, and looks taken
-  pub answers_on : (number : ℕ) (t u : Terminal W) (whole : Standing) (h : History) → AreFed h → t.surface.canvas.widths ≡ w → AnswersAt number t whole → GoesBy width_of t u h → AnswersAt number u (standing_behind f whole h)
+  pub answers_on : (number : ℕ) (t u : Terminal W) (whole : Standing) (h : History) → AreFed h → t.surface.grid.widths ≡ w → AnswersAt number t whole → GoesBy width_of t u h → AnswersAt number u (standing_after f whole h)
   answers_on number t u whole h fed e a g = record {
-    kept = standing_behind f a.kept h;
+    kept = standing_after f a.kept h;
     at = goes_at t u a.kept h e a.at g;
-    answers = answers_behind f number a.kept whole h fed a.answers;
+    answers = answers_after f number a.kept whole h fed a.answers;
   }
 
   -- nothing is fed
-  pub answers_at_rest : (number : ℕ) (t : Terminal W) (whole : Standing) → t.surface.canvas.widths ≡ w → t.is_failed ≡ false → AnswersAt number t whole → AnswersAt number t (standing_behind f whole (Piece [] ∷ []))
+  pub answers_at_rest : (number : ℕ) (t : Terminal W) (whole : Standing) → t.surface.grid.widths ≡ w → t.is_failed ≡ false → AnswersAt number t whole → AnswersAt number t (standing_after f whole (Piece [] ∷ []))
   answers_at_rest number t whole e sound a = answers_on number t t whole (Piece [] ∷ []) tt e a (stays width_of t sound)
 
   -- from a later number on
@@ -112,9 +114,9 @@ module _ {W : Type 0} (width_of : W → List ℕ → ℕ) (w : W) where
   -- the changes before a later number are forgotten, and the replies dropped
   pub answers_lightened : (number later : ℕ) (kept whole : Standing) → number ≤ later → AnswersAs number kept whole → AnswersAs later (lightened f later kept) whole
   answers_lightened number later kept whole l h =
-      answers_with_replies later (standing_behind f kept (Forget later ∷ [])) whole [] (answers_behind_forget f number later kept whole l h)
+      answers_with_replies later (standing_after f kept (Forget later ∷ [])) whole [] (answers_after_forget f number later kept whole l h)
 
-  pub answers_lighter : (number later : ℕ) (t v : Terminal W) (whole : Standing) → number ≤ later → t.surface.canvas.widths ≡ w → AnswersAt number t whole → Lightens width_of t v later → AnswersAt later v whole
+  pub answers_lighter : (number later : ℕ) (t v : Terminal W) (whole : Standing) → number ≤ later → t.surface.grid.widths ≡ w → AnswersAt number t whole → Lightens width_of t v later → AnswersAt later v whole
   answers_lighter number later t v whole more e a l = record {
     kept = lightened f later a.kept;
     at = lightened_at t v a.kept later e a.at l;
@@ -126,6 +128,6 @@ module _ {W : Type 0} (width_of : W → List ℕ → ℕ) (w : W) where
   number_there number t whole a = ap (λ (x : Sized). x.log.number) a.at.log ∙ a.answers.logs.count
 
   -- where it is refused a number, so is the one that keeps all
-  pub needs_there : (number : ℕ) (t : Terminal W) (whole : Standing) (h : History) → AreFed h → t.surface.canvas.widths ≡ w → AnswersAt number t whole → NeedsNumber width_of t h → 2 ^ 64 ≤ (standing_behind f whole h).log.log.number
+  pub needs_there : (number : ℕ) (t : Terminal W) (whole : Standing) (h : History) → AreFed h → t.surface.grid.widths ≡ w → AnswersAt number t whole → NeedsNumber width_of t h → 2 ^ 64 ≤ (standing_after f whole h).log.log.number
   needs_there number t whole h fed e a n =
-      subst (λ m. 2 ^ 64 ≤ m) (answers_behind f number a.kept whole h fed a.answers).logs.count (needs_at t a.kept h e a.at n)
+      subst (λ m. 2 ^ 64 ≤ m) (answers_after f number a.kept whole h fed a.answers).logs.count (needs_at t a.kept h e a.at n)

@@ -4,8 +4,8 @@ use Rattle.std.specs.Prelude.{IfSome}
 use Rattle.std.specs.Io.KnownBytes.{Consumes, IsAtEnd}
 use Rattle.terminal.specs.Sent.{update_count}
 use Rattle.terminal.specs.Watched.{counted, counted_by}
-use Rattle.terminal_update.specs.Updates.{in_pieces}
-use Rattle.terminal_update.proofs.PieceLemmas.{grows, fills}
+use Rattle.terminal_viewers.specs.Updates.{in_pieces}
+use Rattle.terminal_viewers.proofs.PieceLemmas.{grows, fills}
 
 -- Of an input some pieces are done, with a flush behind each, and one has begun.
 pub record IsFlushing (every : ℕ) (input rest : List ℕ) (old now left : ℕ) : Type 0 where

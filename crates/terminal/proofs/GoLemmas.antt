@@ -1,21 +1,26 @@
 -- Terminals that go on by histories.
-use Rattle.std.proofs.Common.{◌≡◌, ℕ, ◌≤◌, ◌^◌, false, List, [], ◌∷◌, ◌++◌, map, fold, refl, sym, ap, subst, ◌∙◌}
+use Rattle.std.proofs.Common.{◌≡◌, ℕ, ◌≤◌, ◌^◌, Bool, false, List, [], ◌∷◌, ◌++◌, map, fold, inl, inr, refl, sym, ap, subst, ◌∙◌}
+use Rattle.std.specs.Prelude.{◌⊎◌}
 use Rattle.std.specs.String.{string_bytes}
 use Rattle.std.proofs.lemmas.Grind.{flat_map-append}
 use Rattle.std.proofs.lemmas.List.Sums.{fold-append}
-use Rattle.change_log.specs.LogSteps.{Sized, step_of_kept}
+use Rattle.screen_log.specs.LogSteps.{LogStep, Sized, step_of_kept}
 use Rattle.escape_framing.specs.Framed.{IsReached}
 use Rattle.escape_framing.specs.Cut.{newly_decided}
 use Rattle.escape_framing.specs.Held.{Held, held_of}
 use Rattle.escape_framing.proofs.Existence.CutLemmas.{is_the_cut}
 use Rattle.escape_framing.proofs.PlacedLemmas.{newly_join}
-use Rattle.escape_stream.specs.Items.{items}
+use Rattle.escape_stream.specs.Items.{Item, items}
+use Rattle.escape_stream.specs.PiecesView.{BytesTakeMemory}
 use Rattle.escape_stream.specs.StreamActions.{actions_of_dispatch, actions_of}
 use Rattle.escape_stream.proofs.SpellLemmas.{pieces_spell}
-use Rattle.terminal.specs.Terminal.{Terminal, StandsAt, GoesBy, NeedsNumber}
+use Rattle.terminal.specs.Headline.{StandsAt, GoesBy}
+use Rattle.terminal.specs.Refusals.{NeedsNumber}
+use Rattle.terminal.specs.Terminal.{Terminal}
 use Rattle.terminal_steps.specs.Events as steps
 use Rattle.terminal_steps.specs.Events.{IsReady, Had, view_of}
-use Rattle.terminal_steps.specs.Taking.{item_events, Leads}
+use Rattle.terminal_steps.specs.Memory.{TakesMemory}
+use Rattle.terminal_steps.specs.Items.{item_event, item_events, Leads, SomeNeedsMemory}
 use Rattle.terminal_steps.specs.declared.state.TerminalState.{TerminalState}
 use Rattle.terminal_steps.proofs.SpellLemmas.{call_state, call_held, call_logged, call_events, none_newly}
 use Rattle.terminal_table.specs.History.{History, Piece, Look, Resize, Forget, Event, Act, Looked, Resized, Forgot}
@@ -23,7 +28,7 @@ use Rattle.terminal_table.specs.History as table
 use Rattle.terminal_table.specs.Logged.{events_logged, logged, log_after}
 use Rattle.terminal_table.specs.Meaning.{View, event_done, after}
 use Rattle.terminal_table.specs.Turns.{IsView, AreEvents}
-use Rattle.terminal_table.proofs.JoinLemmas.{with_stream, all_done_with, logged_with, after_joins, logged_joins, PiecesJoin, cut_after, cut_logged, nothing_behind}
+use Rattle.terminal_table.proofs.JoinLemmas.{with_stream, all_done_with, logged_with, after_joins, logged_joins, PiecesJoin, cut_after, cut_logged, nothing_after}
 
 pub actions_join : PiecesJoin
 actions_join stream x y = ap actions_of (newly_join stream x y) ∙ flat_map-append actions_of_dispatch (newly_decided stream x) (newly_decided (stream ++ x) y)
@@ -59,7 +64,7 @@ with_parts s unfinished = record { surface = s.surface; saved = s.saved; replies
 
 module _ {W : Type 0} (width_of : W → List ℕ → ℕ) where
   abbrev of : Terminal W → List ℕ → ℕ
-  of t = width_of t.surface.canvas.widths
+  of t = width_of t.surface.grid.widths
 
   -- what a terminal's parts show, at a view
   same_view : (s : TerminalState W) (u : Held) (view : View) → StandsAt (with_parts s u) view → view_of s ≡ with_stream [] view
@@ -76,7 +81,7 @@ module _ {W : Type 0} (width_of : W → List ℕ → ℕ) where
 
   pub went : (s r : TerminalState W) (u w : Held) (history : History) (events : View → List Event)
       → IsReached u
-      → ((view : View) → AreOf (width_of s.surface.canvas.widths) view (events view) history)
+      → ((view : View) → AreOf (width_of s.surface.grid.widths) view (events view) history)
       → ((view : View) → u ≡ held_of view.stream → w ≡ held_of (view.stream ++ table.pieces history))
       → ((view : View) → u ≡ held_of view.stream → Had width_of s r (events view))
       → GoesBy width_of (with_parts s u) (with_parts r w) history
@@ -94,7 +99,7 @@ module _ {W : Type 0} (width_of : W → List ℕ → ℕ) where
       }
     where
       f : List ℕ → ℕ
-      f = width_of s.surface.canvas.widths
+      f = width_of s.surface.grid.widths
 
       shown : (view : View) → StandsAt (with_parts s u) view → view_of r ≡ with_stream [] (fold (event_done f) view (events view))
       shown view st = (had view st.unfinished).view ∙ ap (λ v. fold (event_done f) v (events view)) (same_view s u view st) ∙ all_done_with f view [] (events view)
@@ -104,13 +109,13 @@ module _ {W : Type 0} (width_of : W → List ℕ → ℕ) where
 
   -- what is refused a number
   pub past : (s : TerminalState W) (u : Held) (history : History) (events : View → List Event)
-      → ((view : View) → AreOf (width_of s.surface.canvas.widths) view (events view) history)
-      → ((view : View) → u ≡ held_of view.stream → 2 ^ 64 ≤ (steps.log_behind width_of s (events view)).log.number)
+      → ((view : View) → AreOf (width_of s.surface.grid.widths) view (events view) history)
+      → ((view : View) → u ≡ held_of view.stream → 2 ^ 64 ≤ (steps.final_log width_of s (events view)).log.number)
       → NeedsNumber width_of (with_parts s u) history
   past s u history events are number = λ view st.
       subst (λ (l : Sized). 2 ^ 64 ≤ l.log.number)
       (ap (fold step_of_kept s.surface.log)
-      (ap (λ v. events_logged (width_of s.surface.canvas.widths) v (events view)) (same_view s u view st) ∙ logged_with (width_of s.surface.canvas.widths) view [] (events view) ∙ (are view).logged))
+      (ap (λ v. events_logged (width_of s.surface.grid.widths) v (events view)) (same_view s u view st) ∙ logged_with (width_of s.surface.grid.widths) view [] (events view) ∙ (are view).logged))
       (number view st.unfinished)
 
   -- ---- a piece
@@ -120,7 +125,7 @@ module _ {W : Type 0} (width_of : W → List ℕ → ℕ) where
 
   -- what is unfinished behind it
   piece_ends : (u w : Held) (bytes : List ℕ) → ((stream : List ℕ) → u ≡ held_of stream → w ≡ held_of (stream ++ bytes)) → (view : View) → u ≡ held_of view.stream → w ≡ held_of (view.stream ++ table.pieces (Piece bytes ∷ []))
-  piece_ends u w bytes ends view e = ends view.stream e ∙ ap (λ xs. held_of (view.stream ++ xs)) (sym (nothing_behind bytes))
+  piece_ends u w bytes ends view e = ends view.stream e ∙ ap (λ xs. held_of (view.stream ++ xs)) (sym (nothing_after bytes))
 
   pub fed : (s r : TerminalState W) (u w : Held) (now : Terminal W) (bytes : List ℕ) → IsReached u → IsReady s → with_parts s u ≡ now
       → ((stream : List ℕ) → u ≡ held_of stream → Leads width_of s r (items stream bytes))
@@ -128,7 +133,7 @@ module _ {W : Type 0} (width_of : W → List ℕ → ℕ) where
       → GoesBy width_of now (with_parts r w) (Piece bytes ∷ [])
   fed s r u w now bytes reached ready same takes ends =
       subst (λ t. GoesBy width_of t (with_parts r w) (Piece bytes ∷ [])) same
-      (went s r u w (Piece bytes ∷ []) (λ view. item_events (items view.stream bytes)) reached (pieced bytes (width_of s.surface.canvas.widths)) (piece_ends u w bytes ends)
+      (went s r u w (Piece bytes ∷ []) (λ view. item_events (items view.stream bytes)) reached (pieced bytes (width_of s.surface.grid.widths)) (piece_ends u w bytes ends)
       (λ view e. takes view.stream e ready (events_are view.stream bytes)))
 
   pub fed_ready : (s r : TerminalState W) (u : Held) (bytes : List ℕ) → IsReached u → IsReady s
@@ -142,8 +147,46 @@ module _ {W : Type 0} (width_of : W → List ℕ → ℕ) where
       → ((stream : List ℕ) → u ≡ held_of stream → steps.NeedsNumber width_of s (item_events (items stream bytes))) → NeedsNumber width_of now (Piece bytes ∷ [])
   fed_past s u now bytes ready same numbers =
       subst (λ t. NeedsNumber width_of t (Piece bytes ∷ [])) same
-      (past s u (Piece bytes ∷ []) (λ view. item_events (items view.stream bytes)) (pieced bytes (width_of s.surface.canvas.widths))
+      (past s u (Piece bytes ∷ []) (λ view. item_events (items view.stream bytes)) (pieced bytes (width_of s.surface.grid.widths))
       (λ view e. numbers view.stream e ready (events_are view.stream bytes)))
+
+  -- what is refused memory for a view, whatever its stream
+  taken_with : (f : List ℕ → ℕ) (stream : List ℕ) (view : View) (log : Sized) (event : Event) (failed : Bool) → TakesMemory f (with_stream stream view) log event failed → TakesMemory f view log event failed
+  taken_with f stream view log (Act action) failed h = h
+  taken_with f stream view log Looked failed h = h
+  taken_with f stream view log (Resized width height) failed h = h
+  taken_with f stream view log (Forgot number) failed h = h
+
+  some_at : (f : List ℕ → ℕ) (s view : View) (log : Sized) (items : List Item) (failed : Bool) → s ≡ with_stream [] view → SomeNeedsMemory f s log items failed → SomeNeedsMemory f view log items failed
+  some_at f s view log items failed same some =
+      let es = item_events some.done in
+      let log_of : List LogStep → Sized = λ steps. fold step_of_kept log steps in
+      record {
+        done = some.done;
+        item = some.item;
+        left = some.left;
+        whole = some.whole;
+        takes = taken_with f [] (fold (event_done f) view es) (log_of (events_logged f view es)) (item_event some.item) failed
+            (subst (λ (steps : List LogStep). TakesMemory f (with_stream [] (fold (event_done f) view es)) (log_of steps) (item_event some.item) failed) (logged_with f view [] es)
+            (subst (λ (v : View). TakesMemory f v (log_of (events_logged f (with_stream [] view) es)) (item_event some.item) failed) (all_done_with f view [] es)
+            (subst (λ (v : View). TakesMemory f (fold (event_done f) v es) (log_of (events_logged f v es)) (item_event some.item) failed) same some.takes)));
+      }
+
+  pub fed_memory : (s : TerminalState W) (u : Held) (now : Terminal W) (bytes : List ℕ) (failed : Bool) → IsReady s → with_parts s u ≡ now
+      → ((stream : List ℕ) → u ≡ held_of stream → IsReady s → AreEvents (item_events (items stream bytes))
+      → BytesTakeMemory stream bytes ⊎ SomeNeedsMemory (width_of s.surface.grid.widths) (view_of s) s.surface.log (items stream bytes) failed)
+      → (view : View) → StandsAt now view → BytesTakeMemory view.stream bytes ⊎ SomeNeedsMemory (of now) view now.surface.log (items view.stream bytes) failed
+  fed_memory s u now bytes failed ready same takes =
+      subst (λ (t : Terminal W). (view : View) → StandsAt t view → BytesTakeMemory view.stream bytes ⊎ SomeNeedsMemory (of t) view t.surface.log (items view.stream bytes) failed) same
+      (λ view st. in_view view st (takes view.stream st.unfinished ready (events_are view.stream bytes)))
+    where
+      f : List ℕ → ℕ
+      f = width_of s.surface.grid.widths
+
+      in_view : (view : View) → StandsAt (with_parts s u) view → BytesTakeMemory view.stream bytes ⊎ SomeNeedsMemory f (view_of s) s.surface.log (items view.stream bytes) failed
+          → BytesTakeMemory view.stream bytes ⊎ SomeNeedsMemory f view s.surface.log (items view.stream bytes) failed
+      in_view view st (inl taken) = inl taken
+      in_view view st (inr some) = inr (some_at f (view_of s) view s.surface.log (items view.stream bytes) failed (same_view s u view st) some)
 
   pub fed_sound : (s : TerminalState W) (u : Held) (bytes : List ℕ) → IsReached u → IsReady s
       → ((stream : List ℕ) → u ≡ held_of stream → IsReady s → AreEvents (item_events (items stream bytes)) → ⊥) → ⊥
@@ -183,7 +226,7 @@ module _ {W : Type 0} (width_of : W → List ℕ → ℕ) where
 
   pub stays : (x : Terminal W) → x.is_failed ≡ false → GoesBy width_of x x (Piece [] ∷ [])
   stays x sound = record {
-    stands = λ view st. subst (StandsAt x) (sym (view_stays (of x) view)) (record { state = st.state; run = st.run; unfinished = st.unfinished ∙ ap held_of (sym (nothing_behind view.stream)) });
+    stands = λ view st. subst (StandsAt x) (sym (view_stays (of x) view)) (record { state = st.state; run = st.run; unfinished = st.unfinished ∙ ap held_of (sym (nothing_after view.stream)) });
     log = λ view st. ap (λ es. fold step_of_kept x.surface.log (events_logged (of x) view es)) (sym (no_events view.stream));
     widths = refl;
     sound = sound;

@@ -1,12 +1,19 @@
 -- What histories make of terminals.
-use Rattle.std.proofs.Common.{◌≡◌, ℕ, List, [], ◌∷◌, ◌++◌, length, fold, sym, ap, ◌∙◌}
-use Rattle.std.specs.Prelude.{◌==◌, if◌then◌else◌}
-use Rattle.change_log.specs.LogSteps.{Logged, step_of_kept}
+use Rattle.std.proofs.Common.{◌≡◌, ℕ, List, [], ◌∷◌, ◌++◌, length, fold, inl, inr, sym, ap, ◌∙◌}
+use Rattle.std.specs.List.{AllByRecursion}
+use Rattle.std.specs.Prelude.{◌==◌, ◌⊎◌, if◌then◌else◌}
+use Rattle.screen_log.specs.LogSteps.{Logged, step_of_kept}
 use Rattle.escape_framing.specs.Held.{held_of}
+use Rattle.escape_stream.specs.Items.{items}
+use Rattle.escape_stream.specs.PiecesView.{BytesTakeMemory}
 use Rattle.escape_stream.specs.StreamAction.{StreamAction}
 use Rattle.escape_stream.specs.StreamWritable.{IsWritable}
-use Rattle.terminal.specs.Terminal.{Terminal, StandsAt, GoesBy, IsIdle, IsAlike, state_in}
+use Rattle.terminal.specs.Headline.{StandsAt, GoesBy}
+use Rattle.terminal.specs.Refusals.{NeedsMemory}
+use Rattle.terminal.specs.Terminal.{Terminal, IsIdle, IsAlike, state_in}
 use Rattle.terminal.proofs.GoLemmas.{in_turn, joined}
+use Rattle.terminal_steps.specs.Items.{AsksNothing, SomeNeedsMemory}
+use Rattle.terminal_steps.proofs.MemoryLemmas.{quiet_items}
 use Rattle.terminal_table.specs.Alone as alone
 use Rattle.terminal_table.specs.Alone.{row_done, row_logged}
 use Rattle.terminal_table.specs.Changes.{run_change}
@@ -14,7 +21,7 @@ use Rattle.terminal_table.specs.History.{History, Look, Piece}
 use Rattle.terminal_table.specs.Logged.{logged}
 use Rattle.terminal_table.specs.Meaning.{View, after}
 use Rattle.terminal_table.specs.Steps.{run_step}
-use Rattle.terminal_table.proofs.JoinLemmas.{nothing_behind}
+use Rattle.terminal_table.proofs.JoinLemmas.{nothing_after}
 
 module _ {W : Type 0} (width_of : W → List ℕ → ℕ) where
   pub pieces_in_turn : (first between last : Terminal W) (x y : List ℕ) → GoesBy width_of first between (Piece x ∷ []) → GoesBy width_of between last (Piece y ∷ []) → GoesBy width_of first last (Piece (x ++ y) ∷ [])
@@ -34,9 +41,9 @@ module _ {W : Type 0} (width_of : W → List ℕ → ℕ) where
       let there = g.stands view st in
       let held : view.held ≡ [] = sym st.run ∙ none in
       record {
-        state = there.state ∙ ap (λ (text : List ℕ). if length text == 0 then view.state else run_step (width_of before.surface.canvas.widths) text view.state) held ∙ sym st.state;
+        state = there.state ∙ ap (λ (text : List ℕ). if length text == 0 then view.state else run_step (width_of before.surface.grid.widths) text view.state) held ∙ sym st.state;
         run = there.run ∙ sym none;
-        unfinished = there.unfinished ∙ ap held_of (nothing_behind view.stream) ∙ sym st.unfinished;
+        unfinished = there.unfinished ∙ ap held_of (nothing_after view.stream) ∙ sym st.unfinished;
         log = g.log view st ∙ ap (λ (text : List ℕ). fold step_of_kept before.surface.log ((if length text == 0 then [] else Logged (run_change text) ∷ []) ++ [])) held;
       }
 
@@ -45,7 +52,7 @@ module _ {W : Type 0} (width_of : W → List ℕ → ℕ) where
   idle_view t view idle st = record { run = sym st.run ∙ idle.run; stream = sym st.unfinished ∙ idle.unfinished }
 
   abbrev of : Terminal W → List ℕ → ℕ
-  of t = width_of t.surface.canvas.widths
+  of t = width_of t.surface.grid.widths
 
   pub alone_state : ((f : List ℕ → ℕ) (view : View) (action : StreamAction) → alone.IsIdle view → IsWritable (action ∷ []) → (after f view (alone.alone action)).state ≡ row_done f action view.state)
       → (before now : Terminal W) (view : View) (action : StreamAction) → IsIdle before → StandsAt before view → IsWritable (action ∷ []) → GoesBy width_of before now (alone.alone action) → state_in now ≡ row_done (of before) action (state_in before)
@@ -63,3 +70,12 @@ module _ {W : Type 0} (width_of : W → List ℕ → ℕ) where
   alone_idle law before now view action idle st w g =
       let behind = law (of before) view action (idle_view before view idle st) w in
       record { run = (g.stands view st).run ∙ behind.run; unfinished = (g.stands view st).unfinished ∙ behind.stream }
+
+  pub asks_nothing : (before now : Terminal W) (view : View) (bytes : List ℕ) → StandsAt before view → before.run ≡ []
+      → AllByRecursion AsksNothing (items view.stream bytes) → NeedsMemory width_of before bytes now → BytesTakeMemory view.stream bytes
+  asks_nothing before now view bytes st none all needs = taken (needs view st)
+    where
+      taken : BytesTakeMemory view.stream bytes ⊎ SomeNeedsMemory (width_of before.surface.grid.widths) view before.surface.log (items view.stream bytes) now.surface.is_failed
+          → BytesTakeMemory view.stream bytes
+      taken (inl taking) = taking
+      taken (inr some) = absurd (quiet_items (width_of before.surface.grid.widths) view before.surface.log (items view.stream bytes) now.surface.is_failed (sym st.run ∙ none) all some)

@@ -2,6 +2,7 @@ pub mod AnswerLemmas
 pub mod AppendLemmas
 pub mod FlushLemmas
 pub mod GoLemmas
+pub mod GroupLemmas
 pub mod LawLemmas
 pub mod PlayLemmas
 pub mod PrintLemmas
@@ -11,3 +12,4 @@ pub mod SpellLemmas
 pub mod UpdateLemmas
 pub mod ViewLemmas
 pub mod TakeLemmas
+pub mod WorkedLemmas

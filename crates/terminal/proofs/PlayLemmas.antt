@@ -1,14 +1,16 @@
 -- Steps that are played one by one.
 use Rattle.std.proofs.Common.{◌≡◌, ℕ, ◌+◌, ◌<◌, ◌≤◌, ◌^◌, false, List, [], ◌∷◌, ◌++◌, length, drop, get_or, refl, sym, ap, subst, ◌∙◌, append_assoc}
 use Rattle.std.proofs.lemmas.List.{drop_more, at_drop_more}
-use Rattle.change_log.specs.Log.{most_due, new_log}
-use Rattle.change_log.specs.LogSteps.{Sized}
+use Rattle.screen_log.specs.Log.{most_due, new_log}
+use Rattle.screen_log.specs.LogSteps.{Sized}
 use Rattle.terminal.specs.Played.{played, history_of, AreStepSizes}
 use Rattle.terminal.specs.declared.steps.Step.{Step}
 use Rattle.terminal.specs.declared.steps.Step.TheVariants as code
-use Rattle.terminal.specs.Terminal.{Terminal, StandsAt, GoesBy, NeedsNumber}
+use Rattle.terminal.specs.Headline.{StandsAt, GoesBy}
+use Rattle.terminal.specs.Refusals.{NeedsNumber}
+use Rattle.terminal.specs.Terminal.{Terminal}
 use Rattle.terminal.proofs.GoLemmas.{log_joins}
-use Rattle.terminal_steps.proofs.NumberLemmas.{past_behind}
+use Rattle.terminal_steps.proofs.NumberLemmas.{past_after}
 use Rattle.terminal_table.specs.History as history
 use Rattle.terminal_table.specs.History.{History}
 use Rattle.terminal_table.specs.Logged.{logged, log_after, log_of}
@@ -21,7 +23,7 @@ pub record IsPlayed {W : Type 0} (width_of : W → List ℕ → ℕ) (widths : W
   pub whole : all ≡ done ++ left
   pub stands : StandsAt t (meaning (width_of widths) width height done)
   pub log : t.surface.log ≡ log_of (width_of widths) width height done
-  pub same : t.surface.canvas.widths ≡ widths
+  pub same : t.surface.grid.widths ≡ widths
   pub sound : t.is_failed ≡ false
 
 module _ {W : Type 0} (width_of : W → List ℕ → ℕ) (w : W) (width height : ℕ) where
@@ -31,7 +33,7 @@ module _ {W : Type 0} (width_of : W → List ℕ → ℕ) (w : W) (width height 
   abbrev first : Sized
   first = record { most = most_due width height; log = new_log }
 
-  pub played_first : (all : History) (t : Terminal W) → StandsAt t (new_view width height) → t.surface.log ≡ first → t.surface.canvas.widths ≡ w → t.is_failed ≡ false → IsPlayed width_of w width height all all t
+  pub played_first : (all : History) (t : Terminal W) → StandsAt t (new_view width height) → t.surface.log ≡ first → t.surface.grid.widths ≡ w → t.is_failed ≡ false → IsPlayed width_of w width height all all t
   played_first all t st log widths sound = record { done = []; whole = refl; stands = st; log = log; same = widths; sound = sound }
 
   pub played_next : (all left : History) (x : history.Step) (t u : Terminal W) → IsPlayed width_of w width height all (x ∷ left) t → GoesBy width_of t u (x ∷ []) → IsPlayed width_of w width height all left u
@@ -60,7 +62,7 @@ module _ {W : Type 0} (width_of : W → List ℕ → ℕ) (w : W) (width height 
   played_past all left x t p n =
       subst (λ (l : Sized). 2 ^ 64 ≤ l.log.number) (ap (log_of f width height) (sym whole))
       (subst (λ (l : Sized). 2 ^ 64 ≤ l.log.number) (sym (log_joins width_of f (new_view width height) first (p.done ++ x ∷ []) left))
-      (past_behind (log_of f width height (p.done ++ x ∷ [])) (logged f (meaning f width height (p.done ++ x ∷ [])) left) so_far))
+      (past_after (log_of f width height (p.done ++ x ∷ [])) (logged f (meaning f width height (p.done ++ x ∷ [])) left) so_far))
     where
       whole : all ≡ (p.done ++ x ∷ []) ++ left
       whole = p.whole ∙ sym (append_assoc p.done (x ∷ []) left)
@@ -84,10 +86,10 @@ module _ {W : Type 0} (width_of : W → List ℕ → ℕ) (w : W) (width height 
       played_past (history_of steps) (history_of (drop (i + 1) steps)) (played (get_or steps i d)) t
       (subst (λ l. IsPlayed width_of w width height (history_of steps) l t) (at_drop_more history_of steps i d h) p) n
 
-sizes_behind : (step : Step) (steps : List Step) → AreStepSizes (step ∷ steps) → AreStepSizes steps
-sizes_behind (code.Feed bytes) steps h = h
-sizes_behind code.Settle steps h = h
-sizes_behind (code.Resize width height) steps h = h.2
+sizes_after : (step : Step) (steps : List Step) → AreStepSizes (step ∷ steps) → AreStepSizes steps
+sizes_after (code.Feed bytes) steps h = h
+sizes_after code.Settle steps h = h
+sizes_after (code.Resize width height) steps h = h.2
 
 pub sizes_left : (steps : List Step) (i : ℕ) (d : Step) → i < length steps → AreStepSizes (drop i steps) → AreStepSizes (drop (i + 1) steps)
-sizes_left steps i d h s = sizes_behind (get_or steps i d) (drop (i + 1) steps) (subst AreStepSizes (drop_more steps i d h) s)
+sizes_left steps i d h s = sizes_after (get_or steps i d) (drop (i + 1) steps) (subst AreStepSizes (drop_more steps i d h) s)

@@ -6,10 +6,10 @@ use Rattle.std.proofs.lemmas.Grind.{flat_map-append}
 use Rattle.std.proofs.lemmas.Str.{encodes-chars}
 use Rattle.escape_stream.specs.StreamAction.{StreamAction, print, print_string, control, enter, data_byte, exit, command, csi, esc, printed}
 use Rattle.escape_stream.specs.StreamText.{closes_string, is_string_terminator}
-use Rattle.escape_stream.specs.StreamWritable.{HasTexts, IsWritable, IsWritableBehind, characters_of, read_form, read_form_behind, terminator_before}
-use Rattle.terminal_spelling.specs.Sizes.{prints_in}
+use Rattle.escape_stream.specs.StreamWritable.{HasTexts, IsWritable, IsWritableAfter, characters_of, read_form, read_form_after, terminator_before}
+use Rattle.terminal_render.specs.EncodedSizes.{prints_in}
 
-has_texts : (before : Option ℕ) (actions : List StreamAction) → IsWritableBehind before actions → HasTexts actions
+has_texts : (before : Option ℕ) (actions : List StreamAction) → IsWritableAfter before actions → HasTexts actions
 has_texts None [] w = tt
 has_texts None (print character ∷ others) w = has_texts None others w.1
 has_texts None (print_string text ∷ others) w = (w.0.utf8, has_texts None others w.1)
@@ -62,11 +62,11 @@ first_has (command c) others h = (tt, h)
 first_has (csi a) others h = (tt, h)
 first_has (esc e) others h = (tt, h)
 
-read_prints : (closed : Bool) (actions : List StreamAction) → HasTexts actions → prints_in (read_form_behind closed actions) ≡ prints_in actions
+read_prints : (closed : Bool) (actions : List StreamAction) → HasTexts actions → prints_in (read_form_after closed actions) ≡ prints_in actions
 read_prints closed [] h = terminator_prints closed false
 read_prints closed (a ∷ others) h =
     let front = terminator_before closed (is_string_terminator a) in
-    let behind = read_form_behind (closes_string a) others in
+    let behind = read_form_after (closes_string a) others in
     let has = first_has a others h in
     let first = flat_map-append printed front (characters_of a) ∙ ap (λ text. text ++ prints_in (characters_of a)) (terminator_prints closed (is_string_terminator a)) ∙ action_prints a has.0 in
     flat_map-append printed (front ++ characters_of a) behind ∙ (λ i. first i ++ read_prints (closes_string a) others has.1 i)

@@ -7,33 +7,35 @@ use Rattle.cell_surface.specs.Surface.{number_of}
 use Rattle.terminal.specs.Fed.{AnswersAt, AnswersNow, IsFed, FeedsOn, Feeds, FeedingNeedsNumber}
 use Rattle.terminal.specs.Sent.{IsAt, Lightens}
 use Rattle.terminal.specs.Shown.{rows_shown}
-use Rattle.terminal.specs.Terminal.{Terminal, GoesBy, NeedsNumber, state_in}
+use Rattle.terminal.specs.Headline.{GoesBy}
+use Rattle.terminal.specs.Refusals.{NeedsNumber}
+use Rattle.terminal.specs.Terminal.{Terminal, state_in}
 use Rattle.terminal.proofs.AnswerLemmas.{pieces_join, number_rises, answers_first, answers_on, answers_at_rest, answers_later, answers_lighter, number_there, needs_there}
 use Rattle.terminal_table.specs.History.{History, Piece, Look, Forget}
 use Rattle.terminal_table.specs.Logged.{log_of}
 use Rattle.terminal_table.specs.Meaning.{meaning}
-use Rattle.terminal_update.specs.Updates.{Standing, new_standing, standing_behind}
-use Rattle.terminal_update.specs.Viewers.{AreFed}
-use Rattle.terminal_update.proofs.PieceLemmas.{standings_join}
+use Rattle.terminal_viewers.specs.Updates.{Standing, new_standing, standing_after}
+use Rattle.terminal_viewers.specs.Viewers.{AreFed}
+use Rattle.terminal_viewers.proofs.PieceLemmas.{standings_join}
 
 -- ---- an input that is being read
 
 module _ {W : Type 0} (width_of : W → List ℕ → ℕ) where
   abbrev of : Terminal W → List ℕ → ℕ
-  of t = width_of t.surface.canvas.widths
+  of t = width_of t.surface.grid.widths
 
   none_fed : (t : Terminal W) → t.is_failed ≡ false → IsFed width_of [] t t
   none_fed t sound = record {
     answers = λ start at counted.
-        let whole = standing_behind (of t) start (Piece [] ∷ []) in
-        answers_at_rest width_of t.surface.canvas.widths whole.log.log.number t start refl sound (answers_first width_of t.surface.canvas.widths whole.log.log.number t start at counted);
+        let whole = standing_after (of t) start (Piece [] ∷ []) in
+        answers_at_rest width_of t.surface.grid.widths whole.log.log.number t start refl sound (answers_first width_of t.surface.grid.widths whole.log.log.number t start at counted);
     widths = refl;
   }
 
   -- bytes are fed, and looks taken
-  goes_on : (w : W) (t u : Terminal W) (whole : Standing) (h : History) → AreFed h → t.surface.canvas.widths ≡ w → AnswersNow t whole → GoesBy width_of t u h → AnswersNow u (standing_behind (width_of w) whole h)
+  goes_on : (w : W) (t u : Terminal W) (whole : Standing) (h : History) → AreFed h → t.surface.grid.widths ≡ w → AnswersNow t whole → GoesBy width_of t u h → AnswersNow u (standing_after (width_of w) whole h)
   goes_on w t u whole h fed e a g =
-      answers_later width_of w whole.log.log.number (standing_behind (width_of w) whole h).log.log.number u (standing_behind (width_of w) whole h) (number_rises (width_of w) whole h)
+      answers_later width_of w whole.log.log.number (standing_after (width_of w) whole h).log.log.number u (standing_after (width_of w) whole h) (number_rises (width_of w) whole h)
       (answers_on width_of w whole.log.log.number t u whole h fed e a g)
 
   -- bytes more, behind which the changes are forgotten and the replies dropped
@@ -41,12 +43,12 @@ module _ {W : Type 0} (width_of : W → List ℕ → ℕ) where
       → IsFed width_of (fed ++ bytes) t then
   more_fed t now u then fed bytes number h g n l = record {
     answers = λ start at counted.
-        let w = t.surface.canvas.widths in
-        let whole = standing_behind (of t) start (Piece (fed ++ bytes) ∷ []) in
-        let a = subst (AnswersNow u) (pieces_join (of t) start fed bytes) (goes_on w now u (standing_behind (of t) start (Piece fed ∷ [])) (Piece bytes ∷ []) tt h.widths (h.answers start at counted) g) in
+        let w = t.surface.grid.widths in
+        let whole = standing_after (of t) start (Piece (fed ++ bytes) ∷ []) in
+        let a = subst (AnswersNow u) (pieces_join (of t) start fed bytes) (goes_on w now u (standing_after (of t) start (Piece fed ∷ [])) (Piece bytes ∷ []) tt h.widths (h.answers start at counted) g) in
         let there = n ∙ number_there width_of w whole.log.log.number u whole a in
         subst (λ m. AnswersAt m then whole) there (answers_lighter width_of w whole.log.log.number number u then whole (omega (arith, there)) (g.widths ∙ h.widths) a l);
-    widths = ap (λ (x : Terminal W). x.surface.canvas.widths) l.dropped ∙ l.goes.widths ∙ g.widths ∙ h.widths;
+    widths = ap (λ (x : Terminal W). x.surface.grid.widths) l.dropped ∙ l.goes.widths ∙ g.widths ∙ h.widths;
   }
 
   pub feeds_first : (input : Option (List ℕ)) (t : Terminal W) → t.is_failed ≡ false → FeedsOn width_of input input t t
@@ -77,25 +79,25 @@ module _ {W : Type 0} (width_of : W → List ℕ → ℕ) where
   number_fed (Some input) None next t now bytes h c n = absurd h
   number_fed (Some input) (Some rest) None t now bytes h c n = absurd c
   number_fed (Some input) (Some rest) (Some next) t now bytes h c n = λ start at counted.
-      let fed = standing_behind (of t) start (Piece h.fed ∷ []) in
-      let there = standing_behind (of t) fed (Piece bytes ∷ []) in
-      let past = needs_there width_of t.surface.canvas.widths fed.log.log.number now fed (Piece bytes ∷ []) tt h.is.widths (h.is.answers start at counted) n in
+      let fed = standing_after (of t) start (Piece h.fed ∷ []) in
+      let there = standing_after (of t) fed (Piece bytes ∷ []) in
+      let past = needs_there width_of t.surface.grid.widths fed.log.log.number now fed (Piece bytes ∷ []) tt h.is.widths (h.is.answers start at counted) n in
       let rises = number_rises (of t) there (Piece next ∷ []) in
-      let whole : standing_behind (of t) there (Piece next ∷ []) ≡ standing_behind (of t) start (Piece input ∷ [])
-      = ap (λ x. standing_behind (of t) x (Piece next ∷ [])) (pieces_join (of t) start h.fed bytes) ∙ pieces_join (of t) start (h.fed ++ bytes) next
-      ∙ ap (λ l. standing_behind (of t) start (Piece l ∷ [])) (append_assoc h.fed bytes next ∙ ap (λ l. h.fed ++ l) (sym c) ∙ sym h.whole) in
+      let whole : standing_after (of t) there (Piece next ∷ []) ≡ standing_after (of t) start (Piece input ∷ [])
+      = ap (λ x. standing_after (of t) x (Piece next ∷ [])) (pieces_join (of t) start h.fed bytes) ∙ pieces_join (of t) start (h.fed ++ bytes) next
+      ∙ ap (λ l. standing_after (of t) start (Piece l ∷ [])) (append_assoc h.fed bytes next ∙ ap (λ l. h.fed ++ l) (sym c) ∙ sym h.whole) in
       subst (λ (x : Standing). 2 ^ 64 ≤ x.log.log.number) whole (omega arith)
 
   -- ---- a new terminal that is fed all of an input, and settles
 
-  module _ (w : W) (width height : ℕ) (new : Terminal W) (at : IsAt new (new_standing width height)) (e : new.surface.canvas.widths ≡ w) where
+  module _ (w : W) (width height : ℕ) (new : Terminal W) (at : IsAt new (new_standing width height)) (e : new.surface.grid.widths ≡ w) where
     -- after the look at the end, with the changes forgotten, it shows what one that keeps all does
     shows : (input : List ℕ) (fed looked now : Terminal W) (number : ℕ) → IsFed width_of input new fed → GoesBy width_of fed looked (Look ∷ []) → GoesBy width_of looked now (Forget number ∷ [])
         → (state_in now).screen ≡ (meaning (width_of w) width height (Piece input ∷ Look ∷ [])).state.screen
     shows input fed looked now number h g forget =
         let start = new_standing width height in
-        let whole = standing_behind (of new) start (Piece input ∷ []) in
-        let a = goes_on new.surface.canvas.widths fed looked whole (Look ∷ []) tt h.widths (h.answers start at (omega arith)) g in
+        let whole = standing_after (of new) start (Piece input ∷ []) in
+        let a = goes_on new.surface.grid.widths fed looked whole (Look ∷ []) tt h.widths (h.answers start at (omega arith)) g in
         ap (λ s. s.screen) (forget.stands a.kept.view a.at.stands).state ∙ a.answers.views.screen ∙ ap (λ (x : Standing). x.view.state.screen) (sym (standings_join (of new) start (Piece input ∷ []) (Look ∷ [])))
         ∙ ap (λ v. (meaning (width_of v) width height (Piece input ∷ Look ∷ [])).state.screen) e
 
@@ -106,7 +108,7 @@ module _ {W : Type 0} (width_of : W → List ℕ → ℕ) where
 
     -- ---- what refused a number
 
-    past : (input : List ℕ) → 2 ^ 64 ≤ (standing_behind (of new) (standing_behind (of new) (new_standing width height) (Piece input ∷ [])) (Look ∷ [])).log.log.number
+    past : (input : List ℕ) → 2 ^ 64 ≤ (standing_after (of new) (standing_after (of new) (new_standing width height) (Piece input ∷ [])) (Look ∷ [])).log.log.number
         → 2 ^ 64 ≤ (log_of (width_of w) width height (Piece input ∷ Look ∷ [])).log.number
     past input n =
         subst (λ v. 2 ^ 64 ≤ (log_of (width_of v) width height (Piece input ∷ Look ∷ [])).log.number) e
@@ -116,14 +118,14 @@ module _ {W : Type 0} (width_of : W → List ℕ → ℕ) where
     number_at_look None n = tt
     number_at_look (Some x) n =
         let there = n (new_standing width height) at (omega arith) in
-        let rises = number_rises (of new) (standing_behind (of new) (new_standing width height) (Piece x ∷ [])) (Look ∷ []) in
+        let rises = number_rises (of new) (standing_after (of new) (new_standing width height) (Piece x ∷ [])) (Look ∷ []) in
         past x (omega arith)
 
     pub number_of_look : (input : Option (List ℕ)) (fed : Terminal W) → Feeds width_of input new fed → NeedsNumber width_of fed (Look ∷ []) → IfSome input (λ x. 2 ^ 64 ≤ (log_of (width_of w) width height (Piece x ∷ Look ∷ [])).log.number)
     number_of_look None fed h n = tt
     number_of_look (Some x) fed h n =
-        let whole = standing_behind (of new) (new_standing width height) (Piece x ∷ []) in
-        past x (needs_there width_of new.surface.canvas.widths whole.log.log.number fed whole (Look ∷ []) tt h.widths (h.answers (new_standing width height) at (omega arith)) n)
+        let whole = standing_after (of new) (new_standing width height) (Piece x ∷ []) in
+        past x (needs_there width_of new.surface.grid.widths whole.log.log.number fed whole (Look ∷ []) tt h.widths (h.answers (new_standing width height) at (omega arith)) n)
 
 pub rows_are : (f : List ℕ → ℕ) (width height : ℕ) (input : Option (List ℕ)) (screen : Screen) (bytes : List ℕ) → IfSome input (λ x. screen ≡ (meaning f width height (Piece x ∷ Look ∷ [])).state.screen)
     → bytes ≡ screen_text screen → IfSome input (λ x. bytes ≡ rows_shown f width height x)

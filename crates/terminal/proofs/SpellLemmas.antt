@@ -5,7 +5,7 @@ use Rattle.std.proofs.lemmas.List.{length-replicate}
 use Rattle.cell_base.specs.Screen.{Screen, height}
 use Rattle.cell_base.specs.Row.{plain_row}
 use Rattle.cell_surface.specs.Surface.{shown_by}
-use Rattle.change_log.specs.LogSteps.{Sized}
+use Rattle.screen_log.specs.LogSteps.{Sized}
 use Rattle.escape_framing.proofs.Existence.CutLemmas.{is_the_cut}
 use Rattle.escape_framing.specs.Framed.{IsReached}
 use Rattle.escape_framing.specs.Held.{Held, held_of}
@@ -13,14 +13,15 @@ use Rattle.escape_stream.specs.Items.{items}
 use Rattle.escape_stream.specs.StreamAction.{StreamAction, is_print}
 use Rattle.escape_stream.specs.StreamActions.{newly_decided_actions}
 use Rattle.screen_effects.specs.Resize.{resized_row, resized_screen}
-use Rattle.terminal.specs.Terminal.{Terminal, StandsAt, GoesBy, IsSpelled}
+use Rattle.terminal.specs.Headline.{StandsAt, GoesBy}
+use Rattle.terminal.specs.Terminal.{Terminal, IsSpelled}
 use Rattle.terminal.proofs.GoLemmas.{with_parts, stands_somewhere, looked, resized, forgot, went, fed, events_are as events_are_lawful}
-use Rattle.terminal_spelling.specs.Spelling.{HaveSpellings, IsSpelledSaved, IsSpelledScreen, IsSpelledText, IsSpelledView}
-use Rattle.terminal_spelling.proofs.LogLemmas.{history_keeps}
-use Rattle.terminal_spelling.proofs.StreamLemmas.{history_spelled}
-use Rattle.terminal_spelling.proofs.ViewLemmas.{HasSize, new_spelled, settled_is, settled_size, step_size}
+use Rattle.terminal_render.specs.Spelling.{HaveSpellings, IsSpelledSaved, IsSpelledScreen, IsSpelledText, IsSpelledView}
+use Rattle.terminal_render.proofs.LogLemmas.{history_keeps}
+use Rattle.terminal_render.proofs.StreamLemmas.{history_spelled}
+use Rattle.terminal_render.proofs.ViewLemmas.{HasSize, new_spelled, settled_is, settled_size, step_size}
 use Rattle.terminal_steps.specs.Events.{IsReady, Had}
-use Rattle.terminal_steps.specs.Taking.{Leads, item_events}
+use Rattle.terminal_steps.specs.Items.{Leads, item_events}
 use Rattle.terminal_steps.specs.declared.state.TerminalState.{TerminalState}
 use Rattle.terminal_table.specs.Functions.{function_of}
 use Rattle.terminal_table.specs.History.{History, Piece, Look, Resize, Forget, Event, Act, Looked, Resized, Forgot, events}
@@ -28,7 +29,7 @@ use Rattle.terminal_table.specs.Meaning.{View, new_view, settled, event_done, af
 use Rattle.terminal_table.specs.Steps.{step_of}
 use Rattle.terminal_table.specs.Turns.{IsView, AreEvents, AreSizes}
 use Rattle.terminal_table.proofs.EventLemmas.{event_is}
-use Rattle.terminal_table.proofs.JoinLemmas.{nothing_behind}
+use Rattle.terminal_table.proofs.JoinLemmas.{nothing_after}
 use Rattle.terminal_table.proofs.PrintLemmas.{AllCut, events_are}
 
 cut : AllCut
@@ -109,7 +110,7 @@ history_small f v history h s k p = all_small f v (events v.stream history) h (e
 
 module _ {W : Type 0} (width_of : W → List ℕ → ℕ) where
   abbrev of : Terminal W → List ℕ → ℕ
-  of t = width_of t.surface.canvas.widths
+  of t = width_of t.surface.grid.widths
 
   -- a terminal whose changes can be sent stands at such views
   view_spelled : (t : Terminal W) (view : View) → StandsAt t view → IsSpelled t → IsSpelledView view
@@ -122,9 +123,9 @@ module _ {W : Type 0} (width_of : W → List ℕ → ℕ) where
   at_view : (t : Terminal W) (view : View) → StandsAt t view → (shown_by t.surface).screen ≡ view.state.screen
   at_view t view st = ap (λ s. s.screen) st.state
 
-  pub spelled_behind : (x y : Terminal W) (history : History) (view : View) → StandsAt x view → IsView view → AreSizes history → AreSmall history → IsSpelled x → GoesBy width_of x y history
+  pub spelled_after : (x y : Terminal W) (history : History) (view : View) → StandsAt x view → IsView view → AreSizes history → AreSmall history → IsSpelled x → GoesBy width_of x y history
       → (shown_by y.surface).shape ≡ (shown_by x.surface).shape → y.surface.is_failed ≡ false → IsSpelled y
-  spelled_behind x y history view st lawful sizes small p g shape stays =
+  spelled_after x y history view st lawful sizes small p g shape stays =
       let next = after (of x) view history in
       let there = g.stands view st in
       let spelled : IsSpelledView next = history_spelled cut (of x) view history lawful sizes (view_spelled x view st p) in
@@ -173,25 +174,25 @@ module _ {W : Type 0} (width_of : W → List ℕ → ℕ) where
       → GoesBy width_of (with_parts s u) (with_parts r w) history → Had width_of s r events → IsSpelled (with_parts r w)
   parts_spelled s r u w history events reached ready sizes small p g had =
       let some = stands_somewhere width_of s u (with_parts s u) reached ready refl in
-      spelled_behind (with_parts s u) (with_parts r w) history some.0 some.1 some.2 sizes small p g had.shape had.ready.stays
+      spelled_after (with_parts s u) (with_parts r w) history some.0 some.1 some.2 sizes small p g had.shape had.ready.stays
 
   still_held : (u : Held) (view : View) → u ≡ held_of view.stream → u ≡ held_of (view.stream ++ [])
-  still_held u view e = e ∙ ap held_of (sym (nothing_behind view.stream))
+  still_held u view e = e ∙ ap held_of (sym (nothing_after view.stream))
 
   pub looked_spelled : (s r : TerminalState W) (u : Held) → IsReached u → IsReady s → IsSpelled (with_parts s u) → Had width_of s r (Looked ∷ []) → IsSpelled (with_parts r u)
   looked_spelled s r u reached ready p had =
       parts_spelled s r u u (Look ∷ []) (Looked ∷ []) reached ready tt tt p
-      (went width_of s r u u (Look ∷ []) (λ view. Looked ∷ []) reached (looked (width_of s.surface.canvas.widths)) (still_held u) (λ view e. had)) had
+      (went width_of s r u u (Look ∷ []) (λ view. Looked ∷ []) reached (looked (width_of s.surface.grid.widths)) (still_held u) (λ view e. had)) had
 
   pub resized_spelled : (s r : TerminalState W) (u : Held) (width rows : ℕ) → (0 < width) × (width < 2 ^ 32) → (0 < rows) × (rows < 2 ^ 32) → IsReached u → IsReady s → IsSpelled (with_parts s u) → Had width_of s r (Resized width rows ∷ []) → IsSpelled (with_parts r u)
   resized_spelled s r u width rows wide tall reached ready p had =
       parts_spelled s r u u (Resize width rows ∷ []) (Resized width rows ∷ []) reached ready (wide.0, tall.0, tt) (wide.1, tall.1, tt) p
-      (went width_of s r u u (Resize width rows ∷ []) (λ view. Resized width rows ∷ []) reached (resized width rows (width_of s.surface.canvas.widths)) (still_held u) (λ view e. had)) had
+      (went width_of s r u u (Resize width rows ∷ []) (λ view. Resized width rows ∷ []) reached (resized width rows (width_of s.surface.grid.widths)) (still_held u) (λ view e. had)) had
 
   pub forgot_spelled : (s r : TerminalState W) (u : Held) (number : ℕ) → IsReached u → IsReady s → IsSpelled (with_parts s u) → Had width_of s r (Forgot number ∷ []) → IsSpelled (with_parts r u)
   forgot_spelled s r u number reached ready p had =
       parts_spelled s r u u (Forget number ∷ []) (Forgot number ∷ []) reached ready tt tt p
-      (went width_of s r u u (Forget number ∷ []) (λ view. Forgot number ∷ []) reached (forgot number (width_of s.surface.canvas.widths)) (still_held u) (λ view e. had)) had
+      (went width_of s r u u (Forget number ∷ []) (λ view. Forgot number ∷ []) reached (forgot number (width_of s.surface.grid.widths)) (still_held u) (λ view e. had)) had
 
   pub fed_spelled : (s r : TerminalState W) (u w : Held) (bytes : List ℕ) → IsReached u → IsReady s → IsSpelled (with_parts s u)
       → ((stream : List ℕ) → u ≡ held_of stream → Leads width_of s r (items stream bytes))

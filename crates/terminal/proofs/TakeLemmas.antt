@@ -1,21 +1,22 @@
 -- Replies that are taken change nothing else of a terminal.
 use Rattle.std.proofs.Common.{◌≡◌, ℕ, false, List, [], ◌∷◌, ◌++◌, fold, refl, sym, ap, subst, ◌∙◌, append-nil, append_assoc}
-use Rattle.change_log.specs.LogSteps.{step_of_kept}
+use Rattle.screen_log.specs.LogSteps.{step_of_kept}
 use Rattle.escape_framing.specs.Held.{held_of}
-use Rattle.terminal.specs.Taking.{Call, Goes, Takes, GoesThrough, history_in, taken_in, with_taken}
-use Rattle.terminal.specs.Terminal.{Terminal, StandsAt, GoesBy, state_in}
+use Rattle.terminal.specs.Calls.{Call, Goes, Takes, GoesThrough, history_in, taken_in, with_taken}
+use Rattle.terminal.specs.Headline.{StandsAt, GoesBy}
+use Rattle.terminal.specs.Terminal.{Terminal, state_in}
 use Rattle.terminal.proofs.GoLemmas.{in_turn}
 use Rattle.terminal_table.specs.History.{History}
 use Rattle.terminal_table.specs.Logged.{logged}
 use Rattle.terminal_table.specs.Meaning.{View, after}
 use Rattle.terminal_table.specs.Replies as view
 use Rattle.terminal_table.specs.State.{State}
-use Rattle.terminal_table.proofs.JoinLemmas.{nothing_behind}
+use Rattle.terminal_table.proofs.JoinLemmas.{nothing_after}
 use Rattle.terminal_table.proofs.ReplyLemmas.{after_with, logged_with_taken}
 
 module _ {W : Type 0} (width_of : W → List ℕ → ℕ) where
   abbrev of : Terminal W → List ℕ → ℕ
-  of t = width_of t.surface.canvas.widths
+  of t = width_of t.surface.grid.widths
 
   -- where it stands without the replies that were taken
   abbrev own : Terminal W → View → View
@@ -39,7 +40,7 @@ module _ {W : Type 0} (width_of : W → List ℕ → ℕ) where
 
   stays : (t : Terminal W) → t.is_failed ≡ false → GoesBy width_of t t []
   stays t sound = record {
-    stands = λ v st. record { state = st.state; run = st.run; unfinished = st.unfinished ∙ ap held_of (sym (nothing_behind v.stream)) };
+    stands = λ v st. record { state = st.state; run = st.run; unfinished = st.unfinished ∙ ap held_of (sym (nothing_after v.stream)) };
     log = λ v st. refl;
     widths = refl;
     sound = sound;

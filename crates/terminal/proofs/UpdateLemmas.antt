@@ -7,16 +7,18 @@ use Rattle.std.specs.Io.KnownBytes.{Appends}
 use Rattle.cell_surface.specs.Surface.{number_of}
 use Rattle.escape_framing.proofs.Existence.Utf8Lemmas.{order}
 use Rattle.terminal.specs.Fed.{AnswersAt}
-use Rattle.terminal.specs.Sent.{IsAt, IsCounted, Lightens, Sent, SendsPart, due_from, looked, lightened, update_at, updates_from, number_behind}
+use Rattle.terminal.specs.Sent.{IsAt, IsCounted, Lightens, Sent, SendsPart, due_from, looked, lightened, update_at, updates_from, number_after}
 use Rattle.terminal.specs.Shown.{AppendsPrefix}
-use Rattle.terminal.specs.Terminal.{Terminal, GoesBy, NeedsNumber}
+use Rattle.terminal.specs.Headline.{GoesBy}
+use Rattle.terminal.specs.Refusals.{NeedsNumber}
+use Rattle.terminal.specs.Terminal.{Terminal}
 use Rattle.terminal.proofs.AnswerLemmas.{pieces_join, number_rises, update_alike, answers_first, answers_on, answers_at_rest, answers_lightened, answers_lighter, number_there, needs_there}
 use Rattle.terminal.proofs.GoLemmas.{actions_join}
 use Rattle.terminal_table.specs.History.{History, Piece, Look}
-use Rattle.terminal_update.specs.Updates.{Standing, in_pieces, looks, standing_behind, updates_behind}
-use Rattle.terminal_update.specs.Viewers.{AnswersAs}
-use Rattle.terminal_update.proofs.KeptLemmas.{answers_behind}
-use Rattle.terminal_update.proofs.PieceLemmas.{grows, fills, standings_join, standings_cut}
+use Rattle.terminal_viewers.specs.Updates.{Standing, in_pieces, looks, standing_after, updates_after}
+use Rattle.terminal_viewers.specs.Viewers.{AnswersAs}
+use Rattle.terminal_viewers.proofs.KeptLemmas.{answers_after}
+use Rattle.terminal_viewers.proofs.PieceLemmas.{grows, fills, standings_join, standings_cut}
 
 -- ---- known bytes
 
@@ -27,8 +29,8 @@ appends_both (Some l) (Some m) None x y h k = absurd k
 appends_both (Some l) (Some m) (Some n) x y h k = k ∙ ap (λ s. s ++ y) h ∙ append_assoc l x y
 
 -- the first of some bytes are the first of these with others behind
-pub prefix_behind : (a b c : Option (List ℕ)) (x y z : List ℕ) → Appends a b x → AppendsPrefix b c y → AppendsPrefix a c (x ++ (y ++ z))
-prefix_behind a b c x y z h k = record {
+pub prefix_after : (a b c : Option (List ℕ)) (x y z : List ℕ) → Appends a b x → AppendsPrefix b c y → AppendsPrefix a c (x ++ (y ++ z))
+prefix_after a b c x y z h k = record {
   written = x ++ k.written;
   others = k.others ++ z;
   whole = ap (λ s. x ++ (s ++ z)) k.whole ∙ ap (λ s. x ++ s) (append_assoc k.written k.others z) ∙ sym (append_assoc x k.written (k.others ++ z));
@@ -113,13 +115,13 @@ module _ {W : Type 0} (width_of : W → List ℕ → ℕ) (w : W) where
     pub room : length begun + left ≡ every
     pub pieces : (more : List ℕ) → in_pieces every [] (read ++ more) ≡ done ++ in_pieces every begun more
     pub appends : Appends old now written
-    pub leads : (ps : List (List ℕ)) → updates_behind f start 0 (done ++ ps) ≡ written ++ updates_behind f last number ps
-    pub last_is : last ≡ standing_behind f start (looks done)
+    pub leads : (ps : List (List ℕ)) → updates_after f start 0 (done ++ ps) ≡ written ++ updates_after f last number ps
+    pub last_is : last ≡ standing_after f start (looks done)
     pub asked : (number ≡ 0) ⊎ (from ≡ number)
-    pub seen : from ≤ (standing_behind f last (Piece begun ∷ [])).log.log.number
-    pub answers : AnswersAt from t (standing_behind f last (Piece begun ∷ []))
+    pub seen : from ≤ (standing_after f last (Piece begun ∷ [])).log.log.number
+    pub answers : AnswersAt from t (standing_after f last (Piece begun ∷ []))
 
-  pub sending_first : (every : ℕ) (start : Standing) (input : List ℕ) (old : Option (List ℕ)) (t : Terminal W) → t.surface.canvas.widths ≡ w → t.is_failed ≡ false → IsAt t start → IsCounted start → Appends old old []
+  pub sending_first : (every : ℕ) (start : Standing) (input : List ℕ) (old : Option (List ℕ)) (t : Terminal W) → t.surface.grid.widths ≡ w → t.is_failed ≡ false → IsAt t start → IsCounted start → Appends old old []
       → IsSending every start input input old old t 0 every
   sending_first every start input old t e sound at counted none = record {
     read = [];
@@ -141,37 +143,37 @@ module _ {W : Type 0} (width_of : W → List ℕ → ℕ) (w : W) where
 
   module _ (every : ℕ) (start : Standing) (input rest : List ℕ) (old now : Option (List ℕ)) (t : Terminal W) (number left : ℕ) (s : IsSending every start input rest old now t number left) where
     -- the updates, where more comes behind what was read
-    all_is : (more : List ℕ) → updates_from f every start (s.read ++ more) ≡ s.written ++ updates_behind f s.last number (in_pieces every s.begun more)
-    all_is more = ap (updates_behind f start 0) (s.pieces more) ∙ s.leads (in_pieces every s.begun more)
+    all_is : (more : List ℕ) → updates_from f every start (s.read ++ more) ≡ s.written ++ updates_after f s.last number (in_pieces every s.begun more)
+    all_is more = ap (updates_after f start 0) (s.pieces more) ∙ s.leads (in_pieces every s.begun more)
 
     -- with the piece that has begun, and with others bytes in its place
     here : Standing
-    here = standing_behind f s.last (Piece s.begun ∷ [])
+    here = standing_after f s.last (Piece s.begun ∷ [])
 
     with_piece : List ℕ → Standing
-    with_piece piece = standing_behind f s.last (Piece piece ∷ [])
+    with_piece piece = standing_after f s.last (Piece piece ∷ [])
 
     -- some bytes more are fed
-    fed_on : (bytes : List ℕ) (u : Terminal W) → t.surface.canvas.widths ≡ w → GoesBy width_of t u (Piece bytes ∷ []) → AnswersAt s.from u (with_piece (s.begun ++ bytes))
+    fed_on : (bytes : List ℕ) (u : Terminal W) → t.surface.grid.widths ≡ w → GoesBy width_of t u (Piece bytes ∷ []) → AnswersAt s.from u (with_piece (s.begun ++ bytes))
     unfolding here with_piece
     fed_on bytes u same g =
         subst (AnswersAt s.from u) (pieces_join f s.last s.begun bytes)
         (answers_on width_of w s.from t u here (Piece bytes ∷ []) tt same s.answers g)
 
-    seen_behind : (bytes : List ℕ) → here.log.log.number ≤ (with_piece (s.begun ++ bytes)).log.log.number
+    seen_after : (bytes : List ℕ) → here.log.log.number ≤ (with_piece (s.begun ++ bytes)).log.log.number
     unfolding here with_piece
-    seen_behind bytes =
+    seen_after bytes =
         subst (λ (x : Standing). here.log.log.number ≤ x.log.log.number) (pieces_join f s.last s.begun bytes) (number_rises f here (Piece bytes ∷ []))
 
     -- some bytes more, which don't fill the piece
-    pub sending_more : (next bytes : List ℕ) (u : Terminal W) (less : ℕ) → rest ≡ bytes ++ next → t.surface.canvas.widths ≡ w → GoesBy width_of t u (Piece bytes ∷ []) → less + length bytes ≡ left → 0 < less
+    pub sending_more : (next bytes : List ℕ) (u : Terminal W) (less : ℕ) → rest ≡ bytes ++ next → t.surface.grid.widths ≡ w → GoesBy width_of t u (Piece bytes ∷ []) → less + length bytes ≡ left → 0 < less
         → IsSending every start input next old now u number less
     unfolding here with_piece
     sending_more next bytes u less e same g count some =
         let long = length-append s.begun bytes in
         let room = s.room in
         let seen = s.seen in
-        let rises = seen_behind bytes in
+        let rises = seen_after bytes in
         record {
           read = s.read ++ bytes;
           done = s.done;
@@ -192,7 +194,7 @@ module _ {W : Type 0} (width_of : W → List ℕ → ℕ) (w : W) where
 
     -- ---- what is forgotten within a piece
 
-    forgotten_from : (v : Terminal W) (later : ℕ) → s.from ≤ later → later ≤ (standing_behind f s.last (Piece s.begun ∷ [])).log.log.number → (number ≡ 0) ⊎ (later ≡ number) → t.surface.canvas.widths ≡ w → Lightens width_of t v later
+    forgotten_from : (v : Terminal W) (later : ℕ) → s.from ≤ later → later ≤ (standing_after f s.last (Piece s.begun ∷ [])).log.log.number → (number ≡ 0) ⊎ (later ≡ number) → t.surface.grid.widths ≡ w → Lightens width_of t v later
         → IsSending every start input rest old now v number left
     forgotten_from v later more most asked same l = record {
       read = s.read;
@@ -209,11 +211,11 @@ module _ {W : Type 0} (width_of : W → List ℕ → ℕ) (w : W) where
       last_is = s.last_is;
       asked = asked;
       seen = most;
-      answers = answers_lighter width_of w s.from later t v (standing_behind f s.last (Piece s.begun ∷ [])) more same s.answers l;
+      answers = answers_lighter width_of w s.from later t v (standing_after f s.last (Piece s.begun ∷ [])) more same s.answers l;
     }
 
     -- what no viewer is sent
-    pub sending_lighter : (v : Terminal W) (later : ℕ) → later ≡ due_from t number → t.surface.canvas.widths ≡ w → Lightens width_of t v later → IsSending every start input rest old now v number left
+    pub sending_lighter : (v : Terminal W) (later : ℕ) → later ≡ due_from t number → t.surface.grid.widths ≡ w → Lightens width_of t v later → IsSending every start input rest old now v number left
     unfolding here
     sending_lighter v later e same l = by_number (eqb_tells number 0)
       where
@@ -232,13 +234,13 @@ module _ {W : Type 0} (width_of : W → List ℕ → ℕ) (w : W) where
     -- ---- a look behind a piece
 
     next_of : List ℕ → Standing
-    next_of piece = standing_behind f s.last (looks (piece ∷ []))
+    next_of piece = standing_after f s.last (looks (piece ∷ []))
 
     looked_on : (piece : List ℕ) (u : Terminal W) (a : AnswersAt s.from u (with_piece piece)) → AnswersAs s.from (looked f a.kept) (next_of piece)
     unfolding next_of with_piece
     looked_on piece u a =
         subst (AnswersAs s.from (looked f a.kept)) (sym (standings_join f s.last (Piece piece ∷ []) (Look ∷ [])))
-        (answers_behind f s.from a.kept (with_piece piece) (Look ∷ []) tt a.answers)
+        (answers_after f s.from a.kept (with_piece piece) (Look ∷ []) tt a.answers)
 
     update_is : (piece : List ℕ) (u : Terminal W) (a : AnswersAt s.from u (with_piece piece)) → update_at (looked f a.kept) number ≡ update_at (next_of piece) number
     update_is piece u a = update_alike s.from number (looked f a.kept) (next_of piece) s.asked (looked_on piece u a)
@@ -250,13 +252,13 @@ module _ {W : Type 0} (width_of : W → List ℕ → ℕ) (w : W) where
 
     -- the updates, where the piece that has begun is full
     full_is : (bytes more : List ℕ) → 0 < length bytes → length s.begun + length bytes ≡ every
-        → updates_from f every start (s.read ++ (bytes ++ more)) ≡ s.written ++ (update_at (next_of (s.begun ++ bytes)) number ++ updates_behind f (next_of (s.begun ++ bytes)) (next_of (s.begun ++ bytes)).log.log.number (in_pieces every [] more))
+        → updates_from f every start (s.read ++ (bytes ++ more)) ≡ s.written ++ (update_at (next_of (s.begun ++ bytes)) number ++ updates_after f (next_of (s.begun ++ bytes)) (next_of (s.begun ++ bytes)).log.log.number (in_pieces every [] more))
     unfolding next_of
-    full_is bytes more some full = all_is (bytes ++ more) ∙ ap (λ ps. s.written ++ updates_behind f s.last number ps) (fills every s.begun bytes more some full)
+    full_is bytes more some full = all_is (bytes ++ more) ∙ ap (λ ps. s.written ++ updates_after f s.last number ps) (fills every s.begun bytes more some full)
 
     -- some bytes more, which fill it, and the update behind them
-    pub sending_next : (next bytes : List ℕ) (u v : Terminal W) (later : ℕ) (new : Option (List ℕ)) → rest ≡ bytes ++ next → t.surface.canvas.widths ≡ w → GoesBy width_of t u (Piece bytes ∷ []) → length bytes ≡ left → 0 < left
-        → ((x : Standing) → IsAt u x → Sent f x number later v now new) → v.surface.canvas.widths ≡ w → v.is_failed ≡ false
+    pub sending_next : (next bytes : List ℕ) (u v : Terminal W) (later : ℕ) (new : Option (List ℕ)) → rest ≡ bytes ++ next → t.surface.grid.widths ≡ w → GoesBy width_of t u (Piece bytes ∷ []) → length bytes ≡ left → 0 < left
+        → ((x : Standing) → IsAt u x → Sent f x number later v now new) → v.surface.grid.widths ≡ w → v.is_failed ≡ false
         → IsSending every start input next old new v later every
     unfolding next_of with_piece here
     sending_next next bytes u v later new e same g full some sends widths sound =
@@ -266,7 +268,7 @@ module _ {W : Type 0} (width_of : W → List ℕ → ℕ) (w : W) where
         let answers = looked_on piece u a in
         let later_is : later ≡ (next_of piece).log.log.number = sent.next_is ∙ answers.logs.count in
         let seen = s.seen in
-        let fed_rises = seen_behind bytes in
+        let fed_rises = seen_after bytes in
         let rises = next_rises piece in
         let end_rises = number_rises f (next_of piece) (Piece [] ∷ []) in
         let room = s.room in
@@ -282,9 +284,9 @@ module _ {W : Type 0} (width_of : W → List ℕ → ℕ) (w : W) where
           room = omega arith;
           pieces = λ more. ap (in_pieces every []) (append_assoc s.read bytes more) ∙ s.pieces (bytes ++ more) ∙ ap (λ ps. s.done ++ ps) (fills every s.begun bytes more (omega arith) (omega arith)) ∙ sym (append_assoc s.done (piece ∷ []) (in_pieces every [] more));
           appends = appends_both old now new s.written update s.appends (subst (Appends now new) (update_is piece u a) sent.appends);
-          leads = λ ps. ap (updates_behind f start 0) (append_assoc s.done (piece ∷ []) ps) ∙ s.leads (piece ∷ ps)
-              ∙ ap (λ n. s.written ++ (update ++ updates_behind f (next_of piece) n ps)) (sym later_is) ∙ sym (append_assoc s.written update (updates_behind f (next_of piece) later ps));
-          last_is = ap (λ x. standing_behind f x (looks (piece ∷ []))) s.last_is ∙ sym (standings_join f start (looks s.done) (looks (piece ∷ []))) ∙ ap (standing_behind f start) (sym (looks-append s.done (piece ∷ [])));
+          leads = λ ps. ap (updates_after f start 0) (append_assoc s.done (piece ∷ []) ps) ∙ s.leads (piece ∷ ps)
+              ∙ ap (λ n. s.written ++ (update ++ updates_after f (next_of piece) n ps)) (sym later_is) ∙ sym (append_assoc s.written update (updates_after f (next_of piece) later ps));
+          last_is = ap (λ x. standing_after f x (looks (piece ∷ []))) s.last_is ∙ sym (standings_join f start (looks s.done) (looks (piece ∷ []))) ∙ ap (standing_after f start) (sym (looks-append s.done (piece ∷ [])));
           asked = inr refl;
           seen = omega (arith, later_is, end_rises);
           answers = answers_at_rest width_of w later v (next_of piece) widths sound (record {
@@ -321,7 +323,7 @@ module _ {W : Type 0} (width_of : W → List ℕ → ℕ) (w : W) where
     }
 
     -- the first bytes of an update behind them
-    pub sending_some : (next bytes : List ℕ) (u : Terminal W) (new others : Option (List ℕ)) → rest ≡ bytes ++ next → others ≡ Some next → t.surface.canvas.widths ≡ w → GoesBy width_of t u (Piece bytes ∷ []) → length bytes ≡ left → 0 < left
+    pub sending_some : (next bytes : List ℕ) (u : Terminal W) (new others : Option (List ℕ)) → rest ≡ bytes ++ next → others ≡ Some next → t.surface.grid.widths ≡ w → GoesBy width_of t u (Piece bytes ∷ []) → length bytes ≡ left → 0 < left
         → ((x : Standing) → IsAt u x → AppendsPrefix now new (update_at (looked f x) number)) → SendsPart f every start input others old new
     sending_some next bytes u new others e known same g full some sends =
         let piece = s.begun ++ bytes in
@@ -334,9 +336,9 @@ module _ {W : Type 0} (width_of : W → List ℕ → ℕ) (w : W) where
           whole = s.whole ∙ ap (λ l. s.read ++ l) e ∙ sym (append_assoc s.read bytes next);
           others = known;
           of_read = subst (AppendsPrefix old new) (sym (ap (λ l. updates_from f every start (s.read ++ l)) (sym (append-nil bytes)) ∙ full_is bytes [] (omega arith) (omega arith)))
-              (prefix_behind old now new s.written (update_at (next_of piece) number) _ s.appends first);
+              (prefix_after old now new s.written (update_at (next_of piece) number) _ s.appends first);
           of_input = subst (AppendsPrefix old new) (sym (ap (updates_from f every start) (s.whole ∙ ap (λ l. s.read ++ l) e) ∙ full_is bytes next (omega arith) (omega arith)))
-              (prefix_behind old now new s.written (update_at (next_of piece) number) _ s.appends first);
+              (prefix_after old now new s.written (update_at (next_of piece) number) _ s.appends first);
         }
 
     -- the first bytes of the update at the end
@@ -344,7 +346,7 @@ module _ {W : Type 0} (width_of : W → List ℕ → ℕ) (w : W) where
     unfolding with_piece
     sending_last new others e known sends =
         let first = subst (AppendsPrefix now new) (update_is s.begun t s.answers) (sends s.answers.kept s.answers.at) in
-        let all = prefix_behind old now new s.written (update_at (next_of s.begun) number) [] s.appends first in
+        let all = prefix_after old now new s.written (update_at (next_of s.begun) number) [] s.appends first in
         let read_is : input ≡ s.read = s.whole ∙ ap (λ l. s.read ++ l) e ∙ append-nil s.read in
         record {
           read = s.read;
@@ -361,48 +363,48 @@ module _ {W : Type 0} (width_of : W → List ℕ → ℕ) (w : W) where
     Past x = 2 ^ 64 ≤ x.log.log.number
 
     -- the whole of the input leads further than its front
-    past_front : (front others : History) → standing_behind f start (looks (in_pieces every [] input)) ≡ standing_behind f s.last (front ++ others) → 2 ^ 64 ≤ (standing_behind f s.last front).log.log.number → 2 ^ 64 ≤ number_behind f every start input
+    past_front : (front others : History) → standing_after f start (looks (in_pieces every [] input)) ≡ standing_after f s.last (front ++ others) → 2 ^ 64 ≤ (standing_after f s.last front).log.log.number → 2 ^ 64 ≤ number_after f every start input
     past_front front others e n =
         let whole = e ∙ standings_join f s.last front others in
-        let rises = number_rises f (standing_behind f s.last front) others in
+        let rises = number_rises f (standing_after f s.last front) others in
         subst (λ (x : Standing). 2 ^ 64 ≤ x.log.log.number) (sym whole) (omega arith)
 
     -- the pieces from the one that has begun on
-    pieces_behind : (ps : List (List ℕ)) → in_pieces every [] input ≡ s.done ++ ps → standing_behind f start (looks (in_pieces every [] input)) ≡ standing_behind f s.last (looks ps)
-    pieces_behind ps e =
-        ap (λ qs. standing_behind f start (looks qs)) e ∙ ap (standing_behind f start) (looks-append s.done ps) ∙ standings_join f start (looks s.done) (looks ps) ∙ ap (λ x. standing_behind f x (looks ps)) (sym s.last_is)
+    pieces_after : (ps : List (List ℕ)) → in_pieces every [] input ≡ s.done ++ ps → standing_after f start (looks (in_pieces every [] input)) ≡ standing_after f s.last (looks ps)
+    pieces_after ps e =
+        ap (λ qs. standing_after f start (looks qs)) e ∙ ap (standing_after f start) (looks-append s.done ps) ∙ standings_join f start (looks s.done) (looks ps) ∙ ap (λ x. standing_after f x (looks ps)) (sym s.last_is)
 
     input_is : (bytes next : List ℕ) → rest ≡ bytes ++ next → in_pieces every [] input ≡ s.done ++ in_pieces every s.begun (bytes ++ next)
     input_is bytes next e = ap (in_pieces every []) (s.whole ∙ ap (λ l. s.read ++ l) e) ∙ s.pieces (bytes ++ next)
 
-    pub past_feed : (next bytes : List ℕ) → rest ≡ bytes ++ next → t.surface.canvas.widths ≡ w → length bytes ≤ left → NeedsNumber width_of t (Piece bytes ∷ []) → 2 ^ 64 ≤ number_behind f every start input
+    pub past_feed : (next bytes : List ℕ) → rest ≡ bytes ++ next → t.surface.grid.widths ≡ w → length bytes ≤ left → NeedsNumber width_of t (Piece bytes ∷ []) → 2 ^ 64 ≤ number_after f every start input
     unfolding here
     past_feed next bytes e same count n =
         let room = s.room in
         let piece = s.begun ++ bytes in
         let h = holds every s.begun bytes next (omega arith) in
         past_front (Piece piece ∷ []) (Piece h.more ∷ Look ∷ looks h.others)
-        (pieces_behind ((piece ++ h.more) ∷ h.others) (input_is bytes next e ∙ ap (λ ps. s.done ++ ps) h.are) ∙ sym (standings_cut actions_join f s.last piece h.more (Look ∷ looks h.others)))
+        (pieces_after ((piece ++ h.more) ∷ h.others) (input_is bytes next e ∙ ap (λ ps. s.done ++ ps) h.are) ∙ sym (standings_cut actions_join f s.last piece h.more (Look ∷ looks h.others)))
         (subst (λ (x : Standing). 2 ^ 64 ≤ x.log.log.number) (pieces_join f s.last s.begun bytes) (needs_there width_of w s.from t here (Piece bytes ∷ []) tt same s.answers n))
 
     -- a look that is refused a number behind a piece
-    look_needs : (piece : List ℕ) (u : Terminal W) → u.surface.canvas.widths ≡ w → AnswersAt s.from u (with_piece piece) → NeedsNumber width_of u (Look ∷ []) → 2 ^ 64 ≤ (next_of piece).log.log.number
+    look_needs : (piece : List ℕ) (u : Terminal W) → u.surface.grid.widths ≡ w → AnswersAt s.from u (with_piece piece) → NeedsNumber width_of u (Look ∷ []) → 2 ^ 64 ≤ (next_of piece).log.log.number
     unfolding next_of with_piece
     look_needs piece u same a n =
         subst (λ (x : Standing). 2 ^ 64 ≤ x.log.log.number) (sym (standings_join f s.last (Piece piece ∷ []) (Look ∷ []))) (needs_there width_of w s.from u (with_piece piece) (Look ∷ []) tt same a n)
 
-    pub past_look : (next bytes : List ℕ) (u : Terminal W) → rest ≡ bytes ++ next → t.surface.canvas.widths ≡ w → u.surface.canvas.widths ≡ w → GoesBy width_of t u (Piece bytes ∷ []) → length bytes ≡ left → 0 < left → NeedsNumber width_of u (Look ∷ []) → 2 ^ 64 ≤ number_behind f every start input
+    pub past_look : (next bytes : List ℕ) (u : Terminal W) → rest ≡ bytes ++ next → t.surface.grid.widths ≡ w → u.surface.grid.widths ≡ w → GoesBy width_of t u (Piece bytes ∷ []) → length bytes ≡ left → 0 < left → NeedsNumber width_of u (Look ∷ []) → 2 ^ 64 ≤ number_after f every start input
     unfolding next_of
     past_look next bytes u e same widths g full some n =
         let room = s.room in
         let piece = s.begun ++ bytes in
         past_front (looks (piece ∷ [])) (looks (in_pieces every [] next))
-        (pieces_behind (piece ∷ in_pieces every [] next) (input_is bytes next e ∙ ap (λ ps. s.done ++ ps) (fills every s.begun bytes next (omega arith) (omega arith))))
+        (pieces_after (piece ∷ in_pieces every [] next) (input_is bytes next e ∙ ap (λ ps. s.done ++ ps) (fills every s.begun bytes next (omega arith) (omega arith))))
         (look_needs piece u widths (fed_on bytes u same g) n)
 
-    pub past_end : rest ≡ [] → t.surface.canvas.widths ≡ w → NeedsNumber width_of t (Look ∷ []) → 2 ^ 64 ≤ number_behind f every start input
+    pub past_end : rest ≡ [] → t.surface.grid.widths ≡ w → NeedsNumber width_of t (Look ∷ []) → 2 ^ 64 ≤ number_after f every start input
     unfolding next_of with_piece
     past_end e same n =
         past_front (looks (s.begun ∷ [])) []
-        (pieces_behind (s.begun ∷ []) (ap (in_pieces every []) (s.whole ∙ ap (λ l. s.read ++ l) e) ∙ s.pieces []))
+        (pieces_after (s.begun ∷ []) (ap (in_pieces every []) (s.whole ∙ ap (λ l. s.read ++ l) e) ∙ s.pieces []))
         (look_needs s.begun t same s.answers n)

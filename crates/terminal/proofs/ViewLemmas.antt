@@ -3,10 +3,10 @@ use Rattle.std.proofs.Common.{◌≡◌, ℕ, ◌+◌, ◌*◌, ◌<◌, ◌≤�
 use Rattle.std.specs.Prelude.{IsErrOf, IsTrue, Ok}
 use Rattle.cell_base.specs.Row.{space, plain_row}
 use Rattle.cell_base.specs.Screen.{Screen, IsScreen, height}
-use Rattle.cell_change.specs.ChangeValue.{ChangeValue}
+use Rattle.screen_change.specs.ChangeValue.{ChangeValue}
 use Rattle.cell_surface.specs.Surface.{Surface, shown_by, number_of}
-use Rattle.change_log.specs.LogSteps.{Forgotten, Sized, step_of_kept}
-use Rattle.change_log.specs.Log.{due, most_due}
+use Rattle.screen_log.specs.LogSteps.{Forgotten, Sized, step_of_kept}
+use Rattle.screen_log.specs.Log.{due, most_due}
 use Rattle.escape_framing.specs.Held.{hand_out, held_of, nothing_held}
 use Rattle.escape_stream.specs.StreamAction.{StreamAction}
 use Rattle.escape_stream.specs.StreamText.{stream_text}
@@ -15,24 +15,25 @@ use Rattle.escape_stream.specs.StreamWritable.{IsWritable, WritableListsReadBack
 use Rattle.screen_difference.specs.FreshCells.{screen_fresh}
 use Rattle.screen_effects.specs.Display.{Display, IsDisplay}
 use Rattle.screen_effects.specs.Effect.{effect}
-use Rattle.screen_prints.specs.Prints.{text_of}
-use Rattle.screen_replay.specs.WrittenCells.{IsSoundDisplay}
+use Rattle.screen_difference.specs.Prints.{text_of}
+use Rattle.screen_effects.specs.WrittenCells.{IsSoundDisplay}
 use Rattle.std.proofs.lemmas.List.{length-map, length-replicate}
-use Rattle.terminal.specs.Terminal.{Terminal, StandsAt, GoesBy, IsIdle, IsSpelled, state_in}
+use Rattle.terminal.specs.Headline.{StandsAt, GoesBy}
+use Rattle.terminal.specs.Terminal.{Terminal, IsIdle, IsSpelled, state_in}
 use Rattle.terminal.specs.Viewing.{CanReadFrom, ShowsAt, changes_for, patch_from, standing_of, update_for, update_prints}
 use Rattle.terminal.proofs.LawLemmas.{idle_view}
 use Rattle.terminal.proofs.PrintLemmas.{prints_stay}
-use Rattle.terminal_patch.specs.Patch.{patch_of, place_prints}
-use Rattle.terminal_patch.specs.Reading.{CanReadPatch, PatchesAreShown, PatchesArePlain, PatchesLeaveIdle, PatchesPrintFreshCells, patch_for}
-use Rattle.terminal_prints.specs.Prints.{IsPlain}
-use Rattle.terminal_prints.specs.Prints.{prints as prints_of}
+use Rattle.terminal_viewers.specs.Patch.{patch_of, place_prints}
+use Rattle.terminal_viewers.specs.Reading.{CanReadPatch, PatchesAreShown, PatchesArePlain, PatchesLeaveIdle, PatchesPrintFreshCells, patch_for}
+use Rattle.terminal_table.specs.Prints.{IsPlain}
+use Rattle.terminal_table.specs.Prints.{prints as prints_of}
 use Rattle.terminal_render.specs.Effects.{IsReady, RenderedTextsHaveTheEffect, RenderedTextsLeaveIdle}
 use Rattle.terminal_render.specs.Lists.{all_rendered}
 use Rattle.terminal_render.specs.Rendering.{rendering}
-use Rattle.terminal_sessions.specs.Showing.{CanAnswer}
-use Rattle.terminal_spelling.specs.Sizes.{AreShort, all_sent_size, prints_in, runs_in}
-use Rattle.terminal_spelling.specs.Spelling.{HaveSpellings, IsSpelledScreen, IsSpelledState, IsSpelledText}
-use Rattle.terminal_spelling.proofs.ViewLemmas.{display_on_is, replay_size}
+use Rattle.terminal_viewers.specs.Showing.{CanAnswer}
+use Rattle.terminal_render.specs.EncodedSizes.{AreShort, all_encoded_size, prints_in, runs_in}
+use Rattle.terminal_render.specs.Spelling.{HaveSpellings, IsSpelledScreen, IsSpelledState, IsSpelledText}
+use Rattle.terminal_render.proofs.ViewLemmas.{display_on_is, replay_size}
 use Rattle.terminal_table.specs.Alone as alone
 use Rattle.terminal_table.specs.History.{History, Piece, Look, Looked, Forget}
 use Rattle.terminal_table.specs.Logged.{event_logged}
@@ -41,10 +42,10 @@ use Rattle.terminal_table.specs.State.{State, IsState}
 use Rattle.terminal_table.specs.Turns.{IsPrinted, IsView, AreSizes, changes_in, replayed}
 use Rattle.terminal_table.proofs.EventLemmas.{event_turns}
 use Rattle.terminal_table.proofs.StateLemmas.{new_is}
-use Rattle.terminal_update.specs.Shows.{Shows}
-use Rattle.terminal_update.specs.Update.{display_on, update_changes, update_of, bytes_of, due_or, painted_anew}
-use Rattle.terminal_update.specs.Updates.{updated, updates}
-use Rattle.terminal_update.specs.Viewers.{CanRead, UpdatesAreShown, UpdatesLeaveIdle, UpdatesLeaveNewViewersIdle, UpdatesShowTheInput, ViewersGoOnShowing, repeated}
+use Rattle.terminal_viewers.specs.Shows.{Shows}
+use Rattle.terminal_viewers.specs.Update.{display_on, update_changes, update_of, bytes_of, due_or, painted_anew}
+use Rattle.terminal_viewers.specs.Updates.{updated, updates}
+use Rattle.terminal_viewers.specs.Viewers.{CanRead, UpdatesAreShown, UpdatesLeaveIdle, UpdatesLeaveNewViewersIdle, UpdatesShowTheInput, ViewersGoOnShowing, repeated}
 
 -- nothing is unfinished of an empty stream
 idle_stream : held_of [] ≡ nothing_held
@@ -62,19 +63,19 @@ pub record IsSound {W : Type 0} (width_of : W → List ℕ → ℕ) (t : Termina
   pub stands : StandsAt t view
   pub lawful : IsView view
   pub spelled : IsSpelled t
-  pub cells : IsSoundDisplay (width_of t.surface.canvas.widths) (shown_by t.surface)
+  pub cells : IsSoundDisplay (width_of t.surface.grid.widths) (shown_by t.surface)
 
 module _ {W : Type 0} (width_of : W → List ℕ → ℕ) where
   abbrev of : Terminal W → List ℕ → ℕ
-  of t = width_of t.surface.canvas.widths
+  of t = width_of t.surface.grid.widths
 
-  pub sound_of : (t : Terminal W) (s : Surface W) → s ≡ t.surface → (view : View) × StandsAt t view × IsView view → IsSpelled t → (s.is_failed ≡ false → IsSoundDisplay (width_of s.canvas.widths) (shown_by s)) → IsSound width_of t
+  pub sound_of : (t : Terminal W) (s : Surface W) → s ≡ t.surface → (view : View) × StandsAt t view × IsView view → IsSpelled t → (s.is_failed ≡ false → IsSoundDisplay (width_of s.grid.widths) (shown_by s)) → IsSound width_of t
   sound_of t s e stands p cells = record {
     view = stands.0;
     stands = stands.1;
     lawful = stands.2;
     spelled = p;
-    cells = subst (λ (x : Surface W). IsSoundDisplay (width_of x.canvas.widths) (shown_by x)) e (cells (ap (λ (x : Surface W). x.is_failed) e ∙ p.surface.stays));
+    cells = subst (λ (x : Surface W). IsSoundDisplay (width_of x.grid.widths) (shown_by x)) e (cells (ap (λ (x : Surface W). x.is_failed) e ∙ p.surface.stays));
   }
 
   pub counted_of : (t : Terminal W) (s : Surface W) → s ≡ t.surface → length s.log.log.entries ≤ number_of s → length t.surface.log.log.entries ≤ number_of t.surface
@@ -136,8 +137,8 @@ module _ {W : Type 0} (width_of : W → List ℕ → ℕ) where
     cells = s.cells;
   }
 
-  count_is : (t : Terminal W) → height (state_in t).screen ≡ length t.surface.canvas.lines
-  count_is t = length-map t.surface.canvas.lines (λ l. l.columns)
+  count_is : (t : Terminal W) → height (state_in t).screen ≡ length t.surface.grid.lines
+  count_is t = length-map t.surface.grid.lines (λ l. l.columns)
 
   module _ (t v shown : Terminal W) (narrow : of v space ≡ 1) (st : IsSound width_of t) (sv : IsSound width_of v) (can : CanReadFrom width_of t v shown) where
     abbrev new_screen : Screen
@@ -182,8 +183,8 @@ module _ {W : Type 0} (width_of : W → List ℕ → ℕ) where
 
   -- a look keeps the size
   pub record IsSize (one other : Terminal W) : Type 0 where
-    pub wide : one.surface.canvas.width ≡ other.surface.canvas.width
-    pub tall : length one.surface.canvas.lines ≡ length other.surface.canvas.lines
+    pub wide : one.surface.grid.width ≡ other.surface.grid.width
+    pub tall : length one.surface.grid.lines ≡ length other.surface.grid.lines
 
   pub look_keeps_size : (t now : Terminal W) → (view : View) × StandsAt t view × IsView view → GoesBy width_of t now (Look ∷ []) → IsSize t now
   look_keeps_size t now s g =
@@ -261,14 +262,14 @@ module _ {W : Type 0} (width_of : W → List ℕ → ℕ) where
 
   -- ---- all updates of an input
 
-  pub input_shown : UpdatesShowTheInput → (w : W) (width rows every : ℕ) (input : List ℕ) (new behind : Terminal W) → width_of w space ≡ 1 → 0 < width → width < 2 ^ 32 → 0 < rows → rows < 2 ^ 32 → StandsAt new (new_view width rows) → new.surface.canvas.widths ≡ w
+  pub input_shown : UpdatesShowTheInput → (w : W) (width rows every : ℕ) (input : List ℕ) (new behind : Terminal W) → width_of w space ≡ 1 → 0 < width → width < 2 ^ 32 → 0 < rows → rows < 2 ^ 32 → StandsAt new (new_view width rows) → new.surface.grid.widths ≡ w
       → GoesBy width_of new behind (Piece (updates (width_of w) width rows every input) ∷ []) → (state_in behind).screen ≡ (updated (width_of w) width rows every input).state.screen
   input_shown law w width rows every input new behind narrow a b c d st e g =
       ap (λ (x : State). x.screen) (g.stands (new_view width rows) st).state
       ∙ ap (λ x. (after (width_of x) (new_view width rows) (Piece (updates (width_of w) width rows every input) ∷ [])).state.screen) e
       ∙ law (width_of w) width rows every input narrow a b c d
 
-  pub input_idle : UpdatesLeaveNewViewersIdle → (w : W) (width rows every : ℕ) (input : List ℕ) (new behind : Terminal W) → width_of w space ≡ 1 → 0 < width → width < 2 ^ 32 → 0 < rows → rows < 2 ^ 32 → StandsAt new (new_view width rows) → new.surface.canvas.widths ≡ w
+  pub input_idle : UpdatesLeaveNewViewersIdle → (w : W) (width rows every : ℕ) (input : List ℕ) (new behind : Terminal W) → width_of w space ≡ 1 → 0 < width → width < 2 ^ 32 → 0 < rows → rows < 2 ^ 32 → StandsAt new (new_view width rows) → new.surface.grid.widths ≡ w
       → GoesBy width_of new behind (Piece (updates (width_of w) width rows every input) ∷ []) → IsIdle behind
   input_idle law w width rows every input new behind narrow a b c d st e g =
       let there = g.stands (new_view width rows) st in
@@ -291,13 +292,13 @@ module _ {W : Type 0} (width_of : W → List ℕ → ℕ) where
 
     pub short : ((x : Screen) (log : Sized) (n : ℕ) → IsDisplay (display_on x) → IsSpelledScreen x → HaveSpellings x.width (height x) log.log.entries → HaveSpellings x.width (height x) (update_changes x log n))
         → ((w h : ℕ) (changes : List ChangeValue) → HaveSpellings w h changes → all_rendered changes w h ≡ None → ⊥)
-        → ((w h : ℕ) (changes : List ChangeValue) (actions : List StreamAction) → 0 < w → w < 2 ^ 32 → 0 < h → h < 2 ^ 32 → HaveSpellings w h changes → all_rendered changes w h ≡ Some actions → length (stream_text actions) ≤ all_sent_size changes)
-        → length (update_for t number) ≤ all_sent_size (changes_for t number)
+        → ((w h : ℕ) (changes : List ChangeValue) (actions : List StreamAction) → 0 < w → w < 2 ^ 32 → 0 < h → h < 2 ^ 32 → HaveSpellings w h changes → all_rendered changes w h ≡ Some actions → length (stream_text actions) ≤ all_encoded_size changes)
+        → length (update_for t number) ≤ all_encoded_size (changes_for t number)
     short law rendered size =
         let spelled = spelled_update law in
         let found = some_of (all_rendered (changes_for t number) screen.width (height screen)) (rendered screen.width (height screen) (changes_for t number) spelled) in
         let lawful = (state_is t s).lawful in
-        subst (λ o. length (bytes_of o) ≤ all_sent_size (changes_for t number)) (sym found.1)
+        subst (λ o. length (bytes_of o) ≤ all_encoded_size (changes_for t number)) (sym found.1)
         (size screen.width (height screen) (changes_for t number) found.0 lawful.wide_enough s.spelled.surface.wide (omega (arith, lawful.row_in)) s.spelled.surface.tall spelled found.1)
 
     pub each_short : ((x : Screen) (log : Sized) (n : ℕ) → IsDisplay (display_on x) → IsSpelledScreen x → HaveSpellings x.width (height x) log.log.entries → HaveSpellings x.width (height x) (update_changes x log n))
@@ -326,10 +327,10 @@ module _ {W : Type 0} (width_of : W → List ℕ → ℕ) where
     counted law within most = law screen t.surface.log number (state_is t s).lawful within most
 
   -- how many changes may be due
-  pub most_of : (t : Terminal W) (x : Surface W) → x ≡ t.surface → IsSpelled t → (x.is_failed ≡ false → x.log.most ≡ most_due x.canvas.width (length x.canvas.lines)) → t.surface.log.most ≡ most_due (state_in t).screen.width (height (state_in t).screen)
+  pub most_of : (t : Terminal W) (x : Surface W) → x ≡ t.surface → IsSpelled t → (x.is_failed ≡ false → x.log.most ≡ most_due x.grid.width (length x.grid.lines)) → t.surface.log.most ≡ most_due (state_in t).screen.width (height (state_in t).screen)
   most_of t x e p most =
-      subst (λ (y : Surface W). y.log.most ≡ most_due y.canvas.width (length y.canvas.lines)) e (most (ap (λ (y : Surface W). y.is_failed) e ∙ p.surface.stays))
-      ∙ ap (most_due t.surface.canvas.width) (sym (length-map t.surface.canvas.lines (λ l. l.columns)))
+      subst (λ (y : Surface W). y.log.most ≡ most_due y.grid.width (length y.grid.lines)) e (most (ap (λ (y : Surface W). y.is_failed) e ∙ p.surface.stays))
+      ∙ ap (most_due t.surface.grid.width) (sym (length-map t.surface.grid.lines (λ l. l.columns)))
 
   -- ---- what is rendered for one change
 

@@ -3,8 +3,8 @@ use Rattle.std.specs.Prelude.{◌≡◌, ◌≤◌, ◌^◌, ℕ, List, [], ◌�
 use Rattle.terminal.specs.Sent.{IsAt, IsCounted}
 use Rattle.terminal.specs.Terminal.{Terminal}
 use Rattle.terminal_table.specs.History.{Piece}
-use Rattle.terminal_update.specs.Updates.{Standing, standing_behind}
-use Rattle.terminal_update.specs.Viewers.{AnswersAs}
+use Rattle.terminal_viewers.specs.Updates.{Standing, standing_after}
+use Rattle.terminal_viewers.specs.Viewers.{AnswersAs}
 
 -- from a number on a terminal answers as one that keeps all and stands there
 pub record AnswersAt {W : Type 0} (number : ℕ) (t : Terminal W) (whole : Standing) : Type 0 where
@@ -18,16 +18,19 @@ AnswersNow t whole = AnswersAt whole.log.log.number t whole
 
 -- some bytes were fed: wherever the terminal stood before, it answers as one that was fed them and keeps all
 pub record IsFed {W : Type 0} (width_of : W → List ℕ → ℕ) (bytes : List ℕ) (before now : Terminal W) : Type 0 where
-  pub answers : (start : Standing) → IsAt before start → IsCounted start → AnswersNow now (standing_behind (width_of before.surface.canvas.widths) start (Piece bytes ∷ []))
-  pub widths : now.surface.canvas.widths ≡ before.surface.canvas.widths
+  pub answers : (start : Standing) → IsAt before start → IsCounted start
+      → AnswersNow now (standing_after (width_of before.surface.grid.widths) start (Piece bytes ∷ []))
+  pub widths : now.surface.grid.widths ≡ before.surface.grid.widths
 
 -- of a known input some bytes were read, and fed; and others are left
-pub record HasFed {W : Type 0} (width_of : W → List ℕ → ℕ) (input rest : List ℕ) (before now : Terminal W) : Type 0 where
-  pub fed : List ℕ
-  pub whole : input ≡ fed ++ rest
-  pub is : IsFed width_of fed before now
+pub record HasFed {W : Type 0} (width_of : W → List ℕ → ℕ) (input rest : List ℕ) (before now : Terminal W) : Type 0
+  where
+    pub fed : List ℕ
+    pub whole : input ≡ fed ++ rest
+    pub is : IsFed width_of fed before now
 
-abbrev pub FeedsOn : {W : Type 0} → (W → List ℕ → ℕ) → Option (List ℕ) → Option (List ℕ) → Terminal W → Terminal W → Type 0
+abbrev pub FeedsOn : {W : Type 0} → (W → List ℕ → ℕ) → Option (List ℕ) → Option (List ℕ) → Terminal W → Terminal W
+    → Type 0
 FeedsOn width_of None rest before now = Unit {0}
 FeedsOn width_of (Some input) None before now = ⊥
 FeedsOn width_of (Some input) (Some rest) before now = HasFed width_of input rest before now
@@ -41,4 +44,5 @@ Feeds width_of (Some input) before now = IsFed width_of input before now
 abbrev pub FeedingNeedsNumber : {W : Type 0} → (W → List ℕ → ℕ) → Option (List ℕ) → Terminal W → Type 0
 FeedingNeedsNumber width_of None before = Unit {0}
 FeedingNeedsNumber width_of (Some input) before =
-    (start : Standing) → IsAt before start → IsCounted start → 2 ^ 64 ≤ (standing_behind (width_of before.surface.canvas.widths) start (Piece input ∷ [])).log.log.number
+    (start : Standing) → IsAt before start → IsCounted start
+    → 2 ^ 64 ≤ (standing_after (width_of before.surface.grid.widths) start (Piece input ∷ [])).log.log.number

@@ -1,5 +1,7 @@
 pub mod Terminal
-pub mod Taking
+pub mod Headline
+pub mod Refusals
+pub mod Calls
 pub mod TerminalView
 pub mod Played
 pub mod Watched
@@ -8,3 +10,5 @@ pub mod Shown
 pub mod Fed
 pub mod Sent
 pub mod Viewing
+pub mod Samples
+pub mod Groups

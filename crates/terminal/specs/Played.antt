@@ -18,4 +18,5 @@ abbrev pub AreStepSizes : List Step → Type 0
 AreStepSizes [] = ⊤
 AreStepSizes (code.Feed bytes ∷ steps) = AreStepSizes steps
 AreStepSizes (code.Settle ∷ steps) = AreStepSizes steps
-AreStepSizes (code.Resize width height ∷ steps) = ((0 < width) × (width < 2 ^ 32)) × ((0 < height) × (height < 2 ^ 32)) × AreStepSizes steps
+AreStepSizes (code.Resize width height ∷ steps) =
+    ((0 < width) × (width < 2 ^ 32)) × ((0 < height) × (height < 2 ^ 32)) × AreStepSizes steps

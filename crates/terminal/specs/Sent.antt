@@ -3,10 +3,11 @@ use Rattle.std.specs.Prelude.{◌≡◌, ℕ, ◌≤◌, ◌^◌, ◌==◌, List
 use Rattle.std.specs.Io.KnownBytes.{Appends}
 use Rattle.cell_surface.specs.Surface.{number_of}
 use Rattle.terminal.specs.Shown.{AppendsPrefix}
-use Rattle.terminal.specs.Terminal.{Terminal, StandsAt, GoesBy}
+use Rattle.terminal.specs.Headline.{StandsAt, GoesBy}
+use Rattle.terminal.specs.Terminal.{Terminal}
 use Rattle.terminal_table.specs.History.{Look, Forget}
-use Rattle.terminal_update.specs.Update.{update_of}
-use Rattle.terminal_update.specs.Updates.{Standing, in_pieces, looks, standing_behind, updates_behind}
+use Rattle.terminal_viewers.specs.Update.{update_of}
+use Rattle.terminal_viewers.specs.Updates.{Standing, in_pieces, looks, standing_after, updates_after}
 
 -- a terminal stands at a view, with a log
 pub record IsAt {W : Type 0} (t : Terminal W) (s : Standing) : Type 0 where
@@ -20,12 +21,12 @@ IsCounted s = length s.log.log.entries ≤ s.log.log.number
 -- ---- one update
 
 abbrev pub looked : (List ℕ → ℕ) → Standing → Standing
-looked width_of s = standing_behind width_of s (Look ∷ [])
+looked width_of s = standing_after width_of s (Look ∷ [])
 
 -- the changes before a number are forgotten, and the replies dropped
 abbrev pub lightened : (List ℕ → ℕ) → ℕ → Standing → Standing
 lightened width_of number s =
-    let t = standing_behind width_of s (Forget number ∷ []) in
+    let t = standing_after width_of s (Forget number ∷ []) in
     record t { view = record t.view { state = record t.view.state { replies = [] } } }
 
 -- so a terminal does that stood where another does
@@ -43,35 +44,44 @@ abbrev pub update_at : Standing → ℕ → List ℕ
 update_at s number = update_of s.view.state.screen s.log number
 
 -- behind a look the update was written, and answers the number that the viewer has then; what is older is forgotten
-pub record Sent {W : Type 0} (width_of : List ℕ → ℕ) (s : Standing) (number next : ℕ) (now : Terminal W) (old new : Option (List ℕ)) : Type 0 where
+pub record Sent {W : Type 0} (width_of : List ℕ → ℕ) (s : Standing) (number next : ℕ) (now : Terminal W)
+    (old new : Option (List ℕ)) : Type 0 where
   pub appends : Appends old new (update_at (looked width_of s) number)
   pub next_is : next ≡ (looked width_of s).log.log.number
   pub at : IsAt now (lightened width_of next (looked width_of s))
 
-abbrev pub Sends : {W : Type 0} → (W → List ℕ → ℕ) → Terminal W → Terminal W → ℕ → ℕ → Option (List ℕ) → Option (List ℕ) → Type 0
-Sends width_of before now number next old new = (s : Standing) → IsAt before s → Sent (width_of before.surface.canvas.widths) s number next now old new
+abbrev pub Sends : {W : Type 0} → (W → List ℕ → ℕ) → Terminal W → Terminal W → ℕ → ℕ → Option (List ℕ) → Option (List ℕ)
+    → Type 0
+Sends width_of before now number next old new =
+    (s : Standing) → IsAt before s → Sent (width_of before.surface.grid.widths) s number next now old new
 
 -- the first bytes of it were written
 abbrev pub SendsSome : {W : Type 0} → (W → List ℕ → ℕ) → Terminal W → ℕ → Option (List ℕ) → Option (List ℕ) → Type 0
-SendsSome width_of before number old new = (s : Standing) → IsAt before s → AppendsPrefix old new (update_at (looked (width_of before.surface.canvas.widths) s) number)
+SendsSome width_of before number old new =
+    (s : Standing) → IsAt before s
+    → AppendsPrefix old new (update_at (looked (width_of before.surface.grid.widths) s) number)
 
 -- ---- all updates of an input
 
 -- the updates of what comes where a terminal stands, for a viewer at number 0
 abbrev pub updates_from : (List ℕ → ℕ) → ℕ → Standing → List ℕ → List ℕ
-updates_from width_of every start input = updates_behind width_of start 0 (in_pieces every [] input)
+updates_from width_of every start input = updates_after width_of start 0 (in_pieces every [] input)
 
 -- how many updates that are: one behind each piece that is full, and one at the end
 abbrev pub update_count : ℕ → List ℕ → ℕ
 update_count every input = length (in_pieces every [] input)
 
-abbrev pub SendsAll : {W : Type 0} → (W → List ℕ → ℕ) → ℕ → Terminal W → Option (List ℕ) → Option (List ℕ) → Option (List ℕ) → Type 0
+abbrev pub SendsAll : {W : Type 0} → (W → List ℕ → ℕ) → ℕ → Terminal W → Option (List ℕ) → Option (List ℕ)
+    → Option (List ℕ) → Type 0
 SendsAll width_of every before None old new = Unit {0}
 SendsAll width_of every before (Some input) old new =
-    (start : Standing) → IsAt before start → IsCounted start → Appends old new (updates_from (width_of before.surface.canvas.widths) every start input)
+    (start : Standing) → IsAt before start → IsCounted start
+    → Appends old new (updates_from (width_of before.surface.grid.widths) every start input)
 
--- Of an input some bytes were read, and others are left; what was written is the first bytes of the updates of what was read, and of the whole.
-pub record SendsPart (width_of : List ℕ → ℕ) (every : ℕ) (start : Standing) (input : List ℕ) (left old new : Option (List ℕ)) : Type 0 where
+-- Of an input some bytes were read, and others are left; what was written is the first bytes of the updates of what was
+-- read, and of the whole.
+pub record SendsPart (width_of : List ℕ → ℕ) (every : ℕ) (start : Standing) (input : List ℕ)
+    (left old new : Option (List ℕ)) : Type 0 where
   pub read : List ℕ
   pub rest : List ℕ
   pub whole : input ≡ read ++ rest
@@ -79,17 +89,21 @@ pub record SendsPart (width_of : List ℕ → ℕ) (every : ℕ) (start : Standi
   pub of_read : AppendsPrefix old new (updates_from width_of every start read)
   pub of_input : AppendsPrefix old new (updates_from width_of every start input)
 
-abbrev pub SendsFirst : {W : Type 0} → (W → List ℕ → ℕ) → ℕ → Terminal W → Option (List ℕ) → Option (List ℕ) → Option (List ℕ) → Option (List ℕ) → Type 0
+abbrev pub SendsFirst : {W : Type 0} → (W → List ℕ → ℕ) → ℕ → Terminal W → Option (List ℕ) → Option (List ℕ)
+    → Option (List ℕ) → Option (List ℕ) → Type 0
 SendsFirst width_of every before None left old new = Unit {0}
 SendsFirst width_of every before (Some input) left old new =
-    (start : Standing) → IsAt before start → IsCounted start → SendsPart (width_of before.surface.canvas.widths) every start input left old new
+    (start : Standing) → IsAt before start → IsCounted start
+    → SendsPart (width_of before.surface.grid.widths) every start input left old new
 
 -- the number behind an input that is looked at behind each piece
-abbrev pub number_behind : (List ℕ → ℕ) → ℕ → Standing → List ℕ → ℕ
-number_behind width_of every start input = (standing_behind width_of start (looks (in_pieces every [] input))).log.log.number
+abbrev pub number_after : (List ℕ → ℕ) → ℕ → Standing → List ℕ → ℕ
+number_after width_of every start input =
+    (standing_after width_of start (looks (in_pieces every [] input))).log.log.number
 
 -- a known input, looked at behind each piece, leads past the numbers of 64 bits
 abbrev pub LooksNeedNumber : {W : Type 0} → (W → List ℕ → ℕ) → ℕ → Terminal W → Option (List ℕ) → Type 0
 LooksNeedNumber width_of every before None = Unit {0}
 LooksNeedNumber width_of every before (Some input) =
-    (start : Standing) → IsAt before start → IsCounted start → 2 ^ 64 ≤ number_behind (width_of before.surface.canvas.widths) every start input
+    (start : Standing) → IsAt before start → IsCounted start
+    → 2 ^ 64 ≤ number_after (width_of before.surface.grid.widths) every start input

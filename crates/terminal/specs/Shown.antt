@@ -7,7 +7,8 @@ use Rattle.terminal_table.specs.Meaning.{meaning}
 
 -- the rows of the input with one look at the end, each with a line feed behind it
 abbrev pub rows_shown : (List ℕ → ℕ) → ℕ → ℕ → List ℕ → List ℕ
-rows_shown width_of width height input = screen_text (meaning width_of width height (Piece input ∷ Look ∷ [])).state.screen
+rows_shown width_of width height input =
+    screen_text (meaning width_of width height (Piece input ∷ Look ∷ [])).state.screen
 
 -- what the writer has gained is the first of these bytes, or all of them
 pub record AppendsPrefix (old new : Option (List ℕ)) (bytes : List ℕ) : Type 0 where

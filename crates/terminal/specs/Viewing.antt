@@ -1,15 +1,15 @@
 -- Terminals that show what others showed.
 use Rattle.std.specs.Prelude.{◌≡◌, ℕ, false, List, length}
 use Rattle.cell_base.specs.Screen.{Screen}
-use Rattle.cell_change.specs.ChangeValue.{ChangeValue}
+use Rattle.screen_change.specs.ChangeValue.{ChangeValue}
 use Rattle.escape_stream.specs.StreamActions.{stream_actions}
 use Rattle.terminal.specs.Terminal.{Terminal, IsIdle, state_in}
-use Rattle.terminal_patch.specs.Patch.{patch_of}
-use Rattle.terminal_spelling.specs.Sizes.{prints_in}
-use Rattle.terminal_update.specs.Shows.{Shows}
+use Rattle.terminal_viewers.specs.Patch.{patch_of}
+use Rattle.terminal_render.specs.EncodedSizes.{prints_in}
+use Rattle.terminal_viewers.specs.Shows.{Shows}
 use Rattle.terminal_table.specs.Meaning.{View}
-use Rattle.terminal_update.specs.Update.{update_changes, update_of}
-use Rattle.terminal_update.specs.Updates.{Standing}
+use Rattle.terminal_viewers.specs.Update.{update_changes, update_of}
+use Rattle.terminal_viewers.specs.Updates.{Standing}
 
 -- what a viewer is sent that has seen the changes before a number
 abbrev pub update_for : {W : Type 0} → Terminal W → ℕ → List ℕ
@@ -23,15 +23,15 @@ changes_for t number = update_changes (state_in t).screen t.surface.log number
 abbrev pub patch_from : {W : Type 0} → Terminal W → Terminal W → List ℕ
 patch_from t shown = patch_of (state_in shown).screen (state_in t).screen
 
--- A viewer can read the patch of a terminal from what another one shows: it and the terminal haven't failed, nothing is unfinished
--- or held at it, the widths of both answer alike, they have one size, and it shows what the other one shows.
+-- A viewer can read the patch of a terminal from what another one shows: it and the terminal haven't failed, nothing is
+-- unfinished or held at it, the widths of both answer alike, they have one size, and it shows what the other one shows.
 pub record CanReadFrom {W : Type 0} (width_of : W → List ℕ → ℕ) (t viewer shown : Terminal W) : Type 0 where
   pub sound : t.is_failed ≡ false
   pub reads : viewer.is_failed ≡ false
   pub idle : IsIdle viewer
-  pub widths : width_of viewer.surface.canvas.widths ≡ width_of t.surface.canvas.widths
-  pub wide : viewer.surface.canvas.width ≡ t.surface.canvas.width
-  pub tall : length viewer.surface.canvas.lines ≡ length t.surface.canvas.lines
+  pub widths : width_of viewer.surface.grid.widths ≡ width_of t.surface.grid.widths
+  pub wide : viewer.surface.grid.width ≡ t.surface.grid.width
+  pub tall : length viewer.surface.grid.lines ≡ length t.surface.grid.lines
   pub shows : (state_in viewer).screen ≡ (state_in shown).screen
 
 -- where a terminal stands that stands at a view
@@ -44,4 +44,4 @@ update_prints t number = prints_in (stream_actions (update_for t number))
 
 -- a screen shows a terminal at a number
 abbrev pub ShowsAt : {W : Type 0} → (W → List ℕ → ℕ) → Screen → ℕ → Terminal W → Type 0
-ShowsAt width_of shown number t = Shows (width_of t.surface.canvas.widths) shown number (state_in t).screen t.surface.log
+ShowsAt width_of shown number t = Shows (width_of t.surface.grid.widths) shown number (state_in t).screen t.surface.log

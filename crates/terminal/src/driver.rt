@@ -1,5 +1,6 @@
 //! Runs a reader's bytes through a terminal.
-ghost use Rattle.std.specs.Prelude.{◌≡◌, ◌↔◌, ℕ, ◌+◌, ◌<◌, ◌≤◌, ◌^◌, false, List, [], ◌∷◌, IsTrue, IsErr, IfOk, IfSome, OnOk, OnErr, IsErrOf};
+ghost use Rattle.std.specs.Prelude.{◌≡◌, ◌↔◌, ℕ, ◌+◌, ◌<◌, ◌≤◌, ◌^◌, false, List, [], ◌∷◌, IsTrue, IsErr, IfOk, IfSome};
+ghost use Rattle.std.specs.Prelude.{OnOk, OnErr, IsErrOf};
 ghost use Rattle.std.specs.Io.KnownBytes.{Appends, Keeps};
 ghost use Rattle.std.specs.String.{string_bytes};
 ghost use Rattle.cell_surface.specs.Surface.{shown_by};
@@ -85,7 +86,8 @@ fn feed_all<R: Read, W: Widths + Drop>(
     ensures too_long { IsErrOf result RunError.TooLong → reader.new.reads ≡ 2 ^ 48 }
     ensures write { IsErrOf result RunError.Write → ⊥ }
     ensures failed { IsErrOf result (RunError.Terminal TerminalError.Failed) → ⊥ }
-    ensures number { IsErrOf result (RunError.Terminal TerminalError.Number) → FeedingNeedsNumber (λ w. W.width_of w) (R.remaining reader.old.inner) terminal.old }
+    ensures number { IsErrOf result (RunError.Terminal TerminalError.Number)
+        → FeedingNeedsNumber (λ w. W.width_of w) (R.remaining reader.old.inner) terminal.old }
 {
     let mut buffer = [0u8; 4096];
     for _ in 0..READS {
@@ -103,8 +105,8 @@ fn feed_all<R: Read, W: Widths + Drop>(
     Err(RunError::TooLong)
 }
 
-// A new terminal that was fed the whole input, and settled. Its log keeps nothing, so that no text is held twice while the
-// rows are made.
+// A new terminal that was fed the whole input, and settled. Its log keeps nothing, so that no text is held twice while
+// the rows are made.
 fn read_all<R: Read, W: Widths + Drop>(
     alloc: Global,
     reader: &mut Watched<R>,
@@ -116,15 +118,18 @@ fn read_all<R: Read, W: Widths + Drop>(
     requires height { (0 < height) × (height < 2 ^ 32) }
     requires not_failed { reader.old.has_failed ≡ false }
     requires unread { reader.old.reads ≡ 0 }
-    ensures ok { IfOk result (λ t. IfSome (R.remaining reader.old.inner) (λ input.
-        (shown_by t.surface).screen ≡ (meaning (W.width_of widths) width height (Piece input ∷ Look ∷ [])).state.screen)) }
+    ensures ok { IfOk result
+        (λ t. IfSome (R.remaining reader.old.inner)
+        (λ input. (shown_by t.surface).screen
+        ≡ (meaning (W.width_of widths) width height (Piece input ∷ Look ∷ [])).state.screen)) }
     ensures read { IsErrOf result RunError.Read ↔ IsTrue reader.new.has_failed }
     ensures ends { reader.new.has_gone_on ≡ reader.old.has_gone_on }
     ensures too_long { IsErrOf result RunError.TooLong → reader.new.reads ≡ 2 ^ 48 }
     ensures write { IsErrOf result RunError.Write → ⊥ }
     ensures failed { IsErrOf result (RunError.Terminal TerminalError.Failed) → ⊥ }
-    ensures number { IsErrOf result (RunError.Terminal TerminalError.Number) → IfSome (R.remaining reader.old.inner) (λ input.
-        2 ^ 64 ≤ (log_of (W.width_of widths) width height (Piece input ∷ Look ∷ [])).log.number) }
+    ensures number { IsErrOf result (RunError.Terminal TerminalError.Number)
+        → IfSome (R.remaining reader.old.inner)
+        (λ input. 2 ^ 64 ≤ (log_of (W.width_of widths) width height (Piece input ∷ Look ∷ [])).log.number) }
 {
     let mut terminal = Terminal::new(alloc, width, height, widths)?;
     feed_all(reader, &mut terminal)?;
@@ -145,14 +150,17 @@ fn rows_of<R: Read, W: Widths + Drop>(
     requires height { (0 < height) × (height < 2 ^ 32) }
     requires not_failed { reader.old.has_failed ≡ false }
     requires unread { reader.old.reads ≡ 0 }
-    ensures ok { IfOk result (λ text. IfSome (R.remaining reader.old.inner) (λ input. string_bytes text ≡ rows_shown (W.width_of widths) width height input)) }
+    ensures ok { IfOk result
+        (λ text. IfSome (R.remaining reader.old.inner)
+        (λ input. string_bytes text ≡ rows_shown (W.width_of widths) width height input)) }
     ensures read { IsErrOf result RunError.Read ↔ IsTrue reader.new.has_failed }
     ensures ends { reader.new.has_gone_on ≡ reader.old.has_gone_on }
     ensures too_long { IsErrOf result RunError.TooLong → reader.new.reads ≡ 2 ^ 48 }
     ensures write { IsErrOf result RunError.Write → ⊥ }
     ensures failed { IsErrOf result (RunError.Terminal TerminalError.Failed) → ⊥ }
-    ensures number { IsErrOf result (RunError.Terminal TerminalError.Number) → IfSome (R.remaining reader.old.inner) (λ input.
-        2 ^ 64 ≤ (log_of (W.width_of widths) width height (Piece input ∷ Look ∷ [])).log.number) }
+    ensures number { IsErrOf result (RunError.Terminal TerminalError.Number)
+        → IfSome (R.remaining reader.old.inner)
+        (λ input. 2 ^ 64 ≤ (log_of (W.width_of widths) width height (Piece input ∷ Look ∷ [])).log.number) }
 {
     let terminal = read_all(alloc, reader, width, height, widths)?;
     let rows = terminal.surface().screen_chars_to_string()?;
@@ -180,10 +188,14 @@ pub fn show<R: Read, T: Write, W: Widths + Drop>(
     requires reader { reader.old.has_failed ≡ false }
     requires unread { reader.old.reads ≡ 0 }
     requires writer { writer.old.has_failed ≡ false }
-    ensures ok { OnOk result (IfSome (R.remaining reader.old.inner) (λ input.
-        Appends (T.contents writer.old.inner) (T.contents writer.new.inner) (rows_shown (W.width_of widths) width height input))) }
-    ensures err { OnErr result (IfSome (R.remaining reader.old.inner) (λ input.
-        AppendsPrefix (T.contents writer.old.inner) (T.contents writer.new.inner) (rows_shown (W.width_of widths) width height input))) }
+    ensures ok { OnOk result
+        (IfSome (R.remaining reader.old.inner)
+        (λ input. Appends (T.contents writer.old.inner) (T.contents writer.new.inner)
+        (rows_shown (W.width_of widths) width height input))) }
+    ensures err { OnErr result
+        (IfSome (R.remaining reader.old.inner)
+        (λ input. AppendsPrefix (T.contents writer.old.inner) (T.contents writer.new.inner)
+        (rows_shown (W.width_of widths) width height input))) }
     ensures read { IsErrOf result RunError.Read ↔ IsTrue reader.new.has_failed }
     ensures write { IsErrOf result RunError.Write ↔ IsTrue writer.new.has_failed }
     ensures too_long { IsErrOf result RunError.TooLong → reader.new.reads ≡ 2 ^ 48 }
@@ -198,8 +210,9 @@ pub fn show<R: Read, T: Write, W: Widths + Drop>(
     ensures ends_reads { reader.new.has_gone_on ≡ reader.old.has_gone_on }
     ensures ends_writes { writer.new.has_gone_on ≡ writer.old.has_gone_on }
     ensures failed { IsErrOf result (RunError.Terminal TerminalError.Failed) → ⊥ }
-    ensures number { IsErrOf result (RunError.Terminal TerminalError.Number) → IfSome (R.remaining reader.old.inner) (λ input.
-        2 ^ 64 ≤ (log_of (W.width_of widths) width height (Piece input ∷ Look ∷ [])).log.number) }
+    ensures number { IsErrOf result (RunError.Terminal TerminalError.Number)
+        → IfSome (R.remaining reader.old.inner)
+        (λ input. 2 ^ 64 ≤ (log_of (W.width_of widths) width height (Piece input ∷ Look ∷ [])).log.number) }
 {
     let rows = rows_of(alloc, reader, width, height, widths)?;
     write_all(writer, rows.as_bytes())

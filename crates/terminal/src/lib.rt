@@ -9,6 +9,7 @@ mod terminal;
 mod updates;
 pub mod viewers;
 mod watched;
+pub mod worked;
 
 pub use cell_base::{ProgramWidth, SequenceNo, Widths};
 pub use cell_surface::Surface;

@@ -1,7 +1,8 @@
 //! Steps of a terminal, played on a new one.
 ghost use Rattle.std.specs.Prelude.{◌≡◌, ◌≤◌, ◌<◌, ◌^◌, false, ◌∷◌, [], IfOk, OnOk, OnErr, IsErrOf};
 ghost use Rattle.terminal.specs.Played.{played, history_of, AreStepSizes};
-ghost use Rattle.terminal.specs.Terminal.{StandsAt, GoesBy, NeedsNumber};
+ghost use Rattle.terminal.specs.Headline.{StandsAt, GoesBy};
+ghost use Rattle.terminal.specs.Refusals.{NeedsNumber};
 ghost use Rattle.terminal_table.specs.Logged.{log_of};
 ghost use Rattle.terminal_table.specs.Meaning.{meaning};
 
@@ -29,7 +30,8 @@ fn take_step<W: Widths + Drop>(
     requires { AreStepSizes (step ∷ []) }
     ensures done { OnOk result (GoesBy (λ w. W.width_of w) terminal.old terminal.new (played step.entry ∷ [])) }
     ensures failed { IsErrOf result TerminalError.Failed → terminal.old.is_failed ≡ false → ⊥ }
-    ensures number { IsErrOf result TerminalError.Number → NeedsNumber (λ w. W.width_of w) terminal.old (played step.entry ∷ []) }
+    ensures number { IsErrOf result TerminalError.Number
+        → NeedsNumber (λ w. W.width_of w) terminal.old (played step.entry ∷ []) }
 {
     match step {
         Step::Feed(piece) => terminal.feed(piece),
@@ -53,10 +55,11 @@ pub fn play<W: Widths + Drop>(
     requires sizes { AreStepSizes steps.now }
     ensures stands { IfOk result (λ t. StandsAt t (meaning (W.width_of widths) width height (history_of steps.now))) }
     ensures log { IfOk result (λ t. t.surface.log ≡ log_of (W.width_of widths) width height (history_of steps.now)) }
-    ensures widths { IfOk result (λ t. t.surface.canvas.widths ≡ widths) }
+    ensures widths { IfOk result (λ t. t.surface.grid.widths ≡ widths) }
     ensures sound { IfOk result (λ t. t.is_failed ≡ false) }
     ensures failed { IsErrOf result TerminalError.Failed → ⊥ }
-    ensures number { IsErrOf result TerminalError.Number → 2 ^ 64 ≤ (log_of (W.width_of widths) width height (history_of steps.now)).log.number }
+    ensures number { IsErrOf result TerminalError.Number
+        → 2 ^ 64 ≤ (log_of (W.width_of widths) width height (history_of steps.now)).log.number }
 {
     let mut terminal = Terminal::new(alloc, width, height, widths)?;
     for step in steps {

@@ -1,8 +1,11 @@
 //! The terminal.
-ghost use Rattle.std.specs.Prelude.{◌≡◌, ◌↔◌, ◌<◌, ◌^◌, true, false, [], ◌∷◌, length, IsTrue, IsOk, IfOk, OnOk, OnErr, IsErrOf};
-ghost use Rattle.change_log.specs.Log.{most_due, new_log};
+ghost use Rattle.std.specs.Prelude.{◌≡◌, ◌↔◌, ◌<◌, ◌^◌, true, false, [], ◌∷◌, length, IsTrue, IsOk, IfOk, OnOk, OnErr};
+ghost use Rattle.std.specs.Prelude.{IsErrOf};
+ghost use Rattle.screen_log.specs.Log.{most_due, new_log};
 ghost use Rattle.cell_surface.specs.Surface.{number_of};
-ghost use Rattle.terminal.specs.Terminal.{StandsAt, GoesBy, IsSpelled, NeedsNumber};
+ghost use Rattle.terminal.specs.Headline.{StandsAt, GoesBy};
+ghost use Rattle.terminal.specs.Refusals.{NeedsMemory, NeedsNumber};
+ghost use Rattle.terminal.specs.Terminal.{IsSpelled};
 ghost use Rattle.terminal.specs.Viewing.{patch_from, update_for};
 ghost use Rattle.terminal_table.specs.History.{Piece, Look, Resize, Forget};
 ghost use Rattle.terminal_table.specs.Meaning.{View, new_view};
@@ -13,9 +16,9 @@ use cell_surface::Surface;
 use escape_stream::Parser;
 use std::alloc::{AllocError, Global};
 use std::marker::Model;
-use terminal_patch::patch;
 use terminal_steps::{TerminalError, TerminalState};
-use terminal_update::update;
+use terminal_viewers::patch::patch;
+use terminal_viewers::update::update;
 
 /// A terminal that keeps the screen which an application's bytes lead to, and the replies that they ask for.
 ///
@@ -54,7 +57,7 @@ impl<W: Widths + Drop> Terminal<W> {
         requires height { (0 < height) × (height < 2 ^ 32) }
         ensures stands { IfOk result (λ t. StandsAt t (new_view width height)) }
         ensures log { IfOk result (λ t. t.surface.log ≡ record { most = most_due width height; log = new_log }) }
-        ensures widths { IfOk result (λ t. t.surface.canvas.widths ≡ widths) }
+        ensures widths { IfOk result (λ t. t.surface.grid.widths ≡ widths) }
         ensures sound { IfOk result (λ t. t.is_failed ≡ false) }
     {
         let state = TerminalState::new(alloc, width, height, widths)?;
@@ -70,11 +73,15 @@ impl<W: Widths + Drop> Terminal<W> {
     /// ended is held. Feeding nothing takes no memory.
     ///
     /// Refuses, in this order, with `Failed` on a failed terminal, and with `Number` or `Memory` as the
-    /// first change that is refused says; then the terminal has failed.
+    /// first change that is refused says; then the terminal has failed. `Memory` is answered only where the
+    /// bytes, or what they ask for, take some, and a change that has no number isn't refused with it.
     pub fn feed(&mut self, piece: &[u8]) -> Result<(), TerminalError>
         ensures done { OnOk result (GoesBy (λ w. W.width_of w) self.old self.new (Piece piece.now ∷ [])) }
         ensures failed { IsErrOf result TerminalError.Failed ↔ IsTrue self.old.is_failed }
-        ensures number { IsErrOf result TerminalError.Number → NeedsNumber (λ w. W.width_of w) self.old (Piece piece.now ∷ []) }
+        ensures number { IsErrOf result TerminalError.Number
+            → NeedsNumber (λ w. W.width_of w) self.old (Piece piece.now ∷ []) }
+        ensures memory { IsErrOf result TerminalError.Memory
+            → NeedsMemory (λ w. W.width_of w) self.old piece.now self.new }
         ensures err { OnErr result (IsTrue self.new.is_failed) }
         ensures nothing { piece.now ≡ [] → self.old.is_failed ≡ false → IsOk result }
     {
@@ -116,7 +123,8 @@ impl<W: Widths + Drop> Terminal<W> {
         requires height { (0 < height) × (height < 2 ^ 32) }
         ensures done { OnOk result (GoesBy (λ w. W.width_of w) self.old self.new (Resize width height ∷ [])) }
         ensures failed { IsErrOf result TerminalError.Failed ↔ IsTrue self.old.is_failed }
-        ensures number { IsErrOf result TerminalError.Number → NeedsNumber (λ w. W.width_of w) self.old (Resize width height ∷ []) }
+        ensures number { IsErrOf result TerminalError.Number
+            → NeedsNumber (λ w. W.width_of w) self.old (Resize width height ∷ []) }
         ensures memory { IsErrOf result TerminalError.Memory → self.new.surface.is_failed ≡ true }
         ensures err { OnErr result (IsTrue self.new.is_failed) }
     {
@@ -152,9 +160,11 @@ impl<W: Widths + Drop> Terminal<W> {
         ensures bytes { IfOk result (λ r. r.1.items ≡ update_for self.new number) }
         ensures failed { IsErrOf result TerminalError.Failed ↔ IsTrue self.old.is_failed }
         ensures number { IsErrOf result TerminalError.Number → NeedsNumber (λ w. W.width_of w) self.old (Look ∷ []) }
-        ensures err { OnErr result (self.new.is_failed ≡ false → GoesBy (λ w. W.width_of w) self.old self.new (Look ∷ [])) }
+        ensures err { OnErr result
+            (self.new.is_failed ≡ false → GoesBy (λ w. W.width_of w) self.old self.new (Look ∷ [])) }
         ensures fails { IsErrOf result TerminalError.Number → IsTrue self.new.is_failed }
-        ensures memory { IsErrOf result TerminalError.Memory → self.new.is_failed ≡ true → self.new.surface.is_failed ≡ true }
+        ensures memory { IsErrOf result TerminalError.Memory → self.new.is_failed ≡ true
+            → self.new.surface.is_failed ≡ true }
         ensures stays { IsTrue self.old.is_failed → IsTrue self.new.is_failed }
         ensures nothing { self.old.run ≡ [] → self.old.is_failed ≡ false → self.new.is_failed ≡ false }
     {
@@ -167,8 +177,8 @@ impl<W: Widths + Drop> Terminal<W> {
     fn patch_from(&self, shown: &Terminal<W>) -> Result<Vec<u8>, AllocError>
         requires sound { self.now.is_failed ≡ false }
         requires shown { shown.now.is_failed ≡ false }
-        requires width { shown.now.surface.canvas.width ≡ self.now.surface.canvas.width }
-        requires height { length shown.now.surface.canvas.lines ≡ length self.now.surface.canvas.lines }
+        requires width { shown.now.surface.grid.width ≡ self.now.surface.grid.width }
+        requires height { length shown.now.surface.grid.lines ≡ length self.now.surface.grid.lines }
         ensures { IfOk result (λ bytes. bytes.items ≡ patch_from self.now shown.now) }
     {
         patch(self.alloc, self.state.surface(), shown.state.surface())
@@ -184,16 +194,18 @@ impl<W: Widths + Drop> Terminal<W> {
     /// `settle`, and the same call, asked again, gives what it would have given.
     pub fn patch(&mut self, shown: &Terminal<W>) -> Result<(SequenceNo, Vec<u8>), TerminalError>
         requires shown { shown.now.is_failed ≡ false }
-        requires width { shown.now.surface.canvas.width ≡ self.old.surface.canvas.width }
-        requires height { length shown.now.surface.canvas.lines ≡ length self.old.surface.canvas.lines }
+        requires width { shown.now.surface.grid.width ≡ self.old.surface.grid.width }
+        requires height { length shown.now.surface.grid.lines ≡ length self.old.surface.grid.lines }
         ensures settled { OnOk result (GoesBy (λ w. W.width_of w) self.old self.new (Look ∷ [])) }
         ensures answer { IfOk result (λ r. r.0 ≡ number_of self.new.surface) }
         ensures bytes { IfOk result (λ r. r.1.items ≡ patch_from self.new shown.now) }
         ensures failed { IsErrOf result TerminalError.Failed ↔ IsTrue self.old.is_failed }
         ensures number { IsErrOf result TerminalError.Number → NeedsNumber (λ w. W.width_of w) self.old (Look ∷ []) }
-        ensures err { OnErr result (self.new.is_failed ≡ false → GoesBy (λ w. W.width_of w) self.old self.new (Look ∷ [])) }
+        ensures err { OnErr result
+            (self.new.is_failed ≡ false → GoesBy (λ w. W.width_of w) self.old self.new (Look ∷ [])) }
         ensures fails { IsErrOf result TerminalError.Number → IsTrue self.new.is_failed }
-        ensures memory { IsErrOf result TerminalError.Memory → self.new.is_failed ≡ true → self.new.surface.is_failed ≡ true }
+        ensures memory { IsErrOf result TerminalError.Memory → self.new.is_failed ≡ true
+            → self.new.surface.is_failed ≡ true }
         ensures stays { IsTrue self.old.is_failed → IsTrue self.new.is_failed }
         ensures nothing { self.old.run ≡ [] → self.old.is_failed ≡ false → self.new.is_failed ≡ false }
     {

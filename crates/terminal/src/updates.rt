@@ -1,11 +1,13 @@
 //! The updates of an input, written behind each of so many bytes.
-ghost use Rattle.std.specs.Prelude.{◌≡◌, ◌↔◌, ◌<◌, ◌≤◌, ◌^◌, false, IsTrue, IsErr, IfOk, IfSome, OnOk, OnErr, IsErrOf, [], ◌∷◌};
+ghost use Rattle.std.specs.Prelude.{◌≡◌, ◌↔◌, ◌<◌, ◌≤◌, ◌^◌, false, IsTrue, IsErr, IfOk, IfSome, OnOk, OnErr, IsErrOf};
+ghost use Rattle.std.specs.Prelude.{[], ◌∷◌};
 ghost use Rattle.std.specs.Io.KnownBytes.{Appends};
-ghost use Rattle.terminal.specs.Sent.{LooksNeedNumber, Sends, SendsAll, SendsFirst, SendsPart, SendsSome, due_from, number_behind, update_count};
-ghost use Rattle.terminal.specs.Terminal.{NeedsNumber};
+ghost use Rattle.terminal.specs.Sent.{LooksNeedNumber, Sends, SendsAll, SendsFirst, SendsPart, SendsSome, due_from};
+ghost use Rattle.terminal.specs.Sent.{number_after, update_count};
+ghost use Rattle.terminal.specs.Refusals.{NeedsNumber};
 ghost use Rattle.terminal.specs.Watched.{counted, counted_by};
 ghost use Rattle.terminal_table.specs.History.{Look};
-ghost use Rattle.terminal_update.specs.Updates.{new_standing, updates};
+ghost use Rattle.terminal_viewers.specs.Updates.{new_standing, updates};
 
 use crate::driver::{READS, forget, write_all};
 use crate::error::RunError;
@@ -25,10 +27,14 @@ fn write_update<T: Write, W: Widths + Drop>(
 ) -> Result<SequenceNo, RunError>
     requires sound { terminal.old.is_failed ≡ false }
     requires not_failed { writer.old.has_failed ≡ false }
-    ensures ok { IfOk result (λ next. Sends (λ w. W.width_of w) terminal.old terminal.new number next (T.contents writer.old.inner) (T.contents writer.new.inner)) }
+    ensures ok { IfOk result
+        (λ next. Sends (λ w. W.width_of w) terminal.old terminal.new number next (T.contents writer.old.inner)
+        (T.contents writer.new.inner)) }
     ensures sound { OnOk result (terminal.new.is_failed ≡ false) }
-    ensures widths { OnOk result (terminal.new.surface.canvas.widths ≡ terminal.old.surface.canvas.widths) }
-    ensures err { OnErr result (SendsSome (λ w. W.width_of w) terminal.old number (T.contents writer.old.inner) (T.contents writer.new.inner)) }
+    ensures widths { OnOk result (terminal.new.surface.grid.widths ≡ terminal.old.surface.grid.widths) }
+    ensures err { OnErr result
+        (SendsSome (λ w. W.width_of w) terminal.old number (T.contents writer.old.inner)
+        (T.contents writer.new.inner)) }
     ensures write { IsErrOf result RunError.Write ↔ IsTrue writer.new.has_failed }
     ensures ends { writer.new.has_gone_on ≡ writer.old.has_gone_on }
     ensures flushes { OnOk result (writer.new.flushes ≡ counted writer.old.flushes) }
@@ -36,7 +42,8 @@ fn write_update<T: Write, W: Widths + Drop>(
     ensures read { IsErrOf result RunError.Read → ⊥ }
     ensures too_long { IsErrOf result RunError.TooLong → ⊥ }
     ensures failed { IsErrOf result (RunError.Terminal TerminalError.Failed) → ⊥ }
-    ensures number { IsErrOf result (RunError.Terminal TerminalError.Number) → NeedsNumber (λ w. W.width_of w) terminal.old (Look ∷ []) }
+    ensures number { IsErrOf result (RunError.Terminal TerminalError.Number)
+        → NeedsNumber (λ w. W.width_of w) terminal.old (Look ∷ []) }
 {
     let (next, bytes) = terminal.update(number)?;
     write_all(writer, &bytes)?;
@@ -44,8 +51,8 @@ fn write_update<T: Write, W: Widths + Drop>(
     Ok(next)
 }
 
-// From where on changes are due to a viewer that has seen those before a number. One at number 0 has seen nothing and is
-// sent the whole screen.
+// From where on changes are due to a viewer that has seen those before a number. One at number 0 has seen nothing and
+// is sent the whole screen.
 fn due_from<W: Widths + Drop>(terminal: &Terminal<W>, number: SequenceNo) -> SequenceNo
     ensures { result ≡ due_from terminal.now number }
 {
@@ -68,13 +75,18 @@ fn write_updates<R: Read, T: Write, W: Widths + Drop>(
     requires unread { reader.old.reads ≡ 0 }
     requires writer { writer.old.has_failed ≡ false }
     requires sound { terminal.old.is_failed ≡ false }
-    ensures ok { OnOk result (SendsAll (λ w. W.width_of w) every terminal.old (R.remaining reader.old.inner) (T.contents writer.old.inner) (T.contents writer.new.inner)) }
-    ensures err { OnErr result (SendsFirst (λ w. W.width_of w) every terminal.old (R.remaining reader.old.inner) (R.remaining reader.new.inner) (T.contents writer.old.inner) (T.contents writer.new.inner)) }
+    ensures ok { OnOk result
+        (SendsAll (λ w. W.width_of w) every terminal.old (R.remaining reader.old.inner) (T.contents writer.old.inner)
+        (T.contents writer.new.inner)) }
+    ensures err { OnErr result
+        (SendsFirst (λ w. W.width_of w) every terminal.old (R.remaining reader.old.inner) (R.remaining reader.new.inner)
+        (T.contents writer.old.inner) (T.contents writer.new.inner)) }
     ensures read { IsErrOf result RunError.Read ↔ IsTrue reader.new.has_failed }
     ensures write { IsErrOf result RunError.Write ↔ IsTrue writer.new.has_failed }
     ensures too_long { IsErrOf result RunError.TooLong → reader.new.reads ≡ 2 ^ 48 }
     ensures failed { IsErrOf result (RunError.Terminal TerminalError.Failed) → ⊥ }
-    ensures number { IsErrOf result (RunError.Terminal TerminalError.Number) → LooksNeedNumber (λ w. W.width_of w) every terminal.old (R.remaining reader.old.inner) }
+    ensures number { IsErrOf result (RunError.Terminal TerminalError.Number)
+        → LooksNeedNumber (λ w. W.width_of w) every terminal.old (R.remaining reader.old.inner) }
     ensures flushes { OnOk result (IfSome (R.remaining reader.old.inner) (λ input.
         writer.new.flushes ≡ counted_by (update_count every input) writer.old.flushes)) }
     ensures flushed { OnOk result (IsTrue writer.new.is_flushed) }
@@ -131,16 +143,21 @@ pub fn run<R: Read, T: Write, W: Widths + Drop>(
     requires reader { reader.old.has_failed ≡ false }
     requires unread { reader.old.reads ≡ 0 }
     requires writer { writer.old.has_failed ≡ false }
-    ensures ok { OnOk result (IfSome (R.remaining reader.old.inner) (λ input.
-        Appends (T.contents writer.old.inner) (T.contents writer.new.inner) (updates (W.width_of widths) width height every input))) }
-    ensures err { OnErr result (IfSome (R.remaining reader.old.inner) (λ input.
-        SendsPart (W.width_of widths) every (new_standing width height) input (R.remaining reader.new.inner) (T.contents writer.old.inner) (T.contents writer.new.inner))) }
+    ensures ok { OnOk result
+        (IfSome (R.remaining reader.old.inner)
+        (λ input. Appends (T.contents writer.old.inner) (T.contents writer.new.inner)
+        (updates (W.width_of widths) width height every input))) }
+    ensures err { OnErr result
+        (IfSome (R.remaining reader.old.inner)
+        (λ input. SendsPart (W.width_of widths) every (new_standing width height) input
+        (R.remaining reader.new.inner) (T.contents writer.old.inner) (T.contents writer.new.inner))) }
     ensures read { IsErrOf result RunError.Read ↔ IsTrue reader.new.has_failed }
     ensures write { IsErrOf result RunError.Write ↔ IsTrue writer.new.has_failed }
     ensures too_long { IsErrOf result RunError.TooLong → reader.new.reads ≡ 2 ^ 48 }
     ensures failed { IsErrOf result (RunError.Terminal TerminalError.Failed) → ⊥ }
-    ensures number { IsErrOf result (RunError.Terminal TerminalError.Number) → IfSome (R.remaining reader.old.inner) (λ input.
-        2 ^ 64 ≤ number_behind (W.width_of widths) every (new_standing width height) input) }
+    ensures number { IsErrOf result (RunError.Terminal TerminalError.Number)
+        → IfSome (R.remaining reader.old.inner)
+        (λ input. 2 ^ 64 ≤ number_after (W.width_of widths) every (new_standing width height) input) }
     // It flushes once after each update, and nothing is written after the last flush.
     ensures flushes { OnOk result (IfSome (R.remaining reader.old.inner) (λ input.
         writer.new.flushes ≡ counted_by (update_count every input) writer.old.flushes)) }

@@ -1,43 +1,43 @@
 //! Laws of viewers, as the contracts of functions that do nothing.
-ghost use Rattle.std.specs.Prelude.{◌≡◌, ℕ, ◌+◌, ◌*◌, ◌++◌, All, map, take, ◌<◌, ◌≤◌, ◌^◌, false, List, [], ◌∷◌, length, Some};
+ghost use Rattle.std.specs.Prelude.{◌≡◌, ℕ, ◌+◌, ◌*◌, ◌++◌, All, map, take, ◌<◌, ◌≤◌, ◌^◌, false, List, [], ◌∷◌};
+ghost use Rattle.std.specs.Prelude.{length, Some};
 ghost use Rattle.cell_base.specs.Screen.{Screen, height};
-ghost use Rattle.cell_change.specs.ChangeValue.{ChangeValue};
+ghost use Rattle.screen_change.specs.ChangeValue.{ChangeValue};
 ghost use Rattle.cell_surface.specs.Surface.{number_of};
 ghost use Rattle.escape_stream.specs.StreamAction.{StreamAction};
 ghost use Rattle.escape_stream.specs.StreamText.{stream_text};
 ghost use Rattle.escape_stream.specs.StreamWritable.{IsWritable};
-ghost use Rattle.screen_difference.specs.FreshCells.{screen_fresh};
 ghost use Rattle.screen_effects.specs.Display.{IsDisplay};
 ghost use Rattle.screen_effects.specs.Effect.{effect};
-ghost use Rattle.screen_prints.specs.Prints.{text_of};
-ghost use Rattle.terminal.specs.Terminal.{Terminal, StandsAt, GoesBy, IsIdle, state_in};
-ghost use Rattle.terminal.specs.Viewing.{CanReadFrom, ShowsAt, changes_for, patch_from, standing_of, update_for, update_prints};
-ghost use Rattle.terminal_patch.specs.Patch.{place_prints};
-ghost use Rattle.terminal_prints.specs.Prints.{IsPlain, prints};
+ghost use Rattle.terminal.specs.Headline.{StandsAt, GoesBy, PatchesPrintFresh, ViewersShow};
+ghost use Rattle.terminal.specs.Terminal.{Terminal, IsIdle, state_in};
+ghost use Rattle.terminal.specs.Viewing.{CanReadFrom, ShowsAt, changes_for, patch_from, standing_of, update_for};
+ghost use Rattle.terminal.specs.Viewing.{update_prints};
+ghost use Rattle.terminal_table.specs.Prints.{IsPlain};
 ghost use Rattle.terminal_render.specs.Rendering.{rendering};
-ghost use Rattle.terminal_sessions.specs.Sessions.{Answer, Answers, Turn, new_chain, round, session};
-ghost use Rattle.terminal_sessions.specs.Showing.{AllShow, IsShown, IsTurn};
-ghost use Rattle.terminal_spelling.specs.Sizes.{AreShort, all_sent_size, runs_in};
+ghost use Rattle.terminal_viewers.specs.Sessions.{Answer, Turn, new_chain, round, session};
+ghost use Rattle.terminal_viewers.specs.Showing.{AllShow, IsTurn};
+ghost use Rattle.terminal_render.specs.EncodedSizes.{AreShort, all_encoded_size, runs_in};
 ghost use Rattle.terminal_table.specs.History.{History, Piece, Forget};
 ghost use Rattle.terminal_table.specs.Meaning.{View, new_view};
 ghost use Rattle.terminal_table.specs.Turns.{AreSizes};
-ghost use Rattle.terminal_update.specs.Update.{display_on};
-ghost use Rattle.terminal_update.specs.Updates.{updated, updates};
-ghost use Rattle.terminal_update.specs.Viewers.{repeated};
+ghost use Rattle.terminal_viewers.specs.Update.{display_on};
+ghost use Rattle.terminal_viewers.specs.Updates.{updated, updates};
+ghost use Rattle.terminal_viewers.specs.Viewers.{repeated};
 
 use crate::terminal::Terminal;
 use cell_base::Widths;
 use cell_surface::laws::{forgotten_changes_are_not_due, surfaces_stay_lawful};
 use escape_stream::encoding_laws::writable_lists_read_back;
-use terminal_patch::laws::viewers_read_patches;
-pub use terminal_prints::laws::plain_streams_print_what_is_fresh;
 use terminal_render::laws::rendered_texts_have_the_effect;
-use terminal_spelling::laws::{spelled_changes_are_rendered, spelled_changes_are_writable};
-use terminal_spelling::sizes::{
-    deltas_print_each_run_once, sent_changes_are_short, sent_lists_are_short,
+use terminal_render::sizes::{
+    deltas_print_each_run_once, encoded_changes_are_short, encoded_lists_are_short,
 };
-use terminal_update::laws::{updates_are_counted, updates_have_spellings};
-use terminal_update::viewers::{
+use terminal_render::spelling_laws::{spelled_changes_are_rendered, spelled_changes_are_writable};
+pub use terminal_table::print_laws::plain_streams_print_what_is_fresh;
+use terminal_viewers::patch_laws::viewers_read_patches;
+use terminal_viewers::update_laws::{updates_are_counted, updates_have_spellings};
+use terminal_viewers::viewers::{
     updates_show_the_input, viewers_go_on_showing, viewers_read_updates,
 };
 
@@ -45,8 +45,15 @@ use terminal_update::viewers::{
 /// that number, leaves one that shows the terminal's screen, with its saved cursor and its replies as they were, and
 /// idle.
 pub fn updates_are_shown<W: Widths + Drop>(terminal: &Terminal<W>, viewer: &Terminal<W>)
-    ensures shown { (number : ℕ) (behind : Terminal W) → terminal.now.is_failed ≡ false → viewer.now.is_failed ≡ false → IsIdle viewer.now → W.width_of viewer.now.surface.canvas.widths ≡ W.width_of terminal.now.surface.canvas.widths → ShowsAt (λ w. W.width_of w) (state_in viewer.now).screen number terminal.now → GoesBy (λ w. W.width_of w) viewer.now behind (Piece (update_for terminal.now number) ∷ []) → state_in behind ≡ record (state_in viewer.now) { screen = (state_in terminal.now).screen } }
-    ensures idle { (number : ℕ) (behind : Terminal W) → terminal.now.is_failed ≡ false → viewer.now.is_failed ≡ false → IsIdle viewer.now → W.width_of viewer.now.surface.canvas.widths ≡ W.width_of terminal.now.surface.canvas.widths → ShowsAt (λ w. W.width_of w) (state_in viewer.now).screen number terminal.now → GoesBy (λ w. W.width_of w) viewer.now behind (Piece (update_for terminal.now number) ∷ []) → IsIdle behind }
+    ensures shown { (number : ℕ) (behind : Terminal W) → terminal.now.is_failed ≡ false → viewer.now.is_failed ≡ false
+        → IsIdle viewer.now → W.width_of viewer.now.surface.grid.widths ≡ W.width_of terminal.now.surface.grid.widths
+        → ShowsAt (λ w. W.width_of w) (state_in viewer.now).screen number terminal.now
+        → GoesBy (λ w. W.width_of w) viewer.now behind (Piece (update_for terminal.now number) ∷ [])
+        → state_in behind ≡ record (state_in viewer.now) { screen = (state_in terminal.now).screen } }
+    ensures idle { (number : ℕ) (behind : Terminal W) → terminal.now.is_failed ≡ false → viewer.now.is_failed ≡ false
+        → IsIdle viewer.now → W.width_of viewer.now.surface.grid.widths ≡ W.width_of terminal.now.surface.grid.widths
+        → ShowsAt (λ w. W.width_of w) (state_in viewer.now).screen number terminal.now
+        → GoesBy (λ w. W.width_of w) viewer.now behind (Piece (update_for terminal.now number) ∷ []) → IsIdle behind }
 {
     terminal.stands();
     viewer.stands();
@@ -55,12 +62,17 @@ pub fn updates_are_shown<W: Widths + Drop>(terminal: &Terminal<W>, viewer: &Term
     viewers_read_updates();
 }
 
-/// A patch from what another terminal shows, fed to an idle terminal whose widths answer alike, which shows that and has
-/// the terminal's size, leaves one that shows the terminal's screen, with its saved cursor and its replies as they
+/// A patch from what another terminal shows, fed to an idle terminal whose widths answer alike, which shows that and
+/// has the terminal's size, leaves one that shows the terminal's screen, with its saved cursor and its replies as they
 /// were, and idle.
 pub fn patches_are_shown<W: Widths + Drop>(terminal: &Terminal<W>, viewer: &Terminal<W>)
-    ensures shown { (shown : Terminal W) (behind : Terminal W) → CanReadFrom (λ w. W.width_of w) terminal.now viewer.now shown → GoesBy (λ w. W.width_of w) viewer.now behind (Piece (patch_from terminal.now shown) ∷ []) → state_in behind ≡ record (state_in viewer.now) { screen = (state_in terminal.now).screen } }
-    ensures idle { (shown : Terminal W) (behind : Terminal W) → CanReadFrom (λ w. W.width_of w) terminal.now viewer.now shown → GoesBy (λ w. W.width_of w) viewer.now behind (Piece (patch_from terminal.now shown) ∷ []) → IsIdle behind }
+    ensures shown { (shown : Terminal W) (behind : Terminal W)
+        → CanReadFrom (λ w. W.width_of w) terminal.now viewer.now shown
+        → GoesBy (λ w. W.width_of w) viewer.now behind (Piece (patch_from terminal.now shown) ∷ [])
+        → state_in behind ≡ record (state_in viewer.now) { screen = (state_in terminal.now).screen } }
+    ensures idle { (shown : Terminal W) (behind : Terminal W)
+        → CanReadFrom (λ w. W.width_of w) terminal.now viewer.now shown
+        → GoesBy (λ w. W.width_of w) viewer.now behind (Piece (patch_from terminal.now shown) ∷ []) → IsIdle behind }
 {
     terminal.stands();
     viewer.stands();
@@ -73,14 +85,16 @@ pub fn patches_are_shown<W: Widths + Drop>(terminal: &Terminal<W>, viewer: &Term
 /// exactly where a wrap is pending on the terminal, the last visible cell of the cursor's row; and nothing else that
 /// it reads changes its rows, and nothing scrolls.
 pub fn patches_print_the_fresh_cells<W: Widths + Drop>(terminal: &Terminal<W>, viewer: &Terminal<W>)
-    ensures prints { (shown : Terminal W) (view : View) → CanReadFrom (λ w. W.width_of w) terminal.now viewer.now shown → StandsAt viewer.now view → prints (W.width_of viewer.now.surface.canvas.widths) view (patch_from terminal.now shown) ≡ map text_of (screen_fresh (state_in shown).screen (state_in terminal.now).screen) ++ place_prints (state_in terminal.now).screen }
-    ensures plain { (shown : Terminal W) (view : View) → CanReadFrom (λ w. W.width_of w) terminal.now viewer.now shown → StandsAt viewer.now view → IsPlain (W.width_of viewer.now.surface.canvas.widths) view (patch_from terminal.now shown) }
+    ensures prints { PatchesPrintFresh (λ w. W.width_of w) terminal.now viewer.now }
+    ensures plain { (shown : Terminal W) (view : View) → CanReadFrom (λ w. W.width_of w) terminal.now viewer.now shown
+        → StandsAt viewer.now view
+        → IsPlain (W.width_of viewer.now.surface.grid.widths) view (patch_from terminal.now shown) }
 {
     terminal.stands();
     viewer.stands();
     surfaces_stay_lawful(terminal.surface());
     surfaces_stay_lawful(viewer.surface());
-    terminal_patch::laws::patches_print_the_fresh_cells();
+    terminal_viewers::patch_laws::patches_print_the_fresh_cells();
 }
 
 /// In every session that begins at a terminal, with new viewers of its size, updates, patches, other sizes and
@@ -88,20 +102,29 @@ pub fn patches_print_the_fresh_cells<W: Widths + Drop>(terminal: &Terminal<W>, v
 /// screen of the one that answered it: the terminal, or another viewer. Where the viewers are answered one after
 /// another, each shows the terminal's screen.
 pub fn sessions_show_the_screen<W: Widths + Drop>(terminal: &Terminal<W>)
-    ensures answers { (view : View) (count : ℕ) (turns : List Turn) (at : ℕ) (answer : Answer) → terminal.now.is_failed ≡ false → StandsAt terminal.now view → All IsTurn turns → let chain = session (W.width_of terminal.now.surface.canvas.widths) (new_chain (standing_of terminal.now view) count) (turns ++ Answers at answer ∷ []) in IsShown at chain.terminal chain.viewers }
-    ensures rounds { (view : View) (count : ℕ) (turns : List Turn) (answers : List Answer) → terminal.now.is_failed ≡ false → StandsAt terminal.now view → All IsTurn turns → let chain = session (W.width_of terminal.now.surface.canvas.widths) (new_chain (standing_of terminal.now view) count) (turns ++ round 0 answers) in AllShow chain.terminal.view.state.screen (take (length answers) chain.viewers) }
+    ensures answers { ViewersShow (λ w. W.width_of w) terminal.now }
+    ensures rounds { (view : View) (count : ℕ) (turns : List Turn) (answers : List Answer)
+        → terminal.now.is_failed ≡ false → StandsAt terminal.now view → All IsTurn turns
+        → let chain = session (W.width_of terminal.now.surface.grid.widths)
+        (new_chain (standing_of terminal.now view) count) (turns ++ round 0 answers)
+        in AllShow chain.terminal.view.state.screen (take (length answers) chain.viewers) }
 {
     terminal.stands();
     surfaces_stay_lawful(terminal.surface());
-    terminal_sessions::laws::sessions_show_the_screen();
+    terminal_viewers::session_laws::sessions_show_the_screen();
 }
 
 /// A screen that shows a terminal at a number, not above the current one, goes on to show it at that number,
 /// whatever the terminal is fed, wherever it is looked at and whatever it forgets, if it takes on the same
 /// sizes. And a terminal's own screen shows it at its current number.
 pub fn terminals_go_on_being_shown<W: Widths + Drop>(terminal: &Terminal<W>)
-    ensures history { (shown : Screen) (number : ℕ) (now : Terminal W) (history : History) → terminal.now.is_failed ≡ false → AreSizes history → IsDisplay (display_on shown) → number ≤ number_of terminal.now.surface → ShowsAt (λ w. W.width_of w) shown number terminal.now → GoesBy (λ w. W.width_of w) terminal.now now history → ShowsAt (λ w. W.width_of w) (repeated history shown) number now }
-    ensures seen { terminal.now.is_failed ≡ false → ShowsAt (λ w. W.width_of w) (state_in terminal.now).screen (number_of terminal.now.surface) terminal.now }
+    ensures history { (shown : Screen) (number : ℕ) (now : Terminal W) (history : History)
+        → terminal.now.is_failed ≡ false → AreSizes history → IsDisplay (display_on shown)
+        → number ≤ number_of terminal.now.surface → ShowsAt (λ w. W.width_of w) shown number terminal.now
+        → GoesBy (λ w. W.width_of w) terminal.now now history
+        → ShowsAt (λ w. W.width_of w) (repeated history shown) number now }
+    ensures seen { terminal.now.is_failed ≡ false
+        → ShowsAt (λ w. W.width_of w) (state_in terminal.now).screen (number_of terminal.now.surface) terminal.now }
 {
     terminal.stands();
     surfaces_stay_lawful(terminal.surface());
@@ -111,8 +134,11 @@ pub fn terminals_go_on_being_shown<W: Widths + Drop>(terminal: &Terminal<W>)
 /// Forgetting the changes before a number changes neither the screen nor the update for that number or a
 /// later one.
 pub fn forgotten_changes_are_not_missed<W: Widths + Drop>(terminal: &Terminal<W>)
-    ensures state { (before : ℕ) (now : Terminal W) → terminal.now.is_failed ≡ false → GoesBy (λ w. W.width_of w) terminal.now now (Forget before ∷ []) → state_in now ≡ state_in terminal.now }
-    ensures update { (before : ℕ) (number : ℕ) (now : Terminal W) → terminal.now.is_failed ≡ false → GoesBy (λ w. W.width_of w) terminal.now now (Forget before ∷ []) → before ≤ number → update_for now number ≡ update_for terminal.now number }
+    ensures state { (before : ℕ) (now : Terminal W) → terminal.now.is_failed ≡ false
+        → GoesBy (λ w. W.width_of w) terminal.now now (Forget before ∷ []) → state_in now ≡ state_in terminal.now }
+    ensures update { (before : ℕ) (number : ℕ) (now : Terminal W) → terminal.now.is_failed ≡ false
+        → GoesBy (λ w. W.width_of w) terminal.now now (Forget before ∷ []) → before ≤ number
+        → update_for now number ≡ update_for terminal.now number }
 {
     terminal.stands();
     surfaces_stay_lawful(terminal.surface());
@@ -122,7 +148,11 @@ pub fn forgotten_changes_are_not_missed<W: Widths + Drop>(terminal: &Terminal<W>
 /// Two terminals of one size and the same widths whose updates for number 0 have the same bytes show the same
 /// screen.
 pub fn first_updates_tell_screens<W: Widths + Drop>(one: &Terminal<W>, other: &Terminal<W>)
-    ensures { one.now.is_failed ≡ false → other.now.is_failed ≡ false → W.width_of one.now.surface.canvas.widths ≡ W.width_of other.now.surface.canvas.widths → (state_in one.now).screen.width ≡ (state_in other.now).screen.width → height (state_in one.now).screen ≡ height (state_in other.now).screen → update_for one.now 0 ≡ update_for other.now 0 → (state_in one.now).screen ≡ (state_in other.now).screen }
+    ensures { one.now.is_failed ≡ false → other.now.is_failed ≡ false
+        → W.width_of one.now.surface.grid.widths ≡ W.width_of other.now.surface.grid.widths
+        → (state_in one.now).screen.width ≡ (state_in other.now).screen.width
+        → height (state_in one.now).screen ≡ height (state_in other.now).screen
+        → update_for one.now 0 ≡ update_for other.now 0 → (state_in one.now).screen ≡ (state_in other.now).screen }
 {
     one.stands();
     other.stands();
@@ -136,10 +166,17 @@ pub fn first_updates_tell_screens<W: Widths + Drop>(one: &Terminal<W>, other: &T
 /// bytes than what is sent for each at most. Whoever reads it prints the texts of its changes, each once and in
 /// turn, and nothing else.
 pub fn updates_are_small<W: Widths + Drop>(terminal: &Terminal<W>)
-    ensures count { (number : ℕ) → terminal.now.is_failed ≡ false → length (changes_for terminal.now number) ≤ 2 * (state_in terminal.now).screen.width * height (state_in terminal.now).screen + 2 * height (state_in terminal.now).screen + 11 }
-    ensures each { (number : ℕ) → terminal.now.is_failed ≡ false → AreShort (state_in terminal.now).screen.width (height (state_in terminal.now).screen) (changes_for terminal.now number) }
-    ensures bytes { (number : ℕ) → terminal.now.is_failed ≡ false → length (update_for terminal.now number) ≤ all_sent_size (changes_for terminal.now number) }
-    ensures printed { (number : ℕ) → terminal.now.is_failed ≡ false → update_prints terminal.now number ≡ runs_in (changes_for terminal.now number) }
+    ensures count { (number : ℕ) → terminal.now.is_failed ≡ false
+        → length (changes_for terminal.now number)
+        ≤ 2 * (state_in terminal.now).screen.width * height (state_in terminal.now).screen
+        + 2 * height (state_in terminal.now).screen + 11 }
+    ensures each { (number : ℕ) → terminal.now.is_failed ≡ false
+        → AreShort (state_in terminal.now).screen.width (height (state_in terminal.now).screen)
+        (changes_for terminal.now number) }
+    ensures bytes { (number : ℕ) → terminal.now.is_failed ≡ false
+        → length (update_for terminal.now number) ≤ all_encoded_size (changes_for terminal.now number) }
+    ensures printed { (number : ℕ) → terminal.now.is_failed ≡ false
+        → update_prints terminal.now number ≡ runs_in (changes_for terminal.now number) }
 {
     terminal.stands();
     surfaces_stay_lawful(terminal.surface());
@@ -148,16 +185,29 @@ pub fn updates_are_small<W: Widths + Drop>(terminal: &Terminal<W>)
     spelled_changes_are_rendered();
     spelled_changes_are_writable();
     writable_lists_read_back();
-    sent_changes_are_short();
-    sent_lists_are_short();
+    encoded_changes_are_short();
+    encoded_lists_are_short();
     deltas_print_each_run_once();
 }
 
 /// What `render` answers for a change, fed as bytes to an idle terminal of that size, has the change's effect on
 /// its screen, with its saved cursor and its replies as they were, and leaves it idle.
 pub fn renderings_are_shown<W: Widths + Drop>(viewer: &Terminal<W>)
-    ensures shown { (change : ChangeValue) (actions : List StreamAction) (behind : Terminal W) → viewer.now.is_failed ≡ false → IsIdle viewer.now → rendering change (state_in viewer.now).screen.width (height (state_in viewer.now).screen) ≡ Some actions → IsWritable actions → GoesBy (λ w. W.width_of w) viewer.now behind (Piece (stream_text actions) ∷ []) → state_in behind ≡ record (state_in viewer.now) { screen = (effect (W.width_of viewer.now.surface.canvas.widths) (display_on (state_in viewer.now).screen) change).screen } }
-    ensures idle { (change : ChangeValue) (actions : List StreamAction) (behind : Terminal W) → viewer.now.is_failed ≡ false → IsIdle viewer.now → rendering change (state_in viewer.now).screen.width (height (state_in viewer.now).screen) ≡ Some actions → IsWritable actions → GoesBy (λ w. W.width_of w) viewer.now behind (Piece (stream_text actions) ∷ []) → IsIdle behind }
+    ensures shown { (change : ChangeValue) (actions : List StreamAction) (behind : Terminal W)
+        → viewer.now.is_failed ≡ false → IsIdle viewer.now
+        → rendering change (state_in viewer.now).screen.width (height (state_in viewer.now).screen) ≡ Some actions
+        → IsWritable actions → GoesBy (λ w. W.width_of w) viewer.now behind (Piece (stream_text actions) ∷ [])
+        → state_in behind
+        ≡ record (state_in viewer.now) {
+          screen
+              = (effect (W.width_of viewer.now.surface.grid.widths) (display_on (state_in viewer.now).screen)
+              change).screen;
+        } }
+    ensures idle { (change : ChangeValue) (actions : List StreamAction) (behind : Terminal W)
+        → viewer.now.is_failed ≡ false → IsIdle viewer.now
+        → rendering change (state_in viewer.now).screen.width (height (state_in viewer.now).screen) ≡ Some actions
+        → IsWritable actions → GoesBy (λ w. W.width_of w) viewer.now behind (Piece (stream_text actions) ∷ [])
+        → IsIdle behind }
 {
     viewer.stands();
     surfaces_stay_lawful(viewer.surface());
@@ -167,8 +217,16 @@ pub fn renderings_are_shown<W: Widths + Drop>(viewer: &Terminal<W>)
 /// A new terminal that is fed the updates of an input, as `run` writes them, shows what a terminal shows that
 /// is fed the input and looked at behind each of so many bytes and at the end; and it is idle.
 pub fn new_viewers_show_the_input<W: Widths>()
-    ensures shown { (widths : W) (width : ℕ) (height : ℕ) (every : ℕ) (input : List ℕ) (new : Terminal W) (behind : Terminal W) → 0 < width → width < 2 ^ 32 → 0 < height → height < 2 ^ 32 → StandsAt new (new_view width height) → new.surface.canvas.widths ≡ widths → GoesBy (λ w. W.width_of w) new behind (Piece (updates (W.width_of widths) width height every input) ∷ []) → (state_in behind).screen ≡ (updated (W.width_of widths) width height every input).state.screen }
-    ensures idle { (widths : W) (width : ℕ) (height : ℕ) (every : ℕ) (input : List ℕ) (new : Terminal W) (behind : Terminal W) → 0 < width → width < 2 ^ 32 → 0 < height → height < 2 ^ 32 → StandsAt new (new_view width height) → new.surface.canvas.widths ≡ widths → GoesBy (λ w. W.width_of w) new behind (Piece (updates (W.width_of widths) width height every input) ∷ []) → IsIdle behind }
+    ensures shown { (widths : W) (width : ℕ) (height : ℕ) (every : ℕ) (input : List ℕ) (new : Terminal W)
+        (behind : Terminal W) → 0 < width → width < 2 ^ 32 → 0 < height → height < 2 ^ 32
+        → StandsAt new (new_view width height) → new.surface.grid.widths ≡ widths
+        → GoesBy (λ w. W.width_of w) new behind (Piece (updates (W.width_of widths) width height every input) ∷ [])
+        → (state_in behind).screen ≡ (updated (W.width_of widths) width height every input).state.screen }
+    ensures idle { (widths : W) (width : ℕ) (height : ℕ) (every : ℕ) (input : List ℕ) (new : Terminal W)
+        (behind : Terminal W) → 0 < width → width < 2 ^ 32 → 0 < height → height < 2 ^ 32
+        → StandsAt new (new_view width height) → new.surface.grid.widths ≡ widths
+        → GoesBy (λ w. W.width_of w) new behind (Piece (updates (W.width_of widths) width height every input) ∷ [])
+        → IsIdle behind }
 {
     updates_show_the_input();
 }

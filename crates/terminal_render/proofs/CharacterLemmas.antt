@@ -38,14 +38,14 @@ more_before b c front (Control byte ∷ parts) = refl
 plain_byte : (b : ℕ) → not (is_ascii_control b) ≡ true → is_ascii_control b ≡ false
 plain_byte b h = grind (arith, nat_tests)
 
-pub parts_behind : (b : ℕ) (front rest : List ℕ) → IsPrinted (b ∷ front) → text_parts ((b ∷ front) ++ rest) ≡ before_parts (b ∷ front) (text_parts rest)
-parts_behind b [] rest h =
+pub parts_after : (b : ℕ) (front rest : List ℕ) → IsPrinted (b ∷ front) → text_parts ((b ∷ front) ++ rest) ≡ before_parts (b ∷ front) (text_parts rest)
+parts_after b [] rest h =
     let p = and_parts (not (is_ascii_control b)) true h in
     ap (λ t. if t then Control b ∷ text_parts rest else with_byte b (text_parts rest)) (plain_byte b p.0) ∙ one_before b (text_parts rest)
-parts_behind b (c ∷ front) rest h =
+parts_after b (c ∷ front) rest h =
     let p = and_parts (not (is_ascii_control b)) (list_all (λ x. not (is_ascii_control x)) (c ∷ front)) h in
     ap (λ t. if t then Control b ∷ text_parts ((c ∷ front) ++ rest) else with_byte b (text_parts ((c ∷ front) ++ rest))) (plain_byte b p.0)
-    ∙ ap (with_byte b) (parts_behind c front rest p.1) ∙ more_before b c front (text_parts rest)
+    ∙ ap (with_byte b) (parts_after c front rest p.1) ∙ more_before b c front (text_parts rest)
 
 -- ---- parts by their characters
 
@@ -69,23 +69,23 @@ not_empty : (xs ys : List ℕ) → 0 < length xs → (xs ++ ys) ≢ []
 not_empty [] ys h e = omega arith
 not_empty (x ∷ xs) ys h e = cc
 
-all_behind : (c : ℕ) (cs : List ℕ) → scalar c ≡ true → scalars cs ≡ true → scalars (c ∷ cs) ≡ true
-all_behind c cs s r = rw (s, r) refl
+all_after : (c : ℕ) (cs : List ℕ) → scalar c ≡ true → scalars cs ≡ true → scalars (c ∷ cs) ≡ true
+all_after c cs s r = rw (s, r) refl
 
 -- one character more
-good_behind : (c : ℕ) (parts : List TextPart) → IsScalar c → IsPrintable c → 0 < length (encode_utf8 c) → AreGood parts → AreGood (before_parts (encode_utf8 c) parts)
-good_behind c [] s p h g = (alone, tt)
+good_after : (c : ℕ) (parts : List TextPart) → IsScalar c → IsPrintable c → 0 < length (encode_utf8 c) → AreGood parts → AreGood (before_parts (encode_utf8 c) parts)
+good_after c [] s p h g = (alone, tt)
   where
     alone : Characters (encode_utf8 c)
-    alone = record { cs = c ∷ []; are = all_behind c [] s refl; spell = append_nil (encode_utf8 c); some = λ e. not_empty (encode_utf8 c) [] h (append_nil (encode_utf8 c) ∙ e); printable = All-cons IsPrintable c [] p (All-nil IsPrintable) }
-good_behind c (Control byte ∷ parts) s p h g = (alone, g)
+    alone = record { cs = c ∷ []; are = all_after c [] s refl; spell = append_nil (encode_utf8 c); some = λ e. not_empty (encode_utf8 c) [] h (append_nil (encode_utf8 c) ∙ e); printable = All-cons IsPrintable c [] p (All-nil IsPrintable) }
+good_after c (Control byte ∷ parts) s p h g = (alone, g)
   where
     alone : Characters (encode_utf8 c)
-    alone = record { cs = c ∷ []; are = all_behind c [] s refl; spell = append_nil (encode_utf8 c); some = λ e. not_empty (encode_utf8 c) [] h (append_nil (encode_utf8 c) ∙ e); printable = All-cons IsPrintable c [] p (All-nil IsPrintable) }
-good_behind c (Plain text ∷ parts) s p h g = (more, g.1)
+    alone = record { cs = c ∷ []; are = all_after c [] s refl; spell = append_nil (encode_utf8 c); some = λ e. not_empty (encode_utf8 c) [] h (append_nil (encode_utf8 c) ∙ e); printable = All-cons IsPrintable c [] p (All-nil IsPrintable) }
+good_after c (Plain text ∷ parts) s p h g = (more, g.1)
   where
     more : Characters (encode_utf8 c ++ text)
-    more = record { cs = c ∷ g.0.cs; are = all_behind c g.0.cs s g.0.are; spell = ap (λ t. encode_utf8 c ++ t) g.0.spell; some = not_empty (encode_utf8 c) text h; printable = All-cons IsPrintable c g.0.cs p g.0.printable }
+    more = record { cs = c ∷ g.0.cs; are = all_after c g.0.cs s g.0.are; spell = ap (λ t. encode_utf8 c ++ t) g.0.spell; some = not_empty (encode_utf8 c) text h; printable = All-cons IsPrintable c g.0.cs p g.0.printable }
 
 long : (c : ℕ) → IsScalar c → 0 < length (encode_utf8 c)
 long c s = by_kind (spelled c s)
@@ -99,7 +99,7 @@ long c s = by_kind (spelled c s)
 -- bytes that are printed go before the parts behind them
 parts_of_front : (front rest : List ℕ) → 0 < length front → IsPrinted front → text_parts (front ++ rest) ≡ before_parts front (text_parts rest)
 parts_of_front [] rest l h = absurd (omega arith)
-parts_of_front (b ∷ front) rest l h = parts_behind b front rest h
+parts_of_front (b ∷ front) rest l h = parts_after b front rest h
 
 -- ---- U+0080 to U+009F
 
@@ -108,9 +108,9 @@ unfolding holds_c1
 no_c1_tail b [] h = refl
 no_c1_tail b (c ∷ bytes) h = (or_parts (is_c1 b c) (holds_c1 (c ∷ bytes)) h).1
 
-pub no_c1_behind : (front rest : List ℕ) → holds_c1 (front ++ rest) ≡ false → holds_c1 rest ≡ false
-no_c1_behind [] rest h = h
-no_c1_behind (b ∷ front) rest h = no_c1_behind front rest (no_c1_tail b (front ++ rest) h)
+pub no_c1_after : (front rest : List ℕ) → holds_c1 (front ++ rest) ≡ false → holds_c1 rest ≡ false
+no_c1_after [] rest h = h
+no_c1_after (b ∷ front) rest h = no_c1_after front rest (no_c1_tail b (front ++ rest) h)
 
 is_pair : (x y : ℕ) → x ≡ 194 → 128 ≤ y → y < 160 → is_c1 x y ≡ true
 is_pair x y e l h = grind (arith, nat_tests)
@@ -141,7 +141,7 @@ low_printable c l e = (grind (arith, nat_tests), grind (arith, nat_tests))
 
 character_good : (c : ℕ) (rest : List ℕ) → IsScalar c → IsPrintable c → AreGood (text_parts rest) → AreGood (text_parts (encode_utf8 c ++ rest))
 character_good c rest s p g =
-    subst AreGood (sym (parts_of_front (encode_utf8 c) rest (long c s) (character_printed c s p))) (good_behind c (text_parts rest) s p (long c s) g)
+    subst AreGood (sym (parts_of_front (encode_utf8 c) rest (long c s) (character_printed c s p))) (good_after c (text_parts rest) s p (long c s) g)
 
 control_good : (c : ℕ) (rest : List ℕ) → c < 128 → is_ascii_control c ≡ true → Spelled c → AreGood (text_parts rest) → AreGood (text_parts (encode_utf8 c ++ rest))
 control_good c rest l e (in_one m k) g =
@@ -165,7 +165,7 @@ all_good : (cs : List ℕ) → scalars cs ≡ true → holds_c1 (encode_utf8_all
 all_good [] s h = tt
 all_good (c ∷ cs) s h =
     let p = and_parts (scalar c) (scalars cs) s in
-    one_good c (encode_utf8_all cs) p.0 h (all_good cs p.1 (no_c1_behind (encode_utf8 c) (encode_utf8_all cs) h))
+    one_good c (encode_utf8_all cs) p.0 h (all_good cs p.1 (no_c1_after (encode_utf8 c) (encode_utf8_all cs) h))
 
 -- the parts of a text are controls and printable texts
 pub parts_good : (text : List ℕ) → IsUtf8 text → holds_c1 text ≡ false → AreGood (text_parts text)

@@ -10,7 +10,7 @@ use Rattle.cell_base.specs.declared.color.ColorSpec.TheVariants as spec
 use Rattle.cell_base.specs.Attributes.{blank_of}
 use Rattle.cell_base.specs.Color.{attribute_of}
 use Rattle.cell_base.specs.Screen.{Screen, IsScreen, height}
-use Rattle.cell_rows.specs.WholeRow.{IsWhole}
+use Rattle.cell_base.specs.WholeRow.{IsWhole}
 use Rattle.csi_codec.specs.declared.cursors.Cursor.TheVariants as cursor
 use Rattle.csi_codec.specs.declared.edits.Edit.TheVariants as edit
 use Rattle.csi_codec.specs.declared.edits.EraseInDisplay.TheVariants as display

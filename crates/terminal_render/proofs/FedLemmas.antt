@@ -11,13 +11,13 @@ use Rattle.escape_framing.specs.Segment.{Begun}
 use Rattle.escape_stream.specs.StreamAction.{StreamAction, print, print_string, control, enter, data_byte, exit, command, csi, esc}
 use Rattle.escape_stream.specs.StreamActions.{newly_decided_actions}
 use Rattle.escape_stream.specs.StreamText.{closes_string, is_string_terminator, stream_text}
-use Rattle.escape_stream.specs.StreamWritable.{IsWritableBehind, IsWritable, HasTexts, string_terminator, terminator_before, characters_of, read_form_behind, read_form, WritableListsReadOn, WritableListsEndOn}
+use Rattle.escape_stream.specs.StreamWritable.{IsWritableAfter, IsWritable, HasTexts, string_terminator, terminator_before, characters_of, read_form_after, read_form, WritableListsReadOn, WritableListsEndOn}
 use Rattle.screen_effects.specs.Display.{Display}
 use Rattle.terminal_table.specs.Alone.{IsIdle}
 use Rattle.terminal_table.specs.Functions.{function_of}
 use Rattle.terminal_table.specs.History.{Act, Piece, events}
 use Rattle.terminal_table.specs.Meaning.{View, event_done, after}
-use Rattle.terminal_table.proofs.JoinLemmas.{nothing_behind}
+use Rattle.terminal_table.proofs.JoinLemmas.{nothing_after}
 use Rattle.terminal_table.proofs.ListLemmas.{append_nil}
 use Rattle.terminal_table.proofs.TextLemmas.{with_text}
 use Rattle.terminal_render.specs.Effects.{actions_done, RenderedTextsHaveTheEffect, RenderedTextsLeaveIdle}
@@ -73,16 +73,16 @@ module _ (f : List ℕ → ℕ) where
   HaveTexts [] = ⊤
   HaveTexts (a ∷ others) = HasText a × HaveTexts others
 
-  form_done : (closed : Bool) (actions : List StreamAction) (v : View) → HaveTexts actions → (closed ≡ true → v.held ≡ []) → actions_done f v (read_form_behind closed actions) ≡ actions_done f v actions
+  form_done : (closed : Bool) (actions : List StreamAction) (v : View) → HaveTexts actions → (closed ≡ true → v.held ≡ []) → actions_done f v (read_form_after closed actions) ≡ actions_done f v actions
   form_done closed [] v t h = added_done closed false v h
   form_done closed (a ∷ others) v t h =
-      joined (terminator_before closed (is_string_terminator a) ++ characters_of a) (read_form_behind (closes_string a) others) v
-      ∙ ap (λ w. actions_done f w (read_form_behind (closes_string a) others))
+      joined (terminator_before closed (is_string_terminator a) ++ characters_of a) (read_form_after (closes_string a) others) v
+      ∙ ap (λ w. actions_done f w (read_form_after (closes_string a) others))
       (joined (terminator_before closed (is_string_terminator a)) (characters_of a) v ∙ ap (λ w. actions_done f w (characters_of a)) (added_done closed (is_string_terminator a) v h) ∙ one_done a v t.0)
       ∙ form_done (closes_string a) others (event_done f v (Act a)) t.1 (closed_run a v)
 
   -- writable lists have texts that are UTF-8, outside of a device control string and within one
-  texts_in : (actions : List StreamAction) → (IsWritableBehind None actions → HaveTexts actions) × ((before : ℕ) → IsWritableBehind (Some before) actions → HaveTexts actions)
+  texts_in : (actions : List StreamAction) → (IsWritableAfter None actions → HaveTexts actions) × ((before : ℕ) → IsWritableAfter (Some before) actions → HaveTexts actions)
   texts_in [] = (λ w. tt, λ before w. tt)
   texts_in (print c ∷ others) = let r = texts_in others in (λ w. (tt, r.0 w.1), λ before w. absurd w)
   texts_in (print_string text ∷ others) = let r = texts_in others in (λ w. ((w.0.utf8, tt), r.0 w.1), λ before w. absurd w)
@@ -99,7 +99,7 @@ module _ (f : List ℕ → ℕ) where
 module _ (idle : (stream : List ℕ) → held_of stream ≡ nothing_held → tail_of stream ≡ Begun []) (whole : (stream : List ℕ) → tail_of stream ≡ Begun [] → held_of stream ≡ nothing_held) (reads : WritableListsReadOn) (ends : WritableListsEndOn) where
   -- the bytes do what the actions do
   pub fed : (f : List ℕ → ℕ) (view : View) (actions : List StreamAction) → IsIdle view → IsWritable actions → after f view (Piece (stream_text actions) ∷ []) ≡ record (actions_done f view actions) { stream = view.stream ++ stream_text actions }
-  fed f view actions i h = λ j. record (done j) { stream = view.stream ++ nothing_behind (stream_text actions) j }
+  fed f view actions i h = λ j. record (done j) { stream = view.stream ++ nothing_after (stream_text actions) j }
     where
       read : events view.stream (Piece (stream_text actions) ∷ []) ≡ map Act (read_form actions)
       read = append_nil (map Act (newly_decided_actions view.stream (stream_text actions))) ∙ ap (map Act) (reads view.stream actions (idle view.stream i.stream) h)
@@ -115,7 +115,7 @@ module _ (idle : (stream : List ℕ) → held_of stream ≡ nothing_held → tai
   pub fed_idle : (f : List ℕ → ℕ) (view : View) (actions : List StreamAction) → IsIdle view → IsWritable actions → (actions_done f view actions).held ≡ [] → IsIdle (after f view (Piece (stream_text actions) ∷ []))
   fed_idle f view actions i w run = record {
     run = ap (λ (v : View). v.held) (fed f view actions i w) ∙ run;
-    stream = ap (λ bytes. held_of (view.stream ++ bytes)) (nothing_behind (stream_text actions)) ∙ whole (view.stream ++ stream_text actions) (ends view.stream actions (idle view.stream i.stream) w);
+    stream = ap (λ bytes. held_of (view.stream ++ bytes)) (nothing_after (stream_text actions)) ∙ whole (view.stream ++ stream_text actions) (ends view.stream actions (idle view.stream i.stream) w);
   }
 
   pub texts_leave_idle : RenderedTextsLeaveIdle

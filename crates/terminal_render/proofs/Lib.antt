@@ -13,4 +13,16 @@ pub mod FedLemmas
 pub mod SizeLemmas
 pub mod ListLemmas
 pub mod OpeningLemmas
-pub mod SentLemmas
+pub mod EncodedLemmas
+pub mod TextLemmas
+pub mod DisplayLemmas
+pub mod SpelledPenLemmas
+pub mod ChangeLemmas
+pub mod ViewLemmas
+pub mod SequenceLemmas
+pub mod CommandLemmas
+pub mod StreamLemmas
+pub mod LogLemmas
+pub mod SpelledWritableLemmas
+pub mod EncodedSizeLemmas
+pub mod PrintedLemmas

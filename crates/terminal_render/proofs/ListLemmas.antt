@@ -2,14 +2,14 @@
 use Rattle.std.proofs.Common.{◌≡◌, ℕ, ◌^◌, ◌<◌, List, [], ◌∷◌, ◌++◌, refl, sym, ap, subst, ◌∙◌, append_assoc}
 use Rattle.std.specs.Prelude.{Option, Some, None, option_map, option_and_then}
 use Rattle.cell_base.specs.Screen.{Screen, height}
-use Rattle.cell_change.specs.ChangeValue.{ChangeValue}
-use Rattle.cell_surface.proofs.SizeLemmas.{effect_size}
+use Rattle.screen_change.specs.ChangeValue.{ChangeValue}
+use Rattle.screen_effects.proofs.SizeLemmas.{effect_size}
 use Rattle.escape_framing.specs.Cut.{tail_of}
 use Rattle.escape_framing.specs.Held.{held_of, nothing_held}
 use Rattle.escape_framing.specs.Segment.{Begun}
 use Rattle.escape_stream.specs.StreamAction.{StreamAction, print, print_string, control, enter, data_byte, exit, command, csi, esc}
 use Rattle.escape_stream.specs.StreamText.{stream_text}
-use Rattle.escape_stream.specs.StreamWritable.{IsWritableBehind, IsWritable, WritableListsReadOn, WritableListsEndOn}
+use Rattle.escape_stream.specs.StreamWritable.{IsWritableAfter, IsWritable, WritableListsReadOn, WritableListsEndOn}
 use Rattle.screen_effects.specs.Display.{Display, IsDisplay}
 use Rattle.screen_effects.specs.Effect.{effect}
 use Rattle.screen_effects.proofs.EffectLaws.{effect_is}
@@ -23,8 +23,8 @@ use Rattle.terminal_render.proofs.WholeLemmas.{have_the_effect}
 -- ---- the effect
 
 -- a terminal at which a change had its effect can be sent more
-ready_behind : (f : List ℕ → ℕ) (view : View) (d : Display) (change : ChangeValue) → IsReady view → IsDisplay d → d.screen ≡ view.state.screen → IsReady (with_change f view d change)
-ready_behind f view d change ready h same =
+ready_after : (f : List ℕ → ℕ) (view : View) (d : Display) (change : ChangeValue) → IsReady view → IsDisplay d → d.screen ≡ view.state.screen → IsReady (with_change f view d change)
+ready_after f view d change ready h same =
     let lawful = effect_is f d change h in
     let size = effect_size f d change h in
     let width : (effect f d change).screen.width ≡ view.state.screen.width = size.width ∙ ap (λ (s : Screen). s.width) same in
@@ -56,7 +56,7 @@ lists_have_the_effect f view d (change ∷ changes) actions ready h same stands 
     let rest : all_rendered changes (effect f d change).screen.width (height (effect f d change).screen) ≡ Some p.others = (λ i. all_rendered changes (width i) (tall i)) ∙ p.rest_is in
     ap (actions_done f view) p.are ∙ joined f p.first p.others view
     ∙ ap (λ v. actions_done f v p.others) (have_the_effect f view d change p.first ready same p.found_is)
-    ∙ lists_have_the_effect f (with_change f view d change) (effect f d change) changes p.others (ready_behind f view d change ready h same) (effect_is f d change h) refl rest
+    ∙ lists_have_the_effect f (with_change f view d change) (effect f d change) changes p.others (ready_after f view d change ready h same) (effect_is f d change h) refl rest
 
 -- ---- fed
 
@@ -72,7 +72,7 @@ module _ (idle : (stream : List ℕ) → held_of stream ≡ nothing_held → tai
 -- ---- lists that are joined
 
 -- outside of a device control string, and within one
-joins : (xs ys : List StreamAction) → IsWritable ys → (IsWritableBehind None xs → IsWritable (xs ++ ys)) × ((before : ℕ) → IsWritableBehind (Some before) xs → IsWritableBehind (Some before) (xs ++ ys))
+joins : (xs ys : List StreamAction) → IsWritable ys → (IsWritableAfter None xs → IsWritable (xs ++ ys)) × ((before : ℕ) → IsWritableAfter (Some before) xs → IsWritableAfter (Some before) (xs ++ ys))
 joins [] ys k = (λ w. k, λ before w. absurd w)
 joins (print c ∷ xs) ys k = let r = joins xs ys k in (λ w. (w.0, r.0 w.1), λ before w. absurd w)
 joins (print_string text ∷ xs) ys k = let r = joins xs ys k in (λ w. (w.0, r.0 w.1), λ before w. absurd w)

@@ -1,8 +1,7 @@
 -- No list of actions that is sent begins with a string terminator, so its bytes stand behind any others as they are.
-use Rattle.std.proofs.Common.{◌≡◌, ℕ, Bool, true, false, List, [], ◌∷◌, ◌++◌, map, refl, subst}
-use Rattle.std.specs.Prelude.{◌==◌, ◌||◌, Option, None, Some, IfSome, option_map}
+use Rattle.std.proofs.Common.{◌≡◌, ℕ, Bool, true, false, List, [], ◌∷◌, ◌++◌, map, refl, sym, ap, subst, ◌∙◌, append_assoc}
+use Rattle.std.specs.Prelude.{◌==◌, ◌||◌, Option, None, Some, IfSome, option_map, if◌then◌else◌}
 use Rattle.std.specs.List.{flat_map}
-use Rattle.std.proofs.lemmas.Bool.{and_right}
 use Rattle.text_clusters.specs.Controls.{holds_c1}
 use Rattle.cell_base.specs.declared.color.ColorAttribute.{ColorAttribute}
 use Rattle.cell_base.specs.declared.color.ColorSpec.{ColorSpec}
@@ -10,13 +9,13 @@ use Rattle.cell_base.specs.Attributes.{Attributes}
 use Rattle.cell_base.specs.AttributeValue as one
 use Rattle.cell_base.specs.AttributeValue.{AttributeValue}
 use Rattle.cell_base.specs.Link.{Link}
-use Rattle.cell_change.specs.ChangeValue.{ChangeValue, Attribute, AllAttributes, Text, ClearScreen, ClearToEndOfLine, ClearToEndOfScreen, CursorPosition, CursorColor, CursorShape, CursorVisibility, LineAttribute, ScrollRegionUp, ScrollRegionDown, Title}
+use Rattle.screen_change.specs.ChangeValue.{ChangeValue, Attribute, AllAttributes, Text, ClearScreen, ClearToEndOfLine, ClearToEndOfScreen, CursorPosition, CursorColor, CursorShape, CursorVisibility, LineAttribute, ScrollRegionUp, ScrollRegionDown, Title}
 use Rattle.csi_codec.specs.declared.cursors.Cursor.{Cursor}
 use Rattle.csi_codec.specs.declared.edits.Edit.{Edit}
 use Rattle.csi_codec.specs.declared.edits.Edit.TheVariants as edit
 use Rattle.csi_codec.specs.declared.rendition.Sgr.{Sgr}
 use Rattle.escape_stream.specs.StreamAction.{StreamAction}
-use Rattle.escape_stream.specs.StreamText.{begins_terminated, ends_closed, stream_text, TextsJoin}
+use Rattle.escape_stream.specs.StreamText.{action_text, begins_terminated, closes_string, stream_text, text_after, texts_after}
 use Rattle.screen_effects.specs.Strokes.{TextPart, Control, Plain, text_parts}
 use Rattle.terminal_render.specs.Links.{is_carried, is_plain_text}
 use Rattle.terminal_render.specs.Pen.{rendition, attribute_action, pen_actions, is_unsaid, pen_settings, pen_rendering, plain_pen, clear_rendering, colour_setting}
@@ -145,5 +144,15 @@ pub joined_open : (xs ys : List StreamAction) → Opens xs → Opens ys → Open
 joined_open [] ys h k = k
 joined_open (x ∷ xs) ys h k = h
 
-pub bytes_behind : TextsJoin → (xs ys : List StreamAction) → Opens ys → stream_text (xs ++ ys) ≡ stream_text xs ++ stream_text ys
-bytes_behind join xs ys h = join xs ys (and_right (ends_closed false xs) (begins_terminated ys) h)
+first_text : (closed : Bool) (ys : List StreamAction) → Opens ys → texts_after closed ys ≡ stream_text ys
+first_text false ys h = refl
+first_text true [] h = refl
+first_text true (y ∷ ys) h = ap (λ (b : Bool). (if b then [] else action_text y) ++ texts_after (closes_string y) ys) h
+
+texts_join : (closed : Bool) (xs ys : List StreamAction) → Opens ys → texts_after closed (xs ++ ys) ≡ texts_after closed xs ++ stream_text ys
+texts_join closed [] ys h = first_text closed ys h
+texts_join closed (x ∷ xs) ys h =
+    ap (λ rest. text_after closed x ++ rest) (texts_join (closes_string x) xs ys h) ∙ sym (append_assoc (text_after closed x) (texts_after (closes_string x) xs) (stream_text ys))
+
+pub following_bytes : (xs ys : List StreamAction) → Opens ys → stream_text (xs ++ ys) ≡ stream_text xs ++ stream_text ys
+following_bytes xs ys h = texts_join false xs ys h

@@ -1,6 +1,6 @@
 -- Moves of the cursor lead where positions do.
-use Rattle.std.proofs.Common.{◌≡◌, ℕ, ◌+◌, ◌-◌, ◌^◌, ◌<◌, Bool, true, false, List, [], ◌∷◌, ◌++◌, map, refl, arith}
-use Rattle.std.specs.Prelude.{◌==◌, ◌&&◌, nat_le, min, pos, negsuc, Option, None, Some, IfSome, option_map}
+use Rattle.std.proofs.Common.{◌≡◌, ◌≢◌, ℕ, ◌+◌, ◌-◌, ◌^◌, ◌<◌, Bool, true, false, List, [], ◌∷◌, ◌++◌, map, refl, sym, ap, ◌∙◌, arith}
+use Rattle.std.specs.Prelude.{◌==◌, ◌&&◌, nat_le, min, ℤ, pos, negsuc, unsigned_abs, Option, None, Some, IfSome, option_map}
 use Rattle.std.proofs.lemmas.Bool.Decides.{nat_tests}
 use Rattle.cell_base.specs.declared.attributes.Position.{Position}
 use Rattle.cell_base.specs.declared.attributes.Position.TheVariants.{Relative, Absolute, EndRelative}
@@ -12,9 +12,37 @@ use Rattle.screen_effects.specs.Positions.{place, column_place}
 use Rattle.terminal_table.specs.State.{SavedCursor}
 use Rattle.terminal_table.specs.Functions.{function_of}
 use Rattle.terminal_render.specs.Effects.{actions_done}
-use Rattle.terminal_render.specs.Places.{At, Back, On, way_of, move_by, moves, position_moves}
+use Rattle.terminal_render.specs.Places.{Way, At, Back, On, way_of, move_by, moves, position_moves}
 use Rattle.terminal_render.specs.Rendering.{moved}
 use Rattle.terminal_render.proofs.DoneLemmas.{on}
+
+-- ---- a way by some columns that moves lead
+
+no_way_back : (count : ℕ) (row : Way) → moves (Back count) row ≡ None
+unfolding moves
+no_way_back count row = refl
+
+pub on_there : (width height : ℕ) (columns : ℤ) (x y : Position) (count : ℕ) (row : Way) → x ≡ Relative columns → count ≡ unsigned_abs columns → row ≡ way_of height y
+    → position_moves width height x y ≢ None → moves (On count) row ≢ None
+unfolding position_moves
+on_there width height columns x y count row at n r h e =
+    by_sign columns (λ none. h (ap (λ p. position_moves width height p y) at ∙ none)) (sym (λ i. moves (On (n i)) (r i)) ∙ e)
+  where
+    by_sign : (z : ℤ) → position_moves width height (Relative z) y ≢ None → moves (On (unsigned_abs z)) (way_of height y) ≢ None
+    by_sign (pos m) k = k
+    by_sign (negsuc m) k = absurd (k (no_way_back (m + 1) (way_of height y)))
+
+pub on_is : (width height : ℕ) (columns : ℤ) (x y : Position) (count : ℕ) (row : Way) (list : List Cursor) → x ≡ Relative columns → count ≡ unsigned_abs columns → row ≡ way_of height y
+    → position_moves width height x y ≢ None → moves (On count) row ≡ Some list → position_moves width height x y ≡ Some list
+unfolding position_moves
+on_is width height columns x y count row list at n r h e =
+    ap (λ p. position_moves width height p y) at ∙ by_sign columns (λ none. h (ap (λ p. position_moves width height p y) at ∙ none)) (sym (λ i. moves (On (n i)) (r i)) ∙ e)
+  where
+    by_sign : (z : ℤ) → position_moves width height (Relative z) y ≢ None → moves (On (unsigned_abs z)) (way_of height y) ≡ Some list → position_moves width height (Relative z) y ≡ Some list
+    by_sign (pos m) k same = same
+    by_sign (negsuc m) k same = absurd (k (no_way_back (m + 1) (way_of height y)))
+
+-- ---- where moves lead
 
 -- the cursor at a place
 abbrev pub placed : ℕ → ℕ → Screen → Screen

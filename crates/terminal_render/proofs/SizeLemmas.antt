@@ -14,7 +14,7 @@ use Rattle.cell_base.specs.Attributes.{Attributes}
 use Rattle.cell_base.specs.AttributeValue as one
 use Rattle.cell_base.specs.AttributeValue.{AttributeValue}
 use Rattle.cell_base.specs.Link.{Link}
-use Rattle.cell_change.specs.ChangeValue.{ChangeValue, Attribute, AllAttributes, Text, ClearScreen, ClearToEndOfLine, ClearToEndOfScreen, CursorPosition, CursorColor, CursorShape, CursorVisibility, LineAttribute, ScrollRegionUp, ScrollRegionDown, Title, is_text}
+use Rattle.screen_change.specs.ChangeValue.{ChangeValue, Attribute, AllAttributes, Text, ClearScreen, ClearToEndOfLine, ClearToEndOfScreen, CursorPosition, CursorColor, CursorShape, CursorVisibility, LineAttribute, ScrollRegionUp, ScrollRegionDown, Title, is_text}
 use Rattle.csi_codec.specs.Actions as codec
 use Rattle.csi_codec.specs.Sizes.{ActionsAreShort}
 use Rattle.csi_codec.specs.Writable as codec_writable
@@ -30,7 +30,7 @@ use Rattle.csi_codec.specs.declared.rendition.Sgr.{Sgr}
 use Rattle.csi_codec.specs.declared.rendition.Sgr.TheVariants as sgr
 use Rattle.escape_osc.specs.Sizes.{EndOfLinkTakesSeven, LinksTakeSeven, TextsTakeSix}
 use Rattle.escape_stream.specs.StreamAction.{StreamAction, csi}
-use Rattle.escape_stream.specs.StreamText.{action_text, is_string_terminator, closes_string, text_behind, texts_behind, stream_text}
+use Rattle.escape_stream.specs.StreamText.{action_text, is_string_terminator, closes_string, text_after, texts_after, stream_text}
 use Rattle.screen_effects.specs.Strokes.{TextPart, Control, Plain, with_byte, text_parts}
 use Rattle.terminal_table.specs.Turns.{IsPrinted}
 use Rattle.terminal_render.specs.Carried.{IsColor, HaveColors, HasColor, IsChange}
@@ -40,7 +40,7 @@ use Rattle.terminal_render.specs.Places.{Way, At, Back, On, way_of, is_past, mov
 use Rattle.terminal_render.specs.Rendering.{edited, moved, is_whole, scroll_rendering, visibility_mode, rendering}
 use Rattle.terminal_render.specs.Sizes.{link_size, carried_size, RenderingsAreShort, TextsAreShort, RunsAreShort}
 use Rattle.terminal_render.specs.Texts.{part_actions, text_rendering, title_rendering}
-use Rattle.terminal_render.proofs.CharacterLemmas.{parts_behind}
+use Rattle.terminal_render.proofs.CharacterLemmas.{parts_after}
 use Rattle.terminal_render.proofs.ValueLemmas.{IsSet, AreSet, default_set, settings_set, color_is, AreMoves, way_is, moves_are}
 
 -- ---- the texts of actions, one by one
@@ -49,16 +49,16 @@ abbrev total : List StreamAction → ℕ
 total [] = 0
 total (a ∷ others) = length (action_text a) + total others
 
-pub behind_short : (closed : Bool) (a : StreamAction) → length (text_behind closed a) ≤ length (action_text a)
-behind_short closed a = by_test (closed && is_string_terminator a) refl
+pub after_short : (closed : Bool) (a : StreamAction) → length (text_after closed a) ≤ length (action_text a)
+after_short closed a = by_test (closed && is_string_terminator a) refl
   where
-    by_test : (b : Bool) → (closed && is_string_terminator a) ≡ b → length (text_behind closed a) ≤ length (action_text a)
+    by_test : (b : Bool) → (closed && is_string_terminator a) ≡ b → length (text_after closed a) ≤ length (action_text a)
     by_test true e = rw e (omega arith)
     by_test false e = rw e (omega arith)
 
-all_short : (closed : Bool) (actions : List StreamAction) → length (texts_behind closed actions) ≤ total actions
+all_short : (closed : Bool) (actions : List StreamAction) → length (texts_after closed actions) ≤ total actions
 all_short closed [] = omega arith
-all_short closed (a ∷ others) = omega (arith, length-append (text_behind closed a) (texts_behind (closes_string a) others), behind_short closed a, all_short (closes_string a) others)
+all_short closed (a ∷ others) = omega (arith, length-append (text_after closed a) (texts_after (closes_string a) others), after_short closed a, all_short (closes_string a) others)
 
 total_append : (xs ys : List StreamAction) → total (xs ++ ys) ≡ total xs + total ys
 total_append [] ys = omega arith
@@ -93,7 +93,7 @@ append_nothing (x ∷ xs) = ap (λ ys. x ∷ ys) (append_nothing xs)
 run_short : (text : List ℕ) → IsPrinted text → total (flat_map part_actions (text_parts text)) ≤ length text + 1
 run_short [] h = omega arith
 run_short (b ∷ text) h =
-    let e : text_parts (b ∷ text) ≡ Plain (b ∷ text) ∷ [] = ap text_parts (sym (append_nothing (b ∷ text))) ∙ parts_behind b text [] h in
+    let e : text_parts (b ∷ text) ≡ Plain (b ∷ text) ∷ [] = ap text_parts (sym (append_nothing (b ∷ text))) ∙ parts_after b text [] h in
     rw e (omega arith)
 
 of_text : (text : List ℕ) (most : ℕ) → total (flat_map part_actions (text_parts text)) ≤ most → IfSome (text_rendering text) (λ actions. total actions ≤ most)

@@ -14,8 +14,8 @@ use Rattle.cell_base.specs.AttributeValue.{AttributeValue}
 use Rattle.cell_base.specs.Color.{attribute_of}
 use Rattle.cell_base.specs.Link.{Link}
 use Rattle.cell_base.specs.Screen.{Screen, IsScreen, height}
-use Rattle.cell_change.specs.ChangeValue.{ChangeValue, Attribute, AllAttributes, Text, ClearScreen, ClearToEndOfLine, ClearToEndOfScreen, CursorPosition, CursorColor, CursorShape, CursorVisibility, LineAttribute, ScrollRegionUp, ScrollRegionDown, Title}
-use Rattle.cell_rows.specs.WholeRow.{IsWhole}
+use Rattle.screen_change.specs.ChangeValue.{ChangeValue, Attribute, AllAttributes, Text, ClearScreen, ClearToEndOfLine, ClearToEndOfScreen, CursorPosition, CursorColor, CursorShape, CursorVisibility, LineAttribute, ScrollRegionUp, ScrollRegionDown, Title}
+use Rattle.cell_base.specs.WholeRow.{IsWhole}
 use Rattle.escape_stream.specs.StreamAction.{StreamAction}
 use Rattle.screen_effects.specs.Display.{Display}
 use Rattle.screen_effects.specs.Effect.{effect, with_pen}

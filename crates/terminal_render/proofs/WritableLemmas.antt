@@ -21,7 +21,7 @@ use Rattle.cell_base.specs.AttributeValue.{AttributeValue}
 use Rattle.cell_base.specs.Link.{Link, Param}
 use Rattle.cell_base.specs.LinkText.{param_text, params_text, link_text, text_of_link, link_reading, texts_reading}
 use Rattle.cell_base.specs.Row.{space}
-use Rattle.cell_change.specs.ChangeValue.{ChangeValue, Attribute, AllAttributes, Text, ClearScreen, ClearToEndOfLine, ClearToEndOfScreen, CursorPosition, CursorColor, CursorShape, CursorVisibility, LineAttribute, ScrollRegionUp, ScrollRegionDown, Title}
+use Rattle.screen_change.specs.ChangeValue.{ChangeValue, Attribute, AllAttributes, Text, ClearScreen, ClearToEndOfLine, ClearToEndOfScreen, CursorPosition, CursorColor, CursorShape, CursorVisibility, LineAttribute, ScrollRegionUp, ScrollRegionDown, Title}
 use Rattle.csi_codec.specs.Actions as codec
 use Rattle.csi_codec.specs.Actions.{spelling_of}
 use Rattle.csi_codec.specs.Fronts.{whole_front}

@@ -6,7 +6,8 @@ use Rattle.cell_base.specs.declared.color.ColorAttribute.TheVariants as attribut
 use Rattle.cell_base.specs.Attributes.{Attributes}
 use Rattle.cell_base.specs.AttributeValue as one
 use Rattle.cell_base.specs.AttributeValue.{AttributeValue}
-use Rattle.cell_change.specs.ChangeValue.{ChangeValue, Attribute, AllAttributes, Text, ClearScreen, ClearToEndOfLine, ClearToEndOfScreen, Title}
+use Rattle.screen_change.specs.ChangeValue.{ChangeValue, Attribute, AllAttributes, Text, ClearScreen, ClearToEndOfLine}
+use Rattle.screen_change.specs.ChangeValue.{ClearToEndOfScreen, Title}
 use Rattle.escape_stream.specs.StreamAction.{StreamAction}
 use Rattle.escape_stream.specs.StreamWritable.{IsWritable}
 use Rattle.terminal_render.specs.Rendering.{rendering}
@@ -39,5 +40,7 @@ IsChange _ = ⊤
 
 -- what is sent for a change is a list of actions that reads back from its bytes
 abbrev pub RenderingsAreWritable : Type 0
-RenderingsAreWritable = (change : ChangeValue) (width height : ℕ) (actions : List StreamAction) → IsChange change → 0 < width → width < 2 ^ 32 → 0 < height → height < 2 ^ 32
+RenderingsAreWritable =
+    (change : ChangeValue) (width height : ℕ) (actions : List StreamAction) → IsChange change → 0 < width
+    → width < 2 ^ 32 → 0 < height → height < 2 ^ 32
     → rendering change width height ≡ Some actions → IsWritable actions

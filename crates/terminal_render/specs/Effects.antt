@@ -1,7 +1,8 @@
--- What the laws say of actions that are sent: they do to the screen what the change does, and nothing is held behind them.
+-- What the laws say of actions that are sent: they do to the screen what the change does, and nothing is held behind
+-- them.
 use Rattle.std.specs.Prelude.{◌≡◌, ℕ, ◌<◌, ◌^◌, List, [], ◌∷◌, ◌++◌, map, fold, Some}
 use Rattle.cell_base.specs.Screen.{height}
-use Rattle.cell_change.specs.ChangeValue.{ChangeValue}
+use Rattle.screen_change.specs.ChangeValue.{ChangeValue}
 use Rattle.escape_stream.specs.StreamAction.{StreamAction}
 use Rattle.escape_stream.specs.StreamText.{stream_text}
 use Rattle.escape_stream.specs.StreamWritable.{IsWritable}
@@ -19,31 +20,43 @@ actions_done width_of view actions = fold (event_done width_of) view (map Act ac
 
 -- the view on which a change had its effect: another screen, and all else as it was
 abbrev pub with_change : (List ℕ → ℕ) → View → Display → ChangeValue → View
-with_change width_of view display change = record view { state = record view.state { screen = (effect width_of display change).screen } }
+with_change width_of view display change =
+    record view { state = record view.state { screen = (effect width_of display change).screen } }
 
--- a terminal that can be sent changes: its state is lawful, its width and its height are less than 2^32, and no run is held
+-- a terminal that can be sent changes: its state is lawful, its width and its height are less than 2^32, and no run is
+-- held
 pub record IsReady (view : View) : Type 0 where
   pub lawful : IsState view.state
   pub width : view.state.screen.width < 2 ^ 32
   pub height : height view.state.screen < 2 ^ 32
   pub run : view.held ≡ []
 
--- what is sent for a change has its effect: on the screen of a terminal that is ready what the change has on any display of
--- that screen, and no other; the saved cursor and the replies stay, and no run is held
+-- what is sent for a change has its effect: on the screen of a terminal that is ready what the change has on any
+-- display of that screen, and no other; the saved cursor and the replies stay, and no run is held
 abbrev pub RenderingsHaveTheEffect : Type 0
-RenderingsHaveTheEffect = (width_of : List ℕ → ℕ) (view : View) (display : Display) (change : ChangeValue) (actions : List StreamAction) → IsReady view → display.screen ≡ view.state.screen
-    → rendering change view.state.screen.width (height view.state.screen) ≡ Some actions → actions_done width_of view actions ≡ with_change width_of view display change
+RenderingsHaveTheEffect =
+    (width_of : List ℕ → ℕ) (view : View) (display : Display) (change : ChangeValue) (actions : List StreamAction)
+    → IsReady view → display.screen ≡ view.state.screen
+    → rendering change view.state.screen.width (height view.state.screen) ≡ Some actions
+    → actions_done width_of view actions ≡ with_change width_of view display change
 
 -- a view whose stream goes on with a text
 abbrev pub with_text : View → List ℕ → View
 with_text view text = record view { stream = view.stream ++ text }
 
--- and so have the bytes of what is sent, where they read back: fed to such a terminal at which nothing is unfinished they have the
--- effect, and nothing is unfinished behind them
+-- and so have the bytes of what is sent, where they read back: fed to such a terminal at which nothing is unfinished
+-- they have the effect, and nothing is unfinished behind them
 abbrev pub RenderedTextsHaveTheEffect : Type 0
-RenderedTextsHaveTheEffect = (width_of : List ℕ → ℕ) (view : View) (display : Display) (change : ChangeValue) (actions : List StreamAction) → IsReady view → IsIdle view → IsWritable actions → display.screen ≡ view.state.screen
-    → rendering change view.state.screen.width (height view.state.screen) ≡ Some actions → after width_of view (Piece (stream_text actions) ∷ []) ≡ with_text (with_change width_of view display change) (stream_text actions)
+RenderedTextsHaveTheEffect =
+    (width_of : List ℕ → ℕ) (view : View) (display : Display) (change : ChangeValue) (actions : List StreamAction)
+    → IsReady view → IsIdle view → IsWritable actions → display.screen ≡ view.state.screen
+    → rendering change view.state.screen.width (height view.state.screen) ≡ Some actions
+    → after width_of view (Piece (stream_text actions) ∷ [])
+    ≡ with_text (with_change width_of view display change) (stream_text actions)
 
 abbrev pub RenderedTextsLeaveIdle : Type 0
-RenderedTextsLeaveIdle = (width_of : List ℕ → ℕ) (view : View) (change : ChangeValue) (actions : List StreamAction) → IsReady view → IsIdle view → IsWritable actions
-    → rendering change view.state.screen.width (height view.state.screen) ≡ Some actions → IsIdle (after width_of view (Piece (stream_text actions) ∷ []))
+RenderedTextsLeaveIdle =
+    (width_of : List ℕ → ℕ) (view : View) (change : ChangeValue) (actions : List StreamAction) → IsReady view
+    → IsIdle view → IsWritable actions
+    → rendering change view.state.screen.width (height view.state.screen) ≡ Some actions
+    → IsIdle (after width_of view (Piece (stream_text actions) ∷ []))

@@ -9,4 +9,6 @@ pub mod Effects
 pub mod Carried
 pub mod Sizes
 pub mod Lists
-pub mod SentView
+pub mod BorrowedActionView
+pub mod Spelling
+pub mod EncodedSizes

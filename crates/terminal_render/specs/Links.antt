@@ -21,7 +21,8 @@ same_params (p ∷ ps) (q ∷ qs) = (bytes_eq p.0 q.0 && bytes_eq p.1 q.1) && sa
 
 -- whether what was read is the link; what is read is never implicit
 abbrev pub is_reading_of : Link → Result (Option Link) LinkError → Bool
-is_reading_of link (Ok (Some read)) = (not read.implicit && not link.implicit) && (same_params read.params link.params && bytes_eq read.uri link.uri)
+is_reading_of link (Ok (Some read)) =
+    (not read.implicit && not link.implicit) && (same_params read.params link.params && bytes_eq read.uri link.uri)
 is_reading_of link (Ok None) = false
 is_reading_of link (Err error) = false
 

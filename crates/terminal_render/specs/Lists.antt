@@ -1,7 +1,7 @@
 -- What is sent for changes in turn.
 use Rattle.std.specs.Prelude.{◌≡◌, ℕ, List, [], ◌∷◌, ◌++◌, Option, Some, option_map, option_and_then}
 use Rattle.cell_base.specs.Screen.{height}
-use Rattle.cell_change.specs.ChangeValue.{ChangeValue}
+use Rattle.screen_change.specs.ChangeValue.{ChangeValue}
 use Rattle.escape_stream.specs.StreamAction.{StreamAction}
 use Rattle.escape_stream.specs.StreamText.{stream_text}
 use Rattle.escape_stream.specs.StreamWritable.{IsWritable}
@@ -16,25 +16,38 @@ use Rattle.terminal_render.specs.Rendering.{rendering}
 -- the actions of one change, and then those of the others; none where one of them has none
 abbrev pub all_rendered : List ChangeValue → ℕ → ℕ → Option (List StreamAction)
 all_rendered [] width height = Some []
-all_rendered (change ∷ changes) width height = option_and_then (λ first. option_map (λ others. first ++ others) (all_rendered changes width height)) (rendering change width height)
+all_rendered (change ∷ changes) width height =
+    option_and_then (λ first. option_map (λ others. first ++ others) (all_rendered changes width height))
+    (rendering change width height)
 
 -- the view on which changes were replayed
 abbrev pub with_changes : (List ℕ → ℕ) → View → Display → List ChangeValue → View
-with_changes width_of view display changes = record view { state = record view.state { screen = (replay width_of display changes).screen } }
+with_changes width_of view display changes =
+    record view { state = record view.state { screen = (replay width_of display changes).screen } }
 
 -- they have the effect of the changes, replayed
 abbrev pub ListsHaveTheEffect : Type 0
-ListsHaveTheEffect = (width_of : List ℕ → ℕ) (view : View) (display : Display) (changes : List ChangeValue) (actions : List StreamAction) → IsReady view → IsDisplay display → display.screen ≡ view.state.screen
-    → all_rendered changes view.state.screen.width (height view.state.screen) ≡ Some actions → actions_done width_of view actions ≡ with_changes width_of view display changes
+ListsHaveTheEffect =
+    (width_of : List ℕ → ℕ) (view : View) (display : Display) (changes : List ChangeValue) (actions : List StreamAction)
+    → IsReady view → IsDisplay display → display.screen ≡ view.state.screen
+    → all_rendered changes view.state.screen.width (height view.state.screen) ≡ Some actions
+    → actions_done width_of view actions ≡ with_changes width_of view display changes
 
 -- and so have their bytes, where they read back
 abbrev pub ListTextsHaveTheEffect : Type 0
-ListTextsHaveTheEffect = (width_of : List ℕ → ℕ) (view : View) (display : Display) (changes : List ChangeValue) (actions : List StreamAction) → IsReady view → IsIdle view → IsWritable actions → IsDisplay display → display.screen ≡ view.state.screen
-    → all_rendered changes view.state.screen.width (height view.state.screen) ≡ Some actions → after width_of view (Piece (stream_text actions) ∷ []) ≡ with_text (with_changes width_of view display changes) (stream_text actions)
+ListTextsHaveTheEffect =
+    (width_of : List ℕ → ℕ) (view : View) (display : Display) (changes : List ChangeValue) (actions : List StreamAction)
+    → IsReady view → IsIdle view → IsWritable actions → IsDisplay display → display.screen ≡ view.state.screen
+    → all_rendered changes view.state.screen.width (height view.state.screen) ≡ Some actions
+    → after width_of view (Piece (stream_text actions) ∷ [])
+    ≡ with_text (with_changes width_of view display changes) (stream_text actions)
 
 abbrev pub ListTextsLeaveIdle : Type 0
-ListTextsLeaveIdle = (width_of : List ℕ → ℕ) (view : View) (display : Display) (changes : List ChangeValue) (actions : List StreamAction) → IsReady view → IsIdle view → IsWritable actions → IsDisplay display → display.screen ≡ view.state.screen
-    → all_rendered changes view.state.screen.width (height view.state.screen) ≡ Some actions → IsIdle (after width_of view (Piece (stream_text actions) ∷ []))
+ListTextsLeaveIdle =
+    (width_of : List ℕ → ℕ) (view : View) (display : Display) (changes : List ChangeValue) (actions : List StreamAction)
+    → IsReady view → IsIdle view → IsWritable actions → IsDisplay display → display.screen ≡ view.state.screen
+    → all_rendered changes view.state.screen.width (height view.state.screen) ≡ Some actions
+    → IsIdle (after width_of view (Piece (stream_text actions) ∷ []))
 
 -- two lists that read back do so one behind the other
 abbrev pub WritableListsJoin : Type 0
@@ -42,4 +55,7 @@ WritableListsJoin = (xs ys : List StreamAction) → IsWritable xs → IsWritable
 
 -- one change more behind some
 abbrev pub RenderingsJoin : Type 0
-RenderingsJoin = (changes : List ChangeValue) (change : ChangeValue) (width height : ℕ) (first last : List StreamAction) → all_rendered changes width height ≡ Some first → rendering change width height ≡ Some last → all_rendered (changes ++ change ∷ []) width height ≡ Some (first ++ last)
+RenderingsJoin =
+    (changes : List ChangeValue) (change : ChangeValue) (width height : ℕ) (first last : List StreamAction)
+    → all_rendered changes width height ≡ Some first → rendering change width height ≡ Some last
+    → all_rendered (changes ++ change ∷ []) width height ≡ Some (first ++ last)

@@ -1,5 +1,6 @@
 -- Attributes, pens and clears as actions (SGR: ECMA-48 8.3.117; links: OSC 8).
-use Rattle.std.specs.Prelude.{Bool, true, false, not, ◌||◌, List, [], ◌∷◌, ◌++◌, Option, Some, None, option_map, option_and_then, if◌then◌else◌}
+use Rattle.std.specs.Prelude.{Bool, true, false, not, ◌||◌, List, [], ◌∷◌, ◌++◌, Option, Some, None, option_map}
+use Rattle.std.specs.Prelude.{option_and_then, if◌then◌else◌}
 use Rattle.std.specs.List.{flat_map}
 use Rattle.cell_base.specs.declared.attributes.Intensity.{Intensity}
 use Rattle.cell_base.specs.declared.attributes.Intensity.TheVariants as intensity
@@ -90,8 +91,11 @@ unless_default setting color = Some (setting color)
 -- what is set of some attributes with these colours: foreground, background and underline colour
 abbrev pub settings : Attributes → ColorSpec → ColorSpec → ColorSpec → List (Option Sgr)
 settings a front back line =
-    unless_normal a.intensity ∷ unless_none a.underline ∷ unless_steady a.blink ∷ unless_off sgr.Italic a.italic ∷ unless_off sgr.Inverse a.reverse ∷ unless_off sgr.StrikeThrough a.strikethrough ∷ unless_off sgr.Invisible a.invisible
-    ∷ unless_off sgr.Overline a.overline ∷ unless_base_line a.vertical_align ∷ unless_default sgr.Foreground front ∷ unless_default sgr.Background back ∷ unless_default sgr.UnderlineColor line ∷ []
+    unless_normal a.intensity ∷ unless_none a.underline ∷ unless_steady a.blink ∷ unless_off sgr.Italic a.italic
+    ∷ unless_off sgr.Inverse a.reverse ∷ unless_off sgr.StrikeThrough a.strikethrough
+    ∷ unless_off sgr.Invisible a.invisible
+    ∷ unless_off sgr.Overline a.overline ∷ unless_base_line a.vertical_align ∷ unless_default sgr.Foreground front
+    ∷ unless_default sgr.Background back ∷ unless_default sgr.UnderlineColor line ∷ []
 
 -- none, or that one
 abbrev pub set : Option Sgr → List StreamAction
@@ -106,14 +110,18 @@ abbrev pub is_output : SemanticType → Bool
 is_output Output = true
 is_output _ = false
 
--- whether attributes have what no action sets: a row that goes on, a type other than output, or a link that isn't carried
+-- whether attributes have what no action sets: a row that goes on, a type other than output, or a link that isn't
+-- carried
 abbrev pub is_unsaid : Attributes → Bool
 is_unsaid a = a.wrapped || not (is_output a.semantic_type) || not (is_carried a.hyperlink)
 
 -- the settings with the colours of the attributes, if each can be told
 abbrev pub pen_settings : Attributes → Option (List (Option Sgr))
 pen_settings a =
-    option_and_then (λ front. option_and_then (λ back. option_map (λ line. settings a front back line) (colour_setting a.underline_color)) (colour_setting a.background)) (colour_setting a.foreground)
+    option_and_then
+    (λ front. option_and_then
+    (λ back. option_map (λ line. settings a front back line) (colour_setting a.underline_color))
+    (colour_setting a.background)) (colour_setting a.foreground)
 
 unfoldable pub pen_rendering : Attributes → Option (List StreamAction)
 pen_rendering a = if is_unsaid a then None else option_map (λ values. pen_actions values a.hyperlink) (pen_settings a)

@@ -1,8 +1,11 @@
 -- What is sent for a change, so that a terminal of a size does to its screen what the change does.
-use Rattle.std.specs.Prelude.{ℕ, Bool, ◌&&◌, ◌==◌, nat_le, min, List, [], ◌∷◌, ◌++◌, map, Option, Some, None, option_map, if◌then◌else◌}
+use Rattle.std.specs.Prelude.{ℕ, Bool, ◌&&◌, ◌==◌, nat_le, min, List, [], ◌∷◌, ◌++◌, map, Option, Some, None}
+use Rattle.std.specs.Prelude.{option_map, if◌then◌else◌}
 use Rattle.cell_base.specs.declared.attributes.CursorVisibility.{CursorVisibility as Visibility}
 use Rattle.cell_base.specs.declared.attributes.CursorVisibility.TheVariants.{Hidden, Visible}
-use Rattle.cell_change.specs.ChangeValue.{ChangeValue, Attribute, AllAttributes, Text, ClearScreen, ClearToEndOfLine, ClearToEndOfScreen, CursorPosition, CursorColor, CursorShape, CursorVisibility, LineAttribute, ScrollRegionUp, ScrollRegionDown, Title}
+use Rattle.screen_change.specs.ChangeValue.{ChangeValue, Attribute, AllAttributes, Text, ClearScreen, ClearToEndOfLine}
+use Rattle.screen_change.specs.ChangeValue.{ClearToEndOfScreen, CursorPosition, CursorColor, CursorShape}
+use Rattle.screen_change.specs.ChangeValue.{CursorVisibility, LineAttribute, ScrollRegionUp, ScrollRegionDown, Title}
 use Rattle.csi_codec.specs.Actions as codec
 use Rattle.csi_codec.specs.declared.cursors.Cursor.{Cursor}
 use Rattle.csi_codec.specs.declared.cursors.Cursor.TheVariants as cursor
@@ -32,23 +35,30 @@ is_whole height first size = first == 0 && nat_le height size
 -- SU and SD (ECMA-48 8.3.147 and 8.3.113) move all rows; a region of fewer can't be told
 unfoldable pub scroll_rendering : (ℕ → Edit) → ℕ → ℕ → ℕ → ℕ → Option (List StreamAction)
 scroll_rendering scroll height first size count =
-    if is_whole height first size then Some (if count == 0 then [] else edited (scroll (min count height)) ∷ []) else None
+    if is_whole height first size then Some (if count == 0 then [] else edited (scroll (min count height)) ∷ [])
+    else None
 
 -- DECTCEM, DEC private mode 25 (xterm: DEC Private Mode Set)
 abbrev pub visibility_mode : Visibility → Mode
 visibility_mode Visible = mode.SetDecPrivateMode (private.Code dec.ShowCursor)
 visibility_mode Hidden = mode.ResetDecPrivateMode (private.Code dec.ShowCursor)
 
--- The actions that are sent for a change to a terminal of a width and a height; none where nothing that can be sent does what
--- the change does.
+-- The actions that are sent for a change to a terminal of a width and a height; none where nothing that can be sent
+-- does what the change does.
 abbrev pub rendering : ChangeValue → ℕ → ℕ → Option (List StreamAction)
 rendering (Text text) width height = text_rendering text
 rendering (Title text) width height = title_rendering text
 rendering (Attribute change) width height = option_map (λ action. action ∷ []) (attribute_action change)
 rendering (AllAttributes attributes) width height = pen_rendering attributes
-rendering (ClearScreen color) width height = clear_rendering color (edited (edit.EraseInDisplay display.EraseDisplay) ∷ moved (cursor.Position 1 1) ∷ [])  -- ED 2, ECMA-48 8.3.39
-rendering (ClearToEndOfLine color) width height = clear_rendering color (edited (edit.EraseInLine line.EraseToEndOfLine) ∷ [])  -- EL 0, 8.3.41
-rendering (ClearToEndOfScreen color) width height = clear_rendering color (edited (edit.EraseInDisplay display.EraseToEndOfDisplay) ∷ [])  -- ED 0
+-- ED 2, ECMA-48 8.3.39
+rendering (ClearScreen color) width height =
+    clear_rendering color (edited (edit.EraseInDisplay display.EraseDisplay) ∷ moved (cursor.Position 1 1) ∷ [])
+-- EL 0, 8.3.41
+rendering (ClearToEndOfLine color) width height =
+    clear_rendering color (edited (edit.EraseInLine line.EraseToEndOfLine) ∷ [])
+-- ED 0
+rendering (ClearToEndOfScreen color) width height =
+    clear_rendering color (edited (edit.EraseInDisplay display.EraseToEndOfDisplay) ∷ [])
 rendering (CursorPosition x y) width height = option_map (map moved) (position_moves width height x y)
 rendering (CursorVisibility visibility) width height = Some (csi (codec.mode (visibility_mode visibility)) ∷ [])
 rendering (ScrollRegionUp first size count) width height = scroll_rendering edit.ScrollUp height first size count

@@ -1,7 +1,7 @@
 -- Bytes that are sent, for worked examples.
 use Rattle.std.specs.Prelude.{ℕ, List, [], ◌∷◌, ◌++◌, false, Option, option_map}
 use Rattle.cell_base.specs.Link.{Link}
-use Rattle.cell_change.specs.ChangeValue.{ChangeValue}
+use Rattle.screen_change.specs.ChangeValue.{ChangeValue}
 use Rattle.escape_stream.specs.StreamText.{stream_text}
 use Rattle.terminal_render.specs.Rendering.{rendering}
 

@@ -4,7 +4,7 @@ use Rattle.cell_base.specs.AttributeValue as one
 use Rattle.cell_base.specs.AttributeValue.{AttributeValue}
 use Rattle.cell_base.specs.Link.{Link}
 use Rattle.cell_base.specs.LinkText.{params_text}
-use Rattle.cell_change.specs.ChangeValue.{ChangeValue, Attribute, AllAttributes, Text, Title, is_text}
+use Rattle.screen_change.specs.ChangeValue.{ChangeValue, Attribute, AllAttributes, Text, Title, is_text}
 use Rattle.escape_stream.specs.StreamAction.{StreamAction}
 use Rattle.escape_stream.specs.StreamText.{stream_text}
 use Rattle.terminal_table.specs.Turns.{IsPrinted}
@@ -29,12 +29,18 @@ carried_size _ = 0
 
 -- beside those at most 320 bytes are sent for a change that is no text
 abbrev pub RenderingsAreShort : Type 0
-RenderingsAreShort = (change : ChangeValue) (width height : ℕ) (actions : List StreamAction) → IsChange change → 0 < width → width < 2 ^ 32 → 0 < height → height < 2 ^ 32 → is_text change ≡ false
+RenderingsAreShort =
+    (change : ChangeValue) (width height : ℕ) (actions : List StreamAction) → IsChange change → 0 < width
+    → width < 2 ^ 32 → 0 < height → height < 2 ^ 32 → is_text change ≡ false
     → rendering change width height ≡ Some actions → length (stream_text actions) ≤ carried_size change + 320
 
 -- for a text at most twice its bytes, and one byte more than it has where it holds no C0 control or DEL
 abbrev pub TextsAreShort : Type 0
-TextsAreShort = (text : List ℕ) (width height : ℕ) (actions : List StreamAction) → rendering (Text text) width height ≡ Some actions → length (stream_text actions) ≤ 2 * length text
+TextsAreShort =
+    (text : List ℕ) (width height : ℕ) (actions : List StreamAction) → rendering (Text text) width height ≡ Some actions
+    → length (stream_text actions) ≤ 2 * length text
 
 abbrev pub RunsAreShort : Type 0
-RunsAreShort = (text : List ℕ) (width height : ℕ) (actions : List StreamAction) → IsPrinted text → rendering (Text text) width height ≡ Some actions → length (stream_text actions) ≤ length text + 1
+RunsAreShort =
+    (text : List ℕ) (width height : ℕ) (actions : List StreamAction) → IsPrinted text
+    → rendering (Text text) width height ≡ Some actions → length (stream_text actions) ≤ length text + 1

@@ -10,8 +10,8 @@ ghost use Rattle.terminal_render.specs.Pen.{link_action, set};
 ghost use Rattle.terminal_render.specs.PlacesView.{move_cursor};
 ghost use Rattle.terminal_render.specs.Texts.{run_actions};
 
+use crate::borrowed_action::BorrowedAction;
 use crate::moves::Move;
-use crate::sent::Sent;
 use cell_base::Hyperlink;
 use csi_codec::{Edit, Mode, Sgr};
 use escape_stream::{Action, ControlCode};
@@ -22,7 +22,7 @@ use std::rc::Rc;
 /// Actions in the order in which they are sent, lent from the changes that they are sent for.
 #[derive(Drop)]
 pub(crate) struct Actions<'a> {
-    list: Vec<Sent<'a>>,
+    list: Vec<BorrowedAction<'a>>,
 }
 
 impl<'a> Model for Actions<'a> {
@@ -31,9 +31,9 @@ impl<'a> Model for Actions<'a> {
 
     ghost Value = { List StreamAction };
 
-    ghost use Rattle.terminal_render.specs.SentView.{sent_values};
+    ghost use Rattle.terminal_render.specs.BorrowedActionView.{borrowed_values};
 
-    ghost view = { λ actions. sent_values actions.list.items };
+    ghost view = { λ actions. borrowed_values actions.list.items };
 }
 
 impl<'a> Actions<'a> {
@@ -53,15 +53,20 @@ impl<'a> Actions<'a> {
         self.list.clear();
     }
 
+    /// An SGR.
+    pub(crate) fn push_sgr(&mut self, value: Sgr) -> Result<(), AllocError>
+        ensures { OnOk result (self.new ≡ self.old ++ csi (codec.sgr value) ∷ []) }
+    {
+        self.list.push(BorrowedAction::Setting(value))?;
+        Ok(())
+    }
+
     /// An SGR, if there is one.
     pub(crate) fn push_setting(&mut self, value: Option<Sgr>) -> Result<(), AllocError>
         ensures { OnOk result (self.new ≡ self.old ++ set value) }
     {
         match value {
-            Some(value) => {
-                self.list.push(Sent::Setting(value))?;
-                Ok(())
-            }
+            Some(value) => self.push_sgr(value),
             None => Ok(()),
         }
     }
@@ -70,7 +75,7 @@ impl<'a> Actions<'a> {
     pub(crate) fn push_move(&mut self, step: Move) -> Result<(), AllocError>
         ensures { OnOk result (self.new ≡ self.old ++ csi (codec.cursor (move_cursor step)) ∷ []) }
     {
-        self.list.push(Sent::Move(step))?;
+        self.list.push(BorrowedAction::Move(step))?;
         Ok(())
     }
 
@@ -78,7 +83,7 @@ impl<'a> Actions<'a> {
     pub(crate) fn push_edit(&mut self, edit: Edit) -> Result<(), AllocError>
         ensures { OnOk result (self.new ≡ self.old ++ csi (codec.edit edit) ∷ []) }
     {
-        self.list.push(Sent::Edit(edit))?;
+        self.list.push(BorrowedAction::Edit(edit))?;
         Ok(())
     }
 
@@ -86,7 +91,7 @@ impl<'a> Actions<'a> {
     pub(crate) fn push_mode(&mut self, mode: Mode) -> Result<(), AllocError>
         ensures { OnOk result (self.new ≡ self.old ++ csi (codec.mode mode) ∷ []) }
     {
-        self.list.push(Sent::Mode(mode))?;
+        self.list.push(BorrowedAction::Mode(mode))?;
         Ok(())
     }
 
@@ -94,7 +99,7 @@ impl<'a> Actions<'a> {
     pub(crate) fn push_control(&mut self, code: ControlCode) -> Result<(), AllocError>
         ensures { OnOk result (self.new ≡ self.old ++ control (control_number code) ∷ []) }
     {
-        self.list.push(Sent::Control(code))?;
+        self.list.push(BorrowedAction::Control(code))?;
         Ok(())
     }
 
@@ -102,7 +107,7 @@ impl<'a> Actions<'a> {
     pub(crate) fn push_run(&mut self, text: &'a str) -> Result<(), AllocError>
         ensures { OnOk result (self.new ≡ self.old ++ run_actions text.now) }
     {
-        self.list.push(Sent::Text(text))?;
+        self.list.push(BorrowedAction::Text(text))?;
         self.push_control(ControlCode::Null)
     }
 
@@ -110,7 +115,7 @@ impl<'a> Actions<'a> {
     pub(crate) fn push_title(&mut self, title: &'a str) -> Result<(), AllocError>
         ensures { OnOk result (self.new ≡ self.old ++ command (set_window_title title.now) ∷ []) }
     {
-        self.list.push(Sent::Title(title))?;
+        self.list.push(BorrowedAction::Title(title))?;
         Ok(())
     }
 
@@ -118,7 +123,7 @@ impl<'a> Actions<'a> {
     pub(crate) fn push_link(&mut self, link: Option<&'a Rc<Hyperlink>>) -> Result<(), AllocError>
         ensures { OnOk result (self.new ≡ self.old ++ link_action (option_map (λ l. l.now.value) link.entry) ∷ []) }
     {
-        self.list.push(Sent::Link(link))?;
+        self.list.push(BorrowedAction::Link(link))?;
         Ok(())
     }
 
@@ -134,7 +139,7 @@ impl<'a> Actions<'a> {
     }
 
     /// Appends the bytes of the actions. Where memory is refused, some of them may have been appended.
-    #[tactic(auto, using(crate::proofs::SentLemmas::text_next, crate::proofs::SentLemmas::text_end))]
+    #[tactic(auto, using(crate::proofs::EncodedLemmas::text_next, crate::proofs::EncodedLemmas::text_end))]
     pub(crate) fn append_to(&self, bytes: &mut Vec<u8>) -> Result<(), AllocError>
         ensures ok { OnOk result (bytes.new.items ≡ bytes.old.items ++ stream_text self.now) }
         ensures front { take (length bytes.old.items) bytes.new.items ≡ bytes.old.items }

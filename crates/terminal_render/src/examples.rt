@@ -11,7 +11,10 @@ ghost use Rattle.cell_base.specs.declared.attributes.Underline.TheVariants.{Curl
 ghost use Rattle.cell_base.specs.declared.color.ColorAttribute.TheVariants as color;
 ghost use Rattle.cell_base.specs.Attributes.{plain};
 ghost use Rattle.cell_base.specs.AttributeValue as attribute;
-ghost use Rattle.cell_change.specs.ChangeValue.{Attribute, AllAttributes, Text, ClearScreen, ClearToEndOfLine, ClearToEndOfScreen, CursorPosition, CursorColor, CursorShape, CursorVisibility, LineAttribute, ScrollRegionUp, ScrollRegionDown, Title};
+ghost use Rattle.screen_change.specs.ChangeValue.{Attribute, AllAttributes, Text, ClearScreen, ClearToEndOfLine};
+ghost use Rattle.screen_change.specs.ChangeValue.{ClearToEndOfScreen, CursorPosition, CursorColor, CursorShape};
+ghost use Rattle.screen_change.specs.ChangeValue.{CursorVisibility, LineAttribute, ScrollRegionUp, ScrollRegionDown};
+ghost use Rattle.screen_change.specs.ChangeValue.{Title};
 ghost use Rattle.terminal_render.specs.Samples.{sent, csi, osc, plain_pen, link_to};
 
 /// A text is cut at its controls, and each part that is printed ends in NUL; a title is OSC 2. Neither
@@ -31,9 +34,11 @@ pub fn texts()
 /// Clears set a plain pen on their colour first.
 pub fn clears()
     ensures screen { sent 4 3 (ClearScreen color.Default) ≡ Some (plain_pen ++ csi (codes "2J") ++ csi (codes "1;1H")) }
-    ensures line { sent 4 3 (ClearToEndOfLine (color.PaletteIndex 1)) ≡ Some (plain_pen ++ csi (codes "41m") ++ csi (codes "K")) }
+    ensures line { sent 4 3 (ClearToEndOfLine (color.PaletteIndex 1))
+        ≡ Some (plain_pen ++ csi (codes "41m") ++ csi (codes "K")) }
     ensures below { sent 4 3 (ClearToEndOfScreen color.Default) ≡ Some (plain_pen ++ csi (codes "J")) }
-    ensures fallback { sent 4 3 (ClearScreen (color.TrueColorWithPaletteFallback (record { 0 = 1; 1 = 2; 2 = 3; 3 = 255 }) 1)) ≡ None }
+    ensures fallback { sent 4 3
+        (ClearScreen (color.TrueColorWithPaletteFallback (record { 0 = 1; 1 = 2; 2 = 3; 3 = 255 }) 1)) ≡ None }
 {}
 
 /// All rows scroll, or none: a region past the last row ends there, and a smaller one can't be told.
@@ -51,7 +56,8 @@ pub fn scrolls()
 /// Positions: a column at or past the width, a way back in the row, and one that moves nothing can't be
 /// told.
 pub fn positions()
-    ensures next_row { sent 4 3 (CursorPosition (Absolute 0) (Relative (pos 1))) ≡ Some (csi (codes "B") ++ csi (codes "1G")) }
+    ensures next_row { sent 4 3 (CursorPosition (Absolute 0) (Relative (pos 1)))
+        ≡ Some (csi (codes "B") ++ csi (codes "1G")) }
     ensures same_row { sent 4 3 (CursorPosition (Absolute 2) (Relative (pos 0))) ≡ Some (csi (codes "3G")) }
     ensures up { sent 4 3 (CursorPosition (Relative (pos 0)) (Relative (negsuc 1))) ≡ Some (csi (codes "2A")) }
     ensures nothing { sent 4 3 (CursorPosition (Relative (pos 0)) (Relative (pos 0))) ≡ None }
@@ -60,23 +66,48 @@ pub fn positions()
     ensures pending { sent 4 1 (CursorPosition (Absolute 4) (Absolute 0)) ≡ None }
     ensures last_column { sent 4 1 (CursorPosition (Absolute 3) (Absolute 0)) ≡ Some (csi (codes "1;4H")) }
     ensures back { sent 4 3 (CursorPosition (Relative (negsuc 0)) (Absolute 0)) ≡ None }
-    ensures right { sent 4 3 (CursorPosition (Relative (pos 2)) (EndRelative 0)) ≡ Some (csi (codes "2C") ++ csi (codes "3d")) }
-    ensures right_and_up { sent 4 3 (CursorPosition (Relative (pos 1)) (Relative (negsuc 0))) ≡ Some (csi (codes "C") ++ csi (codes "A")) }
-    ensures far { sent 4 3 (CursorPosition (Relative (pos 4294967296)) (Relative (pos 0))) ≡ Some (csi (codes "4294967295C")) }
+    ensures right { sent 4 3 (CursorPosition (Relative (pos 2)) (EndRelative 0))
+        ≡ Some (csi (codes "2C") ++ csi (codes "3d")) }
+    ensures right_and_up { sent 4 3 (CursorPosition (Relative (pos 1)) (Relative (negsuc 0)))
+        ≡ Some (csi (codes "C") ++ csi (codes "A")) }
+    ensures far { sent 4 3 (CursorPosition (Relative (pos 4294967296)) (Relative (pos 0)))
+        ≡ Some (csi (codes "4294967295C")) }
 {}
 
 /// Pens, single attributes and the rest.
 pub fn attributes()
     ensures plain { sent 4 3 (AllAttributes plain) ≡ Some plain_pen }
     ensures bold { sent 4 3 (Attribute (attribute.Intensity Bold)) ≡ Some (csi (codes "1m")) }
-    ensures link { sent 3 1 (AllAttributes (record plain { hyperlink = Some (link_to (codes "http://example.com")) })) ≡ Some (csi (codes "0m") ++ osc (codes "8;;http://example.com")) }
-    ensures colour { sent 3 1 (AllAttributes (record plain { foreground = color.TrueColorWithDefaultFallback (record { 0 = 1; 1 = 2; 2 = 3; 3 = 4 }) })) ≡ Some (csi (codes "0m") ++ csi (codes "38:6::1:2:3:4m") ++ osc (codes "8;;")) }
-    ensures many { sent 3 1 (AllAttributes (record plain { intensity = Bold; underline = Curly; reverse = true; overline = true; background = color.PaletteIndex 9; underline_color = color.PaletteIndex 9 })) ≡ Some (csi (codes "0m") ++ csi (codes "1m") ++ csi (codes "4:3m") ++ csi (codes "7m") ++ csi (codes "53m") ++ csi (codes "101m") ++ csi (codes "58:5:9m") ++ osc (codes "8;;")) }
+    ensures link { sent 3 1 (AllAttributes (record plain { hyperlink = Some (link_to (codes "http://example.com")) }))
+        ≡ Some (csi (codes "0m") ++ osc (codes "8;;http://example.com")) }
+    ensures colour { sent 3 1
+        (AllAttributes
+        (record plain
+        { foreground = color.TrueColorWithDefaultFallback (record { 0 = 1; 1 = 2; 2 = 3; 3 = 4 }) }))
+        ≡ Some (csi (codes "0m") ++ csi (codes "38:6::1:2:3:4m") ++ osc (codes "8;;")) }
+    ensures many { sent 3 1
+        (AllAttributes
+        (record plain {
+          intensity = Bold;
+          underline = Curly;
+          reverse = true;
+          overline = true;
+          background = color.PaletteIndex 9;
+          underline_color = color.PaletteIndex 9;
+        }))
+        ≡ Some
+        (csi (codes "0m") ++ csi (codes "1m") ++ csi (codes "4:3m") ++ csi (codes "7m") ++ csi (codes "53m")
+        ++ csi (codes "101m") ++ csi (codes "58:5:9m") ++ osc (codes "8;;")) }
     ensures wrapped { sent 3 1 (AllAttributes (record plain { wrapped = true })) ≡ None }
     ensures prompt { sent 3 1 (AllAttributes (record plain { semantic_type = Prompt })) ≡ None }
-    ensures implicit { sent 3 1 (Attribute (attribute.Hyperlink (Some (record { params = []; uri = codes "u"; implicit = true })))) ≡ None }
+    ensures implicit { sent 3 1
+        (Attribute (attribute.Hyperlink (Some (record { params = []; uri = codes "u"; implicit = true })))) ≡ None }
     ensures empty_link { sent 3 1 (Attribute (attribute.Hyperlink (Some (link_to [])))) ≡ None }
-    ensures colon { sent 3 1 (Attribute (attribute.Hyperlink (Some (record { params = (codes "id", codes "a:b") ∷ []; uri = codes "u"; implicit = false })))) ≡ None }
+    ensures colon { sent 3 1
+        (Attribute
+        (attribute.Hyperlink
+        (Some (record { params = (codes "id", codes "a:b") ∷ []; uri = codes "u"; implicit = false }))))
+        ≡ None }
     ensures bell { sent 3 1 (Attribute (attribute.Hyperlink (Some (link_to (7 ∷ []))))) ≡ None }
     ensures link_ends { sent 3 1 (Attribute (attribute.Hyperlink None)) ≡ Some (osc (codes "8;;")) }
     ensures hidden { sent 3 1 (CursorVisibility Hidden) ≡ Some (csi (codes "?25l")) }

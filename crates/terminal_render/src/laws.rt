@@ -1,8 +1,10 @@
 //! Laws of what is sent: each is the contract of a function that does nothing but name the laws below.
 ghost use Rattle.terminal_render.specs.Carried.{RenderingsAreWritable};
-ghost use Rattle.terminal_render.specs.Lists.{ListTextsHaveTheEffect, ListTextsLeaveIdle, ListsHaveTheEffect, RenderingsJoin, WritableListsJoin};
+ghost use Rattle.terminal_render.specs.Lists.{ListTextsHaveTheEffect, ListTextsLeaveIdle, ListsHaveTheEffect};
+ghost use Rattle.terminal_render.specs.Lists.{RenderingsJoin, WritableListsJoin};
 ghost use Rattle.terminal_render.specs.Sizes.{RenderingsAreShort, RunsAreShort, TextsAreShort};
-ghost use Rattle.terminal_render.specs.Effects.{RenderedTextsHaveTheEffect, RenderedTextsLeaveIdle, RenderingsHaveTheEffect};
+ghost use Rattle.terminal_render.specs.Effects.{RenderedTextsHaveTheEffect, RenderedTextsLeaveIdle};
+ghost use Rattle.terminal_render.specs.Effects.{RenderingsHaveTheEffect};
 
 use csi_codec::laws::{writable_actions_read_back, writable_texts_are_short};
 use escape_framing::laws::idle_streams;

@@ -1,7 +1,12 @@
 //! What is sent to a terminal for a change of a screen: actions that have the change's effect there.
+//!
+//! - `spelling_laws`: each change of a terminal has a spelling, of pens, displays, views and streams.
+//! - `sizes`: how much is sent for changes that have one.
 #![tactic(auto)]
 
 mod actions;
+mod borrowed_action;
+mod encoding;
 mod error;
 pub mod examples;
 pub mod laws;
@@ -11,9 +16,11 @@ mod pen;
 mod place;
 mod places;
 mod rendering;
-mod sent;
+pub mod sizes;
+pub mod spelling_laws;
 mod texts;
 mod values;
 
+pub use encoding::append_encodings;
 pub use error::RenderError;
-pub use rendering::{append_renderings, render};
+pub use rendering::{append_renderings, has_encoding, render};

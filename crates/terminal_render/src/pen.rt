@@ -1,13 +1,15 @@
 //! Attributes, pens and clears.
-ghost use Rattle.std.specs.Prelude.{◌≡◌, ◌++◌, ◌∷◌, [], OnOk, None, Some, true, if◌then◌else◌, ◌||◌, option_map};
+ghost use Rattle.std.specs.Prelude.{◌≡◌, ◌≢◌, ◌++◌, ◌∷◌, [], OnOk, None, Some, if◌then◌else◌, is_some, option_map};
 ghost use Rattle.cell_base.specs.AttributeValueOf.{attribute_value};
-ghost use Rattle.csi_codec.specs.Actions as codec;
 ghost use Rattle.csi_codec.specs.declared.cursors.Cursor.TheVariants as cursor;
 ghost use Rattle.csi_codec.specs.declared.edits.Edit.TheVariants as edit;
 ghost use Rattle.csi_codec.specs.declared.edits.EraseInDisplay.TheVariants as display;
 ghost use Rattle.csi_codec.specs.declared.rendition.Sgr.TheVariants as sgr;
-ghost use Rattle.escape_stream.specs.StreamAction.{csi};
-ghost use Rattle.terminal_render.specs.Pen.{attribute_setting, colour_setting, is_unsaid, pen_actions, pen_settings, plain_pen, settings, unless_base_line, unless_default, unless_none, unless_normal, unless_steady};
+ghost use Rattle.terminal_render.specs.Pen.{attribute_action, clear_rendering, colour_setting, is_unsaid, plain_pen};
+ghost use Rattle.terminal_render.specs.Pen.{pen_actions, pen_rendering, pen_settings, settings};
+ghost use Rattle.terminal_render.specs.Pen.{unless_base_line, unless_default, unless_none, unless_normal};
+ghost use Rattle.terminal_render.specs.Pen.{unless_steady};
+ghost use Rattle.terminal_render.specs.Rendering.{behind, edited, moved};
 
 use crate::actions::Actions;
 use crate::links::is_carried;
@@ -21,15 +23,28 @@ use csi_codec::{Edit, EraseInDisplay, Sgr};
 use std::alloc::AllocError;
 use std::rc::Rc;
 
-/// A colour as SGR sets it: none that falls back to the palette.
-pub(crate) fn color_setting(color: ColorAttribute) -> Option<ColorSpec>
-    ensures { result ≡ colour_setting color }
+/// Whether SGR sets a colour: any but one that falls back to the palette.
+pub(crate) fn color_is_told(color: ColorAttribute) -> bool
+    ensures { result ≡ is_some (colour_setting color) }
 {
     match color {
-        ColorAttribute::TrueColorWithPaletteFallback(_, _) => None,
-        ColorAttribute::TrueColorWithDefaultFallback(color) => Some(ColorSpec::TrueColor(color)),
-        ColorAttribute::PaletteIndex(index) => Some(ColorSpec::PaletteIndex(index)),
-        ColorAttribute::Default => Some(ColorSpec::Default),
+        ColorAttribute::TrueColorWithPaletteFallback(_, _) => false,
+        ColorAttribute::TrueColorWithDefaultFallback(_)
+        | ColorAttribute::PaletteIndex(_)
+        | ColorAttribute::Default => true,
+    }
+}
+
+// Such a colour as SGR sets it.
+fn color_setting(color: ColorAttribute) -> ColorSpec
+    requires { colour_setting color ≢ None }
+    ensures { colour_setting color ≡ Some result }
+{
+    match color {
+        ColorAttribute::TrueColorWithPaletteFallback(color, _)
+        | ColorAttribute::TrueColorWithDefaultFallback(color) => ColorSpec::TrueColor(color),
+        ColorAttribute::PaletteIndex(index) => ColorSpec::PaletteIndex(index),
+        ColorAttribute::Default => ColorSpec::Default,
     }
 }
 
@@ -132,18 +147,16 @@ fn settings(
     ]
 }
 
-/// The settings of the attributes and of their colours, if each colour can be told.
-pub(crate) fn pen_settings(a: &CellAttributes) -> Option<[Option<Sgr>; 12]>
-    ensures { result ≡ pen_settings a.now }
+/// Whether SGR and OSC 8 set the attributes.
+#[tactic(auto, unfolding(crate::specs::Pen::pen_rendering))]
+pub(crate) fn pen_is_told(a: &CellAttributes) -> bool
+    ensures { result ≡ is_some (pen_rendering a.now) }
 {
-    let front = color_setting(a.foreground())?;
-    let back = color_setting(a.background())?;
-    let line = color_setting(a.underline_color())?;
-    Some(settings(a, front, back, line))
+    !is_unsaid(a) && colors_are_told(a)
 }
 
-/// Whether the attributes have what no action sets.
-pub(crate) fn is_unsaid(a: &CellAttributes) -> bool
+// Whether the attributes have what no action sets.
+fn is_unsaid(a: &CellAttributes) -> bool
     ensures { result ≡ is_unsaid a.now }
 {
     if a.wrapped() {
@@ -152,15 +165,48 @@ pub(crate) fn is_unsaid(a: &CellAttributes) -> bool
     a.semantic_type() != SemanticType::Output || !is_carried(a.hyperlink())
 }
 
-/// A reset, what is set behind it, and the link or its end.
+// Whether SGR sets each of their colours.
+fn colors_are_told(a: &CellAttributes) -> bool
+    ensures { result ≡ is_some (pen_settings a.now) }
+{
+    if !color_is_told(a.foreground()) {
+        return false;
+    }
+    color_is_told(a.background()) && color_is_told(a.underline_color())
+}
+
+// The settings of such attributes and of their colours.
+fn pen_settings(a: &CellAttributes) -> [Option<Sgr>; 12]
+    requires { pen_settings a.now ≢ None }
+    ensures { pen_settings a.now ≡ Some result }
+{
+    let front = color_setting(a.foreground());
+    let back = color_setting(a.background());
+    let line = color_setting(a.underline_color());
+    settings(a, front, back, line)
+}
+
+/// Such attributes: a reset, what is set behind it, and the link or its end.
+#[tactic(auto, unfolding(crate::specs::Pen::pen_rendering))]
 pub(crate) fn push_pen<'a>(
+    actions: &mut Actions<'a>,
+    pen: &'a CellAttributes,
+) -> Result<(), AllocError>
+    requires { pen_rendering pen.now ≢ None }
+    ensures { OnOk result (behind actions.old (pen_rendering pen.now) ≡ Some actions.new) }
+{
+    push_settings(actions, pen_settings(pen), pen.hyperlink())
+}
+
+// A reset, the settings, and the link or its end.
+fn push_settings<'a>(
     actions: &mut Actions<'a>,
     values: [Option<Sgr>; 12],
     link: Option<&'a Rc<Hyperlink>>,
 ) -> Result<(), AllocError>
     ensures { OnOk result (actions.new ≡ actions.old ++ pen_actions values (option_map (λ l. l.now.value) link.entry)) }
 {
-    actions.push_setting(Some(Sgr::Reset))?;
+    actions.push_sgr(Sgr::Reset)?;
     for value in values {
         actions.push_setting(value)?;
     }
@@ -168,21 +214,51 @@ pub(crate) fn push_pen<'a>(
     Ok(())
 }
 
-/// The SGR of one attribute, if it isn't the link and can be told.
-pub(crate) fn attribute_setting(change: &AttributeChange) -> Option<Sgr>
-    ensures { result ≡ attribute_setting (attribute_value change.now) }
+/// Whether SGR or OSC 8 sets one attribute.
+#[tactic(auto, unfolding(crate::specs::Pen::attribute_action))]
+pub(crate) fn attribute_is_told(change: &AttributeChange) -> bool
+    ensures { result ≡ is_some (attribute_action (attribute_value change.now)) }
 {
     match change {
-        AttributeChange::Intensity(value) => Some(Sgr::Intensity(*value)),
-        AttributeChange::Underline(value) => Some(Sgr::Underline(*value)),
-        AttributeChange::Italic(value) => Some(Sgr::Italic(*value)),
-        AttributeChange::Blink(value) => Some(Sgr::Blink(*value)),
-        AttributeChange::Reverse(value) => Some(Sgr::Inverse(*value)),
-        AttributeChange::StrikeThrough(value) => Some(Sgr::StrikeThrough(*value)),
-        AttributeChange::Invisible(value) => Some(Sgr::Invisible(*value)),
-        AttributeChange::Foreground(color) => Some(Sgr::Foreground(color_setting(*color)?)),
-        AttributeChange::Background(color) => Some(Sgr::Background(color_setting(*color)?)),
-        AttributeChange::Hyperlink(_) => None,
+        AttributeChange::Foreground(color) | AttributeChange::Background(color) => {
+            color_is_told(*color)
+        }
+        AttributeChange::Hyperlink(link) => is_carried(link.as_ref()),
+        AttributeChange::Intensity(_)
+        | AttributeChange::Underline(_)
+        | AttributeChange::Italic(_)
+        | AttributeChange::Blink(_)
+        | AttributeChange::Reverse(_)
+        | AttributeChange::StrikeThrough(_)
+        | AttributeChange::Invisible(_) => true,
+    }
+}
+
+/// Such an attribute: its SGR, or OSC 8.
+#[tactic(auto, unfolding(crate::specs::Pen::attribute_action))]
+pub(crate) fn push_attribute<'a>(
+    actions: &mut Actions<'a>,
+    change: &'a AttributeChange,
+) -> Result<(), AllocError>
+    requires { attribute_action (attribute_value change.now) ≢ None }
+    ensures { OnOk result (behind actions.old (option_map (λ action. action ∷ [])
+        (attribute_action (attribute_value change.now))) ≡ Some actions.new) }
+{
+    match change {
+        AttributeChange::Intensity(value) => actions.push_sgr(Sgr::Intensity(*value)),
+        AttributeChange::Underline(value) => actions.push_sgr(Sgr::Underline(*value)),
+        AttributeChange::Italic(value) => actions.push_sgr(Sgr::Italic(*value)),
+        AttributeChange::Blink(value) => actions.push_sgr(Sgr::Blink(*value)),
+        AttributeChange::Reverse(value) => actions.push_sgr(Sgr::Inverse(*value)),
+        AttributeChange::StrikeThrough(value) => actions.push_sgr(Sgr::StrikeThrough(*value)),
+        AttributeChange::Invisible(value) => actions.push_sgr(Sgr::Invisible(*value)),
+        AttributeChange::Foreground(color) => {
+            actions.push_sgr(Sgr::Foreground(color_setting(*color)))
+        }
+        AttributeChange::Background(color) => {
+            actions.push_sgr(Sgr::Background(color_setting(*color)))
+        }
+        AttributeChange::Hyperlink(link) => actions.push_link(link.as_ref()),
     }
 }
 
@@ -190,32 +266,38 @@ pub(crate) fn attribute_setting(change: &AttributeChange) -> Option<Sgr>
 fn push_plain_pen(actions: &mut Actions<'_>, color: ColorSpec) -> Result<(), AllocError>
     ensures { OnOk result (actions.new ≡ actions.old ++ plain_pen color) }
 {
-    actions.push_setting(Some(Sgr::Reset))?;
+    actions.push_sgr(Sgr::Reset)?;
     actions.push_link(None)?;
     actions.push_setting(background(color))?;
     Ok(())
 }
 
-/// An erasure on a background.
+/// An erasure that leaves blanks of a colour that SGR sets.
+#[tactic(auto, unfolding(crate::specs::Pen::clear_rendering))]
 pub(crate) fn push_clear(
     actions: &mut Actions<'_>,
-    color: ColorSpec,
+    color: ColorAttribute,
     erasure: Edit,
 ) -> Result<(), AllocError>
-    ensures { OnOk result (actions.new ≡ actions.old ++ (plain_pen color ++ csi (codec.edit erasure) ∷ [])) }
+    requires { clear_rendering color (edited erasure ∷ []) ≢ None }
+    ensures { OnOk result (behind actions.old (clear_rendering color (edited erasure ∷ [])) ≡ Some actions.new) }
 {
-    push_plain_pen(actions, color)?;
+    push_plain_pen(actions, color_setting(color))?;
     actions.push_edit(erasure)
 }
 
 /// An erasure of the whole screen, and the cursor goes home.
+#[tactic(auto, unfolding(crate::specs::Pen::clear_rendering))]
 pub(crate) fn push_clear_screen(
     actions: &mut Actions<'_>,
-    color: ColorSpec,
+    color: ColorAttribute,
 ) -> Result<(), AllocError>
-    ensures { OnOk result (actions.new ≡ actions.old ++ (plain_pen color ++ (csi (codec.edit (edit.EraseInDisplay display.EraseDisplay)) ∷ csi (codec.cursor (cursor.Position 1 1)) ∷ []))) }
+    requires { clear_rendering color (edited (edit.EraseInDisplay display.EraseDisplay)
+        ∷ moved (cursor.Position 1 1) ∷ []) ≢ None }
+    ensures { OnOk result (behind actions.old (clear_rendering color (edited (edit.EraseInDisplay display.EraseDisplay)
+        ∷ moved (cursor.Position 1 1) ∷ [])) ≡ Some actions.new) }
 {
-    push_plain_pen(actions, color)?;
+    push_plain_pen(actions, color_setting(color))?;
     actions.push_edit(Edit::EraseInDisplay(EraseInDisplay::EraseDisplay))?;
     actions.push_move(Move::To(Place::new(1), Place::new(1)))
 }

@@ -1,10 +1,11 @@
 //! Positions as moves of the cursor.
-ghost use Rattle.std.specs.Prelude.{◌≡◌, ◌+◌, ◌-◌, min, ◌<◌, ◌≤◌, ◌^◌, ◌++◌, map, OnOk, option_map};
+ghost use Rattle.std.specs.Prelude.{◌≡◌, ◌≢◌, ◌+◌, ◌-◌, min, ◌<◌, ◌≤◌, ◌^◌};
+ghost use Rattle.std.specs.Prelude.{◌++◌, None, Some, map, is_some, OnOk, option_map};
 ghost use Rattle.csi_codec.specs.Parameters.{word_max};
 ghost use Rattle.csi_codec.specs.declared.cursors.Cursor.TheVariants as cursor;
-ghost use Rattle.terminal_render.specs.Places.{is_past, move_by, moves, position_moves, way_of};
+ghost use Rattle.terminal_render.specs.Places.{At, On, move_by, moves, position_moves, way_of};
 ghost use Rattle.terminal_render.specs.PlacesView.{IsCounted, both_listed, listed, move_cursor, way_value};
-ghost use Rattle.terminal_render.specs.Rendering.{moved};
+ghost use Rattle.terminal_render.specs.Rendering.{behind, moved};
 
 use crate::actions::Actions;
 use crate::moves::Move;
@@ -41,16 +42,6 @@ fn way_of(size: usize, position: Position) -> Way
         Position::EndRelative(back) => Way::At(place_of(size, size.saturating_sub(back))),
         Position::Relative(way) if way < 0 => Way::Back(way.unsigned_abs()),
         Position::Relative(way) => Way::On(way as usize),
-    }
-}
-
-// Whether a column is at or past the width.
-fn is_past(width: usize, x: Position) -> bool
-    ensures { result ≡ is_past width x }
-{
-    match x {
-        Position::Absolute(at) => width <= at,
-        _ => false,
     }
 }
 
@@ -111,47 +102,92 @@ fn right(columns: usize) -> Option<Move>
     }
 }
 
-// The moves that lead the column one way and the row another.
+// The moves to a column, counted from 1, that lead the row a way.
 #[tactic(auto, unfolding(crate::specs::Places::moves))]
-fn moves(column: Way, row: Way) -> Option<(Option<Move>, Option<Move>)>
-    requires column { IsCounted (way_value column) }
+fn moves_to(col: u32, row: Way) -> (Option<Move>, Option<Move>)
+    requires column { 1 ≤ col }
     requires row { IsCounted (way_value row) }
-    ensures { option_map both_listed result ≡ moves (way_value column) (way_value row) }
+    ensures { moves (At col) (way_value row) ≡ Some (both_listed result) }
 {
-    match (column, row) {
-        (Way::At(col), Way::At(line)) => Some((Some(place_at(line, col)), None)),
-        (Way::At(col), Way::Back(rows)) => Some((up(rows), Some(column_at(col)))),
-        (Way::At(col), Way::On(rows)) => Some((down(rows), Some(column_at(col)))),
-        (Way::On(columns), Way::At(line)) => { Some((right(columns), Some(Move::ToLine(line)))) }
-        (Way::On(columns), Way::Back(rows)) => Some((right(columns), up(rows))),
-        (Way::On(0), Way::On(0)) => None,
-        (Way::On(columns), Way::On(rows)) => Some((right(columns), down(rows))),
-        (Way::Back(_), _) => None,
+    match row {
+        Way::At(line) => (Some(place_at(line, col)), None),
+        Way::Back(rows) => (up(rows), Some(column_at(col))),
+        Way::On(rows) => (down(rows), Some(column_at(col))),
     }
 }
 
-/// The moves to a column and a row, on a screen of a size; none where nothing that can be sent leads there.
+// The moves by so many columns that lead the row a way: some, where the column stays.
+#[tactic(auto, unfolding(crate::specs::Places::moves))]
+fn moves_on(columns: usize, row: Way) -> (Option<Move>, Option<Move>)
+    requires { moves (On columns) (way_value row) ≢ None }
+    ensures { moves (On columns) (way_value row) ≡ Some (both_listed result) }
+{
+    match row {
+        Way::At(line) => (right(columns), Some(Move::ToLine(line))),
+        Way::Back(rows) => (right(columns), up(rows)),
+        Way::On(rows) => (right(columns), down(rows)),
+    }
+}
+
+/// Whether moves lead to a column and a row: to no column at or past the width, and to none by a way back, and not
+/// where neither moves.
+#[tactic(auto, unfolding(crate::specs::Places::moves, crate::specs::Places::position_moves))]
+pub(crate) fn position_is_told(width: usize, height: usize, x: Position, y: Position) -> bool
+    ensures { result ≡ is_some (position_moves width height x y) }
+{
+    match x {
+        Position::Absolute(at) => at < width,
+        Position::EndRelative(_) => true,
+        Position::Relative(0) => !matches!(y, Position::Relative(0)),
+        Position::Relative(columns) => columns > 0,
+    }
+}
+
+// The moves to such a column and row, on a screen of a size.
 #[tactic(auto, unfolding(crate::specs::Places::position_moves))]
-pub(crate) fn position_moves(
+fn position_moves(
     width: usize,
     height: usize,
     x: Position,
     y: Position,
-) -> Option<(Option<Move>, Option<Move>)>
+) -> (Option<Move>, Option<Move>)
     requires columns { 0 < width }
     requires width { width < 2 ^ 32 }
     requires rows { 0 < height }
     requires height { height < 2 ^ 32 }
-    ensures { option_map both_listed result ≡ position_moves width height x y }
+    requires told { position_moves width height x y ≢ None }
+    ensures { position_moves width height x y ≡ Some (both_listed result) }
 {
-    if is_past(width, x) {
-        return None;
+    let row = way_of(height, y);
+    match x {
+        Position::Absolute(at) => moves_to(place_of(width, at), row),
+        Position::EndRelative(back) => moves_to(place_of(width, width.saturating_sub(back)), row),
+        Position::Relative(columns) => moves_on(columns.unsigned_abs(), row),
     }
-    moves(way_of(width, x), way_of(height, y))
 }
 
-/// The moves, in turn.
-pub(crate) fn push_moves(
+/// The moves to such a column and row, in turn.
+pub(crate) fn push_position(
+    actions: &mut Actions<'_>,
+    width: usize,
+    height: usize,
+    x: Position,
+    y: Position,
+) -> Result<(), AllocError>
+    requires columns { 0 < width }
+    requires width { width < 2 ^ 32 }
+    requires rows { 0 < height }
+    requires height { height < 2 ^ 32 }
+    requires told { position_moves width height x y ≢ None }
+    ensures { OnOk result (behind actions.old (option_map (map moved) (position_moves width height x y))
+        ≡ Some actions.new) }
+{
+    let (first, second) = position_moves(width, height, x, y);
+    push_moves(actions, first, second)
+}
+
+// The moves, in turn.
+fn push_moves(
     actions: &mut Actions<'_>,
     first: Option<Move>,
     second: Option<Move>,

@@ -1,13 +1,13 @@
 //! Texts.
 ghost use Rattle.std.specs.Prelude.{◌≡◌, ◌++◌, OnOk};
 ghost use Rattle.std.specs.List.{flat_map};
-ghost use Rattle.screen_canvas.specs.Parts.{plain_part};
+ghost use Rattle.screen_effects.specs.Parts.{plain_part};
 ghost use Rattle.screen_effects.specs.Strokes.{Control, text_parts};
 ghost use Rattle.terminal_render.specs.Texts.{part_actions};
 
 use crate::actions::Actions;
 use escape_stream::ControlCode;
-use screen_canvas::{split_at_control, split_control};
+use screen_effects::{split_at_control, split_control};
 use std::alloc::AllocError;
 
 // A text without controls, unless it is empty.

@@ -1,12 +1,12 @@
-//! What holds of each change of the code: colours are of bytes, and texts are UTF-8. These functions do nothing: each matches
-//! its argument down to its numbers, so that its clause can say what their types hold.
+//! What holds of each change of the code: colours are of bytes, and texts are UTF-8. These functions do nothing: each
+//! matches its argument down to its numbers, so that its clause can say what their types hold.
 ghost use Rattle.std.specs.Prelude.{◌≤◌};
 ghost use Rattle.cell_base.specs.AttributeValueOf.{attribute_value};
-ghost use Rattle.cell_change.specs.ValueOf.{value_of as change_value};
+ghost use Rattle.screen_change.specs.ValueOf.{value_of as change_value};
 ghost use Rattle.terminal_render.specs.Carried.{HasColor, HaveColors, IsChange, IsColor};
 
 use cell_base::{AttributeChange, CellAttributes, ColorAttribute, SrgbaTuple};
-use cell_change::Change;
+use screen_change::Change;
 
 // Each channel.
 fn are_bytes(color: SrgbaTuple)

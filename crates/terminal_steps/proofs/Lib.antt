@@ -2,3 +2,4 @@ pub mod StateLemmas
 pub mod NumberLemmas
 pub mod TakeLemmas
 pub mod SpellLemmas
+pub mod MemoryLemmas

@@ -4,11 +4,11 @@ use Rattle.std.specs.Prelude.{◌==◌, ◌≢◌, if◌then◌else◌, nat_lt}
 use Rattle.std.specs.String.{string_bytes}
 use Rattle.std.specs.List.{FoldsTo}
 use Rattle.std.proofs.lemmas.List.Sums.{fold-append}
-use Rattle.cell_change.specs.ChangeValue.{ChangeValue}
+use Rattle.screen_change.specs.ChangeValue.{ChangeValue}
 use Rattle.cell_surface.specs.Surface.{Surface, shown_by, number_of, Resizes}
-use Rattle.change_log.specs.Log.{most_due, forgotten, resized_log}
-use Rattle.change_log.specs.LogSteps as log
-use Rattle.change_log.specs.LogSteps.{LogStep, Logged, Forgotten, Sized, step_of_kept}
+use Rattle.screen_log.specs.Log.{most_due, forgotten, resized_log}
+use Rattle.screen_log.specs.LogSteps as log
+use Rattle.screen_log.specs.LogSteps.{LogStep, Logged, Forgotten, Sized, step_of_kept}
 use Rattle.escape_stream.specs.StreamAction.{StreamAction, is_print}
 use Rattle.screen_effects.specs.Display.{IsDisplay}
 use Rattle.screen_effects.proofs.EffectLaws.{resized_is}
@@ -28,11 +28,11 @@ use Rattle.escape_stream.specs.Performing.{StopsAt, HaltsAt}
 use Rattle.escape_stream.specs.declared.perform.Halted.{Halted}
 use Rattle.escape_stream.specs.declared.perform.Halted.TheVariants as halted
 use Rattle.terminal_steps.specs.Refusals.{of_halted}
-use Rattle.terminal_steps.specs.Taking.{item_event, item_events, DoesItem, RefusesItem}
+use Rattle.terminal_steps.specs.Items.{item_event, item_events, DoesItem, RefusesItem}
 use Rattle.terminal_steps.specs.declared.error.TerminalError.TheVariants.{Failed, Number}
-use Rattle.terminal_steps.proofs.TakeLemmas.{are_front, are_behind, leads}
-use Rattle.terminal_steps.specs.Applying.{state_of}
-use Rattle.terminal_steps.specs.Events.{view_of, IsReady, Had, NeedsNumber, log_behind}
+use Rattle.terminal_steps.proofs.TakeLemmas.{are_front, are_after, leads}
+use Rattle.terminal_steps.specs.TerminalStates.{state_of}
+use Rattle.terminal_steps.specs.Events.{view_of, IsReady, Had, NeedsNumber, final_log}
 use Rattle.terminal_steps.specs.declared.state.TerminalState.{TerminalState}
 
 pub step_number : (s : Sized) (step : LogStep) → s.log.number ≤ (step_of_kept s step).log.number
@@ -59,30 +59,30 @@ all_number (change ∷ changes) s = let more = all_number changes (step_of_kept 
 abbrev Past : Sized → Type 0
 Past s = 2 ^ 64 ≤ s.log.number
 
-pub past_behind : (s : Sized) (steps : List LogStep) → Past s → Past (fold step_of_kept s steps)
-past_behind s steps h = let more = fold_number steps s in omega arith
+pub past_after : (s : Sized) (steps : List LogStep) → Past s → Past (fold step_of_kept s steps)
+past_after s steps h = let more = fold_number steps s in omega arith
 
 module _ {W : Type 0} (width_of : W → List ℕ → ℕ) where
   abbrev of : TerminalState W → List ℕ → ℕ
-  of t = width_of t.surface.canvas.widths
+  of t = width_of t.surface.grid.widths
 
-  pub settled_number : (t : TerminalState W) → (length (string_bytes t.held) == 0) ≡ false → 2 ^ 64 ≤ number_of t.surface + 1 → Past (log_behind width_of t (Looked ∷ []))
+  pub settled_number : (t : TerminalState W) → (length (string_bytes t.held) == 0) ≡ false → 2 ^ 64 ≤ number_of t.surface + 1 → Past (final_log width_of t (Looked ∷ []))
   settled_number t e n = subst (λ b. Past (fold step_of_kept t.surface.log ((if b then [] else Logged (run_change (string_bytes t.held)) ∷ []) ++ []))) (sym e) n
 
   -- ---- what is logged for one event behind others
 
-  behind_front : (t : TerminalState W) (front back : List LogStep) → fold step_of_kept t.surface.log ((front ++ back) ++ []) ≡ fold step_of_kept (fold step_of_kept t.surface.log (front ++ [])) back
-  behind_front t front back =
+  after_front : (t : TerminalState W) (front back : List LogStep) → fold step_of_kept t.surface.log ((front ++ back) ++ []) ≡ fold step_of_kept (fold step_of_kept t.surface.log (front ++ [])) back
+  after_front t front back =
       ap (fold step_of_kept t.surface.log) (append_nil (front ++ back))
       ∙ fold-append step_of_kept t.surface.log front back
       ∙ ap (λ xs. fold step_of_kept (fold step_of_kept t.surface.log xs) back) (sym (append_nil front))
 
-  resized_behind : (t : TerminalState W) (width height : ℕ) → log_behind width_of t (Resized width height ∷ []) ≡ step_of_kept (log_behind width_of t (Looked ∷ [])) (log.Resized (most_due width height))
-  resized_behind t width height = behind_front t (run_logged (view_of t)) (log.Resized (most_due width height) ∷ [])
+  resized_after : (t : TerminalState W) (width height : ℕ) → final_log width_of t (Resized width height ∷ []) ≡ step_of_kept (final_log width_of t (Looked ∷ [])) (log.Resized (most_due width height))
+  resized_after t width height = after_front t (run_logged (view_of t)) (log.Resized (most_due width height) ∷ [])
 
-  acted_behind : (t : TerminalState W) (action : StreamAction) → is_print action ≡ false
-      → log_behind width_of t (Act action ∷ []) ≡ fold step_of_kept (log_behind width_of t (Looked ∷ [])) (map Logged (changes_of (function_of action) (settled (of t) (view_of t)).state))
-  acted_behind t action p = ap logged p ∙ behind_front t (run_logged (view_of t)) (map Logged (changes_of (function_of action) (settled (of t) (view_of t)).state))
+  acted_after : (t : TerminalState W) (action : StreamAction) → is_print action ≡ false
+      → final_log width_of t (Act action ∷ []) ≡ fold step_of_kept (final_log width_of t (Looked ∷ [])) (map Logged (changes_of (function_of action) (settled (of t) (view_of t)).state))
+  acted_after t action p = ap logged p ∙ after_front t (run_logged (view_of t)) (map Logged (changes_of (function_of action) (settled (of t) (view_of t)).state))
     where
       logged : Bool → Sized
       logged b = fold step_of_kept t.surface.log ((if b then [] else run_logged (view_of t) ++ map Logged (changes_of (function_of action) (settled (of t) (view_of t)).state)) ++ [])
@@ -90,7 +90,7 @@ module _ {W : Type 0} (width_of : W → List ℕ → ℕ) where
   -- ---- actions
 
   pub act_past : (t : TerminalState W) (action : StreamAction) → is_print action ≡ false → NeedsNumber width_of t (Looked ∷ []) → NeedsNumber width_of t (Act action ∷ [])
-  act_past t action p n = λ ready events. subst Past (sym (acted_behind t action p)) (past_behind (log_behind width_of t (Looked ∷ [])) (map Logged (changes_of (function_of action) (settled (of t) (view_of t)).state)) (n ready (tt, tt)))
+  act_past t action p n = λ ready events. subst Past (sym (acted_after t action p)) (past_after (final_log width_of t (Looked ∷ [])) (map Logged (changes_of (function_of action) (settled (of t) (view_of t)).state)) (n ready (tt, tt)))
 
   pub act_number : (t u : TerminalState W) (action : StreamAction) → is_print action ≡ false
       → (IsReady t → AreEvents (Looked ∷ []) → Had width_of t u (Looked ∷ []))
@@ -99,14 +99,14 @@ module _ {W : Type 0} (width_of : W → List ℕ → ℕ) where
       let h : Had width_of t u (Looked ∷ []) = does ready (tt, tt) in
       let all = all_number (changes_of (function_of action) (view_of u).state) u.surface.log in
       let past : Past (fold step_of_kept u.surface.log (map Logged (changes_of (function_of action) (view_of u).state))) = omega arith in
-      let same : fold step_of_kept u.surface.log (map Logged (changes_of (function_of action) (view_of u).state)) ≡ fold step_of_kept (log_behind width_of t (Looked ∷ [])) (map Logged (changes_of (function_of action) (settled (of t) (view_of t)).state))
+      let same : fold step_of_kept u.surface.log (map Logged (changes_of (function_of action) (view_of u).state)) ≡ fold step_of_kept (final_log width_of t (Looked ∷ [])) (map Logged (changes_of (function_of action) (settled (of t) (view_of t)).state))
       = λ i. fold step_of_kept (h.log i) (map Logged (changes_of (function_of action) (h.view i).state)) in
-      subst Past (same ∙ sym (acted_behind t action p)) past
+      subst Past (same ∙ sym (acted_after t action p)) past
 
   -- ---- other sizes
 
   pub resized_past : (t : TerminalState W) (width height : ℕ) → NeedsNumber width_of t (Looked ∷ []) → NeedsNumber width_of t (Resized width height ∷ [])
-  resized_past t width height n = λ ready events. subst Past (sym (resized_behind t width height)) (past_behind (log_behind width_of t (Looked ∷ [])) (log.Resized (most_due width height) ∷ []) (n ready (tt, tt)))
+  resized_past t width height n = λ ready events. subst Past (sym (resized_after t width height)) (past_after (final_log width_of t (Looked ∷ [])) (log.Resized (most_due width height) ∷ []) (n ready (tt, tt)))
 
   counted : (s : Sized) (most : ℕ) → s.log.number ≡ 2 ^ 64 - 1 → s.log.entries ≢ [] → Past (step_of_kept s (log.Resized most))
   counted s most n f = by_entries s.log.entries refl
@@ -119,7 +119,7 @@ module _ {W : Type 0} (width_of : W → List ℕ → ℕ) where
       → (IsReady t → AreEvents (Looked ∷ []) → Had width_of t u (Looked ∷ []))
       → number_of u.surface ≡ 2 ^ 64 - 1 → u.surface.log.log.entries ≢ [] → NeedsNumber width_of t (Resized width height ∷ [])
   resized_number t u width height does n f = λ ready events.
-      subst Past (ap (λ s. step_of_kept s (log.Resized (most_due width height))) (does ready (tt, tt)).log ∙ sym (resized_behind t width height)) (counted u.surface.log (most_due width height) n f)
+      subst Past (ap (λ s. step_of_kept s (log.Resized (most_due width height))) (does ready (tt, tt)).log ∙ sym (resized_after t width height)) (counted u.surface.log (most_due width height) n f)
 
   pub resized_had : (t u : TerminalState W) (s : Surface W) (r : TerminalState W) (width height : ℕ) → 0 < width → 0 < height
       → r.surface ≡ s → string_bytes r.held ≡ string_bytes u.held → r.saved ≡ u.saved → r.replies.items ≡ u.replies.items
@@ -128,8 +128,8 @@ module _ {W : Type 0} (width_of : W → List ℕ → ℕ) where
       → Had width_of t r (Resized width height ∷ [])
   resized_had t u s r width height w k e n v q h a = record {
     view = (λ i. record { state = states i; stream = []; held = n i }) ∙ ap {B = View} (λ (x : View). record x { state = with_size width height x.state }) h.view;
-    log = ap (λ x. x.log) e ∙ a.log ∙ ap (λ l. step_of_kept l (log.Resized (most_due width height))) h.log ∙ sym (resized_behind t width height);
-    widths = ap (λ x. x.canvas.widths) e ∙ a.widths ∙ h.widths;
+    log = ap (λ x. x.log) e ∙ a.log ∙ ap (λ l. step_of_kept l (log.Resized (most_due width height))) h.log ∙ sym (resized_after t width height);
+    widths = ap (λ x. x.grid.widths) e ∙ a.widths ∙ h.widths;
     shape = ap (λ x. (shown_by x).shape) e ∙ ap (λ d. d.shape) a.shown ∙ h.shape;
     ready = record {
       stays = ap (λ x. x.is_failed) e ∙ a.stays;
@@ -143,18 +143,18 @@ module _ {W : Type 0} (width_of : W → List ℕ → ℕ) where
 
   -- ---- events in turn
 
-  pub behind_had : (t now : TerminalState W) (xs ys : List Event) → Had width_of t now xs → log_behind width_of t (xs ++ ys) ≡ log_behind width_of now ys
-  behind_had t now xs ys h =
+  pub after_had : (t now : TerminalState W) (xs ys : List Event) → Had width_of t now xs → final_log width_of t (xs ++ ys) ≡ final_log width_of now ys
+  after_had t now xs ys h =
       ap (fold step_of_kept t.surface.log) (events_logged-append (of t) (view_of t) xs ys)
       ∙ fold-append step_of_kept t.surface.log (events_logged (of t) (view_of t) xs) (events_logged (of t) (fold (event_done (of t)) (view_of t) xs) ys)
       ∙ (λ i. fold step_of_kept (sym h.log i) (events_logged (width_of (sym h.widths i)) (sym h.view i) ys))
 
-  pub past_first : (t : TerminalState W) (x : Event) (ys : List Event) → Past (log_behind width_of t (x ∷ [])) → Past (log_behind width_of t (x ∷ ys))
+  pub past_first : (t : TerminalState W) (x : Event) (ys : List Event) → Past (final_log width_of t (x ∷ [])) → Past (final_log width_of t (x ∷ ys))
   past_first t x ys h =
       let first = event_logged (of t) (view_of t) x in
       let rest = events_logged (of t) (event_done (of t) (view_of t) x) ys in
       subst Past (sym (fold-append step_of_kept t.surface.log first rest))
-      (past_behind (fold step_of_kept t.surface.log first) rest (subst (λ xs. Past (fold step_of_kept t.surface.log xs)) (append_nil first) h))
+      (past_after (fold step_of_kept t.surface.log first) rest (subst (λ xs. Past (fold step_of_kept t.surface.log xs)) (append_nil first) h))
 
   -- ---- items in turn
 
@@ -162,7 +162,7 @@ module _ {W : Type 0} (width_of : W → List ℕ → ℕ) where
   stopped_all : (done left : List Item) (item : Item) (items : List Item) → items ≡ done ++ (item ∷ left) → item_events items ≡ item_events done ++ (item_event item ∷ item_events left)
   stopped_all done left item items e = ap item_events e ∙ map-append item_event done (item ∷ left)
 
-  stopped_had : (t before : TerminalState W) (done left : List Item) (item : Item) (items : List Item) → items ≡ done ++ (item ∷ left) → FoldsTo (DoesItem width_of) t done before
+  pub stopped_had : (t before : TerminalState W) (done left : List Item) (item : Item) (items : List Item) → items ≡ done ++ (item ∷ left) → FoldsTo (DoesItem width_of) t done before
       → IsReady t → AreEvents (item_events items) → Had width_of t before (item_events done)
   stopped_had t before done left item items e f ready events =
       leads width_of t before done f ready (are_front (item_events done) (item_event item ∷ item_events left) (subst AreEvents (stopped_all done left item items e) events))
@@ -173,9 +173,9 @@ module _ {W : Type 0} (width_of : W → List ℕ → ℕ) where
       let rest = item_events s.left in
       let had = stopped_had t s.before s.done s.left s.item items s.whole s.performed ready events in
       let es : AreEvents (item_events s.done ++ (item_event s.item ∷ rest)) = subst AreEvents all events in
-      let one : AreEvents (item_event s.item ∷ []) = ((are_behind (item_events s.done) (item_event s.item ∷ rest) es).0, tt) in
-      subst (λ xs. Past (log_behind width_of t xs)) (sym all)
-      (subst Past (sym (behind_had t s.before (item_events s.done) (item_event s.item ∷ rest) had)) (past_first s.before (item_event s.item) rest (s.refused had.ready one)))
+      let one : AreEvents (item_event s.item ∷ []) = ((are_after (item_events s.done) (item_event s.item ∷ rest) es).0, tt) in
+      subst (λ xs. Past (final_log width_of t xs)) (sym all)
+      (subst Past (sym (after_had t s.before (item_events s.done) (item_event s.item ∷ rest) had)) (past_first s.before (item_event s.item) rest (s.refused had.ready one)))
 
   stopped_ready : (t last : TerminalState W) (items : List Item) → StopsAt (DoesItem width_of) (RefusesItem width_of) t items refusal.Failed last → IsReady t → AreEvents (item_events items) → ⊥
   stopped_ready t last items s ready events = s.refused (stopped_had t s.before s.done s.left s.item items s.whole s.performed ready events).ready

@@ -18,7 +18,7 @@ use Rattle.terminal_table.proofs.ListLemmas.{append_nil, drop_past}
 use Rattle.terminal_table.proofs.PrintLemmas.{AllCut, events_are}
 use Rattle.terminal_table.proofs.RunLemmas.{printed_append}
 use Rattle.terminal_table.proofs.TextLemmas.{prints, with_text, text_logged}
-use Rattle.terminal_steps.specs.Taking.{item_events}
+use Rattle.terminal_steps.specs.Items.{item_events}
 
 map-append : {A B : Type 0} (f : A → B) (xs ys : List A) → map f (xs ++ ys) ≡ map f xs ++ map f ys
 map-append f [] ys = refl

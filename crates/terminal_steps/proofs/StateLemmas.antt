@@ -3,9 +3,9 @@ use Rattle.std.proofs.Common.{◌≡◌, ℕ, Bool, false, List, [], ◌∷◌, 
 use Rattle.std.specs.Prelude.{◌==◌, Option, if◌then◌else◌}
 use Rattle.std.specs.String.{string_bytes}
 use Rattle.std.proofs.lemmas.List.Sums.{fold-append}
-use Rattle.cell_change.specs.ChangeValue.{ChangeValue}
+use Rattle.screen_change.specs.ChangeValue.{ChangeValue}
 use Rattle.cell_surface.specs.Surface.{Surface, shown_by}
-use Rattle.change_log.specs.LogSteps.{LogStep, Logged, step_of_kept}
+use Rattle.screen_log.specs.LogSteps.{LogStep, Logged, step_of_kept}
 use Rattle.escape_stream.specs.StreamAction.{StreamAction, is_print, printed}
 use Rattle.screen_effects.specs.Display.{IsDisplay}
 use Rattle.screen_effects.proofs.EffectLaws.{effect_is, replay_is}
@@ -19,14 +19,14 @@ use Rattle.terminal_table.specs.Turns.{IsPrinted}
 use Rattle.terminal_table.proofs.TurnLemmas.{action_turns}
 use Rattle.terminal_table.proofs.RunLemmas.{run_step_turns}
 use Rattle.terminal_table.proofs.ListLemmas.{append_nil}
-use Rattle.terminal_steps.specs.Adding.{AddsAll}
-use Rattle.terminal_steps.specs.Applying.{state_of}
+use Rattle.terminal_steps.specs.Additions.{AddsAll}
+use Rattle.terminal_steps.specs.TerminalStates.{state_of}
 use Rattle.terminal_steps.specs.Events.{view_of, IsReady, Had}
 use Rattle.terminal_steps.specs.declared.state.TerminalState.{TerminalState}
 
 module _ {W : Type 0} (width_of : W → List ℕ → ℕ) where
   abbrev of : TerminalState W → List ℕ → ℕ
-  of t = width_of t.surface.canvas.widths
+  of t = width_of t.surface.grid.widths
 
   -- the run was added as a change, and nothing is held behind it
   pub settled_had : (t r : TerminalState W) (s : Surface W) → (length (string_bytes t.held) == 0) ≡ false
@@ -35,7 +35,7 @@ module _ {W : Type 0} (width_of : W → List ℕ → ℕ) where
   settled_had t r s e k n v q a h = record {
     view = (λ i. record { state = states i; stream = []; held = n i }) ∙ sym (ap ended e);
     log = ap (λ x. x.log) k ∙ a.log ∙ sym (ap (λ b. fold step_of_kept t.surface.log (logged b)) e);
-    widths = ap (λ x. x.canvas.widths) k ∙ a.widths;
+    widths = ap (λ x. x.grid.widths) k ∙ a.widths;
     shape = ap (λ x. (shown_by x).shape) k ∙ ap (λ d. d.shape) a.shown ∙ (run_step_turns (of t) text (state_of t.surface t.saved t.replies.items) (shown_by t.surface) h.plain refl).shape;
     ready = record {
       stays = ap (λ x. x.is_failed) k ∙ a.stays;
@@ -72,7 +72,7 @@ module _ {W : Type 0} (width_of : W → List ℕ → ℕ) where
     log = ap (λ x. x.log) e ∙ a.log ∙ ap (λ l. fold step_of_kept l (map Logged changes)) h.log
         ∙ sym (fold-append step_of_kept t.surface.log (run_logged (view_of t) ++ []) (map Logged changes))
         ∙ ap (λ xs. fold step_of_kept t.surface.log xs) (ap (λ xs. xs ++ map Logged changes) (append_nil (run_logged (view_of t))) ∙ ap (λ x. run_logged (view_of t) ++ map Logged (changes_of function x.state)) h.view ∙ sym (append_nil (run_logged (view_of t) ++ map Logged (changes_of function (settled (of t) (view_of t)).state))) ∙ sym (ap logged p));
-    widths = ap (λ x. x.canvas.widths) e ∙ a.widths ∙ h.widths;
+    widths = ap (λ x. x.grid.widths) e ∙ a.widths ∙ h.widths;
     shape = ap (λ x. (shown_by x).shape) e ∙ ap (λ d. d.shape) a.shown ∙ (action_turns (of u) function (view_of u).state (shown_by u.surface) h.ready.shown refl).shape ∙ h.shape;
     ready = record {
       stays = ap (λ x. x.is_failed) e ∙ a.stays;

@@ -2,7 +2,7 @@
 use Rattle.std.proofs.Common.{ℕ, List, [], ◌∷◌, ◌++◌, fold, refl, sym, ap, subst, ◌∙◌}
 use Rattle.std.specs.List.{FoldsTo}
 use Rattle.std.proofs.lemmas.List.Sums.{fold-append}
-use Rattle.change_log.specs.LogSteps.{step_of_kept}
+use Rattle.screen_log.specs.LogSteps.{step_of_kept}
 use Rattle.escape_stream.specs.Items.{Item}
 use Rattle.terminal_table.specs.History.{Event}
 use Rattle.terminal_table.specs.Meaning.{event_done}
@@ -10,20 +10,20 @@ use Rattle.terminal_table.specs.Logged.{events_logged}
 use Rattle.terminal_table.specs.Turns.{AreEvents}
 use Rattle.terminal_table.proofs.JoinLemmas.{events_logged-append}
 use Rattle.terminal_steps.specs.Events.{view_of, Had, IsReady}
-use Rattle.terminal_steps.specs.Taking.{item_event, item_events, DoesItem, Leads}
+use Rattle.terminal_steps.specs.Items.{item_event, item_events, DoesItem, Leads}
 use Rattle.terminal_steps.specs.declared.state.TerminalState.{TerminalState}
 
 pub are_front : (xs ys : List Event) → AreEvents (xs ++ ys) → AreEvents xs
 are_front [] ys h = tt
 are_front (x ∷ xs) ys h = (h.0, are_front xs ys h.1)
 
-pub are_behind : (xs ys : List Event) → AreEvents (xs ++ ys) → AreEvents ys
-are_behind [] ys h = h
-are_behind (x ∷ xs) ys h = are_behind xs ys h.1
+pub are_after : (xs ys : List Event) → AreEvents (xs ++ ys) → AreEvents ys
+are_after [] ys h = h
+are_after (x ∷ xs) ys h = are_after xs ys h.1
 
 module _ {W : Type 0} (width_of : W → List ℕ → ℕ) where
   abbrev of : TerminalState W → List ℕ → ℕ
-  of t = width_of t.surface.canvas.widths
+  of t = width_of t.surface.grid.widths
 
   had_then : (a b c : TerminalState W) (es fs : List Event) → Had width_of a b es → Had width_of b c fs → Had width_of a c (es ++ fs)
   had_then a b c es fs h k = record {

@@ -1,6 +1,6 @@
 -- What is added for a place, a pen and the end of a row.
 use Rattle.cell_base.specs.declared.attributes.Position.TheVariants.{Absolute}
-use Rattle.cell_change.specs.ChangeValue.{AllAttributes, ChangeValue, ClearToEndOfLine, CursorPosition}
+use Rattle.screen_change.specs.ChangeValue.{AllAttributes, ChangeValue, ClearToEndOfLine, CursorPosition}
 use Rattle.terminal_steps.specs.declared.cursor.LineEnd.{LineEnd}
 use Rattle.terminal_steps.specs.declared.cursor.Pen.{Pen}
 use Rattle.terminal_steps.specs.declared.cursor.Place.{Place}

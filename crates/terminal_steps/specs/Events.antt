@@ -2,13 +2,13 @@
 use Rattle.std.specs.Prelude.{◌≡◌, ◌≤◌, ◌^◌, ℕ, false, List, [], fold}
 use Rattle.std.specs.String.{string_bytes}
 use Rattle.cell_surface.specs.Surface.{Surface, shown_by}
-use Rattle.change_log.specs.LogSteps.{Sized, step_of_kept}
+use Rattle.screen_log.specs.LogSteps.{Sized, step_of_kept}
 use Rattle.screen_effects.specs.Display.{IsDisplay}
 use Rattle.terminal_table.specs.History.{Event}
 use Rattle.terminal_table.specs.Meaning.{View, event_done}
 use Rattle.terminal_table.specs.Logged.{events_logged}
 use Rattle.terminal_table.specs.Turns.{IsPrinted, AreEvents}
-use Rattle.terminal_steps.specs.Applying.{state_of}
+use Rattle.terminal_steps.specs.TerminalStates.{state_of}
 use Rattle.terminal_steps.specs.declared.state.TerminalState.{TerminalState}
 
 -- the state, and the run that is held, behind a stream of which nothing is unfinished
@@ -26,16 +26,18 @@ pub record IsReady {W : Type 0} (t : TerminalState W) : Type 0 where
   pub plain : IsPrinted (string_bytes t.held)
 
 -- the log that events leave
-abbrev pub log_behind : {W : Type 0} → (W → List ℕ → ℕ) → TerminalState W → List Event → Sized
-log_behind width_of t events = fold step_of_kept t.surface.log (events_logged (width_of t.surface.canvas.widths) (view_of t) events)
+abbrev pub final_log : {W : Type 0} → (W → List ℕ → ℕ) → TerminalState W → List Event → Sized
+final_log width_of t events =
+    fold step_of_kept t.surface.log (events_logged (width_of t.surface.grid.widths) (view_of t) events)
 
 -- the events had their meaning, and were logged; none sets the cursor's shape
-pub record Had {W : Type 0} (width_of : W → List ℕ → ℕ) (before after : TerminalState W) (events : List Event) : Type 0 where
-  pub view : view_of after ≡ fold (event_done (width_of before.surface.canvas.widths)) (view_of before) events
-  pub log : after.surface.log ≡ log_behind width_of before events
-  pub widths : after.surface.canvas.widths ≡ before.surface.canvas.widths
-  pub shape : (shown_by after.surface).shape ≡ (shown_by before.surface).shape
-  pub ready : IsReady after
+pub record Had {W : Type 0} (width_of : W → List ℕ → ℕ) (before after : TerminalState W) (events : List Event) : Type 0
+  where
+    pub view : view_of after ≡ fold (event_done (width_of before.surface.grid.widths)) (view_of before) events
+    pub log : after.surface.log ≡ final_log width_of before events
+    pub widths : after.surface.grid.widths ≡ before.surface.grid.widths
+    pub shape : (shown_by after.surface).shape ≡ (shown_by before.surface).shape
+    pub ready : IsReady after
 
 -- so it is where it was ready for them
 abbrev pub Does : {W : Type 0} → (W → List ℕ → ℕ) → TerminalState W → TerminalState W → List Event → Type 0
@@ -43,4 +45,5 @@ Does width_of before after events = IsReady before → AreEvents events → Had 
 
 -- the events lead past the numbers of 64 bits
 abbrev pub NeedsNumber : {W : Type 0} → (W → List ℕ → ℕ) → TerminalState W → List Event → Type 0
-NeedsNumber width_of before events = IsReady before → AreEvents events → 2 ^ 64 ≤ (log_behind width_of before events).log.number
+NeedsNumber width_of before events =
+    IsReady before → AreEvents events → 2 ^ 64 ≤ (final_log width_of before events).log.number

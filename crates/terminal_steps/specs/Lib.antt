@@ -1,8 +1,9 @@
-pub mod Adding
+pub mod Additions
 pub mod FunctionView
 pub mod SavedView
-pub mod Applying
+pub mod TerminalStates
 pub mod Events
+pub mod Memory
 pub mod Refusals
-pub mod Taking
+pub mod Items
 pub mod Cursor

@@ -1,9 +1,9 @@
-//! What sets the cursor's place and the pen, and what erases to the end of a row: changes with types of their own, each of
-//! which a surface adds by code of its own.
+//! What sets the cursor's place and the pen, and what erases to the end of a row: changes with types of their own, each
+//! of which a surface adds by code of its own.
 ghost use Rattle.std.specs.Prelude.{◌≡◌};
 
 use cell_base::{CellAttributes, ColorAttribute, Position};
-use cell_change::Change;
+use screen_change::Change;
 
 /// A column and a row, counted from 0, to which the cursor goes.
 #[derive(Clone, Copy)]
@@ -14,7 +14,7 @@ pub(crate) struct Place {
 
 impl From<Place> for Change {
     ghost use Rattle.std.specs.Prelude.{◌≡◌};
-    ghost use Rattle.cell_change.specs.ValueOf.{value_of};
+    ghost use Rattle.screen_change.specs.ValueOf.{value_of};
     ghost use Rattle.terminal_steps.specs.Cursor.{place_change};
 
     ghost from_gives = { λ place change. value_of change ≡ place_change place };
@@ -53,7 +53,7 @@ impl Pen {
 
 impl From<Pen> for Change {
     ghost use Rattle.std.specs.Prelude.{◌≡◌};
-    ghost use Rattle.cell_change.specs.ValueOf.{value_of};
+    ghost use Rattle.screen_change.specs.ValueOf.{value_of};
     ghost use Rattle.terminal_steps.specs.Cursor.{pen_change};
 
     ghost from_gives = { λ pen change. value_of change ≡ pen_change pen };
@@ -71,7 +71,7 @@ pub(crate) struct LineEnd {
 
 impl From<LineEnd> for Change {
     ghost use Rattle.std.specs.Prelude.{◌≡◌};
-    ghost use Rattle.cell_change.specs.ValueOf.{value_of};
+    ghost use Rattle.screen_change.specs.ValueOf.{value_of};
     ghost use Rattle.terminal_steps.specs.Cursor.{line_end_change};
 
     ghost from_gives = { λ end change. value_of change ≡ line_end_change end };

@@ -1,4 +1,7 @@
 //! The control functions of a terminal.
+ghost use Rattle.std.specs.Prelude.{◌≡◌};
+ghost use Rattle.terminal_steps.specs.FunctionView.{table_function};
+ghost use Rattle.terminal_steps.specs.Memory.{copies, copies_pen};
 
 use cell_base::Hyperlink;
 use csi_codec::Sgr;
@@ -44,4 +47,34 @@ pub(crate) enum ControlFunction {
     FullReset,
     ReportStatus,
     ReportPosition,
+}
+
+impl ControlFunction {
+    /// Whether a text or a pen is copied for its changes.
+    pub(crate) fn copies(&self) -> bool
+        ensures { result ≡ copies (table_function self.now) }
+    {
+        match self {
+            ControlFunction::LineFeed
+            | ControlFunction::CarriageReturn
+            | ControlFunction::NextRow
+            | ControlFunction::EraseToEndOfDisplay
+            | ControlFunction::EraseDisplay
+            | ControlFunction::EraseToEndOfLine
+            | ControlFunction::EraseLine
+            | ControlFunction::RestoreCursor => true,
+            ControlFunction::Rendition(value) => copies_pen(value),
+            _ => false,
+        }
+    }
+}
+
+// Whether SGR sets the pen as a whole, from a copy.
+fn copies_pen(value: &Sgr) -> bool
+    ensures { result ≡ copies_pen value.now }
+{
+    matches!(
+        value,
+        Sgr::Reset | Sgr::UnderlineColor(_) | Sgr::Overline(_) | Sgr::VerticalAlign(_)
+    )
 }

@@ -2,22 +2,22 @@
 //! the changes of the terminal's table to a surface.
 #![tactic(auto)]
 
-mod adding;
-mod applying;
+mod actions;
+mod changes;
+mod control_functions;
 mod cursor;
-mod erasing;
+mod cursor_moves;
+mod erase;
 mod error;
 mod function;
 pub mod laws;
-mod moving;
 mod pen;
-mod reading;
-mod replying;
+mod replies;
 mod saved;
 mod state;
-mod taking;
+mod text_runs;
 
-pub use applying::{apply, print};
+pub use actions::{apply, print};
 pub use error::TerminalError;
 pub use saved::SavedCursor;
 pub use state::TerminalState;

@@ -5,14 +5,14 @@ ghost use Rattle.terminal_table.specs.Changes.{changes};
 ghost use Rattle.terminal_table.specs.Functions as table;
 ghost use Rattle.terminal_table.specs.State.{cursor_of};
 ghost use Rattle.terminal_table.specs.Steps.{cursor_to_restore};
-ghost use Rattle.terminal_steps.specs.Adding.{AddsAll};
+ghost use Rattle.terminal_steps.specs.Additions.{AddsAll};
 
-use crate::adding::{add, add_cursor, add_nothing};
+use crate::changes::{add, add_cursor, add_nothing};
 use crate::cursor::Pen;
-use crate::moving::position_at;
+use crate::cursor_moves::position_at;
 use cell_base::{CellAttributes, ColorAttribute, CursorVisibility, Widths};
-use cell_change::Change;
 use cell_surface::{Surface, SurfaceError};
+use screen_change::Change;
 use std::alloc::AllocError;
 use std::marker::Model;
 
@@ -83,7 +83,9 @@ pub(crate) fn restore_cursor<W: Widths + Drop>(
     surface: &mut Surface<W>,
     saved: &Option<SavedCursor>,
 ) -> Result<(), SurfaceError>
-    ensures added { IfOk result (λ _. AddsAll (λ w. W.width_of w) surface.old surface.new (changes table.RestoreCursor saved.now (shown_by surface.old).screen)) }
+    ensures added { IfOk result
+        (λ _. AddsAll (λ w. W.width_of w) surface.old surface.new
+        (changes table.RestoreCursor saved.now (shown_by surface.old).screen)) }
     ensures failed { IsErrOf result SurfaceError.Failed → surface.old.is_failed ≡ true }
     ensures numbers { IsErrOf result SurfaceError.Number → 2 ^ 64 ≤ number_of surface.old + 2 }
 {
@@ -97,10 +99,13 @@ pub(crate) fn full_reset<W: Widths + Drop>(
     surface: &mut Surface<W>,
     saved: &mut Option<SavedCursor>,
 ) -> Result<(), SurfaceError>
-    ensures added { IfOk result (λ _. AddsAll (λ w. W.width_of w) surface.old surface.new (changes table.FullReset None (shown_by surface.old).screen)) }
+    ensures added { IfOk result
+        (λ _. AddsAll (λ w. W.width_of w) surface.old surface.new
+        (changes table.FullReset None (shown_by surface.old).screen)) }
     ensures saved { IfOk result (λ _. saved.new ≡ None) }
     ensures failed { IsErrOf result SurfaceError.Failed → surface.old.is_failed ≡ true }
     ensures numbers { IsErrOf result SurfaceError.Number → 2 ^ 64 ≤ number_of surface.old + 2 }
+    ensures memory { IsErrOf result SurfaceError.Memory → surface.new.is_failed ≡ true }
 {
     add(surface, Change::ClearScreen(ColorAttribute::Default))?;
     add(surface, Change::CursorVisibility(CursorVisibility::Visible))?;

@@ -3,13 +3,14 @@ ghost use Rattle.std.specs.Prelude.{◌≡◌, ◌<◌, ◌^◌, true, false, Is
 ghost use Rattle.escape_stream.specs.StreamAction.{is_print};
 ghost use Rattle.escape_stream.specs.StreamActionView.{value_of};
 ghost use Rattle.cell_surface.specs.Surface.{shown_by};
-ghost use Rattle.change_log.specs.Log.{new_log};
+ghost use Rattle.screen_log.specs.Log.{new_log};
 ghost use Rattle.terminal_table.specs.Meaning.{new_view};
 ghost use Rattle.terminal_table.specs.History.{Act, Forgot, Looked, Resized};
 ghost use Rattle.terminal_steps.specs.Events.{Does, IsReady, NeedsNumber, surface_in, view_of};
+ghost use Rattle.terminal_steps.specs.Memory.{NeedsMemory};
 ghost use Rattle.terminal_table.specs.Replies.{without_replies};
 
-use crate::applying::{apply, print};
+use crate::actions::{apply, print};
 use crate::saved::SavedCursor;
 use cell_base::{SequenceNo, Widths};
 use cell_surface::{Surface, SurfaceError};
@@ -43,7 +44,7 @@ impl<W: Widths + Drop> TerminalState<W> {
         ensures view { IfOk result (λ t. view_of t ≡ new_view width height) }
         ensures shape { IfOk result (λ t. (shown_by (surface_in t)).shape ≡ None) }
         ensures log { IfOk result (λ t. (surface_in t).log.log ≡ new_log) }
-        ensures widths { IfOk result (λ t. (surface_in t).canvas.widths ≡ widths) }
+        ensures widths { IfOk result (λ t. (surface_in t).grid.widths ≡ widths) }
         ensures ready { IfOk result (λ t. IsReady t) }
     {
         let surface = Surface::new(alloc, width, height, widths)?;
@@ -103,7 +104,8 @@ impl<W: Widths + Drop> TerminalState<W> {
         requires height { (0 < height) × (height < 2 ^ 32) }
         ensures done { OnOk result (Does (λ w. W.width_of w) self.old self.new (Resized width height ∷ [])) }
         ensures failed { IsErrOf result SurfaceError.Failed → IsReady self.old → ⊥ }
-        ensures numbers { IsErrOf result SurfaceError.Number → NeedsNumber (λ w. W.width_of w) self.old (Resized width height ∷ []) }
+        ensures numbers { IsErrOf result SurfaceError.Number
+            → NeedsNumber (λ w. W.width_of w) self.old (Resized width height ∷ []) }
         ensures memory { IsErrOf result SurfaceError.Memory → (surface_in self.new).is_failed ≡ true }
     {
         self.settle()?;
@@ -116,7 +118,10 @@ impl<W: Widths + Drop> TerminalState<W> {
         requires { is_print (value_of action) ≡ false }
         ensures done { OnOk result (Does (λ w. W.width_of w) self.old self.new (Act (value_of action) ∷ [])) }
         ensures failed { IsErrOf result SurfaceError.Failed → IsReady self.old → ⊥ }
-        ensures numbers { IsErrOf result SurfaceError.Number → NeedsNumber (λ w. W.width_of w) self.old (Act (value_of action) ∷ []) }
+        ensures numbers { IsErrOf result SurfaceError.Number
+            → NeedsNumber (λ w. W.width_of w) self.old (Act (value_of action) ∷ []) }
+        ensures memory { IsErrOf result SurfaceError.Memory
+            → NeedsMemory (λ w. W.width_of w) self.old (Act (value_of action)) self.new }
     {
         self.settle()?;
         apply(

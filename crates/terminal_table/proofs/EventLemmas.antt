@@ -5,10 +5,10 @@ use Rattle.std.proofs.lemmas.List.Elements.{All-append, All-take, All-replicate}
 use Rattle.std.proofs.lemmas.List.Sums.{fold-append}
 use Rattle.cell_base.specs.declared.attributes.LineAttribute.TheVariants.{SingleWidthLine}
 use Rattle.cell_base.specs.Screen.{Screen}
-use Rattle.cell_change.specs.ChangeValue.{ChangeValue}
-use Rattle.change_log.specs.LogSteps as log
-use Rattle.change_log.specs.LogSteps.{LogStep, Logged}
-use Rattle.change_log.specs.Log.{most_due}
+use Rattle.screen_change.specs.ChangeValue.{ChangeValue}
+use Rattle.screen_log.specs.LogSteps as log
+use Rattle.screen_log.specs.LogSteps.{LogStep, Logged}
+use Rattle.screen_log.specs.Log.{most_due}
 use Rattle.escape_stream.specs.StreamAction.{StreamAction, is_print, printed}
 use Rattle.screen_effects.specs.Display.{Display, IsDisplay}
 use Rattle.screen_effects.specs.Effect.{effect, replay}
@@ -81,8 +81,8 @@ changes-logged [] = refl
 changes-logged (c ∷ cs) = ap (λ xs. c ∷ xs) (changes-logged cs)
 
 -- the run, and then other changes
-replay_behind : (width_of : List ℕ → ℕ) (v : View) (d : Display) (steps : List LogStep) → replay width_of d (changes_in (run_logged v ++ steps)) ≡ replay width_of (replay width_of d (changes_in (run_logged v))) (changes_in steps)
-replay_behind width_of v d steps = ap (replay width_of d) (changes-append (run_logged v) steps) ∙ fold-append (effect width_of) d (changes_in (run_logged v)) (changes_in steps)
+replay_after : (width_of : List ℕ → ℕ) (v : View) (d : Display) (steps : List LogStep) → replay width_of d (changes_in (run_logged v ++ steps)) ≡ replay width_of (replay width_of d (changes_in (run_logged v))) (changes_in steps)
+replay_after width_of v d steps = ap (replay width_of d) (changes-append (run_logged v) steps) ∙ fold-append (effect width_of) d (changes_in (run_logged v)) (changes_in steps)
 
 act_follows : (width_of : List ℕ → ℕ) (v : View) (action : StreamAction) (d : Display) → IsView v → IsDisplay d → d.screen ≡ v.state.screen → Follows d (replayed width_of v (Act action) d) (event_done width_of v (Act action)).state.screen
 act_follows width_of v action d h k e = by_test (is_print action) refl
@@ -94,7 +94,7 @@ act_follows width_of v action d h k e = by_test (is_print action) refl
     first = replay width_of d (changes_in (run_logged v))
 
     ends : replay width_of d (changes_in (run_logged v ++ map Logged changes)) ≡ replay width_of first changes
-    ends = replay_behind width_of v d (map Logged changes) ∙ ap (replay width_of first) (changes-logged changes)
+    ends = replay_after width_of v d (map Logged changes) ∙ ap (replay width_of first) (changes-logged changes)
 
     by_test : (b : Bool) → is_print action ≡ b → Follows d (replayed width_of v (Act action) d) (event_done width_of v (Act action)).state.screen
     by_test true t = rw t (record { turns = record { screen = e; shape = refl; sizes = λ x. x }; lawful = k })
@@ -116,7 +116,7 @@ event_follows width_of v Looked d h l k e = settled_follows width_of v d h k e
 event_follows width_of v (Resized width height) d h l k e =
     let first = replay width_of d (changes_in (run_logged v)) in
     let s = settled_follows width_of v d h k e in
-    subst (λ x. Follows d (resized width height x) (resized_screen width height (settled width_of v).state.screen)) (sym (replay_behind width_of v d (log.Resized (most_due width height) ∷ [])))
+    subst (λ x. Follows d (resized width height x) (resized_screen width height (settled width_of v).state.screen)) (sym (replay_after width_of v d (log.Resized (most_due width height) ∷ [])))
     (record {
       turns = then_turns d first (resized width height first) (settled width_of v).state.screen _ s.turns (size_turns width height first (settled width_of v).state.screen s.turns.screen);
       lawful = resized_is width height first l.0 l.1 s.lawful;

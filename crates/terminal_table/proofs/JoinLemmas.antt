@@ -59,12 +59,12 @@ pieces-append (Look ∷ a) b = pieces-append a b
 pieces-append (Resize width height ∷ a) b = pieces-append a b
 pieces-append (Forget number ∷ a) b = pieces-append a b
 
-pub nothing_behind : (xs : List ℕ) → xs ++ [] ≡ xs
-nothing_behind [] = refl
-nothing_behind (x ∷ xs) = ap (λ ys. x ∷ ys) (nothing_behind xs)
+pub nothing_after : (xs : List ℕ) → xs ++ [] ≡ xs
+nothing_after [] = refl
+nothing_after (x ∷ xs) = ap (λ ys. x ∷ ys) (nothing_after xs)
 
 events-append : (stream : List ℕ) (a b : History) → events stream (a ++ b) ≡ events stream a ++ events (stream ++ pieces a) b
-events-append stream [] b = ap (λ s. events s b) (sym (nothing_behind stream))
+events-append stream [] b = ap (λ s. events s b) (sym (nothing_after stream))
 events-append stream (Piece bytes ∷ a) b =
     ap (λ es. map Act (newly_decided_actions stream bytes) ++ es) (events-append (stream ++ bytes) a b)
     ∙ ap (λ s. map Act (newly_decided_actions stream bytes) ++ (events (stream ++ bytes) a ++ events s b)) (append_assoc stream bytes (pieces a))
@@ -120,8 +120,8 @@ cut_logged joins width_of v x y history = ap (events_logged width_of v) (cut_eve
 
 -- ---- only the unfinished end matters
 
-alike_behind : PiecesJoin → (a b x : List ℕ) → DecideAlike a b → DecideAlike (a ++ x) (b ++ x)
-alike_behind joins a b x h y =
+alike_after : PiecesJoin → (a b x : List ℕ) → DecideAlike a b → DecideAlike (a ++ x) (b ++ x)
+alike_after joins a b x h y =
     sym (drop-front (newly_decided_actions a x) (newly_decided_actions (a ++ x) y))
     ∙ ap (drop (length (newly_decided_actions a x))) (sym (joins a x y) ∙ h (x ++ y) ∙ joins b x y)
     ∙ ap (λ xs. drop (length xs) (newly_decided_actions b x ++ newly_decided_actions (b ++ x) y)) (h x)
@@ -129,7 +129,7 @@ alike_behind joins a b x h y =
 
 pub alike_events : PiecesJoin → (a b : List ℕ) (history : History) → DecideAlike a b → events a history ≡ events b history
 alike_events joins a b [] h = refl
-alike_events joins a b (Piece bytes ∷ history) h = λ i. map Act (h bytes i) ++ alike_events joins (a ++ bytes) (b ++ bytes) history (alike_behind joins a b bytes h) i
+alike_events joins a b (Piece bytes ∷ history) h = λ i. map Act (h bytes i) ++ alike_events joins (a ++ bytes) (b ++ bytes) history (alike_after joins a b bytes h) i
 alike_events joins a b (Look ∷ history) h = ap (λ es. Looked ∷ es) (alike_events joins a b history h)
 alike_events joins a b (Resize width height ∷ history) h = ap (λ es. Resized width height ∷ es) (alike_events joins a b history h)
 alike_events joins a b (Forget number ∷ history) h = ap (λ es. Forgot number ∷ es) (alike_events joins a b history h)

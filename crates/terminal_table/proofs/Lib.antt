@@ -8,5 +8,9 @@ pub mod EventLemmas
 pub mod JoinLemmas
 pub mod OtherLemmas
 pub mod TextLemmas
-pub mod LoneLemmas
+pub mod SingleLemmas
 pub mod ReplyLemmas
+pub mod CountLemmas
+pub mod RowsLemmas
+pub mod PutLemmas
+pub mod StreamLemmas

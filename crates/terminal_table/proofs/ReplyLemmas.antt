@@ -2,8 +2,8 @@
 use Rattle.std.proofs.Common.{◌≡◌, ℕ, Bool, true, false, List, [], ◌∷◌, ◌++◌, length, map, fold, refl, sym, ap, ◌∙◌, append_assoc, append-nil}
 use Rattle.std.specs.Prelude.{◌==◌, Option, Some, None, if◌then◌else◌}
 use Rattle.cell_base.specs.Screen.{Screen}
-use Rattle.cell_change.specs.ChangeValue.{ChangeValue}
-use Rattle.change_log.specs.LogSteps.{LogStep, Logged}
+use Rattle.screen_change.specs.ChangeValue.{ChangeValue}
+use Rattle.screen_log.specs.LogSteps.{LogStep, Logged}
 use Rattle.escape_stream.specs.StreamAction.{StreamAction, is_print}
 use Rattle.escape_stream.specs.StreamActions.{newly_decided_actions}
 use Rattle.terminal_table.specs.Changes.{changes_of}
@@ -14,29 +14,29 @@ use Rattle.terminal_table.specs.Meaning.{View, settled, event_done, after, with_
 use Rattle.terminal_table.specs.Replies.{with_taken, without_replies}
 use Rattle.terminal_table.specs.State.{State}
 use Rattle.terminal_table.specs.Steps.{reply_step, run_step, status_reply, position_reply, step, step_of}
-use Rattle.terminal_table.proofs.JoinLemmas.{after_joins, nothing_behind, with_stream}
+use Rattle.terminal_table.proofs.JoinLemmas.{after_joins, nothing_after, with_stream}
 
-reply_behind : (function : ControlFunction) (taken replies : List ℕ) (screen : Screen) → reply_step function (taken ++ replies) screen ≡ taken ++ reply_step function replies screen
-reply_behind (Moves move) taken replies screen = refl
-reply_behind LineFeed taken replies screen = refl
-reply_behind CarriageReturn taken replies screen = refl
-reply_behind NextRow taken replies screen = refl
-reply_behind ReverseIndex taken replies screen = refl
-reply_behind EraseToEndOfDisplay taken replies screen = refl
-reply_behind EraseDisplay taken replies screen = refl
-reply_behind EraseToEndOfLine taken replies screen = refl
-reply_behind EraseLine taken replies screen = refl
-reply_behind (ScrollUp n) taken replies screen = refl
-reply_behind (ScrollDown n) taken replies screen = refl
-reply_behind (Rendition value) taken replies screen = refl
-reply_behind (Hyperlink link) taken replies screen = refl
-reply_behind (Title text) taken replies screen = refl
-reply_behind (ShowCursor shown) taken replies screen = refl
-reply_behind SaveCursor taken replies screen = refl
-reply_behind RestoreCursor taken replies screen = refl
-reply_behind FullReset taken replies screen = refl
-reply_behind ReportStatus taken replies screen = append_assoc taken replies status_reply
-reply_behind ReportPosition taken replies screen = append_assoc taken replies (position_reply screen)
+reply_after : (function : ControlFunction) (taken replies : List ℕ) (screen : Screen) → reply_step function (taken ++ replies) screen ≡ taken ++ reply_step function replies screen
+reply_after (Moves move) taken replies screen = refl
+reply_after LineFeed taken replies screen = refl
+reply_after CarriageReturn taken replies screen = refl
+reply_after NextRow taken replies screen = refl
+reply_after ReverseIndex taken replies screen = refl
+reply_after EraseToEndOfDisplay taken replies screen = refl
+reply_after EraseDisplay taken replies screen = refl
+reply_after EraseToEndOfLine taken replies screen = refl
+reply_after EraseLine taken replies screen = refl
+reply_after (ScrollUp n) taken replies screen = refl
+reply_after (ScrollDown n) taken replies screen = refl
+reply_after (Rendition value) taken replies screen = refl
+reply_after (Hyperlink link) taken replies screen = refl
+reply_after (Title text) taken replies screen = refl
+reply_after (ShowCursor shown) taken replies screen = refl
+reply_after SaveCursor taken replies screen = refl
+reply_after RestoreCursor taken replies screen = refl
+reply_after FullReset taken replies screen = refl
+reply_after ReportStatus taken replies screen = append_assoc taken replies status_reply
+reply_after ReportPosition taken replies screen = append_assoc taken replies (position_reply screen)
 
 abbrev with_front : List ℕ → State → State
 with_front taken state = record state { replies = taken ++ state.replies }
@@ -52,7 +52,7 @@ module _ (width_of : List ℕ → ℕ) (taken : List ℕ) where
 
   step_with : (request : Option ControlFunction) (state : State) → step_of request (with_front taken state) ≡ with_front taken (step_of request state)
   step_with None state = refl
-  step_with (Some function) state = λ i. record (step function state) { replies = reply_behind function taken state.replies state.screen i }
+  step_with (Some function) state = λ i. record (step function state) { replies = reply_after function taken state.replies state.screen i }
 
   changes_with : (request : Option ControlFunction) (state : State) → changes_of request (with_front taken state) ≡ changes_of request state
   changes_with None state = refl
@@ -110,4 +110,4 @@ forgets_apart width_of v first second number = after_joins width_of v first (For
 pub nothing_decided : (width_of : List ℕ → ℕ) (v : View) (bytes : List ℕ) → newly_decided_actions v.stream bytes ≡ [] → after width_of v (Piece bytes ∷ []) ≡ with_stream (v.stream ++ bytes) v
 nothing_decided width_of v bytes none =
     ap (λ (actions : List StreamAction). with_stream (v.stream ++ (bytes ++ [])) (fold (event_done width_of) v (map Act actions ++ []))) none
-    ∙ ap (λ (xs : List ℕ). with_stream (v.stream ++ xs) v) (nothing_behind bytes)
+    ∙ ap (λ (xs : List ℕ). with_stream (v.stream ++ xs) v) (nothing_after bytes)

@@ -5,8 +5,8 @@ use Rattle.std.proofs.lemmas.List.{length-replicate}
 use Rattle.cell_base.specs.declared.attributes.LineAttribute.TheVariants.{SingleWidthLine}
 use Rattle.cell_base.specs.Cluster.{clusters}
 use Rattle.cell_base.specs.Screen.{Screen, IsScreen, height, put}
-use Rattle.cell_rows.specs.WholeRow.{IsWhole}
-use Rattle.cell_rows.proofs.LawfulScreens.{put_is}
+use Rattle.cell_base.specs.WholeRow.{IsWhole}
+use Rattle.cell_base.proofs.LawfulScreens.{put_is}
 use Rattle.screen_effects.specs.Display.{Display, IsDisplay}
 use Rattle.screen_effects.proofs.EffectLaws.{replay_is, resized_is}
 use Rattle.screen_effects.proofs.StrokeLaws.{whole_put, new_display_is}

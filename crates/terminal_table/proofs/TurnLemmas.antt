@@ -11,18 +11,18 @@ use Rattle.cell_base.specs.declared.color.ColorAttribute.{ColorAttribute}
 use Rattle.cell_base.specs.Attributes.{blank_of}
 use Rattle.cell_base.specs.Row.{Row, blank, plain_row, closed_end, closed_start}
 use Rattle.cell_base.specs.Screen.{Screen, IsScreen, height}
-use Rattle.cell_change.specs.ChangeValue.{ChangeValue, AllAttributes, ClearScreen, ClearToEndOfLine, CursorVisibility}
+use Rattle.screen_change.specs.ChangeValue.{ChangeValue, AllAttributes, ClearScreen, ClearToEndOfLine, CursorVisibility}
 use Rattle.csi_codec.specs.declared.rendition.Sgr.{Sgr}
 use Rattle.csi_codec.specs.declared.rendition.Sgr.TheVariants as sgr
 use Rattle.screen_effects.specs.Display.{Display, IsDisplay}
-use Rattle.screen_effects.specs.Effect.{blank_row, cleared_behind, scrolled_up, scrolled_down, effect, replay}
+use Rattle.screen_effects.specs.Effect.{blank_row, cleared_after, scrolled_up, scrolled_down, effect, replay}
 use Rattle.screen_effects.specs.Positions.{place, column_place}
 use Rattle.screen_effects.specs.Regions.{moved_up, moved_down, in_region}
 use Rattle.screen_effects.specs.Strokes.{Stroke, CarriageReturn as return_stroke, LineFeed as feed_stroke, stroke_done, scrolls}
 use Rattle.terminal_table.specs.State.{SavedCursor, State}
 use Rattle.terminal_table.specs.Functions as table
 use Rattle.terminal_table.specs.Functions.{Move, ControlFunction}
-use Rattle.terminal_table.specs.Steps.{active_column, target, at_place, reverse_index, erased_behind, end_of_line_erased, rows_below_erased, line_erased, display_erased, with_rendition, on_pen, with_cursor, cursor_to_restore, reset_screen, screen_step, step_of}
+use Rattle.terminal_table.specs.Steps.{active_column, target, at_place, reverse_index, erased_after, end_of_line_erased, rows_below_erased, line_erased, display_erased, with_rendition, on_pen, with_cursor, cursor_to_restore, reset_screen, screen_step, step_of}
 use Rattle.terminal_table.specs.Changes.{position, same_place, rendition_changes, cursor_changes, changes, changes_of, visibility}
 use Rattle.terminal_table.specs.Turns.{AreSingle, Turns}
 use Rattle.terminal_table.proofs.ListLemmas.{drop_past, append_nil, whole_region, take_set, map_same}
@@ -113,7 +113,7 @@ reverse_turns width_of saved d h = by_test (d.screen.row == 0) refl
 -- ---- erasures
 
 -- of what stood behind the columns nothing is left
-pub erased_is : (column : ℕ) (color : ColorAttribute) (row : Row) → cleared_behind column color row ≡ erased_behind column color row
+pub erased_is : (column : ℕ) (color : ColorAttribute) (row : Row) → cleared_after column color row ≡ erased_after column color row
 erased_is column color row =
     let n = length-replicate (length row - column) (blank (blank_of color)) in
     let past = drop_past (column + length (blank_row (length row - column) color)) row (omega arith) in
@@ -149,7 +149,7 @@ display_end_turns width_of saved d h =
     let s = d.screen in
     screen_turns d _ (rows_below_erased (end_of_line_erased s))
     (ap (λ row. record s { rows = take s.row s.rows ++ row ∷ replicate (height s - (s.row + 1)) (blank_row s.width s.pen.background) }) (erased_is s.column s.pen.background (get_or s.rows s.row []))
-    ∙ ap (λ rows. record s { rows = rows }) (rows_below s (erased_behind s.column s.pen.background (get_or s.rows s.row [])) h.lawful.row_in))
+    ∙ ap (λ rows. record s { rows = rows }) (rows_below s (erased_after s.column s.pen.background (get_or s.rows s.row [])) h.lawful.row_in))
 
 -- the place where the cursor was, on a screen of the same size: no wrap is pending there
 same_row : (s other : Screen) → IsScreen s → other.width ≡ s.width → height other ≡ height s → at_place (active_column s, s.row) other ≡ record other { column = active_column s; row = s.row }
@@ -199,7 +199,7 @@ line_turns width_of saved d h = subst (λ x. Turns d x (line_erased s)) (sym (be
     begun : replay width_of d (changes table.EraseLine saved s) ≡ replay width_of first others
     begun = ap (λ x. replay width_of x others) home
 
-    blanks : cleared_behind 0 s.pen.background (get_or s.rows s.row []) ≡ blank_row s.width s.pen.background
+    blanks : cleared_after 0 s.pen.background (get_or s.rows s.row []) ≡ blank_row s.width s.pen.background
     blanks = erased_is 0 s.pen.background (get_or s.rows s.row []) ∙ ap (λ n. blank_row n s.pen.background) (let e = h.lawful.even s.row [] h.lawful.row_in in omega arith)
 
     cleared : Display

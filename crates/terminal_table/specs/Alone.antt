@@ -1,6 +1,7 @@
--- One action by itself: its text is fed where nothing is unfinished and no run is held, and then the screen is looked at.
+-- One action by itself: its text is fed where nothing is unfinished and no run is held, and then the screen is looked
+-- at.
 use Rattle.std.specs.Prelude.{◌≡◌, ℕ, List, [], ◌∷◌, map, if◌then◌else◌}
-use Rattle.change_log.specs.LogSteps.{LogStep, Logged}
+use Rattle.screen_log.specs.LogSteps.{LogStep, Logged}
 use Rattle.escape_framing.specs.Held.{held_of, nothing_held}
 use Rattle.escape_stream.specs.StreamAction.{StreamAction, is_print, printed}
 use Rattle.escape_stream.specs.StreamText.{stream_text}
@@ -22,8 +23,11 @@ alone action = Piece (stream_text (action ∷ [])) ∷ Look ∷ []
 
 -- its row of the table: what it prints is a run
 abbrev pub row_done : (List ℕ → ℕ) → StreamAction → State → State
-row_done width_of action state = if is_print action then run_step width_of (printed action) state else step_of (function_of action) state
+row_done width_of action state =
+    if is_print action then run_step width_of (printed action) state else step_of (function_of action) state
 
 -- and the changes that its row logs
 abbrev pub row_logged : StreamAction → State → List LogStep
-row_logged action state = if is_print action then Logged (run_change (printed action)) ∷ [] else map Logged (changes_of (function_of action) state)
+row_logged action state =
+    if is_print action then Logged (run_change (printed action)) ∷ []
+    else map Logged (changes_of (function_of action) state)

@@ -8,17 +8,23 @@ use Rattle.cell_base.specs.Attributes.{Attributes}
 use Rattle.cell_base.specs.AttributeValue as attribute
 use Rattle.cell_base.specs.Color.{attribute_of}
 use Rattle.cell_base.specs.Screen.{Screen, height}
-use Rattle.cell_change.specs.ChangeValue.{ChangeValue, Attribute, AllAttributes, Text, ClearScreen, ClearToEndOfLine, ClearToEndOfScreen, CursorPosition, CursorVisibility, ScrollRegionUp, ScrollRegionDown}
-use Rattle.cell_change.specs.ChangeValue as change
+use Rattle.screen_change.specs.ChangeValue.{ChangeValue, Attribute, AllAttributes, Text, ClearScreen, ClearToEndOfLine}
+use Rattle.screen_change.specs.ChangeValue.{ClearToEndOfScreen, CursorPosition, CursorVisibility, ScrollRegionUp}
+use Rattle.screen_change.specs.ChangeValue.{ScrollRegionDown}
+use Rattle.screen_change.specs.ChangeValue as change
 use Rattle.csi_codec.specs.declared.rendition.Sgr.{Sgr}
 use Rattle.csi_codec.specs.declared.rendition.Sgr.TheVariants as sgr
 use Rattle.terminal_table.specs.State.{SavedCursor, State}
-use Rattle.terminal_table.specs.Functions.{Move, Up, ControlFunction, Moves, LineFeed, CarriageReturn, NextRow, ReverseIndex, EraseToEndOfDisplay, EraseDisplay, EraseToEndOfLine, EraseLine, ScrollUp, ScrollDown, Rendition, Hyperlink, Title, ShowCursor, SaveCursor, RestoreCursor, FullReset, ReportStatus, ReportPosition}
+use Rattle.terminal_table.specs.Functions.{Move, Up, ControlFunction, Moves, LineFeed, CarriageReturn, NextRow}
+use Rattle.terminal_table.specs.Functions.{ReverseIndex, EraseToEndOfDisplay, EraseDisplay, EraseToEndOfLine, EraseLine}
+use Rattle.terminal_table.specs.Functions.{ScrollUp, ScrollDown, Rendition, Hyperlink, Title, ShowCursor, SaveCursor}
+use Rattle.terminal_table.specs.Functions.{RestoreCursor, FullReset, ReportStatus, ReportPosition}
 use Rattle.terminal_table.specs.Steps.{active_column, target, with_rendition, cursor_to_restore}
 
 -- a position at a column and a row, or at the last ones
 abbrev pub position : ℕ × ℕ → Screen → ChangeValue
-position place screen = CursorPosition (Absolute (min place.0 (screen.width - 1))) (Absolute (min place.1 (height screen - 1)))
+position place screen =
+    CursorPosition (Absolute (min place.0 (screen.width - 1))) (Absolute (min place.1 (height screen - 1)))
 
 -- where a move leads
 abbrev pub move_change : Move → Screen → ChangeValue
@@ -59,11 +65,15 @@ changes (Moves move) saved screen = move_change move screen ∷ []
 changes LineFeed saved screen = Text (10 ∷ []) ∷ []
 changes CarriageReturn saved screen = Text (13 ∷ []) ∷ []
 changes NextRow saved screen = Text (13 ∷ 10 ∷ []) ∷ []
-changes ReverseIndex saved screen = (if screen.row == 0 then ScrollRegionDown 0 (height screen) 1 else move_change (Up 1) screen) ∷ []
+changes ReverseIndex saved screen =
+    (if screen.row == 0 then ScrollRegionDown 0 (height screen) 1 else move_change (Up 1) screen) ∷ []
 changes EraseToEndOfDisplay saved screen = ClearToEndOfScreen screen.pen.background ∷ AllAttributes screen.pen ∷ []
-changes EraseDisplay saved screen = ClearScreen screen.pen.background ∷ same_place screen ∷ AllAttributes screen.pen ∷ []
+changes EraseDisplay saved screen =
+    ClearScreen screen.pen.background ∷ same_place screen ∷ AllAttributes screen.pen ∷ []
 changes EraseToEndOfLine saved screen = ClearToEndOfLine screen.pen.background ∷ AllAttributes screen.pen ∷ []
-changes EraseLine saved screen = position (0, screen.row) screen ∷ ClearToEndOfLine screen.pen.background ∷ same_place screen ∷ AllAttributes screen.pen ∷ []
+changes EraseLine saved screen =
+    position (0, screen.row) screen ∷ ClearToEndOfLine screen.pen.background ∷ same_place screen
+    ∷ AllAttributes screen.pen ∷ []
 changes (ScrollUp n) saved screen = ScrollRegionUp 0 (height screen) (min n (height screen)) ∷ []
 changes (ScrollDown n) saved screen = ScrollRegionDown 0 (height screen) (min n (height screen)) ∷ []
 changes (Rendition value) saved screen = rendition_changes value screen.pen

@@ -70,7 +70,8 @@ abbrev pub control_function : ℕ → Option ControlFunction
 control_function number =
     if number == 8 then Some (Moves (Left 1))  -- BS, ECMA-48 8.3.5
     else if number == 9 then Some (Moves NextTab)  -- HT, 8.3.60
-    else if number == 10 || number == 11 || number == 12 then Some LineFeed  -- LF, VT and FF, 8.3.74, 8.3.161 and 8.3.51; xterm: both are treated as LF
+    -- LF, VT and FF, 8.3.74, 8.3.161 and 8.3.51; xterm: both are treated as LF
+    else if number == 10 || number == 11 || number == 12 then Some LineFeed
     else if number == 13 then Some CarriageReturn  -- CR, 8.3.15
     else None
 

@@ -3,7 +3,8 @@ use Rattle.std.specs.Prelude.{ℕ, List, [], ◌∷◌, ◌++◌, map}
 use Rattle.escape_stream.specs.StreamAction.{StreamAction}
 use Rattle.escape_stream.specs.StreamActions.{newly_decided_actions}
 
--- a piece of the stream is fed, the screen is looked at, its size becomes another width and height, or the log forgets the changes before a number
+-- a piece of the stream is fed, the screen is looked at, its size becomes another width and height, or the log forgets
+-- the changes before a number
 pub data Step : Type 0 where
   Piece : List ℕ → Step
   Look : Step

@@ -9,3 +9,5 @@ pub mod Samples
 pub mod Turns
 pub mod Alone
 pub mod Replies
+pub mod Prints
+pub mod Bounds

@@ -1,9 +1,9 @@
 -- What is logged of a history, and the log and the number that it leaves.
 use Rattle.std.specs.Prelude.{ℕ, List, [], ◌∷◌, ◌++◌, length, map, fold, ◌==◌, if◌then◌else◌}
 use Rattle.escape_stream.specs.StreamAction.{StreamAction, is_print}
-use Rattle.change_log.specs.Log.{most_due}
-use Rattle.change_log.specs.LogSteps as log
-use Rattle.change_log.specs.LogSteps.{LogStep, Logged, Sized, step_of_kept, log_of_kept}
+use Rattle.screen_log.specs.Log.{most_due}
+use Rattle.screen_log.specs.LogSteps as log
+use Rattle.screen_log.specs.LogSteps.{LogStep, Logged, Sized, step_of_kept, log_of_kept}
 use Rattle.terminal_table.specs.Functions.{function_of}
 use Rattle.terminal_table.specs.Changes.{changes_of, run_change}
 use Rattle.terminal_table.specs.History.{History, Event, Act, Looked, Resized, Forgot, events}
@@ -29,7 +29,8 @@ event_logged width_of view (Forgot number) = log.Forgotten number ∷ []
 -- the events in turn
 abbrev pub events_logged : (List ℕ → ℕ) → View → List Event → List LogStep
 events_logged width_of view [] = []
-events_logged width_of view (event ∷ events) = event_logged width_of view event ++ events_logged width_of (event_done width_of view event) events
+events_logged width_of view (event ∷ events) =
+    event_logged width_of view event ++ events_logged width_of (event_done width_of view event) events
 
 -- what a history logs that goes on from a view
 abbrev pub logged : (List ℕ → ℕ) → View → History → List LogStep
@@ -41,4 +42,5 @@ log_after width_of view log history = fold step_of_kept log (logged width_of vie
 
 -- the log of a history, on a new terminal: its number counts the changes, and the sizes that found it not empty
 abbrev pub log_of : (List ℕ → ℕ) → ℕ → ℕ → History → Sized
-log_of width_of width height history = log_of_kept (most_due width height) (logged width_of (new_view width height) history)
+log_of width_of width height history =
+    log_of_kept (most_due width height) (logged width_of (new_view width height) history)

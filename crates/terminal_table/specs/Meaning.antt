@@ -7,8 +7,8 @@ use Rattle.terminal_table.specs.Functions.{function_of}
 use Rattle.terminal_table.specs.Steps.{step_of, run_step}
 use Rattle.terminal_table.specs.History.{History, pieces, Event, Act, Looked, Resized, Forgot, events}
 
--- A state; the stream so far, of which only its unfinished end matters to what follows; and the characters, in UTF-8, of
--- the run of neighbouring prints that nothing has ended yet.
+-- A state; the stream so far, of which only its unfinished end matters to what follows; and the characters, in UTF-8,
+-- of the run of neighbouring prints that nothing has ended yet.
 pub record View : Type 0 where
   pub state : State
   pub stream : List ℕ
@@ -20,7 +20,9 @@ new_view width height = record { state = new_state width height; stream = []; he
 
 -- the held run ends
 abbrev pub settled : (List ℕ → ℕ) → View → View
-settled width_of view = record view { state = if length view.held == 0 then view.state else run_step width_of view.held view.state; held = [] }
+settled width_of view =
+    record view
+    { state = if length view.held == 0 then view.state else run_step width_of view.held view.state; held = [] }
 
 -- a print joins the run, and every other action ends it, also one that asks for no control function
 abbrev pub action_done : (List ℕ → ℕ) → View → StreamAction → View
@@ -36,12 +38,14 @@ with_size width height state = record state { screen = resized_screen width heig
 abbrev pub event_done : (List ℕ → ℕ) → View → Event → View
 event_done width_of view (Act action) = action_done width_of view action
 event_done width_of view Looked = settled width_of view
-event_done width_of view (Resized width height) = record (settled width_of view) { state = with_size width height (settled width_of view).state }
+event_done width_of view (Resized width height) =
+    record (settled width_of view) { state = with_size width height (settled width_of view).state }
 event_done width_of view (Forgot number) = view
 
 -- going on from a view
 abbrev pub after : (List ℕ → ℕ) → View → History → View
-after width_of view history = record (fold (event_done width_of) view (events view.stream history)) { stream = view.stream ++ pieces history }
+after width_of view history =
+    record (fold (event_done width_of) view (events view.stream history)) { stream = view.stream ++ pieces history }
 
 -- what a history makes of a new terminal
 abbrev pub meaning : (List ℕ → ℕ) → ℕ → ℕ → History → View

@@ -5,7 +5,7 @@ use Rattle.cell_base.specs.declared.attributes.Position.TheVariants.{Absolute}
 use Rattle.cell_base.specs.Attributes.{plain}
 use Rattle.cell_base.specs.Row.{Column, blank, row_text}
 use Rattle.cell_base.specs.Screen.{Screen}
-use Rattle.cell_change.specs.ChangeValue.{ChangeValue, CursorPosition}
+use Rattle.screen_change.specs.ChangeValue.{ChangeValue, CursorPosition}
 use Rattle.terminal_table.specs.History.{History, Piece, Look}
 use Rattle.terminal_table.specs.Meaning.{meaning}
 use Rattle.terminal_table.specs.Logged.{log_of}
@@ -20,17 +20,22 @@ pub record Seen : Type 0 where
 abbrev pub seen : ℕ → ℕ → History → Seen
 seen width height history =
     let screen = (meaning program_width width height history).state.screen in
-    record { rows = map row_text screen.rows; column = screen.column; row = screen.row; number = (log_of program_width width height history).log.number }
+    record {
+      rows = map row_text screen.rows;
+      column = screen.column;
+      row = screen.row;
+      number = (log_of program_width width height history).log.number;
+    }
 
 -- the screen, the replies, and the changes that were logged
-abbrev pub screen_behind : ℕ → ℕ → History → Screen
-screen_behind width height history = (meaning program_width width height history).state.screen
+abbrev pub screen_after : ℕ → ℕ → History → Screen
+screen_after width height history = (meaning program_width width height history).state.screen
 
-abbrev pub replies_behind : ℕ → ℕ → History → List ℕ
-replies_behind width height history = (meaning program_width width height history).state.replies
+abbrev pub replies_after : ℕ → ℕ → History → List ℕ
+replies_after width height history = (meaning program_width width height history).state.replies
 
-abbrev pub logged_behind : ℕ → ℕ → History → List ChangeValue
-logged_behind width height history = (log_of program_width width height history).log.entries
+abbrev pub logged_after : ℕ → ℕ → History → List ChangeValue
+logged_after width height history = (log_of program_width width height history).log.entries
 
 -- the first column
 abbrev pub first_column : Screen → Column

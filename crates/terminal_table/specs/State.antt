@@ -2,7 +2,7 @@
 use Rattle.std.specs.Prelude.{ℕ, List, [], Option, None, All}
 use Rattle.cell_base.specs.Attributes.{Attributes, plain}
 use Rattle.cell_base.specs.Screen.{Screen, IsScreen, new_screen}
-use Rattle.cell_rows.specs.WholeRow.{IsWhole}
+use Rattle.cell_base.specs.WholeRow.{IsWhole}
 
 -- a cursor that was saved: its column (the width, where a wrap was pending), its row, and the pen
 pub record SavedCursor : Type 0 where
@@ -10,7 +10,8 @@ pub record SavedCursor : Type 0 where
   pub row : ℕ
   pub pen : Attributes
 
--- the screen with its cursor, pen and title; the cursor that was saved, if one was; and the replies that were not yet taken
+-- the screen with its cursor, pen and title; the cursor that was saved, if one was; and the replies that were not yet
+-- taken
 pub record State : Type 0 where
   pub screen : Screen
   pub saved : Option SavedCursor

@@ -1,5 +1,6 @@
 -- What each control function makes of a state, and what a run of printed characters does.
-use Rattle.std.specs.Prelude.{ℕ, ◌+◌, ◌-◌, ◌*◌, ◌/◌, min, ◌==◌, List, [], ◌∷◌, ◌++◌, length, take, drop, map, Option, Some, None, slice_index_or, slice_set, decimal, if◌then◌else◌}
+use Rattle.std.specs.Prelude.{ℕ, ◌+◌, ◌-◌, ◌*◌, ◌/◌, min, ◌==◌, List, [], ◌∷◌, ◌++◌, length, take, drop, map, Option}
+use Rattle.std.specs.Prelude.{Some, None, slice_index_or, slice_set, decimal, if◌then◌else◌}
 use Rattle.cell_base.specs.declared.color.ColorAttribute.{ColorAttribute}
 use Rattle.cell_base.specs.Attributes.{Attributes, plain}
 use Rattle.cell_base.specs.Color.{attribute_of}
@@ -11,7 +12,11 @@ use Rattle.csi_codec.specs.declared.rendition.Sgr.TheVariants as sgr
 use Rattle.screen_effects.specs.Effect.{blank_row}
 use Rattle.screen_effects.specs.Regions.{moved_up, moved_down}
 use Rattle.terminal_table.specs.State.{SavedCursor, State, cursor_of, home_cursor}
-use Rattle.terminal_table.specs.Functions.{Move, Up, Down, Left, Right, NextTab, NextLine, PrecedingLine, ToColumn, ToLine, ToPlace, ControlFunction, Moves, LineFeed, CarriageReturn, NextRow, ReverseIndex, EraseToEndOfDisplay, EraseDisplay, EraseToEndOfLine, EraseLine, ScrollUp, ScrollDown, Rendition, Hyperlink, Title, ShowCursor, SaveCursor, RestoreCursor, FullReset, ReportStatus, ReportPosition}
+use Rattle.terminal_table.specs.Functions.{Move, Up, Down, Left, Right, NextTab, NextLine, PrecedingLine, ToColumn}
+use Rattle.terminal_table.specs.Functions.{ToLine, ToPlace, ControlFunction, Moves, LineFeed, CarriageReturn, NextRow}
+use Rattle.terminal_table.specs.Functions.{ReverseIndex, EraseToEndOfDisplay, EraseDisplay, EraseToEndOfLine, EraseLine}
+use Rattle.terminal_table.specs.Functions.{ScrollUp, ScrollDown, Rendition, Hyperlink, Title, ShowCursor, SaveCursor}
+use Rattle.terminal_table.specs.Functions.{RestoreCursor, FullReset, ReportStatus, ReportPosition}
 
 -- ---- moves
 
@@ -42,18 +47,22 @@ moved move screen = at_place (target move (active_column screen) screen.row) scr
 -- the row before; on the first row all rows move down, and the column is kept, also where a wrap is pending
 abbrev pub reverse_index : Screen → Screen
 reverse_index screen =
-    if screen.row == 0 then record screen { rows = moved_down (plain_row screen.width) 1 screen.rows } else moved (Up 1) screen
+    if screen.row == 0 then record screen { rows = moved_down (plain_row screen.width) 1 screen.rows }
+    else moved (Up 1) screen
 
 -- ---- erasures: columns become blanks of the pen's background; the pen is kept
 
 -- the columns of a row from one on; a wide text that is cut there is a blank too, with its own attributes
-abbrev pub erased_behind : ℕ → ColorAttribute → Row → Row
-erased_behind column color row = closed_end (take column row) ++ blank_row (length row - column) color
+abbrev pub erased_after : ℕ → ColorAttribute → Row → Row
+erased_after column color row = closed_end (take column row) ++ blank_row (length row - column) color
 
 -- of the cursor's row the columns from the cursor on: none where a wrap is pending
 abbrev pub end_of_line_erased : Screen → Screen
 end_of_line_erased screen =
-    record screen { rows = slice_set screen.rows screen.row (erased_behind screen.column screen.pen.background (slice_index_or screen.rows screen.row [])) }
+    record screen {
+      rows = slice_set screen.rows screen.row
+          (erased_after screen.column screen.pen.background (slice_index_or screen.rows screen.row []));
+    }
 
 -- all rows of some
 abbrev pub blanks_for : Screen → List Row → List Row
@@ -61,11 +70,16 @@ blanks_for screen rows = map (λ _. blank_row screen.width screen.pen.background
 
 -- all rows below the cursor's
 abbrev pub rows_below_erased : Screen → Screen
-rows_below_erased screen = record screen { rows = take (screen.row + 1) screen.rows ++ blanks_for screen (drop (screen.row + 1) screen.rows) }
+rows_below_erased screen =
+    record screen { rows = take (screen.row + 1) screen.rows ++ blanks_for screen (drop (screen.row + 1) screen.rows) }
 
 -- the whole row, or all of them; no wrap is pending behind it
 abbrev pub line_erased : Screen → Screen
-line_erased screen = record screen { rows = slice_set screen.rows screen.row (blank_row screen.width screen.pen.background); column = active_column screen }
+line_erased screen =
+    record screen {
+      rows = slice_set screen.rows screen.row (blank_row screen.width screen.pen.background);
+      column = active_column screen;
+    }
 
 abbrev pub display_erased : Screen → Screen
 display_erased screen = record screen { rows = blanks_for screen screen.rows; column = active_column screen }
@@ -133,8 +147,10 @@ screen_step EraseToEndOfDisplay saved screen = rows_below_erased (end_of_line_er
 screen_step EraseDisplay saved screen = display_erased screen
 screen_step EraseToEndOfLine saved screen = end_of_line_erased screen
 screen_step EraseLine saved screen = line_erased screen
-screen_step (ScrollUp n) saved screen = record screen { rows = moved_up (plain_row screen.width) (min n (height screen)) screen.rows }
-screen_step (ScrollDown n) saved screen = record screen { rows = moved_down (plain_row screen.width) (min n (height screen)) screen.rows }
+screen_step (ScrollUp n) saved screen =
+    record screen { rows = moved_up (plain_row screen.width) (min n (height screen)) screen.rows }
+screen_step (ScrollDown n) saved screen =
+    record screen { rows = moved_down (plain_row screen.width) (min n (height screen)) screen.rows }
 screen_step (Rendition value) saved screen = on_pen (with_rendition value) screen
 screen_step (Hyperlink link) saved screen = on_pen (with_link link) screen
 screen_step (Title text) saved screen = record screen { title = text }

@@ -5,9 +5,9 @@ use Rattle.std.specs.Char.{is_ascii_control}
 use Rattle.cell_base.specs.declared.attributes.LineAttribute.{LineAttribute}
 use Rattle.cell_base.specs.declared.attributes.LineAttribute.TheVariants.{SingleWidthLine}
 use Rattle.cell_base.specs.Screen.{Screen}
-use Rattle.cell_change.specs.ChangeValue.{ChangeValue}
-use Rattle.change_log.specs.LogSteps as log
-use Rattle.change_log.specs.LogSteps.{LogStep, Logged}
+use Rattle.screen_change.specs.ChangeValue.{ChangeValue}
+use Rattle.screen_log.specs.LogSteps as log
+use Rattle.screen_log.specs.LogSteps.{LogStep, Logged}
 use Rattle.escape_stream.specs.StreamAction.{printed}
 use Rattle.escape_stream.specs.StreamActions.{newly_decided_actions}
 use Rattle.screen_effects.specs.Display.{Display}
@@ -65,15 +65,18 @@ changes_in (log.Resized most ∷ steps) = changes_in steps
 
 -- a display that replays the changes that are logged for an event, and takes on a size with it
 abbrev pub replayed : (List ℕ → ℕ) → View → Event → Display → Display
-replayed width_of view (Act action) display = replay width_of display (changes_in (event_logged width_of view (Act action)))
+replayed width_of view (Act action) display =
+    replay width_of display (changes_in (event_logged width_of view (Act action)))
 replayed width_of view Looked display = replay width_of display (changes_in (event_logged width_of view Looked))
-replayed width_of view (Resized width height) display = resized width height (replay width_of display (changes_in (event_logged width_of view (Resized width height))))
+replayed width_of view (Resized width height) display =
+    resized width height (replay width_of display (changes_in (event_logged width_of view (Resized width height))))
 replayed width_of view (Forgot number) display = display
 
 -- the events in turn
 abbrev pub all_replayed : (List ℕ → ℕ) → View → List Event → Display → Display
 all_replayed width_of view [] display = display
-all_replayed width_of view (event ∷ events) display = all_replayed width_of (event_done width_of view event) events (replayed width_of view event display)
+all_replayed width_of view (event ∷ events) display =
+    all_replayed width_of (event_done width_of view event) events (replayed width_of view event display)
 
 -- two streams whose every continuation has the same further actions
 abbrev pub DecideAlike : List ℕ → List ℕ → Type 0

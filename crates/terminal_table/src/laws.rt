@@ -15,7 +15,8 @@ ghost use Rattle.terminal_table.specs.Replies.{with_taken, without_replies};
 ghost use Rattle.terminal_table.specs.State.{State, IsState, new_state};
 ghost use Rattle.terminal_table.specs.Steps.{step, step_of, run_step};
 ghost use Rattle.terminal_table.specs.Changes.{changes, changes_of, run_change};
-ghost use Rattle.terminal_table.specs.Turns.{Turns, IsPrinted, IsView, AreSizes, IsEvent, AreEvents, DecideAlike, replayed, all_replayed};
+ghost use Rattle.terminal_table.specs.Turns.{Turns, IsPrinted, IsView, AreSizes, IsEvent, AreEvents, DecideAlike};
+ghost use Rattle.terminal_table.specs.Turns.{replayed, all_replayed};
 
 use escape_framing::laws::{held_is_enough, idle_streams, one_cut};
 use escape_stream::action_laws::actions_of_pieces_join;
@@ -25,17 +26,27 @@ use escape_stream::encoding_laws::writable_lists_read_on;
 /// the effect of the table's step: they turn one that shows the state's screen into one that shows the
 /// screen behind the step.
 pub fn changes_have_the_effect_of_steps()
-    ensures functions { (width_of : List ℕ → ℕ) (function : ControlFunction) (state : State) (display : Display) → IsDisplay display → display.screen ≡ state.screen → Turns display (replay width_of display (changes function state.saved state.screen)) (step function state).screen }
-    ensures actions { (width_of : List ℕ → ℕ) (action : StreamAction) (state : State) (display : Display) → IsDisplay display → display.screen ≡ state.screen → Turns display (replay width_of display (changes_of (function_of action) state)) (step_of (function_of action) state).screen }
-    ensures runs { (width_of : List ℕ → ℕ) (text : List ℕ) (state : State) (display : Display) → IsPrinted text → display.screen ≡ state.screen → Turns display (effect width_of display (run_change text)) (run_step width_of text state).screen }
+    ensures functions { (width_of : List ℕ → ℕ) (function : ControlFunction) (state : State) (display : Display)
+        → IsDisplay display → display.screen ≡ state.screen
+        → Turns display (replay width_of display (changes function state.saved state.screen))
+        (step function state).screen }
+    ensures actions { (width_of : List ℕ → ℕ) (action : StreamAction) (state : State) (display : Display)
+        → IsDisplay display → display.screen ≡ state.screen
+        → Turns display (replay width_of display (changes_of (function_of action) state))
+        (step_of (function_of action) state).screen }
+    ensures runs { (width_of : List ℕ → ℕ) (text : List ℕ) (state : State) (display : Display) → IsPrinted text
+        → display.screen ≡ state.screen
+        → Turns display (effect width_of display (run_change text)) (run_step width_of text state).screen }
 {}
 
 /// A new terminal's state is lawful, and so is what steps, runs and other sizes leave of a lawful one.
 pub fn states_stay_lawful()
     ensures new { (width : ℕ) (height : ℕ) → 0 < width → 0 < height → IsState (new_state width height) }
     ensures steps { (function : ControlFunction) (state : State) → IsState state → IsState (step function state) }
-    ensures runs { (width_of : List ℕ → ℕ) (text : List ℕ) (state : State) → IsState state → IsState (run_step width_of text state) }
-    ensures sizes { (width : ℕ) (height : ℕ) (state : State) → 0 < width → 0 < height → IsState state → IsState (with_size width height state) }
+    ensures runs { (width_of : List ℕ → ℕ) (text : List ℕ) (state : State) → IsState state
+        → IsState (run_step width_of text state) }
+    ensures sizes { (width : ℕ) (height : ℕ) (state : State) → 0 < width → 0 < height → IsState state
+        → IsState (with_size width height state) }
 {}
 
 /// What a stream prints holds no controls.
@@ -49,16 +60,22 @@ pub fn prints_hold_no_controls()
 /// its pen and title, the saved cursor and the replies, and has no changes. Where it is no print it
 /// ends a run, and nothing else.
 pub fn other_actions_end_runs()
-    ensures state { (action : StreamAction) (state : State) → function_of action ≡ None → step_of (function_of action) state ≡ state }
-    ensures changes { (action : StreamAction) (state : State) → function_of action ≡ None → changes_of (function_of action) state ≡ [] }
-    ensures view { (width_of : List ℕ → ℕ) (view : View) (action : StreamAction) → is_print action ≡ false → function_of action ≡ None → event_done width_of view (Act action) ≡ settled width_of view }
-    ensures logged { (width_of : List ℕ → ℕ) (view : View) (action : StreamAction) → is_print action ≡ false → function_of action ≡ None → event_logged width_of view (Act action) ≡ run_logged view }
+    ensures state { (action : StreamAction) (state : State) → function_of action ≡ None
+        → step_of (function_of action) state ≡ state }
+    ensures changes { (action : StreamAction) (state : State) → function_of action ≡ None
+        → changes_of (function_of action) state ≡ [] }
+    ensures view { (width_of : List ℕ → ℕ) (view : View) (action : StreamAction) → is_print action ≡ false
+        → function_of action ≡ None → event_done width_of view (Act action) ≡ settled width_of view }
+    ensures logged { (width_of : List ℕ → ℕ) (view : View) (action : StreamAction) → is_print action ≡ false
+        → function_of action ≡ None → event_logged width_of view (Act action) ≡ run_logged view }
 {}
 
 /// Histories leave lawful views, if each size has a column and a row.
 pub fn views_stay_lawful()
-    ensures event { (width_of : List ℕ → ℕ) (view : View) (event : Event) → IsView view → IsEvent event → IsView (event_done width_of view event) }
-    ensures history { (width_of : List ℕ → ℕ) (view : View) (history : History) → IsView view → AreSizes history → IsView (after width_of view history) }
+    ensures event { (width_of : List ℕ → ℕ) (view : View) (event : Event) → IsView view → IsEvent event
+        → IsView (event_done width_of view event) }
+    ensures history { (width_of : List ℕ → ℕ) (view : View) (history : History) → IsView view → AreSizes history
+        → IsView (after width_of view history) }
 {
     one_cut();
 }
@@ -66,8 +83,13 @@ pub fn views_stay_lawful()
 /// What is logged for an event, and for a history, has on a display the effect of the table: replayed on
 /// one that shows the screen before, it leaves one that shows the screen behind.
 pub fn logged_changes_show_the_meaning()
-    ensures event { (width_of : List ℕ → ℕ) (view : View) (event : Event) (display : Display) → IsView view → IsEvent event → IsDisplay display → display.screen ≡ view.state.screen → Turns display (replayed width_of view event display) (event_done width_of view event).state.screen }
-    ensures history { (width_of : List ℕ → ℕ) (view : View) (history : History) (display : Display) → IsView view → AreSizes history → IsDisplay display → display.screen ≡ view.state.screen → Turns display (all_replayed width_of view (events view.stream history) display) (after width_of view history).state.screen }
+    ensures event { (width_of : List ℕ → ℕ) (view : View) (event : Event) (display : Display) → IsView view
+        → IsEvent event → IsDisplay display → display.screen ≡ view.state.screen
+        → Turns display (replayed width_of view event display) (event_done width_of view event).state.screen }
+    ensures history { (width_of : List ℕ → ℕ) (view : View) (history : History) (display : Display) → IsView view
+        → AreSizes history → IsDisplay display → display.screen ≡ view.state.screen
+        → Turns display (all_replayed width_of view (events view.stream history) display)
+        (after width_of view history).state.screen }
 {
     one_cut();
 }
@@ -75,34 +97,50 @@ pub fn logged_changes_show_the_meaning()
 /// Going on by one history and then by another is going on by both, in what is shown and in what is
 /// logged; and a piece that is cut in two is the same piece.
 pub fn histories_join()
-    ensures after { (width_of : List ℕ → ℕ) (view : View) (first : History) (second : History) → after width_of view (first ++ second) ≡ after width_of (after width_of view first) second }
-    ensures logged { (width_of : List ℕ → ℕ) (view : View) (first : History) (second : History) → logged width_of view (first ++ second) ≡ logged width_of view first ++ logged width_of (after width_of view first) second }
-    ensures cut { (width_of : List ℕ → ℕ) (view : View) (x : List ℕ) (y : List ℕ) (history : History) → after width_of view (Piece x ∷ Piece y ∷ history) ≡ after width_of view (Piece (x ++ y) ∷ history) }
-    ensures cut_logged { (width_of : List ℕ → ℕ) (view : View) (x : List ℕ) (y : List ℕ) (history : History) → logged width_of view (Piece x ∷ Piece y ∷ history) ≡ logged width_of view (Piece (x ++ y) ∷ history) }
+    ensures after { (width_of : List ℕ → ℕ) (view : View) (first : History) (second : History)
+        → after width_of view (first ++ second) ≡ after width_of (after width_of view first) second }
+    ensures logged { (width_of : List ℕ → ℕ) (view : View) (first : History) (second : History)
+        → logged width_of view (first ++ second)
+        ≡ logged width_of view first ++ logged width_of (after width_of view first) second }
+    ensures cut { (width_of : List ℕ → ℕ) (view : View) (x : List ℕ) (y : List ℕ) (history : History)
+        → after width_of view (Piece x ∷ Piece y ∷ history) ≡ after width_of view (Piece (x ++ y) ∷ history) }
+    ensures cut_logged { (width_of : List ℕ → ℕ) (view : View) (x : List ℕ) (y : List ℕ) (history : History)
+        → logged width_of view (Piece x ∷ Piece y ∷ history) ≡ logged width_of view (Piece (x ++ y) ∷ history) }
 {
     actions_of_pieces_join();
 }
 
-/// Taking the replies changes nothing else, then and later: what goes on from there shows, saves, holds and logs the same, and
-/// has the same new replies, which follow those that were taken.
+/// Taking the replies changes nothing else, then and later: what goes on from there shows, saves, holds and logs the
+/// same, and has the same new replies, which follow those that were taken.
 pub fn replies_stand_apart()
-    ensures after { (width_of : List ℕ → ℕ) (view : View) (history : History) → after width_of view history ≡ with_taken view.state.replies (after width_of (without_replies view) history) }
-    ensures logged { (width_of : List ℕ → ℕ) (view : View) (history : History) → logged width_of (without_replies view) history ≡ logged width_of view history }
+    ensures after { (width_of : List ℕ → ℕ) (view : View) (history : History)
+        → after width_of view history ≡ with_taken view.state.replies (after width_of (without_replies view) history) }
+    ensures logged { (width_of : List ℕ → ℕ) (view : View) (history : History)
+        → logged width_of (without_replies view) history ≡ logged width_of view history }
 {}
 
 /// A run that is held goes on where the log forgets changes between two steps, and where bytes decide no action.
 pub fn runs_go_on()
-    ensures forgets { (width_of : List ℕ → ℕ) (view : View) (first : History) (second : History) (number : ℕ) → after width_of view (first ++ Forget number ∷ second) ≡ after width_of view (first ++ second) }
-    ensures undecided { (width_of : List ℕ → ℕ) (view : View) (bytes : List ℕ) → newly_decided_actions view.stream bytes ≡ [] → after width_of view (Piece bytes ∷ []) ≡ record view { stream = view.stream ++ bytes } }
+    ensures forgets { (width_of : List ℕ → ℕ) (view : View) (first : History) (second : History) (number : ℕ)
+        → after width_of view (first ++ Forget number ∷ second) ≡ after width_of view (first ++ second) }
+    ensures undecided { (width_of : List ℕ → ℕ) (view : View) (bytes : List ℕ)
+        → newly_decided_actions view.stream bytes ≡ []
+        → after width_of view (Piece bytes ∷ []) ≡ record view { stream = view.stream ++ bytes } }
 {}
 
 /// Of the stream so far only its unfinished end matters: views go on alike where every continuation of
 /// their streams has the same further actions, and so where the same is held of them.
 pub fn unfinished_ends_matter()
     ensures held { (one : List ℕ) (other : List ℕ) → held_of one ≡ held_of other → DecideAlike one other }
-    ensures state { (width_of : List ℕ → ℕ) (view : View) (other : List ℕ) (history : History) → DecideAlike view.stream other → (after width_of (record view { stream = other }) history).state ≡ (after width_of view history).state }
-    ensures run { (width_of : List ℕ → ℕ) (view : View) (other : List ℕ) (history : History) → DecideAlike view.stream other → (after width_of (record view { stream = other }) history).held ≡ (after width_of view history).held }
-    ensures logged { (width_of : List ℕ → ℕ) (view : View) (other : List ℕ) (history : History) → DecideAlike view.stream other → logged width_of (record view { stream = other }) history ≡ logged width_of view history }
+    ensures state { (width_of : List ℕ → ℕ) (view : View) (other : List ℕ) (history : History)
+        → DecideAlike view.stream other
+        → (after width_of (record view { stream = other }) history).state ≡ (after width_of view history).state }
+    ensures run { (width_of : List ℕ → ℕ) (view : View) (other : List ℕ) (history : History)
+        → DecideAlike view.stream other
+        → (after width_of (record view { stream = other }) history).held ≡ (after width_of view history).held }
+    ensures logged { (width_of : List ℕ → ℕ) (view : View) (other : List ℕ) (history : History)
+        → DecideAlike view.stream other
+        → logged width_of (record view { stream = other }) history ≡ logged width_of view history }
 {
     held_is_enough();
     actions_of_pieces_join();
@@ -110,10 +148,13 @@ pub fn unfinished_ends_matter()
 
 /// The text of one action that is writable by itself, where nothing is unfinished and no run is held, and
 /// then a look, are its row of the table: its step, and its changes; and nothing is unfinished behind.
-pub fn lone_actions_are_their_rows()
-    ensures state { (width_of : List ℕ → ℕ) (view : View) (action : StreamAction) → IsIdle view → IsWritable (action ∷ []) → (after width_of view (alone action)).state ≡ row_done width_of action view.state }
-    ensures logged { (width_of : List ℕ → ℕ) (view : View) (action : StreamAction) → IsIdle view → IsWritable (action ∷ []) → logged width_of view (alone action) ≡ row_logged action view.state }
-    ensures idle { (width_of : List ℕ → ℕ) (view : View) (action : StreamAction) → IsIdle view → IsWritable (action ∷ []) → IsIdle (after width_of view (alone action)) }
+pub fn single_actions_are_their_rows()
+    ensures state { (width_of : List ℕ → ℕ) (view : View) (action : StreamAction) → IsIdle view
+        → IsWritable (action ∷ []) → (after width_of view (alone action)).state ≡ row_done width_of action view.state }
+    ensures logged { (width_of : List ℕ → ℕ) (view : View) (action : StreamAction) → IsIdle view
+        → IsWritable (action ∷ []) → logged width_of view (alone action) ≡ row_logged action view.state }
+    ensures idle { (width_of : List ℕ → ℕ) (view : View) (action : StreamAction) → IsIdle view
+        → IsWritable (action ∷ []) → IsIdle (after width_of view (alone action)) }
 {
     idle_streams();
     writable_lists_read_on();

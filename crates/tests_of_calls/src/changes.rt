@@ -1,9 +1,9 @@
-//! Changes: conversions, copies and equality; lists of them that write cells with other changes between; and fronts of texts.
-//! か has width 2.
+//! Changes: conversions, copies and equality; lists of them that write cells with other changes between; and fronts of
+//! texts. か has width 2.
 use cell_base::{
     AttributeChange, CellAttributes, ColorAttribute, Intensity, LineAttribute, Position,
 };
-use cell_change::{CellWriter, Change};
+use screen_change::{CellWriter, Change};
 use std::process::Abort;
 use text_clusters::{split_first_cluster, split_plain};
 

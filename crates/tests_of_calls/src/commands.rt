@@ -11,7 +11,7 @@ fn no_parts(rt: HostRuntime) {
 }
 
 #[test]
-fn bytes_behind_others(rt: HostRuntime) {
+fn bytes_after_others(rt: HostRuntime) {
     let parts: [&[u8]; 3] = [b"2", b"a\xff", b"\xe3\x81"];
     let command = OperatingSystemCommand::parse(rt.alloc(), &parts).expect(&rt, "memory");
     let mut bytes = b"x".to_vec(rt.alloc()).expect(&rt, "memory");

@@ -6,15 +6,16 @@ use cell_base::{
     LinkError, Position, ProgramWidth, RgbColor, SemanticType, SrgbaTuple, Underline,
     VerticalAlign, ZoneRange,
 };
-use cell_change::Change;
 use cell_line::{CellRef, Line};
 use cell_surface::SurfaceError;
 use csi_codec::{
-    CSI, CSIPlace, CrackError, Cracked, CsiParam, Edit, Esc, Font, OneBased, Unspecified, read_csi,
+    CSI, CrackError, Cracked, CsiParam, Edit, Esc, Font, OneBased, ParamCursor, Unspecified,
+    read_csi,
 };
 use escape_framing::{Event, ParseError, Read};
 use escape_osc::{OperatingSystemCommand, Selection};
 use escape_stream::{Action, ControlCode, DeviceControlMode, EnterDeviceControlMode, Piece};
+use screen_change::Change;
 use std::fmt::Debug;
 use std::process::Abort;
 use terminal::{RenderError, RunError, TerminalError};
@@ -138,7 +139,7 @@ fn lists_of_parameters(rt: HostRuntime) {
     assert_debug(&rt, &CsiParam::Integer(1), "Integer(1)");
     let entries = Cracked::parse(rt.alloc(), &params).expect(&rt, "a list");
     assert_begins(&rt, &entries, "Cracked { ");
-    assert_begins(&rt, &CSIPlace::start(), "CSIPlace { ");
+    assert_begins(&rt, &ParamCursor::start(), "ParamCursor { ");
     assert_begins(&rt, &OneBased::new(3), "OneBased { ");
     let front = read_csi(rt.alloc(), b"\x1b[5Hx").expect(&rt, "memory");
     assert_debug(

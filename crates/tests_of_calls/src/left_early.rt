@@ -7,7 +7,7 @@ fn leaves_pieces(parser: &mut Parser) -> bool {
 }
 
 #[test]
-fn callbacks_behind_pieces_that_were_dropped(rt: HostRuntime) {
+fn callbacks_after_pieces_that_were_dropped(rt: HostRuntime) {
     let mut parser = Parser::new(rt.alloc());
     assert!(rt; leaves_pieces(&mut parser));
     let mut count = 0u64;
@@ -18,7 +18,7 @@ fn callbacks_behind_pieces_that_were_dropped(rt: HostRuntime) {
 }
 
 #[test]
-fn lists_behind_pieces_that_were_dropped(rt: HostRuntime) {
+fn lists_after_pieces_that_were_dropped(rt: HostRuntime) {
     let mut parser = Parser::new(rt.alloc());
     assert!(rt; leaves_pieces(&mut parser));
     assert!(rt; matches!(parser.parse_as_vec(b"x"), Err(ParseError::Failed)));

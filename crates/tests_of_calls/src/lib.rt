@@ -1,13 +1,11 @@
-//! Tests over the public calls of all crates, of what tables of cases can't show: bounds that a caller's own type meets,
-//! readers and writers that fail, iterators, equality, copies, conversions and refusals.
+//! Tests over the public calls of all crates, of what tables of cases can't show: bounds that a caller's own type
+//! meets, readers and writers that fail, iterators, equality, copies, conversions and refusals.
 #![tactic(auto)]
 
 #[cfg(test)]
 mod attributes;
 #[cfg(test)]
 mod by_value;
-#[cfg(test)]
-mod canvases;
 #[cfg(test)]
 mod changes;
 #[cfg(test)]
@@ -22,6 +20,8 @@ mod debugs;
 mod formats;
 #[cfg(test)]
 mod fronts;
+#[cfg(test)]
+mod grids;
 #[cfg(test)]
 mod large;
 #[cfg(test)]

@@ -1,5 +1,5 @@
-//! Equality and copies of lines, cells that are lent from texts, iterators at their end, and callbacks that are asked of
-//! texts. か has width 2.
+//! Equality and copies of lines, cells that are lent from texts, iterators at their end, and callbacks that are asked
+//! of texts. か has width 2.
 ghost use Rattle.std.specs.Prelude.{◌≡◌, not};
 ghost use Rattle.std.specs.Str.{bytes_eq};
 ghost use Rattle.cell_base.specs.Row.{space};

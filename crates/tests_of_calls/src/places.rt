@@ -1,5 +1,5 @@
 //! Places in a list of parameters: copied, and taken to another list.
-use csi_codec::{CSIPlace, CsiParam};
+use csi_codec::{CsiParam, ParamCursor};
 
 #[test]
 fn a_copied_place_goes_on_by_itself(rt: HostRuntime) {
@@ -8,7 +8,7 @@ fn a_copied_place_goes_on_by_itself(rt: HostRuntime) {
         CsiParam::P(b';'),
         CsiParam::Integer(3),
     ];
-    let mut place = CSIPlace::start();
+    let mut place = ParamCursor::start();
     assert!(rt; place.next(rt.alloc(), &params, false, 'm').is_some());
     let mut copy = place;
     assert!(rt; place.next(rt.alloc(), &params, false, 'm').is_some());
@@ -20,7 +20,7 @@ fn a_copied_place_goes_on_by_itself(rt: HostRuntime) {
 #[test]
 fn a_place_past_a_shorter_list_is_its_end(rt: HostRuntime) {
     let params = [CsiParam::P(b'?'), CsiParam::Integer(25)];
-    let mut place = CSIPlace::start();
+    let mut place = ParamCursor::start();
     assert!(rt; place.next(rt.alloc(), &params, false, 'h').is_some());
     assert!(rt; place.next(rt.alloc(), &[], false, 'h').is_none());
 }

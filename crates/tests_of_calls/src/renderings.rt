@@ -3,8 +3,8 @@ use cell_base::{
     AttributeChange, CellAttributes, ColorAttribute, CursorVisibility, Hyperlink, Intensity,
     Position, SrgbaTuple,
 };
-use cell_change::Change;
 use escape_stream::encode;
+use screen_change::Change;
 use std::process::Abort;
 use std::rc::Rc;
 use std::slice;

@@ -2,7 +2,7 @@
 use csi_codec::{CSI, CsiParam, CursorStyle, OneBased};
 
 #[test]
-fn nothing_comes_behind_the_last_action(rt: HostRuntime) {
+fn nothing_comes_after_the_last_action(rt: HostRuntime) {
     let params = [
         CsiParam::Integer(1),
         CsiParam::P(b';'),

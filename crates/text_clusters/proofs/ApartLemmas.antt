@@ -1,4 +1,4 @@
--- A character that stands apart is a cluster by itself where another such one follows, or none.
+-- A character that is independent is a cluster by itself where another such one follows, or none.
 use Rattle.std.proofs.Common.{◌≡◌, ℕ, zero, suc, ◌+◌, ◌-◌, ◌<◌, ◌≤◌, Bool, true, false, not, ◌&&◌, ◌||◌, List, [], ◌∷◌, ◌++◌, length, map, take, drop, get_or, unwrap_or, IsUtf8, IsCharBoundary, refl, sym, ap, ap₂, subst, ◌∙◌, append-nil, arith, inl, inr}
 use Rattle.std.specs.Prelude.{Some, nat_le, nat_lt, min, encode_utf8, encode_utf8_all, if◌then◌else◌}
 use Rattle.std.specs.Int.{is_in_range}
@@ -25,10 +25,10 @@ use Rattle.ucd_derived.proofs.IndicConjunctBreakLemmas.{indic_conjunct_break_ste
 use Rattle.ucd_emoji.specs.Binary.{is_extended_pictographic}
 use Rattle.unicode_segmentation.specs.Grapheme.{graphemes, break_by_pair, ends_in_linker, ends_in_pictograph, ends_in_half_flag, is_consonant, is_zwj, is_regional, is_grapheme_break}
 use Rattle.unicode_segmentation.specs.Segments.{segments}
-use Rattle.text_clusters.specs.Apart.{is_early, is_sign, is_eastern, is_later, is_late, stands_apart, is_flag_half, is_apart_first, begins_apart, BeginsWith, BeginsPrintable, IsFirst, apart_len}
+use Rattle.text_clusters.specs.Independent.{is_early, is_sign, is_eastern, is_later, is_late, is_independent, is_flag_half, is_independent_first, begins_independent, BeginsWith, BeginsPrintable, IsFirst, independent_len}
 use Rattle.text_clusters.specs.Plain.{is_printable, each}
 use Rattle.text_clusters.proofs.CharacterFacts.{is_conjunct_mark, implies_from}
-use Rattle.text_clusters.proofs.CutLemmas.{by_test, breaks, pieces, forgets, cut_behind, cut_here, last_alone, pieces-nil}
+use Rattle.text_clusters.proofs.CutLemmas.{by_test, breaks, pieces, forgets, cut_after, cut_here, last_alone, pieces-nil}
 use Rattle.text_clusters.proofs.PlainLemmas.{chars-ascii, front_printable, front_len, prefix_taken, printable_below, printable_front}
 
 -- ---- what the tables say
@@ -119,8 +119,8 @@ by_size false b false d true f g i j h p q r s t = r h
 by_size false b false d false f true i j h p q r s t = s h
 by_size false b false d false f false i j h p q r s t = t h
 
-pub apart_free : (c : ℕ) → stands_apart c ≡ true → is_free_character c ≡ true
-unfolding stands_apart
+pub apart_free : (c : ℕ) → is_independent c ≡ true → is_free_character c ≡ true
+unfolding is_independent
 apart_free c h =
     by_size (nat_lt c 0x800) (is_early c) (nat_lt c 0x2E00) (is_sign c) (nat_lt c 0xA670) (is_eastern c) (nat_lt c 0x10000) (is_later c) (is_late c) h
     (early_free c) (sign_free c) (eastern_free c) (later_free c) (late_free c)
@@ -149,39 +149,39 @@ flag_open c h = implies_from (in_ranges flag_ranges c) (is_open (grapheme_cluste
     (zip_stepped (λ r g. not r || is_open g) (in_ranges flag_ranges) grapheme_cluster_break (of_ranges flag_ranges refl) grapheme_cluster_break_stepped) refl c)
     (ap (λ t. t || false) h)
 
-first_open : (c : ℕ) → (stands_apart c || is_flag_half c) ≡ true → is_open (grapheme_cluster_break c) ≡ true
-first_open c h = elim (or_cases (stands_apart c) (is_flag_half c) h) [
+first_open : (c : ℕ) → (is_independent c || is_flag_half c) ≡ true → is_open (grapheme_cluster_break c) ≡ true
+first_open c h = elim (or_cases (is_independent c) (is_flag_half c) h) [
   | inl a ↦ free_open (grapheme_cluster_break c) (and_parts (is_free (grapheme_cluster_break c)) (not (is_conjunct_mark (indic_conjunct_break c))) (apart_free c a)).0
   | inr f ↦ flag_open c f
 ]
 
 -- ---- a boundary between two of them
 
-behind_lv : (h : GraphemeClusterBreak) (r : Bool) → is_open h ≡ true → unwrap_or (break_by_pair true Lv h) r ≡ r
-behind_lv Lv r f = refl
-behind_lv Lvt r f = refl
-behind_lv Other r f = refl
-behind_lv RegionalIndicator r f = refl
-behind_lv _ r f = absurd (false≢true f)
+after_lv : (h : GraphemeClusterBreak) (r : Bool) → is_open h ≡ true → unwrap_or (break_by_pair true Lv h) r ≡ r
+after_lv Lv r f = refl
+after_lv Lvt r f = refl
+after_lv Other r f = refl
+after_lv RegionalIndicator r f = refl
+after_lv _ r f = absurd (false≢true f)
 
-behind_lvt : (h : GraphemeClusterBreak) (r : Bool) → is_open h ≡ true → unwrap_or (break_by_pair true Lvt h) r ≡ r
-behind_lvt Lv r f = refl
-behind_lvt Lvt r f = refl
-behind_lvt Other r f = refl
-behind_lvt RegionalIndicator r f = refl
-behind_lvt _ r f = absurd (false≢true f)
+after_lvt : (h : GraphemeClusterBreak) (r : Bool) → is_open h ≡ true → unwrap_or (break_by_pair true Lvt h) r ≡ r
+after_lvt Lv r f = refl
+after_lvt Lvt r f = refl
+after_lvt Other r f = refl
+after_lvt RegionalIndicator r f = refl
+after_lvt _ r f = absurd (false≢true f)
 
-behind_other : (h : GraphemeClusterBreak) (r : Bool) → is_open h ≡ true → unwrap_or (break_by_pair true Other h) r ≡ r
-behind_other Lv r f = refl
-behind_other Lvt r f = refl
-behind_other Other r f = refl
-behind_other RegionalIndicator r f = refl
-behind_other _ r f = absurd (false≢true f)
+after_other : (h : GraphemeClusterBreak) (r : Bool) → is_open h ≡ true → unwrap_or (break_by_pair true Other h) r ≡ r
+after_other Lv r f = refl
+after_other Lvt r f = refl
+after_other Other r f = refl
+after_other RegionalIndicator r f = refl
+after_other _ r f = absurd (false≢true f)
 
 free_pair : (g h : GraphemeClusterBreak) (r : Bool) → is_free g ≡ true → is_open h ≡ true → unwrap_or (break_by_pair true g h) r ≡ r
-free_pair Lv h r e f = behind_lv h r f
-free_pair Lvt h r e f = behind_lvt h r f
-free_pair Other h r e f = behind_other h r f
+free_pair Lv h r e f = after_lv h r f
+free_pair Lvt h r e f = after_lvt h r f
+free_pair Other h r e f = after_other h r f
 free_pair _ h r e f = absurd (false≢true e)
 
 no_joiner : (g : GraphemeClusterBreak) → is_free g ≡ true → is_zwj g ≡ false
@@ -203,7 +203,7 @@ no_linker InCb.None e = refl
 no_linker InCb.Extend e = absurd (false≢true e)
 no_linker InCb.Linker e = absurd (false≢true e)
 
-boundary : (c d : ℕ) (cs : List ℕ) → stands_apart c ≡ true → (stands_apart d || is_flag_half d) ≡ true → breaks (c ∷ []) (d ∷ cs) ≡ true
+boundary : (c d : ℕ) (cs : List ℕ) → is_independent c ≡ true → (is_independent d || is_flag_half d) ≡ true → breaks (c ∷ []) (d ∷ cs) ≡ true
 unfolding is_grapheme_break ends_in_half_flag
 boundary c d cs p q =
     let first = and_parts (is_free (grapheme_cluster_break c)) (not (is_conjunct_mark (indic_conjunct_break c))) (apart_free c p) in
@@ -214,16 +214,16 @@ boundary c d cs p q =
 
 -- ---- the cut
 
-pub apart_first : (c : ℕ) (cs : List ℕ) → stands_apart c ≡ true → is_apart_first cs ≡ true → pieces [] (c ∷ cs) ≡ (c ∷ []) ∷ pieces [] cs
+pub apart_first : (c : ℕ) (cs : List ℕ) → is_independent c ≡ true → is_independent_first cs ≡ true → pieces [] (c ∷ cs) ≡ (c ∷ []) ∷ pieces [] cs
 apart_first c [] p q = last_alone [] c ∙ ap (λ (ps : List (List ℕ)). (c ∷ []) ∷ ps) (sym (pieces-nil []))
 apart_first c (d ∷ ds) p q =
     let b = boundary c d ds p q in
-    cut_here [] c (d ∷ ds) b ∙ ap (λ (ps : List (List ℕ)). (c ∷ []) ∷ ps) (cut_behind d (c ∷ []) (forgets d c [] ds b) ds)
+    cut_here [] c (d ∷ ds) b ∙ ap (λ (ps : List (List ℕ)). (c ∷ []) ∷ ps) (cut_after d (c ∷ []) (forgets d c [] ds b) ds)
 
 -- a text that begins with one, and with another one behind it or nothing
-pub apart_cut : (text rest : List ℕ) (c : ℕ) → IsUtf8 text → text ≡ encode_utf8 c ++ rest → stands_apart c ≡ true → begins_apart rest ≡ true
+pub apart_cut : (text rest : List ℕ) (c : ℕ) → IsUtf8 text → text ≡ encode_utf8 c ++ rest → is_independent c ≡ true → begins_independent rest ≡ true
     → graphemes true text ≡ encode_utf8 c ∷ graphemes true rest
-unfolding segments begins_apart
+unfolding segments begins_independent
 apart_cut text rest c u e p q =
     ap (λ (cs : List ℕ). map encode_utf8_all (pieces [] cs)) (chars_past_char text rest c u e)
     ∙ ap (map encode_utf8_all) (apart_first c (chars rest) p q)
@@ -237,8 +237,8 @@ module _ (text front back : List ℕ) (c n : ℕ) (u : IsUtf8 text) (b : BeginsW
   rest_utf8 : IsUtf8 b.rest
   rest_utf8 = IsUtf8-past_char text b.rest c u b.whole
 
-  pub lone_seam : IsCharBoundary text n
-  lone_seam = subst (IsCharBoundary text) (sym l) (IsCharBoundary-at_seam text (encode_utf8 c) b.rest b.whole rest_utf8)
+  pub single_seam : IsCharBoundary text n
+  single_seam = subst (IsCharBoundary text) (sym l) (IsCharBoundary-at_seam text (encode_utf8 c) b.rest b.whole rest_utf8)
 
   module _ (f : front ≡ take n text) (e : back ≡ drop n text) where
     back_is : back ≡ b.rest
@@ -247,23 +247,23 @@ module _ (text front back : List ℕ) (c n : ℕ) (u : IsUtf8 text) (b : BeginsW
     front_is : front ≡ encode_utf8 c
     front_is = f ∙ ap (take n) b.whole ∙ take_at (encode_utf8 c) b.rest n (sym l)
 
-    pub cut_before : begins_apart back ≡ true → graphemes true text ≡ front ∷ graphemes true back
+    pub cut_before : begins_independent back ≡ true → graphemes true text ≡ front ∷ graphemes true back
     cut_before a =
-        apart_cut text b.rest c u b.whole b.stands (ap begins_apart (sym back_is) ∙ a)
+        apart_cut text b.rest c u b.whole b.stands (ap begins_independent (sym back_is) ∙ a)
         ∙ (λ i. sym front_is i ∷ graphemes true (sym back_is i))
 
 -- a text that begins with one begins so
-pub begins_front : (text : List ℕ) (c n : ℕ) → IsUtf8 text → BeginsWith text c n → begins_apart text ≡ true
-unfolding begins_apart
-begins_front text c n u b = ap is_apart_first (chars_past_char text b.rest c u b.whole) ∙ ap (λ t. t || is_flag_half c) b.stands
+pub begins_front : (text : List ℕ) (c n : ℕ) → IsUtf8 text → BeginsWith text c n → begins_independent text ≡ true
+unfolding begins_independent
+begins_front text c n u b = ap is_independent_first (chars_past_char text b.rest c u b.whole) ∙ ap (λ t. t || is_flag_half c) b.stands
 
-pub with_stands : (text : List ℕ) (c n : ℕ) → stands_apart c ≡ true → IsFirst text c n → BeginsWith text c n
+pub with_stands : (text : List ℕ) (c n : ℕ) → is_independent c ≡ true → IsFirst text c n → BeginsWith text c n
 with_stands text c n s f = record { stands = s; bytes = f.bytes; rest = f.rest; whole = f.whole }
 
--- ---- printable characters before those that stand apart
+-- ---- printable characters before those that are independent
 
-printable_apart : (c : ℕ) → is_printable c ≡ true → stands_apart c ≡ true
-unfolding stands_apart
+printable_apart : (c : ℕ) → is_printable c ≡ true → is_independent c ≡ true
+unfolding is_independent
 printable_apart c p =
     let below = printable_below c p in
     let parts = and_parts (nat_le 32 c) (nat_lt c 127) p in
@@ -271,12 +271,12 @@ printable_apart c p =
     ap (λ t. if t then is_early c else if nat_lt c 0x2E00 then is_sign c else if nat_lt c 0xA670 then is_eastern c else if nat_lt c 0x10000 then is_later c else is_late c) (lt-ltb c 0x800 (omega arith))
     ∙ ap (λ t. t || is_in_range 0xA0 0xAC c || is_in_range 0xAE 0x2FF c || is_in_range 0x370 0x482 c || is_in_range 0x48A 0x590 c) within
 
-begins_printable : (c : ℕ) (rest : List ℕ) → is_printable c ≡ true → begins_apart (c ∷ rest) ≡ true
-unfolding begins_apart
-begins_printable c rest p = let below = printable_below c p in ap is_apart_first (chars-ascii c rest (omega arith)) ∙ ap (λ t. t || is_flag_half c) (printable_apart c p)
+begins_printable : (c : ℕ) (rest : List ℕ) → is_printable c ≡ true → begins_independent (c ∷ rest) ≡ true
+unfolding begins_independent
+begins_printable c rest p = let below = printable_below c p in ap is_independent_first (chars-ascii c rest (omega arith)) ∙ ap (λ t. t || is_flag_half c) (printable_apart c p)
 
-ascii_cut : (c : ℕ) (rest : List ℕ) → is_printable c ≡ true → begins_apart rest ≡ true → graphemes true (c ∷ rest) ≡ (c ∷ []) ∷ graphemes true rest
-unfolding segments begins_apart
+ascii_cut : (c : ℕ) (rest : List ℕ) → is_printable c ≡ true → begins_independent rest ≡ true → graphemes true (c ∷ rest) ≡ (c ∷ []) ∷ graphemes true rest
+unfolding segments begins_independent
 ascii_cut c rest p b =
     let below = printable_below c p in
     ap (λ (cs : List ℕ). map encode_utf8_all (pieces [] cs)) (chars-ascii c rest (omega arith))
@@ -303,18 +303,18 @@ byte_begins (c ∷ rest) byte e p =
     let some = front_len c rest (ap is_printable same ∙ p) in
     front_begins (c ∷ rest) (omega arith)
 
-printable_at : (n : ℕ) (text : List ℕ) → n < prefix_len is_printable text → begins_apart (drop n text) ≡ true
+printable_at : (n : ℕ) (text : List ℕ) → n < prefix_len is_printable text → begins_independent (drop n text) ≡ true
 printable_at n [] h = absurd (omega arith)
 printable_at zero (c ∷ text) h = begins_printable c text (front_printable c text h)
 printable_at (suc n) (c ∷ text) h =
     let l = front_len c text (front_printable c text (omega arith)) in
     printable_at n text (omega arith)
 
-next_apart : (n : ℕ) (text : List ℕ) → n ≤ prefix_len is_printable text → begins_apart (drop n text) ≡ true → begins_apart text ≡ true
+next_apart : (n : ℕ) (text : List ℕ) → n ≤ prefix_len is_printable text → begins_independent (drop n text) ≡ true → begins_independent text ≡ true
 next_apart zero text h b = b
 next_apart (suc n) text h b = printable_at 0 text (omega arith)
 
-run_apart : (n : ℕ) (text : List ℕ) → n ≤ prefix_len is_printable text → begins_apart (drop n text) ≡ true → graphemes true text ≡ each (take n text) ++ graphemes true (drop n text)
+run_apart : (n : ℕ) (text : List ℕ) → n ≤ prefix_len is_printable text → begins_independent (drop n text) ≡ true → graphemes true text ≡ each (take n text) ++ graphemes true (drop n text)
 run_apart zero text h b = refl
 run_apart (suc n) [] h b = absurd (omega arith)
 run_apart (suc n) (c ∷ text) h b =
@@ -326,17 +326,17 @@ module _ (text : List ℕ) where
   abbrev here : ℕ
   here = prefix_len is_printable text
 
-  len_whole : begins_apart (drop here text) ≡ true → apart_len text ≡ here
+  len_whole : begins_independent (drop here text) ≡ true → independent_len text ≡ here
   len_whole b = ap (λ t. if t then here else here - 1) b
 
-  len_less : begins_apart (drop here text) ≡ false → apart_len text ≡ here - 1
+  len_less : begins_independent (drop here text) ≡ false → independent_len text ≡ here - 1
   len_less b = ap (λ t. if t then here else here - 1) b
 
-  len_most : apart_len text ≤ here
-  len_most = by_test (begins_apart (drop here text)) (λ b. let l = len_whole b in omega arith) (λ b. let l = len_less b in omega arith)
+  len_most : independent_len text ≤ here
+  len_most = by_test (begins_independent (drop here text)) (λ b. let l = len_whole b in omega arith) (λ b. let l = len_less b in omega arith)
 
-  len_least : here - 1 ≤ apart_len text
-  len_least = by_test (begins_apart (drop here text)) (λ b. let l = len_whole b in omega arith) (λ b. let l = len_less b in omega arith)
+  len_least : here - 1 ≤ independent_len text
+  len_least = by_test (begins_independent (drop here text)) (λ b. let l = len_whole b in omega arith) (λ b. let l = len_less b in omega arith)
 
   -- a place behind printable characters
   pub run_boundary : (n : ℕ) → n ≤ here → IsUtf8 text → IsCharBoundary text n
@@ -349,7 +349,7 @@ module _ (text : List ℕ) where
 
   module _ (most : ℕ) where
     abbrev front : ℕ
-    front = min most (apart_len text)
+    front = min most (independent_len text)
 
     front_most : front ≤ here
     front_most = let l = len_most in omega arith
@@ -360,18 +360,18 @@ module _ (text : List ℕ) where
     pub apart_front_boundary : IsUtf8 text → IsCharBoundary text front
     apart_front_boundary u = run_boundary front front_most u
 
-    front_none : begins_apart (drop front text) ≡ false → 0 ≡ front
+    front_none : begins_independent (drop front text) ≡ false → 0 ≡ front
     front_none b = by_test (nat_lt front here)
         (λ t. absurd (false≢true (sym b ∙ printable_at front text (ltb-true front here t))))
         (λ t.
         let ge = ltb-false front here t in
         let m = front_most in
         let is : front ≡ here = omega arith in
-        let l = len_less (ap (λ n. begins_apart (drop n text)) (sym is) ∙ b) in
+        let l = len_less (ap (λ n. begins_independent (drop n text)) (sym is) ∙ b) in
         omega arith)
 
     pub apart_front_cut : graphemes true text ≡ each (take front text) ++ graphemes true (drop front text)
-    apart_front_cut = by_test (begins_apart (drop front text))
+    apart_front_cut = by_test (begins_independent (drop front text))
         (λ b. run_apart front text front_most b)
         (λ b. ap (λ n. each (take n text) ++ graphemes true (drop n text)) (front_none b))
 
@@ -382,7 +382,7 @@ module _ (text : List ℕ) where
       pub apart_run_boundary : IsUtf8 text → IsCharBoundary text run
       apart_run_boundary u = let r = run_is in run_boundary run (omega arith) u
 
-      pub apart_run_whole : begins_apart (drop run text) ≡ true → run ≡ front
+      pub apart_run_whole : begins_independent (drop run text) ≡ true → run ≡ front
       apart_run_whole b =
           let r = run_is in
           let least = len_least in
@@ -392,15 +392,15 @@ module _ (text : List ℕ) where
           (λ t.
           let ge = ltb-false run here t in
           let all : run ≡ here = omega arith in
-          let l = len_whole (ap (λ n. begins_apart (drop n text)) (sym all) ∙ b) in
+          let l = len_whole (ap (λ n. begins_independent (drop n text)) (sym all) ∙ b) in
           omega arith)
 
-      pub apart_run_less : begins_apart (drop run text) ≡ false → run - 1 ≡ front
+      pub apart_run_less : begins_independent (drop run text) ≡ false → run - 1 ≡ front
       apart_run_less b = by_test (nat_lt run here)
           (λ t. absurd (false≢true (sym b ∙ printable_at run text (ltb-true run here t))))
           (λ t.
           let r = run_is in
           let ge = ltb-false run here t in
           let all : run ≡ here = omega arith in
-          let l = len_less (ap (λ n. begins_apart (drop n text)) (sym all) ∙ b) in
+          let l = len_less (ap (λ n. begins_independent (drop n text)) (sym all) ∙ b) in
           omega arith)

@@ -84,61 +84,61 @@ module _ (d : ℕ) (before : List ℕ) (forgets : Forgets d before) where
       if break_kept (c ∷ x) (cs ++ []) i then (c ∷ []) ∷ cut_kept (c ∷ x) cs i else prepend (c ∷ []) (cut_kept (c ∷ x) cs i)
 
   -- what begins behind a boundary is cut as if nothing were before it
-  pub cut_behind : (cs : List ℕ) → pieces before (d ∷ cs) ≡ pieces [] (d ∷ cs)
+  pub cut_after : (cs : List ℕ) → pieces before (d ∷ cs) ≡ pieces [] (d ∷ cs)
   unfolding cut
-  cut_behind cs = λ i.
+  cut_after cs = λ i.
       if break_kept [] (cs ++ []) i then (d ∷ []) ∷ cut_kept [] cs i else prepend (d ∷ []) (cut_kept [] cs i)
 
 -- ---- a boundary
 
 -- a character that joins what stands before it breaks only behind a control
-behind_extend : (g : GraphemeClusterBreak) (r : Bool) → unwrap_or (break_by_pair true g Extend) r ≡ true → is_control g ≡ true
-behind_extend Control r e = refl
-behind_extend Cr r e = refl
-behind_extend Extend r e = e
-behind_extend L r e = e
-behind_extend Lf r e = refl
-behind_extend Lv r e = e
-behind_extend Lvt r e = e
-behind_extend Prepend r e = e
-behind_extend RegionalIndicator r e = e
-behind_extend SpacingMark r e = e
-behind_extend T r e = e
-behind_extend V r e = e
-behind_extend Other r e = e
-behind_extend Zwj r e = e
+after_extend : (g : GraphemeClusterBreak) (r : Bool) → unwrap_or (break_by_pair true g Extend) r ≡ true → is_control g ≡ true
+after_extend Control r e = refl
+after_extend Cr r e = refl
+after_extend Extend r e = e
+after_extend L r e = e
+after_extend Lf r e = refl
+after_extend Lv r e = e
+after_extend Lvt r e = e
+after_extend Prepend r e = e
+after_extend RegionalIndicator r e = e
+after_extend SpacingMark r e = e
+after_extend T r e = e
+after_extend V r e = e
+after_extend Other r e = e
+after_extend Zwj r e = e
 
-behind_joiner : (g : GraphemeClusterBreak) (r : Bool) → unwrap_or (break_by_pair true g Zwj) r ≡ true → is_control g ≡ true
-behind_joiner Control r e = refl
-behind_joiner Cr r e = refl
-behind_joiner Extend r e = e
-behind_joiner L r e = e
-behind_joiner Lf r e = refl
-behind_joiner Lv r e = e
-behind_joiner Lvt r e = e
-behind_joiner Prepend r e = e
-behind_joiner RegionalIndicator r e = e
-behind_joiner SpacingMark r e = e
-behind_joiner T r e = e
-behind_joiner V r e = e
-behind_joiner Other r e = e
-behind_joiner Zwj r e = e
+after_joiner : (g : GraphemeClusterBreak) (r : Bool) → unwrap_or (break_by_pair true g Zwj) r ≡ true → is_control g ≡ true
+after_joiner Control r e = refl
+after_joiner Cr r e = refl
+after_joiner Extend r e = e
+after_joiner L r e = e
+after_joiner Lf r e = refl
+after_joiner Lv r e = e
+after_joiner Lvt r e = e
+after_joiner Prepend r e = e
+after_joiner RegionalIndicator r e = e
+after_joiner SpacingMark r e = e
+after_joiner T r e = e
+after_joiner V r e = e
+after_joiner Other r e = e
+after_joiner Zwj r e = e
 
-behind_control : (g h : GraphemeClusterBreak) (r : Bool) → joins_left h ≡ true → unwrap_or (break_by_pair true g h) r ≡ true → is_control g ≡ true
-behind_control g Control r j e = absurd (false≢true j)
-behind_control g Cr r j e = absurd (false≢true j)
-behind_control g Extend r j e = behind_extend g r e
-behind_control g L r j e = absurd (false≢true j)
-behind_control g Lf r j e = absurd (false≢true j)
-behind_control g Lv r j e = absurd (false≢true j)
-behind_control g Lvt r j e = absurd (false≢true j)
-behind_control g Prepend r j e = absurd (false≢true j)
-behind_control g RegionalIndicator r j e = absurd (false≢true j)
-behind_control g SpacingMark r j e = absurd (false≢true j)
-behind_control g T r j e = absurd (false≢true j)
-behind_control g V r j e = absurd (false≢true j)
-behind_control g Other r j e = absurd (false≢true j)
-behind_control g Zwj r j e = behind_joiner g r e
+after_control : (g h : GraphemeClusterBreak) (r : Bool) → joins_left h ≡ true → unwrap_or (break_by_pair true g h) r ≡ true → is_control g ≡ true
+after_control g Control r j e = absurd (false≢true j)
+after_control g Cr r j e = absurd (false≢true j)
+after_control g Extend r j e = after_extend g r e
+after_control g L r j e = absurd (false≢true j)
+after_control g Lf r j e = absurd (false≢true j)
+after_control g Lv r j e = absurd (false≢true j)
+after_control g Lvt r j e = absurd (false≢true j)
+after_control g Prepend r j e = absurd (false≢true j)
+after_control g RegionalIndicator r j e = absurd (false≢true j)
+after_control g SpacingMark r j e = absurd (false≢true j)
+after_control g T r j e = absurd (false≢true j)
+after_control g V r j e = absurd (false≢true j)
+after_control g Other r j e = absurd (false≢true j)
+after_control g Zwj r j e = after_joiner g r e
 
 joins_extend : (h : GraphemeClusterBreak) → is_extend h ≡ true → joins_left h ≡ true
 joins_extend Extend e = refl
@@ -195,42 +195,42 @@ no_half_flag true false e = refl
 no_half_flag false true e = absurd (false≢true e)
 no_half_flag false false e = refl
 
-behind_regional : (g : GraphemeClusterBreak) (a m : Bool) → unwrap_or (break_by_pair true g RegionalIndicator) (not (a || ((is_regional g && m) && true))) ≡ true → (is_regional g && m) ≡ false
-behind_regional Control a m e = refl
-behind_regional Cr a m e = refl
-behind_regional Extend a m e = refl
-behind_regional L a m e = refl
-behind_regional Lf a m e = refl
-behind_regional Lv a m e = refl
-behind_regional Lvt a m e = refl
-behind_regional Prepend a m e = refl
-behind_regional RegionalIndicator a m e = no_half_flag a m e
-behind_regional SpacingMark a m e = refl
-behind_regional T a m e = refl
-behind_regional V a m e = refl
-behind_regional Other a m e = refl
-behind_regional Zwj a m e = refl
+after_regional : (g : GraphemeClusterBreak) (a m : Bool) → unwrap_or (break_by_pair true g RegionalIndicator) (not (a || ((is_regional g && m) && true))) ≡ true → (is_regional g && m) ≡ false
+after_regional Control a m e = refl
+after_regional Cr a m e = refl
+after_regional Extend a m e = refl
+after_regional L a m e = refl
+after_regional Lf a m e = refl
+after_regional Lv a m e = refl
+after_regional Lvt a m e = refl
+after_regional Prepend a m e = refl
+after_regional RegionalIndicator a m e = no_half_flag a m e
+after_regional SpacingMark a m e = refl
+after_regional T a m e = refl
+after_regional V a m e = refl
+after_regional Other a m e = refl
+after_regional Zwj a m e = refl
 
-behind_flag : (g h : GraphemeClusterBreak) (a m : Bool) → is_regional h ≡ true → unwrap_or (break_by_pair true g h) (not (a || ((is_regional g && m) && is_regional h))) ≡ true → (is_regional g && m) ≡ false
-behind_flag g RegionalIndicator a m r e = behind_regional g a m e
-behind_flag g Control a m r e = absurd (false≢true r)
-behind_flag g Cr a m r e = absurd (false≢true r)
-behind_flag g Extend a m r e = absurd (false≢true r)
-behind_flag g L a m r e = absurd (false≢true r)
-behind_flag g Lf a m r e = absurd (false≢true r)
-behind_flag g Lv a m r e = absurd (false≢true r)
-behind_flag g Lvt a m r e = absurd (false≢true r)
-behind_flag g Prepend a m r e = absurd (false≢true r)
-behind_flag g SpacingMark a m r e = absurd (false≢true r)
-behind_flag g T a m r e = absurd (false≢true r)
-behind_flag g V a m r e = absurd (false≢true r)
-behind_flag g Other a m r e = absurd (false≢true r)
-behind_flag g Zwj a m r e = absurd (false≢true r)
+after_flag : (g h : GraphemeClusterBreak) (a m : Bool) → is_regional h ≡ true → unwrap_or (break_by_pair true g h) (not (a || ((is_regional g && m) && is_regional h))) ≡ true → (is_regional g && m) ≡ false
+after_flag g RegionalIndicator a m r e = after_regional g a m e
+after_flag g Control a m r e = absurd (false≢true r)
+after_flag g Cr a m r e = absurd (false≢true r)
+after_flag g Extend a m r e = absurd (false≢true r)
+after_flag g L a m r e = absurd (false≢true r)
+after_flag g Lf a m r e = absurd (false≢true r)
+after_flag g Lv a m r e = absurd (false≢true r)
+after_flag g Lvt a m r e = absurd (false≢true r)
+after_flag g Prepend a m r e = absurd (false≢true r)
+after_flag g SpacingMark a m r e = absurd (false≢true r)
+after_flag g T a m r e = absurd (false≢true r)
+after_flag g V a m r e = absurd (false≢true r)
+after_flag g Other a m r e = absurd (false≢true r)
+after_flag g Zwj a m r e = absurd (false≢true r)
 
 module _ (d b : ℕ) (bs cs : List ℕ) (boundary : breaks (b ∷ bs) (d ∷ cs) ≡ true) where
   control_before : joins_left (grapheme_cluster_break d) ≡ true → is_control (grapheme_cluster_break b) ≡ true
   unfolding is_grapheme_break
-  control_before j = behind_control (grapheme_cluster_break b) (grapheme_cluster_break d) _ j boundary
+  control_before j = after_control (grapheme_cluster_break b) (grapheme_cluster_break d) _ j boundary
 
   linker_case : (v w : IndicConjunctBreak) (ws : List IndicConjunctBreak) → (is_conjunct_extend v ≡ true → not (is_conjunct_mark w) ≡ true) → ends_in_linker (v ∷ w ∷ ws) ≡ ends_in_linker (v ∷ [])
   unfolding ends_in_linker
@@ -260,7 +260,7 @@ module _ (d b : ℕ) (bs cs : List ℕ) (boundary : breaks (b ∷ bs) (d ∷ cs)
   flag_case : ends_in_half_flag (d ∷ b ∷ bs) ≡ ends_in_half_flag (d ∷ [])
   unfolding ends_in_half_flag is_grapheme_break
   flag_case = by_test (is_regional (grapheme_cluster_break d))
-      (λ e. ap (λ t. is_regional (grapheme_cluster_break d) && not t) (behind_flag (grapheme_cluster_break b) (grapheme_cluster_break d) (joins_conjunct (b ∷ bs) d || joins_emoji (b ∷ bs) d) (not (ends_in_half_flag bs)) e boundary))
+      (λ e. ap (λ t. is_regional (grapheme_cluster_break d) && not t) (after_flag (grapheme_cluster_break b) (grapheme_cluster_break d) (joins_conjunct (b ∷ bs) d || joins_emoji (b ∷ bs) d) (not (ends_in_half_flag bs)) e boundary))
       (λ e. ap (λ t. t && not (ends_in_half_flag (b ∷ bs))) e ∙ sym (ap (λ t. t && true) e))
 
   pub forgets : Forgets d (b ∷ bs)
@@ -311,7 +311,7 @@ first before c (d ∷ ds) = by_test (breaks (c ∷ before) (d ∷ ds))
       others = [];
       rest = d ∷ ds;
       whole = refl;
-      cut = cut_here before c (d ∷ ds) e ∙ ap (λ (ps : List (List ℕ)). (c ∷ []) ∷ ps) (cut_behind d (c ∷ before) (forgets d c before ds e) ds);
+      cut = cut_here before c (d ∷ ds) e ∙ ap (λ (ps : List (List ℕ)). (c ∷ []) ∷ ps) (cut_after d (c ∷ before) (forgets d c before ds e) ds);
       alone = last_alone before c;
     })
     (λ e.

@@ -13,7 +13,7 @@ use Rattle.unicode_segmentation.specs.Segments.{cut, segments}
 use Rattle.unicode_segmentation.proofs.GraphemeLemmas.{is_grapheme_break-others}
 use Rattle.text_clusters.specs.Plain.{is_printable, each, plain_len}
 use Rattle.text_clusters.proofs.CharacterFacts.{printable_is_other}
-use Rattle.text_clusters.proofs.CutLemmas.{by_test, breaks, pieces, forgets, cut_behind, cut_here, last_alone}
+use Rattle.text_clusters.proofs.CutLemmas.{by_test, breaks, pieces, forgets, cut_after, cut_here, last_alone}
 
 pub printable_below : (c : ℕ) → is_printable c ≡ true → c < 127
 printable_below c p = ltb-true c 127 (and_parts (nat_le 32 c) (nat_lt c 127) p).1
@@ -33,7 +33,7 @@ apart c d rest p q =
     let below_next = printable_below d q in
     let boundary : breaks (c ∷ []) (d ∷ chars rest) ≡ true = sym (is_grapheme_break-others true (c ∷ []) d (chars rest) (omega arith) (omega arith) (printable_is_other c below p) (printable_is_other d below_next q)) in
     ap (λ (cs : List ℕ). map encode_utf8_all (pieces [] cs)) (chars-ascii c (d ∷ rest) (omega arith) ∙ ap (λ (cs : List ℕ). c ∷ cs) (chars-ascii d rest (omega arith)))
-    ∙ ap (map encode_utf8_all) (cut_here [] c (d ∷ chars rest) boundary ∙ ap (λ (ps : List (List ℕ)). (c ∷ []) ∷ ps) (cut_behind d (c ∷ []) (forgets d c [] (chars rest) boundary) (chars rest)))
+    ∙ ap (map encode_utf8_all) (cut_here [] c (d ∷ chars rest) boundary ∙ ap (λ (ps : List (List ℕ)). (c ∷ []) ∷ ps) (cut_after d (c ∷ []) (forgets d c [] (chars rest) boundary) (chars rest)))
     ∙ (λ i. encode_one c (omega arith) i ∷ map encode_utf8_all (pieces [] (sym (chars-ascii d rest (omega arith)) i)))
 
 pub one_alone : (c : ℕ) → is_printable c ≡ true → graphemes true (c ∷ []) ≡ (c ∷ []) ∷ []

@@ -32,19 +32,19 @@ module _ (c : ℕ) (cs : List ℕ) (scalars : all_scalars (c ∷ cs) ≡ true) w
   pub first_cluster : List ℕ
   first_cluster = encode_utf8_all (c ∷ one.others)
 
-  pub chars_behind : List ℕ
-  chars_behind = one.rest
+  pub chars_after : List ℕ
+  chars_after = one.rest
 
-  pub behind_scalars : all_scalars chars_behind ≡ true
-  unfolding chars_behind
-  behind_scalars = parts.1
+  pub after_scalars : all_scalars chars_after ≡ true
+  unfolding chars_after
+  after_scalars = parts.1
 
-  pub behind_fewer : length chars_behind ≤ length cs
-  unfolding chars_behind
-  behind_fewer = omega (arith, ap length one.whole, length-append one.others one.rest)
+  pub after_fewer : length chars_after ≤ length cs
+  unfolding chars_after
+  after_fewer = omega (arith, ap length one.whole, length-append one.others one.rest)
 
-  pub cluster_cut : graphemes true (encode_utf8_all (c ∷ cs)) ≡ first_cluster ∷ graphemes true (encode_utf8_all chars_behind)
-  unfolding first_cluster chars_behind
+  pub cluster_cut : graphemes true (encode_utf8_all (c ∷ cs)) ≡ first_cluster ∷ graphemes true (encode_utf8_all chars_after)
+  unfolding first_cluster chars_after
   cluster_cut =
       graphemes_of (c ∷ cs) scalars ∙ ap (map encode_utf8_all) one.cut
       ∙ ap (λ (gs : List (List ℕ)). encode_utf8_all (c ∷ one.others) ∷ gs) (sym (graphemes_of one.rest parts.1))
@@ -53,8 +53,8 @@ module _ (c : ℕ) (cs : List ℕ) (scalars : all_scalars (c ∷ cs) ≡ true) w
   unfolding first_cluster
   cluster_alone = graphemes_of (c ∷ one.others) parts.0 ∙ ap (map encode_utf8_all) one.alone
 
-  pub cluster_whole : encode_utf8_all (c ∷ cs) ≡ first_cluster ++ encode_utf8_all chars_behind
-  unfolding first_cluster chars_behind
+  pub cluster_whole : encode_utf8_all (c ∷ cs) ≡ first_cluster ++ encode_utf8_all chars_after
+  unfolding first_cluster chars_after
   cluster_whole = ap (λ (xs : List ℕ). encode_utf8_all (c ∷ xs)) one.whole ∙ encodes-append (c ∷ one.others) one.rest
 
 -- ---- each cluster by itself
@@ -64,10 +64,10 @@ module _ {X : Type 0} (f g : List ℕ → X) (same : (p : List ℕ) → grapheme
   same_at_each n [] s h = ap (map f) graphemes-nil ∙ sym (ap (map g) graphemes-nil)
   same_at_each zero (c ∷ cs) s h = absurd (omega arith)
   same_at_each (suc n) (c ∷ cs) s h =
-      let fewer = behind_fewer c cs s in
+      let fewer = after_fewer c cs s in
       let t = cluster_cut c cs s in
       ap (map f) t
-      ∙ (λ i. same (first_cluster c cs s) (cluster_alone c cs s) i ∷ same_at_each n (chars_behind c cs s) (behind_scalars c cs s) (omega arith) i)
+      ∙ (λ i. same (first_cluster c cs s) (cluster_alone c cs s) i ∷ same_at_each n (chars_after c cs s) (after_scalars c cs s) (omega arith) i)
       ∙ sym (ap (map g) t)
 
   -- what is the same at each text that is one cluster by itself is the same at each cluster of a text
@@ -80,8 +80,8 @@ joined : (n : ℕ) (cs : List ℕ) → all_scalars cs ≡ true → length cs ≤
 joined n [] s h = ap concat graphemes-nil
 joined zero (c ∷ cs) s h = absurd (omega arith)
 joined (suc n) (c ∷ cs) s h =
-    let fewer = behind_fewer c cs s in
-    ap concat (cluster_cut c cs s) ∙ ap (λ (xs : List ℕ). first_cluster c cs s ++ xs) (joined n (chars_behind c cs s) (behind_scalars c cs s) (omega arith))
+    let fewer = after_fewer c cs s in
+    ap concat (cluster_cut c cs s) ∙ ap (λ (xs : List ℕ). first_cluster c cs s ++ xs) (joined n (chars_after c cs s) (after_scalars c cs s) (omega arith))
     ∙ sym (cluster_whole c cs s)
 
 -- the clusters, joined, are the text
@@ -94,15 +94,15 @@ cut_again zero n cs s h = ap (graphemes true) (joined n cs s h)
 cut_again (suc k) n [] s h = ap (λ (gs : List (List ℕ)). graphemes true (concat (drop (suc k) gs))) graphemes-nil ∙ graphemes-nil ∙ sym (ap (drop (suc k)) graphemes-nil)
 cut_again (suc k) zero (c ∷ cs) s h = absurd (omega arith)
 cut_again (suc k) (suc n) (c ∷ cs) s h =
-    let fewer = behind_fewer c cs s in
+    let fewer = after_fewer c cs s in
     let t = cluster_cut c cs s in
     ap (λ (gs : List (List ℕ)). graphemes true (concat (drop (suc k) gs))) t
-    ∙ cut_again k n (chars_behind c cs s) (behind_scalars c cs s) (omega arith)
+    ∙ cut_again k n (chars_after c cs s) (after_scalars c cs s) (omega arith)
     ∙ sym (ap (drop (suc k)) t)
 
 -- behind some of its clusters a text has the others
-pub clusters_behind : (k : ℕ) (text : List ℕ) → IsUtf8 text → graphemes true (concat (drop k (graphemes true text))) ≡ drop k (graphemes true text)
-clusters_behind k text u = subst (λ (t : List ℕ). graphemes true (concat (drop k (graphemes true t))) ≡ drop k (graphemes true t)) u.1.1 (cut_again k (length u.0) u.0 u.1.0 (omega arith))
+pub clusters_after : (k : ℕ) (text : List ℕ) → IsUtf8 text → graphemes true (concat (drop k (graphemes true text))) ≡ drop k (graphemes true text)
+clusters_after k text u = subst (λ (t : List ℕ). graphemes true (concat (drop k (graphemes true t))) ≡ drop k (graphemes true t)) u.1.1 (cut_again k (length u.0) u.0 u.1.0 (omega arith))
 
 -- the first cluster by itself
 pub first_alone : (text g : List ℕ) (gs : List (List ℕ)) → IsUtf8 text → graphemes true text ≡ g ∷ gs → graphemes true g ≡ g ∷ []

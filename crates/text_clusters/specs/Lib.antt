@@ -1,4 +1,4 @@
-pub mod Apart
+pub mod Independent
 pub mod Controls
 pub mod Lanes
 pub mod Plain

@@ -2,7 +2,7 @@
 ghost use Rattle.std.specs.Prelude.{◌≡◌, ℕ, ◌<◌, [], ◌∷◌, ◌++◌, List, true, length, map, take, drop, encode_utf8};
 ghost use Rattle.std.specs.List.{concat, prefix_len};
 ghost use Rattle.unicode_segmentation.specs.Grapheme.{graphemes};
-ghost use Rattle.text_clusters.specs.Apart.{stands_apart, begins_apart};
+ghost use Rattle.text_clusters.specs.Independent.{is_independent, begins_independent};
 ghost use Rattle.text_clusters.specs.Plain.{is_printable, each};
 
 /// Each cluster of a text is by itself one cluster.
@@ -14,9 +14,10 @@ pub fn clusters_stand_alone(text: &str)
 
 /// The clusters of a text, joined, are the text; and what stands behind some of them has the others
 /// as its clusters.
-pub fn clusters_behind_clusters(text: &str)
+pub fn clusters_after_clusters(text: &str)
     ensures joined { concat (graphemes true text.now) ≡ text.now }
-    ensures behind { (count : ℕ) → graphemes true (concat (drop count (graphemes true text.now))) ≡ drop count (graphemes true text.now) }
+    ensures behind { (count : ℕ)
+        → graphemes true (concat (drop count (graphemes true text.now))) ≡ drop count (graphemes true text.now) }
 {
     let _text = text;
 }
@@ -24,14 +25,16 @@ pub fn clusters_behind_clusters(text: &str)
 /// Where a text begins with printable ASCII characters, each of them that another one follows is a
 /// cluster by itself, and the clusters of the rest follow; and so is each of a text of nothing else.
 pub fn plain_clusters()
-    ensures followed { (count : ℕ) (text : List ℕ) → count < prefix_len is_printable text → graphemes true text ≡ each (take count text) ++ graphemes true (drop count text) }
+    ensures followed { (count : ℕ) (text : List ℕ) → count < prefix_len is_printable text
+        → graphemes true text ≡ each (take count text) ++ graphemes true (drop count text) }
     ensures alone { (text : List ℕ) → prefix_len is_printable text ≡ length text → graphemes true text ≡ each text }
 {}
 
-/// Letters, ideographs, syllables and signs stand apart: such a character is a cluster by itself
+/// Letters, ideographs, syllables and signs are independent: such a character is a cluster by itself
 /// where the text ends behind it, or another one follows.
 pub fn clusters_apart(text: &str)
-    ensures { (first : ℕ) (rest : List ℕ) → text.now ≡ encode_utf8 first ++ rest → stands_apart first ≡ true → begins_apart rest ≡ true → graphemes true text.now ≡ encode_utf8 first ∷ graphemes true rest }
+    ensures { (first : ℕ) (rest : List ℕ) → text.now ≡ encode_utf8 first ++ rest → is_independent first ≡ true
+        → begins_independent rest ≡ true → graphemes true text.now ≡ encode_utf8 first ∷ graphemes true rest }
 {
     let _text = text;
 }

@@ -2,16 +2,16 @@
 //! off by them. Beside it, tests for printable characters and for controls.
 #![tactic(auto)]
 
-mod apart;
 mod controls;
-mod front;
+mod independent;
 mod lanes;
 pub mod laws;
+mod prefix;
 mod printable;
 
-pub use apart::{begins_apart, first_character, stands_apart};
 pub use controls::{holds_c1, is_c1, len_before_ascii_control};
-pub use front::{
+pub use independent::{begins_independent, first_character, is_independent};
+pub use prefix::{
     begins_plainly, begins_printable, split_first_cluster, split_plain, split_printable,
 };
 pub use printable::{are_printable, is_printable, printable_len};

@@ -72,7 +72,8 @@ fn fewer_len(bytes: &[u8]) -> usize
     last + quarter_block_len(behind(bytes, last))
 }
 
-// How many stand at the front of at most sixteen bytes: of eight or more the first eight are looked at, and then the last.
+// How many stand at the front of at most sixteen bytes: of eight or more the first eight are looked at, and then the
+// last.
 #[inline(always)]
 fn few_len(bytes: &[u8]) -> usize
     requires { length bytes.now ≤ LANES }

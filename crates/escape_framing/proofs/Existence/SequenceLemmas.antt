@@ -7,7 +7,7 @@ use Rattle.std.proofs.lemmas.Bool.Decides.{nat_tests}
 use Rattle.escape_framing.specs.Bytes.{is_stop, is_embedded, is_intermediate, is_final, is_escape_final, is_string_opener, is_opener, is_cut, in_escape, in_parameters, ends_command}
 use Rattle.csi_codec.specs.Tokens.{is_parameter}
 use Rattle.escape_framing.specs.Segment.{Tail, Begun, OpenEscape, OpenControlSequence, OpenCommand, OpenHeader, OpenDevice, OpenString, bytes_of_tail, Escape, ControlSequence, OperatingSystemCommand, DeviceControl, String, CutOff, IsUnfinished}
-use Rattle.escape_framing.specs.Decode.{waits, opened_by, behind_escape, next_byte}
+use Rattle.escape_framing.specs.Decode.{waits, opened_by, after_escape, next_byte}
 use Rattle.escape_framing.proofs.Existence.Utf8Lemmas.{append_nil}
 use Rattle.escape_framing.proofs.Existence.StepLemmas.{Adds, adds_open, adds_end, adds_before, adds_first, adds_in_character}
 
@@ -53,9 +53,9 @@ adds_opened body b g o =
     is : (x : ℕ) → (b == x) ≡ true → 0x1B ∷ body ++ x ∷ [] ≡ 0x1B ∷ body ++ b ∷ []
     is x h = ap (λ (y : ℕ). 0x1B ∷ body ++ y ∷ []) (sym (eqb-true b x h))
 
-adds_behind_escape : (body : List ℕ) (b : ℕ) → list_all in_escape body ≡ true → in_escape b ≡ false → is_cut b ≡ false → Adds (0x1B ∷ body ++ b ∷ []) (behind_escape body b)
-unfolding behind_escape
-adds_behind_escape body b g e f =
+adds_after_escape : (body : List ℕ) (b : ℕ) → list_all in_escape body ≡ true → in_escape b ≡ false → is_cut b ≡ false → Adds (0x1B ∷ body ++ b ∷ []) (after_escape body b)
+unfolding after_escape
+adds_after_escape body b g e f =
     cond_both (list_any is_intermediate body || not (is_opener b)) _ _ (Adds _) (λ h. adds_end _ (Escape body b) refl (λ p l. (g, escape_final b e f, h)))
     (λ h. let k = or_parts (list_any is_intermediate body) (not (is_opener b)) h in adds_opened body b (embedded_only body g k.0) (not-false (is_opener b) k.1))
 
@@ -63,7 +63,7 @@ adds_escape : (body : List ℕ) (b : ℕ) → IsUnfinished (OpenEscape body) →
 unfolding next_byte
 adds_escape body b g =
     cond_both (in_escape b) _ _ (Adds _) (λ e. adds_open _ (OpenEscape (body ++ b ∷ [])) refl (all_push in_escape body b g e)) (λ e.
-    cond_both (is_cut b) _ _ (Adds _) (λ f. adds_before (0x1B ∷ body) (CutOff (OpenEscape body)) b refl (λ others. (g, refl, f)) (adds_first b)) (λ f. adds_behind_escape body b g e f))
+    cond_both (is_cut b) _ _ (Adds _) (λ f. adds_before (0x1B ∷ body) (CutOff (OpenEscape body)) b refl (λ others. (g, refl, f)) (adds_first b)) (λ f. adds_after_escape body b g e f))
 
 adds_control_sequence : (opening body : List ℕ) (b : ℕ) → IsUnfinished (OpenControlSequence opening body) → Adds ((0x1B ∷ opening ++ 0x5B ∷ body) ++ b ∷ []) (next_byte (OpenControlSequence opening body) b)
 unfolding next_byte

@@ -13,11 +13,11 @@ no_pair [] = true
 no_pair (b ∷ []) = true
 no_pair (b ∷ c ∷ bytes) = not (is_c1 b c) && no_pair (c ∷ bytes)
 
-pub no_pair_behind : (xs ys : List ℕ) → no_pair (xs ++ ys) ≡ true → no_pair ys ≡ true
-no_pair_behind [] ys h = h
-no_pair_behind (x ∷ []) [] h = refl
-no_pair_behind (x ∷ []) (y ∷ ys) h = (and_parts (not (is_c1 x y)) _ h).1
-no_pair_behind (x ∷ z ∷ xs) ys h = no_pair_behind (z ∷ xs) ys (and_parts (not (is_c1 x z)) _ h).1
+pub no_pair_after : (xs ys : List ℕ) → no_pair (xs ++ ys) ≡ true → no_pair ys ≡ true
+no_pair_after [] ys h = h
+no_pair_after (x ∷ []) [] h = refl
+no_pair_after (x ∷ []) (y ∷ ys) h = (and_parts (not (is_c1 x y)) _ h).1
+no_pair_after (x ∷ z ∷ xs) ys h = no_pair_after (z ∷ xs) ys (and_parts (not (is_c1 x z)) _ h).1
 
 pub no_pair_front : (xs ys : List ℕ) → no_pair (xs ++ ys) ≡ true → no_pair xs ≡ true
 no_pair_front [] ys h = refl

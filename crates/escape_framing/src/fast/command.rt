@@ -4,20 +4,21 @@ ghost use Rattle.escape_framing.specs.Read.{whole_command, ReadsEvent};
 
 use crate::bodies::body_of;
 use crate::bytes::{BEL, ESCAPE};
-use crate::fast::behind_introducer;
+use crate::fast::after_introducer;
 use crate::framer::Framer;
 use crate::texts::behind;
 
 impl Framer {
-    /// The operating system command at the front of some bytes of one call, where nothing is unfinished, the bytes decide it,
-    /// and no byte of it is a control or a C2: its body, and how many bytes `next` would have read at its event, of which an
-    /// ESC that ends it is none. The framer needs no change for it: the caller goes on behind these bytes. `None`: take the
-    /// general way.
+    /// The operating system command at the front of some bytes of one call, where nothing is unfinished, the bytes
+    /// decide it, and no byte of it is a control or a C2: its body, and how many bytes `next` would have read at its
+    /// event, of which an ESC that ends it is none. The framer needs no change for it: the caller goes on behind these
+    /// bytes. `None`: take the general way.
     #[inline(always)]
     pub fn whole_command<'a>(&self, bytes: &'a [u8]) -> Option<(&'a [u8], usize)>
-        ensures { IfSome result (λ c. ReadsEvent self.now.held bytes.now (whole_command c.1) (record self.now { body = c.0.now })) }
+        ensures { IfSome result
+            (λ c. ReadsEvent self.now.held bytes.now (whole_command c.1) (record self.now { body = c.0.now })) }
     {
-        let others = behind_introducer(bytes, b']')?;
+        let others = after_introducer(bytes, b']')?;
         if !self.is_idle() {
             return None;
         }

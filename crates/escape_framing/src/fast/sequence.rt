@@ -1,10 +1,10 @@
 //! Control sequences that stand whole at the front, whose parameters are read at once.
 ghost use Rattle.std.specs.Prelude.{◌≡◌, ◌≤◌, length, IfSome};
 ghost use Rattle.escape_framing.specs.Bytes.{is_final as in_finals};
-ghost use Rattle.escape_framing.specs.Fronts.{IsLastAt};
+ghost use Rattle.escape_framing.specs.Prefixes.{IsLastAt};
 ghost use Rattle.escape_framing.specs.Read.{whole_sequence, ReadsEvent};
 
-use crate::fast::behind_introducer;
+use crate::fast::after_introducer;
 use crate::framer::Framer;
 use crate::texts::behind;
 
@@ -34,7 +34,7 @@ impl Framer {
         ensures some { IfSome result (λ s. ReadsEvent self.old.held bytes.now (whole_sequence s.0 s.1) self.new) }
         ensures held { self.new.held ≡ self.old.held }
     {
-        let others = behind_introducer(bytes, b'[')?;
+        let others = after_introducer(bytes, b'[')?;
         if !self.is_idle() {
             return None;
         }

@@ -8,8 +8,8 @@ use crate::pieces::Reading;
 use std::alloc::AllocError;
 
 impl<'p, 'a> Reading<'p, 'a> {
-    // Reads the operating system command at the front of what is left, where it stands there whole. `None`: take the general
-    // way.
+    // Reads the operating system command at the front of what is left, where it stands there whole. `None`: take the
+    // general way.
     #[inline(always)]
     pub(crate) fn read_command(&mut self) -> Option<Result<Action, AllocError>>
         requires going { IsGoing self.old }

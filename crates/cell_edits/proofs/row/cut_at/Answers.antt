@@ -1,27 +1,27 @@
 use Rattle.std.proofs.Common.{◌≡◌, ◌∙◌, ◌-◌, ap, sym, take, zero, true, arith}
-use Rattle.cell_edits.specs.CellList.{ends_halved}
-use Rattle.cell_edits.proofs.CellLemmas.{before_clean, behind_clean}
-use Rattle.cell_edits.proofs.CutLemmas.{cut_before, cut_behind, cut_is_whole, cut_earlier}
+use Rattle.cell_edits.specs.CellList.{ends_split}
+use Rattle.cell_edits.proofs.CellLemmas.{before_clean, after_clean}
+use Rattle.cell_edits.proofs.CutLemmas.{cut_before, cut_after, cut_is_whole, cut_earlier}
 use Rattle.cell_edits.proofs.row.cut_at.Goals as goal
-use Rattle.cell_edits.proofs.row.cut_at.Goals.{else-at-gt0-via-then-at-gt0+else-is_halved, else-at-gt0-via-else-at-gt0}
+use Rattle.cell_edits.proofs.row.cut_at.Goals.{else-at-gt0-via-then-at-gt0+else-is_split, else-at-gt0-via-else-at-gt0}
 
 pub returns-in_ok-split_cell-clause-whole : goal.returns-in_ok-split_cell-clause-whole
 returns-in_ok-split_cell-clause-whole c =
     let cells = c.args.cells.now.items in
-    let halved : ends_halved (take c.args.at cells) ≡ true = ap (λ xs. ends_halved (take c.args.at xs)) (sym c.deref.ensures.value) ∙ sym c.is_halved.ensures ∙ c.if-is_halved.true in
+    let halved : ends_split (take c.args.at cells) ≡ true = ap (λ xs. ends_split (take c.args.at xs)) (sym c.deref.ensures.value) ∙ sym c.is_split.ensures ∙ c.if-is_split.true in
     cut_is_whole cells c.split_cell.new.cells.items (c.args.at - 1) c.args.at (omega arith) halved (omega arith) c.in_ok-split_cell.ensures.before
 
 pub returns-in_ok-split_cell-clause-before : goal.returns-in_ok-split_cell-clause-before
 returns-in_ok-split_cell-clause-before c =
     let cells = c.args.cells.now.items in
-    let halved : ends_halved (take c.args.at cells) ≡ true = ap (λ xs. ends_halved (take c.args.at xs)) (sym c.deref.ensures.value) ∙ sym c.is_halved.ensures ∙ c.if-is_halved.true in
+    let halved : ends_split (take c.args.at cells) ≡ true = ap (λ xs. ends_split (take c.args.at xs)) (sym c.deref.ensures.value) ∙ sym c.is_split.ensures ∙ c.if-is_split.true in
     cut_before cells c.split_cell.new.cells.items (c.args.at - 1) c.args.at (omega arith) halved (omega arith) c.in_ok-split_cell.ensures.before
 
 pub returns-in_ok-split_cell-clause-behind : goal.returns-in_ok-split_cell-clause-behind
 returns-in_ok-split_cell-clause-behind c =
     let cells = c.args.cells.now.items in
-    let halved : ends_halved (take c.args.at cells) ≡ true = ap (λ xs. ends_halved (take c.args.at xs)) (sym c.deref.ensures.value) ∙ sym c.is_halved.ensures ∙ c.if-is_halved.true in
-    cut_behind cells c.split_cell.new.cells.items (c.args.at - 1) c.args.at (omega arith) halved (omega arith) (omega arith)
+    let halved : ends_split (take c.args.at cells) ≡ true = ap (λ xs. ends_split (take c.args.at xs)) (sym c.deref.ensures.value) ∙ sym c.is_split.ensures ∙ c.if-is_split.true in
+    cut_after cells c.split_cell.new.cells.items (c.args.at - 1) c.args.at (omega arith) halved (omega arith) (omega arith)
     (λ l. c.in_ok-split_cell.ensures.behind (omega arith))
 
 pub returns-in_ok-split_cell-clause-earlier : goal.returns-in_ok-split_cell-clause-earlier
@@ -31,14 +31,14 @@ pub returns-else-at-gt0-clause-before : goal.returns-else-at-gt0-clause-before
 returns-else-at-gt0-clause-before c =
     let cells = c.args.cells.now.items in
     elim c.else-at-gt0.branch [
-      | else-at-gt0-via-then-at-gt0+else-is_halved w ↦ before_clean cells c.args.at (ap (λ xs. ends_halved (take c.args.at xs)) (sym w.deref.ensures.value) ∙ sym w.is_halved.ensures ∙ w.if-is_halved.false)
-      | else-at-gt0-via-else-at-gt0 w ↦ let none : c.args.at ≡ zero = omega arith in before_clean cells c.args.at (ap (λ n. ends_halved (take n cells)) none)
+      | else-at-gt0-via-then-at-gt0+else-is_split w ↦ before_clean cells c.args.at (ap (λ xs. ends_split (take c.args.at xs)) (sym w.deref.ensures.value) ∙ sym w.is_split.ensures ∙ w.if-is_split.false)
+      | else-at-gt0-via-else-at-gt0 w ↦ let none : c.args.at ≡ zero = omega arith in before_clean cells c.args.at (ap (λ n. ends_split (take n cells)) none)
     ]
 
 pub returns-else-at-gt0-clause-behind : goal.returns-else-at-gt0-clause-behind
 returns-else-at-gt0-clause-behind c =
     let cells = c.args.cells.now.items in
     elim c.else-at-gt0.branch [
-      | else-at-gt0-via-then-at-gt0+else-is_halved w ↦ behind_clean cells c.args.at (ap (λ xs. ends_halved (take c.args.at xs)) (sym w.deref.ensures.value) ∙ sym w.is_halved.ensures ∙ w.if-is_halved.false)
-      | else-at-gt0-via-else-at-gt0 w ↦ let none : c.args.at ≡ zero = omega arith in behind_clean cells c.args.at (ap (λ n. ends_halved (take n cells)) none)
+      | else-at-gt0-via-then-at-gt0+else-is_split w ↦ after_clean cells c.args.at (ap (λ xs. ends_split (take c.args.at xs)) (sym w.deref.ensures.value) ∙ sym w.is_split.ensures ∙ w.if-is_split.false)
+      | else-at-gt0-via-else-at-gt0 w ↦ let none : c.args.at ≡ zero = omega arith in after_clean cells c.args.at (ap (λ n. ends_split (take n cells)) none)
     ]

@@ -8,7 +8,7 @@ use Rattle.cell_edits.proofs.row.pruned_width.Goals as goal
 
 pub loop-width-preserved : goal.loop-width-preserved
 loop-width-preserved c =
-    let whole = sym c.is_halved.ensures ∙ c.if-not-is_halved.true in
+    let whole = sym c.is_split.ensures ∙ c.if-not-is_split.true in
     record {
       within = omega arith;
       whole = whole;
@@ -19,13 +19,13 @@ loop-width-preserved c =
 
 pub returns-else-is_plain_blank-clause-row : goal.returns-else-is_plain_blank-clause-row
 returns-else-is_plain_blank-clause-row c =
-    prune_end c.args.cells.now c.loop-width.width c.index-cells-width.result (omega arith) (omega arith) c.loop-width.invariant.whole (sym c.is_halved.ensures ∙ c.if-not-is_halved.true)
+    prune_end c.args.cells.now c.loop-width.width c.index-cells-width.result (omega arith) (omega arith) c.loop-width.invariant.whole (sym c.is_split.ensures ∙ c.if-not-is_split.true)
     (ap (λ (x : CellContent). is_plain_blank (Narrow x.text x.attributes)) (sym c.index-cells-width.is) ∙ sym c.is_plain_blank.ensures ∙ c.if-is_plain_blank.false)
     ∙ c.loop-width.invariant.same
 
-pub returns-else-not-is_halved-clause-row : goal.returns-else-not-is_halved-clause-row
-returns-else-not-is_halved-clause-row c =
-    prune_end_wide c.args.cells.now c.loop-width.width (blank_cell plain) (omega arith) (omega arith) (sym c.is_halved.ensures ∙ c.if-not-is_halved.false) ∙ c.loop-width.invariant.same
+pub returns-else-not-is_split-clause-row : goal.returns-else-not-is_split-clause-row
+returns-else-not-is_split-clause-row c =
+    prune_end_wide c.args.cells.now c.loop-width.width (blank_cell plain) (omega arith) (omega arith) (sym c.is_split.ensures ∙ c.if-not-is_split.false) ∙ c.loop-width.invariant.same
 
 pub returns-after-loop-width-clause-row : goal.returns-after-loop-width-clause-row
 returns-after-loop-width-clause-row c =

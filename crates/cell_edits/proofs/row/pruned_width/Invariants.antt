@@ -1,6 +1,6 @@
 use Rattle.std.proofs.Common.{◌≡◌, ◌≤◌, false, take, length}
 use Rattle.cell_base.specs.CellContent.{row_of_cells}
-use Rattle.cell_edits.specs.CellList.{ends_halved}
+use Rattle.cell_edits.specs.CellList.{ends_split}
 use Rattle.cell_edits.specs.RowEdits.{pruned_row}
 use Rattle.cell_edits.proofs.row.pruned_width.Given as goal
 
@@ -8,7 +8,7 @@ use Rattle.cell_edits.proofs.row.pruned_width.Given as goal
 abbrev pub invariant-loop-width : goal.invariant-loop-width
 invariant-loop-width l = record {
   within : l.width ≤ length l.cells;
-  whole : ends_halved (take l.width l.cells) ≡ false;
+  whole : ends_split (take l.width l.cells) ≡ false;
   same : pruned_row (row_of_cells (take l.width l.cells)) ≡ pruned_row (row_of_cells l.cells);
 }
 

@@ -1,9 +1,9 @@
 use Rattle.std.proofs.Common.{◌∙◌, List, ap, refl, None}
 use Rattle.std.specs.Prelude.{filter}
 use Rattle.cell_base.specs.CellContent.{CellContent}
-use Rattle.cell_change.specs.CellChanges.{cells_written}
-use Rattle.cell_change.specs.Written.{Written, begun, finished, with_cells}
-use Rattle.cell_change.proofs.RunLemmas.{cells_are_written}
+use Rattle.screen_change.specs.CellChanges.{cells_written}
+use Rattle.screen_change.specs.Written.{Written, begun, finished, with_cells}
+use Rattle.screen_change.proofs.RunLemmas.{cells_are_written}
 use Rattle.cell_views.specs.OpenZones.{is_kept_by}
 use Rattle.cell_edits.specs.VisibleCells.{VisibleCell, visible_cells, contents}
 use Rattle.cell_line.proofs.ChangeLemmas.{all_kept}

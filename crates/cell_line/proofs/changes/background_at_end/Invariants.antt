@@ -1,6 +1,6 @@
 use Rattle.std.proofs.Common.{◌≡◌}
 use Rattle.std.specs.Prelude.{fold}
-use Rattle.cell_change.specs.CellRuns.{background_at_end}
+use Rattle.screen_change.specs.CellRuns.{background_at_end}
 use Rattle.cell_views.specs.CellRefView.{cells_left}
 use Rattle.cell_line.specs.OpenChanges.{background_of}
 use Rattle.cell_edits.specs.VisibleCells.{visible_cells, contents}

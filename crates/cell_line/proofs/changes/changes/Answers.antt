@@ -12,8 +12,8 @@ returns-in_ok-changes-in-None c =
     c.in_ok-changes-in-None.ensures
     ∙ sym (row_of_blanks c.args.start.now c.in-Some.color (visible_cells row) (in_order 0 row) (sym c.in-Some.ensures) (sym c.in-None.ensures))
 
-pub returns-in_ok-changes-in-Some-last_beside : goal.returns-in_ok-changes-in-Some-last_beside
-returns-in_ok-changes-in-Some-last_beside c =
+pub returns-in_ok-changes-in-Some-last_non_blank : goal.returns-in_ok-changes-in-Some-last_non_blank
+returns-in_ok-changes-in-Some-last_non_blank c =
     let row : Row = stored_row c.args.cells in
-    c.in_ok-changes-in-Some-last_beside.ensures
-    ∙ sym (row_before_blanks c.args.start.now c.in-Some.color c.in-Some-last_beside.last (visible_cells row) (in_order 0 row) (sym c.in-Some.ensures) (sym c.in-Some-last_beside.ensures))
+    c.in_ok-changes-in-Some-last_non_blank.ensures
+    ∙ sym (row_before_blanks c.args.start.now c.in-Some.color c.in-Some-last_non_blank.last (visible_cells row) (in_order 0 row) (sym c.in-Some.ensures) (sym c.in-Some-last_non_blank.ensures))

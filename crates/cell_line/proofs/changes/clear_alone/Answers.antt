@@ -1,8 +1,8 @@
 use Rattle.std.proofs.Common.{◌++◌, ◌∙◌, List, ap}
-use Rattle.cell_change.specs.CellChanges.{clear_due}
-use Rattle.cell_change.specs.ChangeValue.{ChangeValue}
-use Rattle.cell_change.specs.Written.{Written, finished}
-use Rattle.cell_change.proofs.RunLemmas.{nothing_written}
+use Rattle.screen_change.specs.CellChanges.{clear_due}
+use Rattle.screen_change.specs.ChangeValue.{ChangeValue}
+use Rattle.screen_change.specs.Written.{Written, finished}
+use Rattle.screen_change.proofs.RunLemmas.{nothing_written}
 use Rattle.cell_line.proofs.changes.clear_alone.Goals as goal
 
 pub returns : goal.returns

@@ -1,6 +1,6 @@
 use Rattle.std.proofs.Common.{◌≡◌}
 use Rattle.std.specs.Prelude.{filter}
-use Rattle.cell_change.specs.Written.{with_cells}
+use Rattle.screen_change.specs.Written.{with_cells}
 use Rattle.cell_views.specs.CellRefView.{cells_left}
 use Rattle.cell_views.specs.OpenZones.{is_kept_by}
 use Rattle.cell_edits.specs.VisibleCells.{visible_cells, contents}

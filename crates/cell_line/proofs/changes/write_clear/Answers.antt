@@ -1,7 +1,7 @@
 use Rattle.std.proofs.Common.{◌++◌, ◌∙◌, List, sym, ap}
-use Rattle.cell_change.specs.ChangeValue.{ChangeValue, ClearToEndOfLine}
-use Rattle.cell_change.specs.Written.{finished}
-use Rattle.cell_change.proofs.RunLemmas.{change_written}
+use Rattle.screen_change.specs.ChangeValue.{ChangeValue, ClearToEndOfLine}
+use Rattle.screen_change.specs.Written.{finished}
+use Rattle.screen_change.proofs.RunLemmas.{change_written}
 use Rattle.cell_line.proofs.ChangeLemmas.{clear_of}
 use Rattle.cell_line.proofs.changes.write_clear.Goals as goal
 

@@ -1,8 +1,8 @@
 use Rattle.std.proofs.Common.{◌∙◌, ap, drop, arith}
-use Rattle.clustered_row.proofs.ItemLemmas.{removed_behind}
+use Rattle.clustered_row.proofs.ItemLemmas.{removed_after}
 use Rattle.clustered_row.proofs.items.move_down.Goals as goal
 
 pub returns-then-from-to-eq1-clause-behind : goal.returns-then-from-to-eq1-clause-behind
 returns-then-from-to-eq1-clause-behind g c =
     ap (drop c.args.to) c.remove-removed.ensures.items
-    ∙ removed_behind c.args.items.now.items c.args.to c.args.from (omega (arith, c.args.items.now.ok.0)) (omega arith)
+    ∙ removed_after c.args.items.now.items c.args.to c.args.from (omega (arith, c.args.items.now.ok.0)) (omega arith)

@@ -2,7 +2,7 @@ use Rattle.std.proofs.Common.{◌≡◌, ◌+◌, ◌∙◌, drop, ap, arith}
 use Rattle.std.specs.List.{prefix_len}
 use Rattle.std.proofs.lemmas.List.Sums.{prefix_len-le-length}
 use Rattle.text_clusters.specs.Plain.{is_printable}
-use Rattle.escape_framing.specs.Fronts.{is_body_byte}
+use Rattle.escape_framing.specs.Prefixes.{is_body_byte}
 use Rattle.escape_framing.proofs.RunLemmas.{body_run}
 use Rattle.escape_framing.proofs.bodies.body_len.Goals as goal
 

@@ -1,12 +1,15 @@
-use Rattle.std.proofs.Common.{ℕ, List, [], ◌∷◌, refl, false}
+use Rattle.std.proofs.Common.{◌≡◌, ℕ, List, [], ◌∷◌, refl, false}
 use Rattle.csi_codec.specs.Actions.{Action, csi_reading, spelling_of}
-use Rattle.csi_codec.specs.Fronts.{EachTextIsFront, whole_front}
-use Rattle.csi_codec.specs.Laws.{EachReadsBack}
+use Rattle.std.specs.List.{AllByRecursion}
+use Rattle.csi_codec.specs.Sequences.{csi_text}
+use Rattle.csi_codec.specs.Fronts.{HasFront, whole_front}
+use Rattle.csi_codec.specs.Laws.{ReadsBack, is_exempt}
 use Rattle.csi_codec.specs.declared.parameters.CsiParam.{CsiParam}
 use Rattle.escape_stream.specs.StreamWritable.{EachIsReadBack}
 use Rattle.escape_stream.proofs.encoding_laws.read_sequences_are_writable.Goals as goal
 
-each_back : (ts : List CsiParam) (final : ℕ) (actions : List Action) → EachReadsBack ts false final actions → EachTextIsFront actions → EachIsReadBack ts final actions
+each_back : (ts : List CsiParam) (final : ℕ) (actions : List Action) → AllByRecursion (λ a. is_exempt ts final a ≡ false → ReadsBack false a) actions
+    → AllByRecursion (λ a. HasFront (csi_text a) (whole_front (spelling_of a))) actions → EachIsReadBack ts final actions
 each_back ts final [] r f = tt
 each_back ts final (a ∷ others) r f = (λ e. record { front = whole_front (spelling_of a); stands = f.0; whole = refl; action = r.0 e }, each_back ts final others r.1 f.1)
 

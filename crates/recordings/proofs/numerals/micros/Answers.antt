@@ -1,13 +1,13 @@
 use Rattle.std.proofs.Common.{◌≡◌, ◌∙◌, ◌-◌, ◌++◌, ℕ, List, ap, length, min, refl, take}
-use Rattle.recordings.specs.Numerals.{greatest, micros, number_behind, zeros}
+use Rattle.recordings.specs.Numerals.{greatest, micros, number_after, zeros}
 use Rattle.recordings.proofs.NumeralLemmas.{joined_stopped}
 use Rattle.recordings.proofs.numerals.micros.Goals as goal
 
 -- a step, with what it was given put in
 step : (value : ℕ) (digits given : List ℕ) (count wanted result : ℕ) → digits ≡ take count given → count ≡ wanted
-    → result ≡ min (number_behind value digits) greatest → result ≡ min (number_behind value (take wanted given)) greatest
+    → result ≡ min (number_after value digits) greatest → result ≡ min (number_after value (take wanted given)) greatest
 step value digits given count wanted result cut same is =
-    is ∙ ap (λ ds. min (number_behind value ds) greatest) (cut ∙ ap (λ k. take k given) same)
+    is ∙ ap (λ ds. min (number_after value ds) greatest) (cut ∙ ap (λ k. take k given) same)
 
 pub returns : goal.returns
 unfolding micros
@@ -23,4 +23,4 @@ returns c =
     (step c.with_digits-value.result c.first-2.result.now fraction c.saturating_sub-behind.result (point - length whole) c.with_digits-value-2.result c.first-2.ensures behind c.with_digits-value-2.ensures)
     (step c.with_digits-value-2.result c.first-3.result.now zeros c.saturating_sub.result (point - length whole - length fraction) c.with_digits.result c.first-3.ensures last c.with_digits.ensures) in
     in_turn
-    ∙ (λ i. min (number_behind 0 (take (c.requires.point i) (c.whole-whole.ensures.value i ++ (c.fraction-fraction.ensures.value i ++ zeros)))) greatest)
+    ∙ (λ i. min (number_after 0 (take (c.requires.point i) (c.whole-whole.ensures.value i ++ (c.fraction-fraction.ensures.value i ++ zeros)))) greatest)

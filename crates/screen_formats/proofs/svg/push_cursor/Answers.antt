@@ -7,5 +7,5 @@ use Rattle.screen_formats.proofs.svg.push_cursor.Goals as goal
 pub returns-then-eq : goal.returns-then-eq
 unfolding svg_cursor
 returns-then-eq g c =
-    let hidden : c.args.surface.now.canvas.visible ≡ false = search rules in
+    let hidden : c.args.surface.now.grid.visible ≡ false = search rules in
     rw hidden (written_none Xml _)

@@ -5,9 +5,9 @@ use Rattle.screen_repaint.specs.Ends.{no_cells, with_cell}
 use Rattle.screen_repaint.proofs.EndLemmas.{visible_count}
 use Rattle.screen_repaint.proofs.ends.row_end.Goals as goal
 
-pub loop-cell-init : goal.loop-cell-init
-loop-cell-init c =
-    let cells : cells_left c.into_iter-cell-iterator.result ≡ visible_cells c.args.line.now.columns = search rules in
+pub loop-cells-init : goal.loop-cells-init
+loop-cells-init c =
+    let cells : cells_left c.visible_cells-cells.result ≡ visible_cells c.args.line.now.columns = search rules in
     let few = visible_count 0 c.args.line.now.columns in
     let len : c.len-len.result ≡ length c.args.line.now.columns = c.len-len.ensures in (
       ap (λ (vs : List VisibleCell). fold with_cell no_cells (contents vs)) cells,

@@ -6,7 +6,10 @@ use Rattle.screen_repaint.specs.Repaint.{row_cells}
 use Rattle.screen_repaint.proofs.ends.row_end.Given as goal
 
 -- the end so far, and then what is left, are the whole; and there are no more cells than columns
-abbrev pub invariant-loop-cell : goal.invariant-loop-cell
-invariant-loop-cell l =
-    (fold with_cell l.end (contents (cells_left l.cell-iterator)) ≡ end_of (row_cells l.line.columns)) ×
-    (l.end.cells + length (cells_left l.cell-iterator) ≤ l.len)
+abbrev pub invariant-loop-cells : goal.invariant-loop-cells
+invariant-loop-cells l =
+    (fold with_cell l.end (contents (cells_left l.cells)) ≡ end_of (row_cells l.line.columns)) ×
+    (l.end.cells + length (cells_left l.cells) ≤ l.len)
+
+abbrev pub decreases-loop-cells : goal.decreases-loop-cells
+decreases-loop-cells l = length (cells_left l.cells)

@@ -1,8 +1,8 @@
 use Rattle.std.proofs.Common.{rules, ◌≡◌, ◌<◌, ap, sym, ◌∙◌, arith}
 use Rattle.std.specs.Option.{option_map}
 use Rattle.cell_base.specs.declared.color.ColorAttribute.{ColorAttribute}
-use Rattle.cell_change.specs.CellChanges.{clear_due}
-use Rattle.cell_change.specs.CellRuns.{background_at_end}
+use Rattle.screen_change.specs.CellChanges.{clear_due}
+use Rattle.screen_change.specs.CellRuns.{background_at_end}
 use Rattle.screen_repaint.specs.Ends.{End, end_of}
 use Rattle.screen_repaint.specs.Repaint.{are_some, go_with_blanks}
 use Rattle.screen_repaint.proofs.PaintLemmas.{painted_front, nothing_painted, blanks_painted}

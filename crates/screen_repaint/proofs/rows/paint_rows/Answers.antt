@@ -1,8 +1,8 @@
 use Rattle.std.proofs.Common.{rules, ◌≡◌, ◌-◌, ◌≤◌, Bool, true, List, ◌∷◌, length, ap, subst, sym, ◌∙◌, arith}
 use Rattle.std.specs.Option.{option_map}
 use Rattle.cell_base.specs.CellContent.{CellContent}
-use Rattle.cell_change.specs.CellRuns.{background_at_end}
-use Rattle.cell_change.specs.Written.{Written}
+use Rattle.screen_change.specs.CellRuns.{background_at_end}
+use Rattle.screen_change.specs.Written.{Written}
 use Rattle.cell_line.specs.LineContent.{LineContent}
 use Rattle.screen_repaint.specs.Ends.{End, end_of}
 use Rattle.screen_repaint.specs.PaintedRows.{IsTail, LeadsOn, rest_of, moves, rows_of, with_changes}

@@ -1,8 +1,8 @@
 use Rattle.std.proofs.Common.{◌≡◌, ap, ◌∙◌}
 use Rattle.std.specs.Option.{option_map}
 use Rattle.cell_base.specs.declared.color.ColorAttribute.{ColorAttribute}
-use Rattle.cell_change.specs.Written.{with_change}
-use Rattle.cell_change.specs.ChangeValue.{ClearToEndOfLine, ClearToEndOfScreen}
+use Rattle.screen_change.specs.Written.{with_change}
+use Rattle.screen_change.specs.ChangeValue.{ClearToEndOfLine, ClearToEndOfScreen}
 use Rattle.screen_repaint.proofs.PaintLemmas.{cleared_too, cleared_alone}
 use Rattle.screen_repaint.proofs.rows.write_clear.Goals as goal
 

@@ -1,7 +1,7 @@
 use Rattle.std.proofs.Common.{◌≡◌, ℕ, List, take, ap, sym, ◌∙◌}
 use Rattle.std.specs.Option.{option_map}
 use Rattle.cell_base.specs.CellContent.{CellContent}
-use Rattle.cell_change.specs.Written.{Written, with_cells}
+use Rattle.screen_change.specs.Written.{Written, with_cells}
 use Rattle.screen_repaint.specs.Ends.{End, end_of}
 use Rattle.screen_repaint.specs.PaintedRows.{ended, with_changes}
 use Rattle.screen_repaint.specs.Repaint.{row_cells, end_cleared}

@@ -1,5 +1,5 @@
 use Rattle.std.proofs.Common.{[], ◌∷◌, ap, ◌∙◌}
-use Rattle.cell_change.specs.ValueOf.{value_of}
+use Rattle.screen_change.specs.ValueOf.{value_of}
 use Rattle.screen_repaint.specs.PaintedRows.{with_changes}
 use Rattle.screen_repaint.proofs.PaintLemmas.{ended_is, one_change}
 use Rattle.screen_repaint.proofs.screen.write.Goals as goal

@@ -1,8 +1,8 @@
-use Rattle.shot.proofs.CutLemmas.{behind_is, until_is}
+use Rattle.shot.proofs.CutLemmas.{after_is, until_is}
 use Rattle.shot.proofs.laws.events_are_cut_at_a_time.Goals as goal
 
 pub returns-clause-until : goal.returns-clause-until
 returns-clause-until c time events from = until_is time 0 events from
 
 pub returns-clause-behind : goal.returns-clause-behind
-returns-clause-behind c time events from = behind_is time 0 events from
+returns-clause-behind c time events from = after_is time 0 events from

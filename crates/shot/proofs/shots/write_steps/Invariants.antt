@@ -1,7 +1,7 @@
 use Rattle.std.proofs.Common.{◌≡◌, ◌+◌, ◌*◌, map}
 use Rattle.recordings.specs.EventView.{event_of}
 use Rattle.shot.specs.Writing.{IsWriting}
-use Rattle.terminal.specs.Terminal.{StandsAt}
+use Rattle.terminal.specs.Headline.{StandsAt}
 use Rattle.terminal_table.specs.Meaning.{View}
 use Rattle.shot.proofs.shots.write_steps.Given as goal
 

@@ -1,6 +1,6 @@
 use Rattle.std.proofs.Common.{Result, Ok, Err, OnOk, OnErr}
 use Rattle.std.proofs.lemmas.Result.{err_from_is_err_and}
-use Rattle.terminal_update.specs.Updates.{new_standing}
+use Rattle.terminal_viewers.specs.Updates.{new_standing}
 use Rattle.terminal.proofs.SendLemmas.{new_all, new_part, new_past, nothing_sent}
 use Rattle.terminal.proofs.updates.run.Goals as goal
 

@@ -5,7 +5,8 @@ use Rattle.terminal_steps.specs.declared.error.TerminalError.{TerminalError}
 use Rattle.terminal_steps.specs.declared.error.TerminalError.TheVariants.{Number}
 use Rattle.terminal.specs.declared.error.RunError.{RunError}
 use Rattle.terminal.specs.declared.error.RunError.TheVariants.{Terminal}
-use Rattle.terminal.specs.Terminal.{GoesBy, NeedsNumber}
+use Rattle.terminal.specs.Headline.{GoesBy}
+use Rattle.terminal.specs.Refusals.{NeedsNumber}
 use Rattle.terminal.specs.Terminal.{Terminal as Value}
 use Rattle.terminal.specs.Watched.{Watched}
 use Rattle.terminal_table.specs.History.{Piece}
@@ -131,7 +132,7 @@ loop-preserved g c =
             ends_writes = ap (λ (x : Watched g.row.T.Denot). x.has_gone_on) w.writer-is ∙ w.in_ok-number.ensures.ends ∙ c.loop.invariant.ends_writes;
             writer = ap (λ (x : Watched g.row.T.Denot). x.has_failed) w.writer-is ∙ never _ (λ h. let wrong = w.in_ok-number.ensures.write.1 h in cc);
             sound = ap (λ (t : Value g.row.W.Denot). t.is_failed) w.terminal-is ∙ w.in_ok-number.ensures.sound;
-            widths = ap (λ (t : Value g.row.W.Denot). t.surface.canvas.widths) w.terminal-is ∙ w.in_ok-number.ensures.widths ∙ c.in_ok-feed.ensures.done.widths ∙ c.loop.invariant.widths;
+            widths = ap (λ (t : Value g.row.W.Denot). t.surface.grid.widths) w.terminal-is ∙ w.in_ok-number.ensures.widths ∙ c.in_ok-feed.ensures.done.widths ∙ c.loop.invariant.widths;
             room = room;
             some = subst (λ n. 0 < n) (sym w.left-is) c.requires.every;
             sends = subst (λ (T : Type 0). T) (sym (λ i. SendsOn (λ w. g.W.Widths.width_of w) c.args.every c.args.terminal.now (g.R.Read.remaining c.args.reader.now.inner) (g.R.Read.remaining c.read.new.self.inner) (g.T.Write.contents c.args.writer.now.inner) (g.T.Write.contents (w.writer-is i).inner) (w.terminal-is i) (w.number-is i) (w.left-is i)))
@@ -150,7 +151,7 @@ loop-preserved g c =
             ends_writes = ap (λ (x : Watched g.row.T.Denot). x.has_gone_on) w.writer-is ∙ c.loop.invariant.ends_writes;
             writer = ap (λ (x : Watched g.row.T.Denot). x.has_failed) w.writer-is ∙ c.loop.invariant.writer;
             sound = ap (λ (t : Value g.row.W.Denot). t.is_failed) w.terminal-is ∙ ap (λ (t : Value g.row.W.Denot). t.is_failed) w.forget.ensures.lighter.dropped ∙ w.forget.ensures.lighter.goes.sound;
-            widths = ap (λ (t : Value g.row.W.Denot). t.surface.canvas.widths) w.terminal-is ∙ ap (λ (t : Value g.row.W.Denot). t.surface.canvas.widths) w.forget.ensures.lighter.dropped ∙ w.forget.ensures.lighter.goes.widths
+            widths = ap (λ (t : Value g.row.W.Denot). t.surface.grid.widths) w.terminal-is ∙ ap (λ (t : Value g.row.W.Denot). t.surface.grid.widths) w.forget.ensures.lighter.dropped ∙ w.forget.ensures.lighter.goes.widths
                 ∙ c.in_ok-feed.ensures.done.widths ∙ c.loop.invariant.widths;
             room = room;
             some = subst (λ n. 0 < n) (sym w.left-is) some;

@@ -12,7 +12,7 @@ invariant-loop g l = record {
   reads : l.reader.reads ≡ l.counter;
   writer : l.writer.has_failed ≡ false;
   sound : l.terminal.is_failed ≡ false;
-  widths : l.terminal.surface.canvas.widths ≡ l.initial.terminal.surface.canvas.widths;
+  widths : l.terminal.surface.grid.widths ≡ l.initial.terminal.surface.grid.widths;
   room : length l.buffer ≡ 4096;
   some : 0 < l.left;
   sends : SendsOn (λ w. g.W.Widths.width_of w) l.every l.initial.terminal (g.R.Read.remaining l.initial.reader.inner) (g.R.Read.remaining l.reader.inner) (g.T.Write.contents l.initial.writer.inner) (g.T.Write.contents l.writer.inner) l.terminal l.number l.left;

@@ -9,4 +9,4 @@ returns-clause-history g c = λ shown number now history sound sizes lawful with
 
 pub returns-clause-seen : goal.returns-clause-seen
 returns-clause-seen g c = λ sound.
-    c.viewers_go_on_showing.ensures.seen (g.W.Widths.width_of c.args.terminal.now.surface.canvas.widths) _ c.args.terminal.now.surface.log (counted_of (λ w. g.W.Widths.width_of w) c.args.terminal.now c.surface.result.now c.surface.ensures c.surfaces_stay_lawful.ensures.counted)
+    c.viewers_go_on_showing.ensures.seen (g.W.Widths.width_of c.args.terminal.now.surface.grid.widths) _ c.args.terminal.now.surface.log (counted_of (λ w. g.W.Widths.width_of w) c.args.terminal.now c.surface.result.now c.surface.ensures c.surfaces_stay_lawful.ensures.counted)

@@ -3,7 +3,7 @@ use denote.Shadow.{shadow}
 use denote.Text.{Utf8}
 use Rattle.std.proofs.Common.{◌≡◌, ◌++◌, length}
 use Rattle.std.specs.List.{flat_map}
-use Rattle.screen_canvas.specs.Parts.{IsAtControl}
+use Rattle.screen_effects.specs.Parts.{IsAtControl}
 use Rattle.screen_effects.specs.Strokes.{text_parts}
 use Rattle.terminal_render.specs.Texts.{part_actions}
 use Rattle.terminal_render.proofs.texts.push_text.Given as goal

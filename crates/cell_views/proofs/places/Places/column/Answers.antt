@@ -4,7 +4,7 @@ use Rattle.std.specs.List.{range_with_len}
 use Rattle.std.proofs.lemmas.List.{length-append, length-map}
 use Rattle.std.proofs.lemmas.List.FromFn.{length-range_with_len, get_or-range_with_len}
 use Rattle.cell_views.specs.declared.places.Place.{Place}
-use Rattle.cell_views.proofs.PlaceLemmas.{at_counted, at_behind}
+use Rattle.cell_views.proofs.PlaceLemmas.{at_counted, at_after}
 use Rattle.cell_views.proofs.places.Places.column.Goals as goal
 
 pub index-requires : goal.index-requires
@@ -25,4 +25,4 @@ returns-else-byte-self c =
     let front = range_with_len p.first p.counted in
     let n = length-range_with_len p.first p.counted in
     let within : c.args.byte - p.counted < length p.behind.items = omega (arith, c.requires, c.if-byte-self.false, length-append front (map (λ b. b.column) p.behind.items), n, length-map p.behind.items (λ b. b.column)) in
-    ap (λ (b : Place). b.column) c.index.ensures ∙ sym (at_behind (λ b. b.column) front p.behind.items c.args.byte p.counted c.index.result.now n c.if-byte-self.false within)
+    ap (λ (b : Place). b.column) c.index.ensures ∙ sym (at_after (λ b. b.column) front p.behind.items c.args.byte p.counted c.index.result.now n c.if-byte-self.false within)

@@ -4,7 +4,7 @@ use Rattle.std.proofs.lemmas.Bool.Decides.{nat_tests}
 use Rattle.std.specs.List.{range_with_len}
 use Rattle.std.proofs.lemmas.List.{length-append}
 use Rattle.cell_views.specs.Places.{columns_in}
-use Rattle.cell_views.proofs.PlaceLemmas.{behind_more, range_more, counted_more}
+use Rattle.cell_views.proofs.PlaceLemmas.{after_more, range_more, counted_more}
 use Rattle.cell_views.proofs.places.Places.push.Goals as goal
 
 pub returns-then-is_counted-clause-columns : goal.returns-then-is_counted-clause-columns
@@ -23,9 +23,9 @@ returns-then-is_counted-clause-column_count c =
 pub returns-clause-columns : goal.returns-clause-columns
 returns-clause-columns c =
     let p = c.args.self.now in
-    behind_more (λ b. b.column) (range_with_len p.first p.counted) p.behind.items _ (length c.args.text.now) (record { column = c.args.column; width = c.args.width }) c.in_ok-push_copies.ensures.items
+    after_more (λ b. b.column) (range_with_len p.first p.counted) p.behind.items _ (length c.args.text.now) (record { column = c.args.column; width = c.args.width }) c.in_ok-push_copies.ensures.items
 
 pub returns-clause-widths : goal.returns-clause-widths
 returns-clause-widths c =
     let p = c.args.self.now in
-    behind_more (λ b. b.width) (replicate p.counted 1) p.behind.items _ (length c.args.text.now) (record { column = c.args.column; width = c.args.width }) c.in_ok-push_copies.ensures.items
+    after_more (λ b. b.width) (replicate p.counted 1) p.behind.items _ (length c.args.text.now) (record { column = c.args.column; width = c.args.width }) c.in_ok-push_copies.ensures.items

@@ -1,6 +1,6 @@
 use Rattle.std.proofs.Common.{◌<◌, ◌∙◌, ◌++◌, ap, arith}
 use Rattle.cell_edits.specs.VisibleCells.{visible_from}
-use Rattle.clustered_row.specs.VisibleColumns.{is_halved}
+use Rattle.clustered_row.specs.VisibleColumns.{is_split}
 use Rattle.cell_views.specs.Region.{inner_start}
 use Rattle.cell_views.proofs.EdgeLemmas.{start_clean, end_clean, start_before, in_order, end_within}
 use Rattle.cell_views.proofs.EdgeLemmas.{inner_part, region_parts}
@@ -28,13 +28,13 @@ pub cells_between-cells-requires-clause-first : goal.cells_between-cells-require
 cells_between-cells-requires-clause-first c =
     let row = c.args.row.now in
     let from = c.start_edge-first.ensures.column in
-    ap (λ n. is_halved n row) from ∙ start_clean c.args.start row c.is_whole.ensures
+    ap (λ n. is_split n row) from ∙ start_clean c.args.start row c.is_whole.ensures
 
 pub cells_between-cells-requires-clause-last : goal.cells_between-cells-requires-clause-last
 cells_between-cells-requires-clause-last c =
     let row = c.args.row.now in
     let to = c.end_edge-last.ensures.column in
-    ap (λ n. is_halved n row) to ∙ end_clean c.args.end row c.is_whole.ensures (omega arith)
+    ap (λ n. is_split n row) to ∙ end_clean c.args.end row c.is_whole.ensures (omega arith)
 
 pub returns : goal.returns
 returns c =

@@ -1,5 +1,5 @@
 use Rattle.std.proofs.Common.{sym, subst}
-use Rattle.cell_rows.specs.WholeRow.{IsWhole}
+use Rattle.cell_base.specs.WholeRow.{IsWhole}
 use Rattle.cell_edits.proofs.RowLaws.{whole_cells}
 use Rattle.cell_views.specs.StoredCells.{stored_row}
 use Rattle.cell_views.proofs.stored_cells.StoredCells.is_whole.Goals as goal

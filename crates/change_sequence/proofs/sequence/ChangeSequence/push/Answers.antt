@@ -4,7 +4,7 @@ use Rattle.std.specs.Prelude.{ℤ}
 use Rattle.std.specs.Int.{int_max, int_min}
 use Rattle.std.proofs.lemmas.Int.{to_z-of_z}
 use Rattle.std.proofs.lemmas.List.{map-append}
-use Rattle.cell_change.specs.ValueOf.{value_of}
+use Rattle.screen_change.specs.ValueOf.{value_of}
 use Rattle.change_sequence.specs.Sequence.{Sequence, change_moved, with_change}
 use Rattle.change_sequence.specs.SequenceView.{sequence_of}
 use Rattle.change_sequence.proofs.PushLemmas.{drawn_pushed, other_pushed}

@@ -1,6 +1,6 @@
 use Rattle.std.proofs.Common.{◌≡◌, map}
 use Rattle.std.specs.Vec.Iter.{into_iter_items}
-use Rattle.cell_change.specs.ValueOf.{value_of}
+use Rattle.screen_change.specs.ValueOf.{value_of}
 use Rattle.change_sequence.proofs.AddLemmas.{HasAdded}
 use Rattle.change_sequence.proofs.sequence.ChangeSequence.push_all.Given as goal
 

@@ -1,7 +1,7 @@
 use Rattle.std.proofs.Common.{◌∙◌, ap, sym, drop, take, List, arith}
 use Rattle.cell_base.specs.Row.{Column}
 use Rattle.clustered_row.specs.TextsShown.{faces}
-use Rattle.clustered_row.specs.VisibleColumns.{is_halved}
+use Rattle.clustered_row.specs.VisibleColumns.{is_split}
 use Rattle.clustered_row.specs.VisibleRuns.{attributes_left}
 use Rattle.clustered_row.specs.VisibleTexts.{faces_left}
 use Rattle.clustered_row.proofs.AskedLemmas.{halved_face}
@@ -17,11 +17,11 @@ between-requires-clause-within c =
 
 pub between-requires-clause-first : goal.between-requires-clause-first
 between-requires-clause-first c =
-    sym (halved_face (faces c.self.inside.texts) c.self.inside.runs c.args.from (sym c.self.invariant.even)) ∙ ap (is_halved c.args.from) c.self.view_is ∙ c.requires.first
+    sym (halved_face (faces c.self.inside.texts) c.self.inside.runs c.args.from (sym c.self.invariant.even)) ∙ ap (is_split c.args.from) c.self.view_is ∙ c.requires.first
 
 pub between-requires-clause-last : goal.between-requires-clause-last
 between-requires-clause-last c =
-    sym (halved_face (faces c.self.inside.texts) c.self.inside.runs c.args.to (sym c.self.invariant.even)) ∙ ap (is_halved c.args.to) c.self.view_is ∙ c.requires.last
+    sym (halved_face (faces c.self.inside.texts) c.self.inside.runs c.args.to (sym c.self.invariant.even)) ∙ ap (is_split c.args.to) c.self.view_is ∙ c.requires.last
 
 pub left_from-requires : goal.left_from-requires
 left_from-requires c =

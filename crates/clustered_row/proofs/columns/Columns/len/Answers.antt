@@ -1,5 +1,5 @@
 use Rattle.std.proofs.Common.{◌∙◌, subst}
-use Rattle.cell_rows.specs.WholeRow.{IsWhole}
+use Rattle.cell_base.specs.WholeRow.{IsWhole}
 use Rattle.clustered_row.specs.TextsShown.{faces}
 use Rattle.clustered_row.proofs.ColumnLemmas.{counted}
 use Rattle.clustered_row.proofs.columns.Columns.len.Goals as goal

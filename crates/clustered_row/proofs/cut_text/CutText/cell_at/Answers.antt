@@ -1,7 +1,7 @@
 use Rattle.std.proofs.Common.{◌+◌, ◌-◌, ◌<◌, length, arith, ap, sym, ◌∙◌}
 use Rattle.cell_base.specs.CellContent.{shows_as_space}
 use Rattle.clustered_row.specs.Faces.{Own}
-use Rattle.clustered_row.proofs.TextLemmas.{face_behind, plain_kept, plain_utf8}
+use Rattle.clustered_row.proofs.TextLemmas.{face_after, plain_kept, plain_utf8}
 use Rattle.clustered_row.proofs.StepLemmas.{sized_of, behind, plain_within}
 use Rattle.clustered_row.proofs.cut_text.CutText.cell_at.Goals as goal
 
@@ -22,7 +22,7 @@ returns-then-self-column c =
     let t = c.args.self.now in
     let p = behind t.text.items t.sizes.items t.sized_bytes t.sized_columns c.plain_byte-from.result c.args.column (sized_of t) c.plain_byte-from.ensures.behind c.plain_byte-from.ensures.within c.plain_byte-from.ensures.column in
     let l : c.plain_byte-from.result < length t.text.items = let k = plain_within t.text.items t.sizes.items t.sized_bytes t.sized_columns c.plain_byte-from.result c.args.column 1 (sized_of t) c.plain_byte-from.ensures.column (omega arith) in omega (arith, k) in
-    face_behind t.text.items t.sizes.items c.plain_byte-from.result c.args.column (c.plain_byte-from.result + 1 - c.plain_byte-from.result) p l (omega arith)
+    face_after t.text.items t.sizes.items c.plain_byte-from.result c.args.column (c.plain_byte-from.result + 1 - c.plain_byte-from.result) p l (omega arith)
     ∙ ap Own (sym c.part.ensures)
 
 pub invariant_of-result : goal.invariant_of-result

@@ -1,4 +1,4 @@
-use Rattle.std.proofs.Common.{◌≡◌, ◌∙◌, List, ap, sym, subst, arith, take, length, ℕ, ◌+◌}
+use Rattle.std.proofs.Common.{◌≡◌, ◌∙◌, List, ap, sym, arith, take, length, ℕ, ◌+◌}
 use Rattle.clustered_row.specs.declared.cell_size.CellSize.{CellSize}
 use Rattle.clustered_row.specs.Place.{IsPlace}
 use Rattle.clustered_row.proofs.BetweenLemmas.{before_sized}
@@ -15,7 +15,7 @@ returns-then-place-max-clause-other_place c =
     let count = c.equal_sizes-count.result in
     let sizes : take count cut.sizes.items ≡ take count other.sizes.items =
     ap (λ (s : List CellSize). take count s) (sym c.deref-3.ensures.value) ∙ c.equal_sizes-count.ensures.equal ∙ ap (λ (s : List CellSize). take count s) c.deref-4.ensures.value in
-    let here : IsPlace cut.sizes.items place = subst (λ (s : List CellSize). IsPlace s place) c.deref-5.ensures.value found.place in
+    let here : IsPlace cut.sizes.items place = found.place in
     let long = ap (λ (s : List CellSize). length s) c.deref-4.ensures.value in
     let most = c.equal_sizes-count.ensures.other_within in
     before_sized other.text.items other.sizes.items other.sized_bytes other.sized_columns place (sized_of other)

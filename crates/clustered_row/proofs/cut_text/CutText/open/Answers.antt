@@ -14,14 +14,14 @@ returns-clause-faces c =
     let t = c.args.self.now in
     let less : c.place-place.result.columns < c.args.at = omega (arith, c.place-place.ensures.columns, c.if-place-at.false) in
     let half = c.place-place.ensures.cell a_size less in
-    c.halve.ensures.faces ∙ ap (λ n. opened n (shown t)) (sym half.column)
+    c.split_wide_cell.ensures.faces ∙ ap (λ n. opened n (shown t)) (sym half.column)
 
 pub returns-clause-place : goal.returns-clause-place
 returns-clause-place c =
     let less : c.place-place.result.columns < c.args.at = omega (arith, c.place-place.ensures.columns, c.if-place-at.false) in
     let half = c.place-place.ensures.cell a_size less in
     let p = c.place-place.result in
-    c.halve.ensures.place (record { index = p.index + 1; bytes = p.bytes + 1; columns = c.args.at }) refl refl half.column
+    c.split_wide_cell.ensures.place (record { index = p.index + 1; bytes = p.bytes + 1; columns = c.args.at }) refl refl half.column
 
 pub overflow_add-result-2 : goal.overflow_add-result-2
 overflow_add-result-2 c =

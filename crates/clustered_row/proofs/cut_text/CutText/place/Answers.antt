@@ -2,7 +2,7 @@ use Rattle.std.proofs.Common.{arith, ap}
 use Rattle.std.proofs.Common.{subst, List}
 use Rattle.clustered_row.specs.declared.cell_size.CellSize.{CellSize}
 use Rattle.clustered_row.specs.Sizes.{columns_of}
-use Rattle.clustered_row.specs.Place.{IsHalved}
+use Rattle.clustered_row.specs.Place.{IsSplit}
 use Rattle.clustered_row.proofs.SizeLemmas.{columns_few}
 use Rattle.clustered_row.proofs.cut_text.CutText.place.Goals as goal
 
@@ -15,8 +15,8 @@ find-requires-clause-columns c =
 
 pub returns-clause-cell : goal.returns-clause-cell
 returns-clause-cell c d h =
-    subst (λ (sizes : List CellSize). IsHalved sizes c.find.result c.args.at d) c.deref-2.ensures.value (c.find.ensures.cell d h)
+    subst (λ (sizes : List CellSize). IsSplit sizes c.find.result c.args.at d) c.deref-2.ensures.value (c.find.ensures.cell d h)
 
 pub returns-then-self-at-clause-cell : goal.returns-then-self-at-clause-cell
 returns-then-self-at-clause-cell c d h =
-    subst (λ (sizes : List CellSize). IsHalved sizes c.find_back.result c.args.at d) c.deref.ensures.value (c.find_back.ensures.cell d h)
+    subst (λ (sizes : List CellSize). IsSplit sizes c.find_back.result c.args.at d) c.deref.ensures.value (c.find_back.ensures.cell d h)

@@ -1,14 +1,7 @@
-use Rattle.std.proofs.Common.{arith}
-use Rattle.clustered_row.proofs.LeftLemmas.{first_column, some_run, run_has}
+use Rattle.clustered_row.proofs.PlainLemmas.{some_left}
 use Rattle.clustered_row.proofs.runs_left.RunsLeft.pass.Goals as goal
 
-pub overflow_add-used : goal.overflow_add-used
-overflow_add-used c =
+pub pass_columns-requires-clause-within : goal.pass_columns-requires-clause-within
+pass_columns-requires-clause-within c =
     let left = c.args.self.now in
-    let more = run_has left.used left.runs.now c.index-self-0.result (some_run left.used left.runs.now c.requires) left.begun in
-    omega (arith, more)
-
-pub returns-then-used-count : goal.returns-then-used-count
-returns-then-used-count c =
-    let left = c.args.self.now in
-    first_column left.used left.runs.now c.index-self-0.result (some_run left.used left.runs.now c.requires) left.begun
+    some_left left.used left.runs.now c.requires left.begun

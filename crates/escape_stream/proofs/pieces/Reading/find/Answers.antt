@@ -3,7 +3,7 @@ use Rattle.std.specs.Prelude.{Option}
 use Rattle.escape_stream.specs.declared.action.Action.{Action}
 use Rattle.escape_stream.specs.ParserShown.{Parsing}
 use Rattle.escape_stream.specs.Sequences.{Gives, actions_left}
-use Rattle.escape_stream.proofs.AdvanceLemmas.{gives_action, gives_none, sequence_over, found_behind}
+use Rattle.escape_stream.proofs.AdvanceLemmas.{gives_action, gives_none, sequence_over, found_after}
 use Rattle.escape_stream.proofs.pieces.Reading.find.Goals as goal
 
 pub returns-in-Some : goal.returns-in-Some
@@ -46,6 +46,6 @@ returns-then-is_some c =
       same = r.same ∙ n.others.same ∙ i.same;
       stage = r.stage ∙ n.others.stage ∙ i.stage;
       failed = r.failed;
-      gives = found_behind c.args.self.now c.next_of_sequence.new.self c.read.new.self c.in_ok-piece.piece over r.finds (sym c.is_some.ensures ∙ c.if-is_some.true);
+      gives = found_after c.args.self.now c.next_of_sequence.new.self c.read.new.self c.in_ok-piece.piece over r.finds (sym c.is_some.ensures ∙ c.if-is_some.true);
       memory = tt;
     }

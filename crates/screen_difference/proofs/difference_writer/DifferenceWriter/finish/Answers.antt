@@ -1,5 +1,5 @@
 use Rattle.std.proofs.Common.{◌∙◌, ap, refl}
-use Rattle.cell_change.specs.Written.{finished}
+use Rattle.screen_change.specs.Written.{finished}
 use Rattle.screen_difference.specs.Drawing.{Drawing, new_drawing}
 use Rattle.screen_difference.proofs.StretchLemmas.{pushed_is_difference}
 use Rattle.screen_difference.proofs.difference_writer.DifferenceWriter.finish.Goals as goal

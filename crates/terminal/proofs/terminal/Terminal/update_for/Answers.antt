@@ -1,7 +1,7 @@
 use Rattle.std.proofs.Common.{◌≡◌, IfOk, subst}
 use Rattle.cell_surface.specs.Surface.{Surface, shown_by}
 use Rattle.terminal.specs.Terminal.{Terminal, state_in}
-use Rattle.terminal_update.specs.Update.{update_of}
+use Rattle.terminal_viewers.specs.Update.{update_of}
 use Rattle.terminal.proofs.terminal.Terminal.update_for.Goals as goal
 
 pub returns : goal.returns

@@ -1,8 +1,8 @@
 -- the actions so far are those of the front
 use Rattle.std.proofs.Common.{◌≡◌, map, take}
 use Rattle.escape_stream.specs.StreamActionView.{value_of}
-use Rattle.terminal_render.specs.SentView.{sent_values}
+use Rattle.terminal_render.specs.BorrowedActionView.{borrowed_values}
 use Rattle.terminal_render.proofs.actions.Actions.to_vec.Given as goal
 
 abbrev pub invariant-loop-sent : goal.invariant-loop-sent
-invariant-loop-sent l = map value_of l.actions.items ≡ sent_values (take l.sent-index l.sent-items)
+invariant-loop-sent l = map value_of l.actions.items ≡ borrowed_values (take l.sent-index l.sent-items)

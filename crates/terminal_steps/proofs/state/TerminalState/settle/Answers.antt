@@ -2,7 +2,7 @@ use Rattle.std.proofs.Common.{rules, refl, subst, ◌∷◌, []}
 use Rattle.std.specs.String.{string_bytes}
 use Rattle.cell_surface.specs.Surface.{Surface}
 use Rattle.terminal_table.specs.Changes.{run_change}
-use Rattle.terminal_steps.specs.Adding.{AddsAll}
+use Rattle.terminal_steps.specs.Additions.{AddsAll}
 use Rattle.terminal_steps.proofs.StateLemmas.{settled_had}
 use Rattle.terminal_steps.proofs.state.TerminalState.settle.Goals as goal
 

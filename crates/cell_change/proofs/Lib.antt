@@ -1,3 +1,0 @@
-pub mod EqualChanges
-pub mod RunLemmas
-pub mod TextLemmas

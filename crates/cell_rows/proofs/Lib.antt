@@ -1,2 +1,0 @@
-pub mod LawfulScreens
-pub mod RowLemmas

@@ -1,4 +1,0 @@
-pub mod DueLemmas
-pub mod LogLemmas
-pub mod SpareLemmas
-pub mod StoredLemmas

@@ -1,4 +1,0 @@
-pub mod Log
-pub mod LogSteps
-pub mod LogView
-pub mod SpareView

@@ -1,9 +1,0 @@
-//! Logs of numbered changes: the definitions, a log of bounded length, and the law that it answers as
-//! one that keeps all.
-#![tactic(auto)]
-
-mod change_log;
-pub mod laws;
-mod spare_texts;
-
-pub use change_log::ChangeLog;

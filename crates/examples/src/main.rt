@@ -1,0 +1,37 @@
+//! Examples of the library. Each module is one, and prints a section.
+#![tactic(auto)]
+
+mod recorder;
+mod screen_test;
+mod viewers;
+mod widths;
+
+use std::alloc::Global;
+use std::process::ExitCode;
+use terminal::{RunError, TerminalError};
+
+// The sections of all examples.
+fn sections(alloc: Global) -> Result<String, TerminalError> {
+    let mut page = String::new(alloc);
+    screen_test::example(alloc, &mut page)?;
+    recorder::example(alloc, &mut page)?;
+    viewers::example(alloc, &mut page)?;
+    widths::example(alloc, &mut page)?;
+    Ok(page)
+}
+
+fn run(rt: &(impl Print + AllocGlobal)) -> Result<(), RunError> {
+    let page = sections(rt.alloc())?;
+    print!(rt; "{page}").map_err(|_| RunError::Write)
+}
+
+fn main(rt: HostRuntime) -> ExitCode {
+    match run(&rt) {
+        Ok(()) => ExitCode::SUCCESS,
+        Err(error) => {
+            // That this can't be written either is dropped.
+            let _ = eprintln!(rt; "examples: {error}");
+            ExitCode::FAILURE
+        }
+    }
+}

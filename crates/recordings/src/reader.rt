@@ -1,0 +1,169 @@
+//! A recording that is read line by line.
+ghost use Rattle.std.specs.Prelude.{◌≡◌, IfOk, OnOk, Ok, Some, option_map};
+ghost use Rattle.json.specs.Value.{value_view};
+ghost use Rattle.recordings.specs.Events.{json_of};
+ghost use Rattle.recordings.specs.EventView.{act_of, entry_of, line_act_of};
+ghost use Rattle.recordings.specs.Recordings.{is_passed_over, line_read, reading_first, time_after, with_act};
+ghost use Rattle.recordings.specs.Recordings.{with_entry, with_fault, with_value};
+ghost use Rattle.recordings.specs.RecordingView.{reading_of};
+
+use crate::entry::{Entry, LineAct, entry_in, json_of};
+use crate::event::{Act, Event};
+use crate::fault::{BadLine, Fault};
+use crate::header::Version;
+use json::{Scratch, Value};
+use std::alloc::{AllocError, Global};
+
+/// What was read so far.
+#[derive(Drop)]
+pub(crate) struct Reader {
+    pub(crate) version: Version,
+    /// That of the last event.
+    pub(crate) time: u64,
+    pub(crate) events: Vec<Event>,
+    /// The line that is wrong, behind which nothing is read.
+    pub(crate) fault: Option<BadLine>,
+}
+
+// An empty line, and a comment in version 3.
+fn is_passed_over(version: Version, line: &[u8]) -> bool
+    ensures { result ≡ is_passed_over version line.now }
+{
+    match version {
+        Version::Two => line.is_empty(),
+        Version::Three => line.is_empty() || line[0] == b'#',
+    }
+}
+
+const TOO_LATE: u64 = 1 << 63;
+
+// The time behind an event whose line has a time, from the time before it.
+fn time_after(version: Version, before: u64, time: u64, is_done: bool) -> Result<u64, Fault>
+    ensures { result ≡ time_after version before time is_done }
+{
+    match version {
+        Version::Two if !is_done => Ok(before),
+        Version::Two if before <= time => Ok(time),
+        Version::Two => Err(Fault::Back),
+        Version::Three => {
+            let time = before.saturating_add(time);
+            if time < TOO_LATE {
+                Ok(time)
+            } else {
+                Err(Fault::Late)
+            }
+        }
+    }
+}
+
+fn act_of(alloc: Global, act: LineAct<'_>) -> Result<Act, AllocError>
+    ensures { IfOk result (λ made. act_of made ≡ line_act_of act.entry) }
+{
+    match act {
+        LineAct::Output(text) => {
+            let mut bytes = Vec::new(alloc);
+            bytes.extend_from_slice(text.as_bytes())?;
+            Ok(Act::Output(bytes))
+        }
+        LineAct::Resize(size) => Ok(Act::Resize(size)),
+    }
+}
+
+impl Reader {
+    /// Nothing was read yet but the header.
+    pub(crate) fn new(alloc: Global, version: Version) -> Reader
+        ensures { reading_of result ≡ reading_first version }
+    {
+        Reader {
+            version,
+            time: 0,
+            events: Vec::new(alloc),
+            fault: None,
+        }
+    }
+
+    fn refuse(&mut self, number: usize, fault: Fault)
+        ensures { reading_of self.new ≡ with_fault number fault (reading_of self.old) }
+    {
+        self.fault = Some(BadLine {
+            line: number,
+            fault,
+        });
+    }
+
+    // Adds what is done at a time.
+    fn add(&mut self, alloc: Global, time: u64, act: Option<LineAct<'_>>) -> Result<(), AllocError>
+        ensures { OnOk result
+            (reading_of self.new ≡ with_act time (option_map line_act_of act.entry) (reading_of self.old)) }
+    {
+        if let Some(act) = act {
+            let act = act_of(alloc, act)?;
+            self.events.push(Event { time, act })?;
+        }
+        self.time = time;
+        Ok(())
+    }
+
+    // Takes what an event says.
+    fn take_entry(
+        &mut self,
+        alloc: Global,
+        number: usize,
+        entry: Entry<'_>,
+    ) -> Result<(), AllocError>
+        ensures { OnOk result
+            (reading_of self.new ≡ with_entry number (Ok (entry_of entry.entry)) (reading_of self.old)) }
+    {
+        match time_after(self.version, self.time, entry.time, entry.act.is_some()) {
+            Ok(time) => self.add(alloc, time, entry.act)?,
+            Err(fault) => self.refuse(number, fault),
+        }
+        Ok(())
+    }
+
+    // Takes the value of a line.
+    fn take_value(
+        &mut self,
+        alloc: Global,
+        number: usize,
+        value: &Value<'_>,
+    ) -> Result<(), AllocError>
+        ensures { OnOk result
+            (reading_of self.new ≡ with_value number (Some (value_view value.now)) (reading_of self.old)) }
+    {
+        match entry_in(value) {
+            Ok(entry) => self.take_entry(alloc, number, entry)?,
+            Err(fault) => self.refuse(number, fault),
+        }
+        Ok(())
+    }
+
+    // Takes a line that is not passed over.
+    fn take_line(&mut self, alloc: Global, number: usize, line: &[u8]) -> Result<(), AllocError>
+        ensures { OnOk result (reading_of self.new ≡ with_value number (json_of line.now) (reading_of self.old)) }
+    {
+        let mut scratch = Scratch::new(alloc);
+        match json_of(alloc, line, &mut scratch)? {
+            Some(value) => self.take_value(alloc, number, &value)?,
+            None => self.refuse(number, Fault::NotJson),
+        }
+        Ok(())
+    }
+
+    /// Reads the line of a number.
+    #[tactic(auto, unfolding(crate::specs::Recordings::line_read))]
+    pub(crate) fn read_line(
+        &mut self,
+        alloc: Global,
+        number: usize,
+        line: &[u8],
+    ) -> Result<(), AllocError>
+        ensures { OnOk result (reading_of self.new ≡ line_read number (reading_of self.old) line.now) }
+    {
+        if self.fault.is_some() || is_passed_over(self.version, line) {
+            return Ok(());
+        }
+        self.take_line(alloc, number, line)?;
+        Ok(())
+    }
+}

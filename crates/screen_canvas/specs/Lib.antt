@@ -1,4 +1,0 @@
-pub mod Canvas
-pub mod CanvasView
-pub mod Parts
-pub mod Rows

@@ -1,0 +1,9 @@
+pub mod CellChanges
+pub mod CellRuns
+pub mod ChangeValue
+pub mod CutView
+pub mod Cuts
+pub mod Texts
+pub mod ValueOf
+pub mod Written
+pub mod WriterView

@@ -1,0 +1,11 @@
+//! Changes: what is asked of a screen, as a value.
+#![tactic(auto)]
+
+mod cell_writer;
+mod change;
+mod cut_cells;
+pub mod laws;
+mod texts;
+
+pub use cell_writer::CellWriter;
+pub use change::{Change, cloned_changes};

@@ -1,0 +1,4 @@
+pub mod Grid
+pub mod GridView
+pub mod Parts
+pub mod Rows

@@ -1,0 +1,546 @@
+//! The grid.
+ghost use Rattle.std.specs.Prelude.{◌≡◌, ℕ, true, false, nat_le, ◌+◌, ◌-◌, ◌<◌, ◌≤◌, ◌++◌, ◌∷◌, [], length, map};
+ghost use Rattle.std.specs.Prelude.{replicate, IfOk, IsTrue, OnOk};
+ghost use Rattle.std.specs.List.{list_all};
+ghost use Rattle.text_clusters.specs.Plain.{is_printable};
+ghost use Rattle.cell_base.specs.Cluster.{clusters};
+ghost use Rattle.cell_base.specs.CellContent.{shows_as_space};
+ghost use Rattle.cell_base.specs.Row.{columns_of};
+ghost use Rattle.cell_base.specs.AttributeValueOf.{attribute_value};
+ghost use Rattle.cell_base.specs.Attributes.{blank_of};
+ghost use Rattle.screen_change.specs.ChangeValue.{AllAttributes, Attribute, ClearScreen, ClearToEndOfLine};
+ghost use Rattle.screen_change.specs.ChangeValue.{ClearToEndOfScreen, CursorPosition, LineAttribute as LineSize};
+ghost use Rattle.screen_change.specs.ChangeValue.{ScrollRegionDown, ScrollRegionUp};
+ghost use Rattle.screen_change.specs.ValueOf.{value_of};
+ghost use Rattle.screen_grid.specs.Grid.{grid_with, clusters_done, display_of, LeadsOn, Puts, IsDrawn, Shows};
+ghost use Rattle.screen_effects.specs.Parts.{stand};
+ghost use Rattle.screen_grid.specs.Parts.{parts_done};
+ghost use Rattle.screen_effects.specs.Display.{new_display};
+ghost use Rattle.screen_effects.specs.Effect.{effect, is_visible};
+ghost use Rattle.screen_effects.specs.Resize.{resized};
+ghost use Rattle.screen_effects.specs.Strokes.{CarriageReturn, Cluster, Control, LineFeed, stroke_done, text_done};
+
+use crate::positions::{column_place, place};
+use crate::ring::Ring;
+use crate::rows::{
+    blank_lines, blank_rows, blank_rows_below, copy, resize, scroll, scroll_down, scroll_up,
+    set_blanks, set_cell, set_plain, set_size, set_text,
+};
+use crate::text::{next_cluster, single_control};
+use cell_base::{
+    AttributeChange, CellAttributes, ColorAttribute, CursorShape, CursorVisibility, LineAttribute,
+    Position, Widths,
+};
+use cell_line::Line;
+use screen_change::Change;
+use screen_effects::{split_at_control, split_control};
+use std::alloc::{AllocError, Global};
+use std::marker::Model;
+use text_clusters::are_printable;
+
+/// Lines with a cursor, a pen and a title. Columns and rows count from 0; at the column of the width
+/// a wrap is pending.
+#[derive(Drop)]
+pub struct Grid<W> {
+    alloc: Global,
+    widths: W,
+    width: usize,
+    rows: Ring<Line>,
+    column: usize,
+    row: usize,
+    visibility: CursorVisibility,
+    shape: Option<CursorShape>,
+    pen: CellAttributes,
+    title: String,
+}
+
+impl<W> Model for Grid<W> {
+    ghost use Rattle.screen_grid.specs.Grid.{Grid as Value_of};
+
+    ghost Value = { Value_of W };
+
+    ghost use Rattle.screen_grid.specs.GridView.{grid_of};
+
+    ghost view = { grid_of };
+}
+
+impl<W: Widths + Drop> Grid<W> {
+    /// Plain blanks, with the cursor at home.
+    pub fn new(alloc: Global, width: usize, height: usize, widths: W) -> Result<Self, AllocError>
+        requires wide_enough { 0 < width }
+        requires high_enough { 0 < height }
+        ensures display { IfOk result (λ grid. display_of grid ≡ new_display width height) }
+        ensures widths { IfOk result (λ grid. grid.widths ≡ widths) }
+        ensures drawn { IfOk result (λ grid. IsDrawn grid) }
+    {
+        Ok(Grid {
+            alloc,
+            widths,
+            width,
+            rows: blank_lines(alloc, width, height)?,
+            column: 0,
+            row: 0,
+            visibility: CursorVisibility::Visible,
+            shape: None,
+            pen: CellAttributes::blank(),
+            title: String::new(alloc),
+        })
+    }
+
+    /// How many columns and rows there are.
+    pub fn dimensions(&self) -> (usize, usize)
+        ensures width { result.0 ≡ self.now.width }
+        ensures height { result.1 ≡ length self.now.lines }
+    {
+        (self.width, self.rows.len())
+    }
+
+    /// The cursor's column and row. The column is the width while a wrap is pending.
+    pub fn cursor_position(&self) -> (usize, usize)
+        ensures column { result.0 ≡ self.now.column }
+        ensures row { result.1 ≡ self.now.row }
+    {
+        (self.column, self.row)
+    }
+
+    /// Whether the cursor is shown.
+    pub fn cursor_visibility(&self) -> CursorVisibility
+        ensures { is_visible result ≡ self.now.visible }
+    {
+        self.visibility
+    }
+
+    /// The cursor's shape, if one was set.
+    pub fn cursor_shape(&self) -> Option<CursorShape>
+        ensures { result ≡ self.now.shape }
+    {
+        self.shape
+    }
+
+    /// The attributes that the next text gets.
+    pub fn pen(&self) -> &CellAttributes
+        ensures { result.now ≡ self.now.pen }
+    {
+        &self.pen
+    }
+
+    /// The title.
+    pub fn title(&self) -> &str
+        ensures { result.now ≡ self.now.title }
+    {
+        self.title.as_str()
+    }
+
+    /// The rows as lines, from the top.
+    pub fn lines(&self) -> &[Line]
+        ensures { result.now ≡ self.now.lines }
+    {
+        self.rows.as_slice()
+    }
+
+    /// Becomes so many columns wide and so many rows high. The top left stays, and plain blanks come
+    /// at the right and below; a wide cell that the edge cuts becomes a blank with its attributes. The
+    /// cursor stays within the last column and row, so that no wrap is pending.
+    pub fn resize(&mut self, width: usize, height: usize) -> Result<(), AllocError>
+        requires drawn { IsDrawn self.old }
+        requires wide_enough { 0 < width }
+        requires high_enough { 0 < height }
+        ensures { OnOk result (Shows self.old self.new (resized width height (display_of self.old))) }
+    {
+        resize(self.alloc, &mut self.rows, width, height)?;
+        self.width = width;
+        self.column = self.column.min(width - 1);
+        self.row = self.row.min(height - 1);
+        Ok(())
+    }
+
+    // Goes to column 0 of the same row.
+    fn carriage_return(&mut self)
+        requires { IsDrawn self.old }
+        ensures { Shows self.old self.new
+            (stroke_done (W.width_of self.old.widths) (display_of self.old) CarriageReturn) }
+    {
+        self.column = 0;
+    }
+
+    // Goes to the next row, and scrolls at the last. The column is kept.
+    fn line_feed(&mut self)
+        requires { IsDrawn self.old }
+        ensures { Shows self.old self.new (stroke_done (W.width_of self.old.widths) (display_of self.old) LineFeed) }
+    {
+        let height = self.rows.len();
+        if self.row + 1 < height {
+            self.row += 1;
+            return;
+        }
+        scroll(&mut self.rows, self.width);
+    }
+
+    // A text of so many columns stands at the cursor, which goes behind it.
+    fn write(&mut self, text: &str, width: usize) -> Result<(), AllocError>
+        requires drawn { IsDrawn self.old }
+        requires stands { shows_as_space text.now ≡ false }
+        requires width { (1 ≤ width) × (width ≤ 2) }
+        requires fits { self.old.column + width ≤ self.old.width }
+        ensures { OnOk result
+            (self.new ≡ grid_with self.old (columns_of text.now (nat_le 2 width) self.old.pen) width) }
+    {
+        let pen = self.pen.try_clone()?;
+        set_cell(&mut self.rows, self.row, self.column, text, width, pen)?;
+        self.column += width;
+        Ok(())
+    }
+
+    // A text of so many columns is put at the cursor, or at the start of the next row where it
+    // doesn't fit.
+    fn put_text(&mut self, text: &str, width: usize) -> Result<(), AllocError>
+        requires drawn { IsDrawn self.old }
+        requires stands { shows_as_space text.now ≡ false }
+        requires width { (1 ≤ width) × (width ≤ 2) }
+        requires fits { width ≤ self.old.width }
+        ensures { OnOk result
+            (Puts (W.width_of self.old.widths) self.old self.new (columns_of text.now (nat_le 2 width) self.old.pen)) }
+    {
+        if width <= self.width - self.column {
+            self.write(text, width)?;
+            return Ok(());
+        }
+        self.line_feed();
+        self.carriage_return();
+        self.write(text, width)?;
+        Ok(())
+    }
+
+    // Puts a cluster at the cursor.
+    fn put(&mut self, cluster: &str) -> Result<(), AllocError>
+        requires drawn { IsDrawn self.old }
+        requires stands { shows_as_space cluster.now ≡ false }
+        ensures { OnOk result
+            (Shows self.old self.new
+            (stroke_done (W.width_of self.old.widths) (display_of self.old) (Cluster cluster.now))) }
+    {
+        if self.widths.width(cluster) < 2 {
+            self.put_text(cluster, 1)?;
+            return Ok(());
+        }
+        if self.width == 1 {
+            self.put_text(" ", 1)?;
+            return Ok(());
+        }
+        self.put_text(cluster, 2)?;
+        Ok(())
+    }
+
+    // Puts the clusters of a text one after another as far as they fit in the cursor's row; answers
+    // the text that is left.
+    fn put_in_row<'a>(&mut self, text: &'a str) -> Result<&'a str, AllocError>
+        requires drawn { IsDrawn self.old }
+        requires stands { stand (clusters text.now) ≡ true }
+        ensures { IfOk result
+            (λ left. LeadsOn (W.width_of self.old.widths) self.old self.new (clusters text.now) (clusters left.now)) }
+    {
+        let (column, left) = set_text(
+            &mut self.rows,
+            self.row,
+            self.column,
+            text,
+            &self.pen,
+            &self.widths,
+        )?;
+        self.column = column;
+        Ok(left)
+    }
+
+    // Puts the clusters of a text.
+    fn put_run(&mut self, text: &str) -> Result<(), AllocError>
+        requires drawn { IsDrawn self.old }
+        requires stands { stand (clusters text.now) ≡ true }
+        ensures { OnOk result
+            (Shows self.old self.new
+            (clusters_done (W.width_of self.old.widths) (display_of self.old) (clusters text.now))) }
+    {
+        if text.is_empty() {
+            return Ok(());
+        }
+        if self.takes_plainly(text) {
+            self.put_plain(text)?;
+            return Ok(());
+        }
+        let mut left = self.put_in_row(text)?;
+        while let Some((cluster, behind)) = next_cluster(left) {
+            self.put(cluster)?;
+            left = self.put_in_row(behind)?;
+        }
+        Ok(())
+    }
+
+    // Does what a control does in a text.
+    fn control(&mut self, control: u8) -> Result<(), AllocError>
+        requires { IsDrawn self.old }
+        ensures { OnOk result
+            (Shows self.old self.new
+            (parts_done (W.width_of self.old.widths) (display_of self.old) (Control control ∷ []))) }
+    {
+        match control {
+            b'\r' => self.carriage_return(),
+            b'\n' => self.line_feed(),
+            _ => self.put(" ")?,
+        }
+        Ok(())
+    }
+
+    // Whether a text is printable ASCII characters that fit in the cursor's row, each of which is known to take one
+    // column.
+    #[inline(always)]
+    fn takes_plainly(&self, text: &str) -> bool
+        ensures printable { IsTrue result → list_all is_printable text.now ≡ true }
+        ensures narrow { IsTrue result → (byte : ℕ) → is_printable byte ≡ true
+            → W.width_of self.now.widths (byte ∷ []) ≡ 1 }
+        ensures fits { IsTrue result → self.now.column + length text.now ≤ self.now.width }
+    {
+        if self.width < self.column {
+            return false;
+        }
+        if !self.widths.has_narrow_ascii() {
+            return false;
+        }
+        text.len() <= self.width - self.column && are_printable(text.as_bytes())
+    }
+
+    // Puts the characters of such a text, each of which is a cluster by itself.
+    #[inline(always)]
+    fn put_plain(&mut self, text: &str) -> Result<(), AllocError>
+        requires drawn { IsDrawn self.old }
+        requires printable { list_all is_printable text.now ≡ true }
+        requires narrow { (byte : ℕ) → is_printable byte ≡ true → W.width_of self.old.widths (byte ∷ []) ≡ 1 }
+        requires fits { self.old.column + length text.now ≤ self.old.width }
+        ensures { OnOk result
+            (Shows self.old self.new (text_done (W.width_of self.old.widths) (display_of self.old) text.now)) }
+    {
+        set_plain(&mut self.rows, self.row, self.column, text, &self.pen)?;
+        self.column += text.len();
+        Ok(())
+    }
+
+    // Draws a text with the pen.
+    #[inline(always)]
+    fn draw_text(&mut self, text: &str) -> Result<(), AllocError>
+        requires { IsDrawn self.old }
+        ensures { OnOk result
+            (Shows self.old self.new (text_done (W.width_of self.old.widths) (display_of self.old) text.now)) }
+    {
+        if self.takes_plainly(text) {
+            self.put_plain(text)?;
+            return Ok(());
+        }
+        if let Some(control) = single_control(text) {
+            self.control(control)?;
+            return Ok(());
+        }
+        self.draw_parts(text)?;
+        Ok(())
+    }
+
+    // Draws any text with the pen, part by part.
+    #[inline(never)]
+    fn draw_parts(&mut self, text: &str) -> Result<(), AllocError>
+        requires { IsDrawn self.old }
+        ensures { OnOk result
+            (Shows self.old self.new (text_done (W.width_of self.old.widths) (display_of self.old) text.now)) }
+    {
+        let (front, mut rest) = split_at_control(text);
+        self.put_run(front)?;
+        while let Some((control, behind)) = split_control(rest) {
+            self.control(control)?;
+            let (front, others) = split_at_control(behind);
+            self.put_run(front)?;
+            rest = others;
+        }
+        Ok(())
+    }
+
+    // One attribute of the pen becomes another.
+    fn set_attribute(&mut self, change: &AttributeChange) -> Result<(), AllocError>
+        requires { IsDrawn self.old }
+        ensures { OnOk result
+            (Shows self.old self.new
+            (effect (W.width_of self.old.widths) (display_of self.old) (Attribute (attribute_value change.now)))) }
+    {
+        let change = change.try_clone()?;
+        self.pen.apply_change(change);
+        Ok(())
+    }
+
+    // The pen becomes another.
+    fn set_pen(&mut self, pen: &CellAttributes) -> Result<(), AllocError>
+        requires { IsDrawn self.old }
+        ensures { OnOk result
+            (Shows self.old self.new
+            (effect (W.width_of self.old.widths) (display_of self.old) (AllAttributes pen.now))) }
+    {
+        self.pen = pen.try_clone()?;
+        Ok(())
+    }
+
+    // All columns become blanks of a colour, and the cursor goes home.
+    fn clear_screen(&mut self, color: ColorAttribute) -> Result<(), AllocError>
+        requires { IsDrawn self.old }
+        ensures { OnOk result
+            (Shows self.old self.new (effect (W.width_of self.old.widths) (display_of self.old) (ClearScreen color))) }
+    {
+        let pen = blank_of(color);
+        blank_rows(&mut self.rows, 0, &pen)?;
+        self.pen = pen;
+        self.column = 0;
+        self.row = 0;
+        Ok(())
+    }
+
+    // The columns from the cursor on become blanks of a colour.
+    fn clear_to_end_of_line(&mut self, color: ColorAttribute) -> Result<(), AllocError>
+        requires { IsDrawn self.old }
+        ensures { OnOk result
+            (Shows self.old self.new
+            (effect (W.width_of self.old.widths) (display_of self.old) (ClearToEndOfLine color))) }
+    {
+        let pen = blank_of(color);
+        set_blanks(&mut self.rows, self.row, self.column, &pen)?;
+        self.pen = pen;
+        Ok(())
+    }
+
+    // The columns from the cursor on, and all rows below, become blanks of a colour.
+    fn clear_to_end_of_screen(&mut self, color: ColorAttribute) -> Result<(), AllocError>
+        requires { IsDrawn self.old }
+        ensures { OnOk result
+            (Shows self.old self.new
+            (effect (W.width_of self.old.widths) (display_of self.old) (ClearToEndOfScreen color))) }
+    {
+        let pen = blank_of(color);
+        set_blanks(&mut self.rows, self.row, self.column, &pen)?;
+        blank_rows_below(&mut self.rows, self.row, &pen)?;
+        self.pen = pen;
+        Ok(())
+    }
+
+    // The cursor goes to a place.
+    fn move_cursor(&mut self, x: Position, y: Position)
+        requires { IsDrawn self.old }
+        ensures { Shows self.old self.new
+            (effect (W.width_of self.old.widths) (display_of self.old) (CursorPosition x y)) }
+    {
+        self.column = column_place(self.width, self.column, x);
+        self.row = place(self.rows.len(), self.row, y);
+    }
+
+    // The cursor's row has another size.
+    fn set_line_attribute(&mut self, size: LineAttribute)
+        requires { IsDrawn self.old }
+        ensures { Shows self.old self.new (effect (W.width_of self.old.widths) (display_of self.old) (LineSize size)) }
+    {
+        let row = self.row;
+        set_size(&mut self.rows, row, size);
+    }
+
+    // Rows of a region move up, and plain ones come below.
+    fn scroll_region_up(
+        &mut self,
+        first: usize,
+        size: usize,
+        count: usize,
+    ) -> Result<(), AllocError>
+        requires { IsDrawn self.old }
+        ensures { OnOk result
+            (Shows self.old self.new
+            (effect (W.width_of self.old.widths) (display_of self.old) (ScrollRegionUp first size count))) }
+    {
+        let height = self.rows.len();
+        let first = first.min(height);
+        let behind = first + size.min(height - first);
+        scroll_up(&mut self.rows, first, behind, count.min(behind - first))?;
+        Ok(())
+    }
+
+    // Rows of a region move down, and plain ones come above.
+    fn scroll_region_down(
+        &mut self,
+        first: usize,
+        size: usize,
+        count: usize,
+    ) -> Result<(), AllocError>
+        requires { IsDrawn self.old }
+        ensures { OnOk result
+            (Shows self.old self.new
+            (effect (W.width_of self.old.widths) (display_of self.old) (ScrollRegionDown first size count))) }
+    {
+        let height = self.rows.len();
+        let first = first.min(height);
+        let behind = first + size.min(height - first);
+        scroll_down(&mut self.rows, first, behind, count.min(behind - first))?;
+        Ok(())
+    }
+
+    /// Does what a change does.
+    #[inline(always)]
+    pub fn apply(&mut self, change: &Change) -> Result<(), AllocError>
+        requires { IsDrawn self.old }
+        ensures { OnOk result
+            (Shows self.old self.new
+            (effect (W.width_of self.old.widths) (display_of self.old) (value_of change.now))) }
+    {
+        match change {
+            Change::Attribute(change) => self.set_attribute(change)?,
+            Change::AllAttributes(pen) => self.set_pen(pen)?,
+            Change::Text(text) => self.draw_text(text)?,
+            Change::ClearScreen(color) => self.clear_screen(*color)?,
+            Change::ClearToEndOfLine(color) => self.clear_to_end_of_line(*color)?,
+            Change::ClearToEndOfScreen(color) => self.clear_to_end_of_screen(*color)?,
+            Change::CursorPosition { x, y } => self.move_cursor(*x, *y),
+            Change::CursorColor(_) => {}
+            Change::CursorShape(shape) => self.shape = Some(*shape),
+            Change::CursorVisibility(visibility) => self.visibility = *visibility,
+            Change::LineAttribute(size) => self.set_line_attribute(*size),
+            Change::ScrollRegionUp {
+                first_row,
+                region_size,
+                scroll_count,
+            } => self.scroll_region_up(*first_row, *region_size, *scroll_count)?,
+            Change::ScrollRegionDown {
+                first_row,
+                region_size,
+                scroll_count,
+            } => self.scroll_region_down(*first_row, *region_size, *scroll_count)?,
+            Change::Title(title) => self.title = title.clone()?,
+        }
+        Ok(())
+    }
+}
+
+impl<W: Widths + Copy + Drop> Grid<W> {
+    /// A copy.
+    pub fn try_clone(&self) -> Result<Grid<W>, AllocError>
+        ensures { IfOk result (λ grid. grid ≡ self.now) }
+    {
+        Ok(Grid {
+            alloc: self.alloc,
+            widths: self.widths,
+            width: self.width,
+            rows: copy(self.alloc, &self.rows)?,
+            column: self.column,
+            row: self.row,
+            visibility: self.visibility,
+            shape: self.shape,
+            pen: self.pen.try_clone()?,
+            title: self.title.clone()?,
+        })
+    }
+}
+
+/// Plain attributes with a background.
+pub fn blank_of(color: ColorAttribute) -> CellAttributes
+    ensures { result ≡ blank_of color }
+{
+    let mut attributes = CellAttributes::blank();
+    attributes.set_background(color);
+    attributes
+}

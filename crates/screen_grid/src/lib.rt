@@ -1,0 +1,10 @@
+//! A display that is kept as lines, and what each change does to it.
+#![tactic(auto)]
+
+mod grid;
+mod positions;
+mod ring;
+mod rows;
+mod text;
+
+pub use grid::{Grid, blank_of};

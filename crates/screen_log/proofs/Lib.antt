@@ -1,0 +1,4 @@
+pub mod DueLemmas
+pub mod LogLemmas
+pub mod TextPoolLemmas
+pub mod StoredLemmas

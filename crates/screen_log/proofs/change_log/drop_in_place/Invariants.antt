@@ -1,0 +1,12 @@
+use Rattle.std.proofs.Common.{◌≡◌, ◌≤◌, take, drop}
+use Rattle.std.specs.Prelude.{replicate}
+use Rattle.screen_log.specs.LogView.{nothing}
+use Rattle.screen_log.proofs.change_log.drop_in_place.Given as goal
+
+-- those that were passed hold nothing, and the others are as they were
+abbrev pub invariant-loop-at : goal.invariant-loop-at
+invariant-loop-at l = record {
+  dropped : take l.at l.changes ≡ replicate l.at nothing;
+  rest : drop l.at l.changes ≡ drop l.at l.fn.changes;
+  spare : l.spare ≤ 65536;
+}

@@ -1,0 +1,4 @@
+pub mod Log
+pub mod LogSteps
+pub mod LogView
+pub mod TextPoolView

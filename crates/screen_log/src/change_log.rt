@@ -1,0 +1,282 @@
+//! The log.
+ghost use Rattle.std.specs.Prelude.{IfOk, ◌≡◌, ◌⊎◌, ◌+◌, ◌-◌, ◌<◌, ◌≤◌, ◌^◌, ◌↔◌, ◌++◌, ◌∷◌, IsTrue, [], drop, length};
+ghost use Rattle.std.specs.Prelude.{map, replicate, take, vec_len, OnOk, OnErr};
+ghost use Rattle.std.specs.Option.{option_map};
+ghost use Rattle.std.specs.String.{string_bytes};
+ghost use Rattle.screen_change.specs.ValueOf.{value_of};
+ghost use Rattle.screen_log.specs.Log.{due, new_log};
+ghost use Rattle.screen_log.specs.LogSteps.{Forgotten, Logged, Resized, step_of_kept};
+ghost use Rattle.screen_log.specs.LogView.{nothing};
+
+use crate::text_pool::{MOST_POOLED, TextPool};
+use cell_base::{CursorShape, SequenceNo};
+use screen_change::{Change, cloned_changes};
+use std::alloc::{AllocError, Global};
+use std::marker::Model;
+use std::mem;
+
+/// Numbered changes, of which the last ones that may be due are kept. At most twice as many have a place, and a change
+/// that isn't kept any more is dropped at once: beside the changes that are kept a log has at most 64 KB of texts'
+/// memory, for texts to come. The place of that memory is reserved where a text is logged, so that what drops changes
+/// asks for none.
+#[derive(Drop)]
+pub struct ChangeLog {
+    // Those from `start` on are kept. Before it stand changes that hold nothing.
+    changes: Vec<Change>,
+    start: usize,
+    most: usize,
+    number: SequenceNo,
+    spare: TextPool,
+}
+
+impl Model for ChangeLog {
+    ghost use Rattle.screen_log.specs.LogSteps.{Sized};
+
+    ghost Value = { Sized };
+
+    ghost use Rattle.screen_log.specs.LogView.{log_of, IsBounded};
+
+    ghost view = { log_of };
+
+    ghost invariant = { IsBounded };
+}
+
+// How many changes change places at once.
+const BLOCK: usize = 64;
+
+// The first changes of both, a block of each, change places.
+fn swap_blocks(front: &mut [Change], behind: &mut [Change])
+    requires front { BLOCK ≤ length front.old }
+    requires behind { BLOCK ≤ length behind.old }
+    ensures front { front.new ≡ take BLOCK behind.old ++ drop BLOCK front.old }
+    ensures behind { behind.new ≡ take BLOCK front.old ++ drop BLOCK behind.old }
+{
+    if let Some(one) = front.first_chunk_mut::<BLOCK>() {
+        if let Some(other) = behind.first_chunk_mut::<BLOCK>() {
+            mem::swap(one, other);
+        }
+    }
+}
+
+// The changes of two lists of one length change places.
+fn swap_changes(front: &mut [Change], behind: &mut [Change])
+    requires { length front.old ≡ length behind.old }
+    ensures len { length front.new ≡ length front.old }
+    ensures front { front.new ≡ behind.old }
+{
+    let mut at = 0;
+    while BLOCK <= front.len() - at {
+        swap_blocks(&mut front[at..], &mut behind[at..]);
+        at += BLOCK;
+    }
+    front[at..].swap_with_slice(&mut behind[at..]);
+}
+
+// The changes from `start` on change places with the first ones.
+#[cold]
+#[inline(never)]
+fn bring_to_front(changes: &mut [Change], start: usize)
+    requires within { start ≤ length changes.old }
+    requires few { length changes.old ≤ start + start }
+    ensures len { length changes.new ≡ length changes.old }
+    ensures front { take (length changes.old - start) changes.new ≡ drop start changes.old }
+{
+    let (front, behind) = changes.split_at_mut(start);
+    let count = behind.len();
+    swap_changes(&mut front[..count], behind);
+}
+
+// What stands in the place of a dropped change: it holds nothing.
+#[inline(always)]
+fn nothing() -> Change
+    ensures { result ≡ nothing }
+{
+    Change::CursorShape(CursorShape::Default)
+}
+
+// Makes room to keep the memory of a text that is logged, and of those among the changes that are kept: where they are
+// dropped none is asked for.
+#[inline(always)]
+fn reserve_for(spare: &mut TextPool, change: &Change, kept: usize) -> Result<(), AllocError>
+    ensures { spare.new ≡ spare.old }
+{
+    if let Change::Text(_) = change {
+        spare.reserve(kept.saturating_add(1))?;
+    }
+    Ok(())
+}
+
+// Drops a change, and keeps the memory of a text.
+#[inline(always)]
+fn drop_change(change: Change, spare: &mut TextPool)
+    requires { spare.old ≤ MOST_POOLED }
+    ensures { spare.new ≤ MOST_POOLED }
+{
+    if let Change::Text(text) = change {
+        spare.put(text);
+    }
+}
+
+// Drops the changes from one place to another where they stand.
+#[inline(always)]
+fn drop_in_place(changes: &mut [Change], from: usize, to: usize, spare: &mut TextPool)
+    requires order { from ≤ to }
+    requires within { to ≤ length changes.old }
+    requires dropped { take from changes.old ≡ replicate from nothing }
+    requires spare { spare.old ≤ MOST_POOLED }
+    ensures len { length changes.new ≡ length changes.old }
+    ensures dropped { take to changes.new ≡ replicate to nothing }
+    ensures rest { drop to changes.new ≡ drop to changes.old }
+    ensures spare { spare.new ≤ MOST_POOLED }
+{
+    for at in from..to {
+        drop_change(mem::replace(&mut changes[at], nothing()), spare);
+    }
+}
+
+// Drops the changes before a place, of which those before `start` are dropped, where they stand. Where no more are left
+// behind it these are brought to the front: so each change that is dropped moves at most one other.
+#[inline(always)]
+fn drop_before(changes: &mut Vec<Change>, start: &mut usize, place: usize, spare: &mut TextPool)
+    requires order { start.old ≤ place }
+    requires within { place ≤ vec_len changes.old }
+    requires dropped { take start.old changes.old.items ≡ replicate start.old nothing }
+    requires spare { spare.old ≤ MOST_POOLED }
+    ensures left { drop start.new changes.new.items ≡ drop place changes.old.items }
+    ensures len { vec_len changes.new + place ≡ start.new + vec_len changes.old }
+    ensures few { start.new + start.new ≤ vec_len changes.new }
+    ensures dropped { take start.new changes.new.items ≡ replicate start.new nothing }
+    ensures spare { spare.new ≤ MOST_POOLED }
+{
+    drop_in_place(changes, *start, place, spare);
+    let left = changes.len() - place;
+    if place < left {
+        *start = place;
+        return;
+    }
+    bring_to_front(changes, place);
+    changes.truncate(left);
+    *start = 0;
+}
+
+impl ChangeLog {
+    /// A log of no change, of which at most so many may be due.
+    pub fn new(alloc: Global, most: usize) -> ChangeLog
+        ensures most { result.most ≡ most }
+        ensures log { result.log ≡ new_log }
+    {
+        ChangeLog {
+            changes: Vec::new(alloc),
+            start: 0,
+            most,
+            number: 0,
+            spare: TextPool::new(alloc),
+        }
+    }
+
+    /// How many changes there were.
+    pub fn number(&self) -> SequenceNo
+        ensures { result ≡ self.now.log.number }
+    {
+        self.number
+    }
+
+    /// Whether no change is kept.
+    pub fn is_empty(&self) -> bool
+        ensures { IsTrue result ↔ (self.now.log.entries ≡ []) }
+    {
+        self.start == self.changes.len()
+    }
+
+    /// Logs a change, which raises the number by one. Where memory is refused nothing is changed, and
+    /// the change is dropped.
+    #[inline(always)]
+    pub fn push(&mut self, change: Change) -> Result<(), AllocError>
+        requires { self.old.log.number + 1 < 2 ^ 64 }
+        ensures done { OnOk result (self.new ≡ step_of_kept self.old (Logged (value_of change))) }
+        ensures refused { OnErr result (self.new ≡ self.old) }
+    {
+        self.changes.reserve(1)?;
+        reserve_for(&mut self.spare, &change, self.changes.len() - self.start)?;
+        self.changes.push_reserved(change);
+        self.number += 1;
+        if self.most < self.changes.len() - self.start {
+            let second = self.start + 1;
+            drop_before(&mut self.changes, &mut self.start, second, &mut self.spare);
+        }
+        Ok(())
+    }
+
+    /// An empty text, with the memory of one that was logged and dropped, where there is some.
+    pub fn spare_text(&mut self) -> String
+        ensures empty { string_bytes result ≡ [] }
+        ensures same { self.new ≡ self.old }
+    {
+        self.spare.take(*self.changes.allocator())
+    }
+
+    /// Forgets the changes before a number; none where it lies above the current one.
+    pub fn forget_before(&mut self, number: SequenceNo)
+        ensures { self.new ≡ step_of_kept self.old (Forgotten number) }
+    {
+        if number <= self.number {
+            let before = self.number - (self.changes.len() - self.start);
+            let first = self.start + number.saturating_sub(before);
+            drop_before(&mut self.changes, &mut self.start, first, &mut self.spare);
+        }
+    }
+
+    /// Another size, and with it how many changes may be due: where a change is kept the number rises
+    /// by one, and none is kept.
+    pub fn resize(&mut self, most: usize)
+        requires { (self.old.log.entries ≡ []) ⊎ (self.old.log.number + 1 < 2 ^ 64) }
+        ensures { self.new ≡ step_of_kept self.old (Resized most) }
+    {
+        if self.start < self.changes.len() {
+            self.number += 1;
+        }
+        self.changes = Vec::new(*self.changes.allocator());
+        self.start = 0;
+        self.most = most;
+    }
+
+    // Each change that is kept has a number, and no more are than may be due.
+    pub(crate) fn is_counted(&self)
+        ensures numbered { length self.now.log.entries ≤ self.now.log.number }
+        ensures most { length self.now.log.entries ≤ self.now.most }
+    {
+        let _changes = &self.changes;
+    }
+
+    /// A copy.
+    pub fn try_clone(&self, alloc: Global) -> Result<ChangeLog, AllocError>
+        ensures { IfOk result (λ log. log ≡ self.now) }
+    {
+        let changes = cloned_changes(alloc, &self.changes[self.start..])?;
+        let mut spare = TextPool::new(alloc);
+        spare.reserve(changes.len())?;
+        Ok(ChangeLog {
+            changes,
+            start: 0,
+            most: self.most,
+            number: self.number,
+            spare,
+        })
+    }
+
+    /// The changes from a number on. `None` at 0, before the first that is kept, above the current
+    /// number, and where there are more than may be due.
+    pub fn due(&self, number: SequenceNo) -> Option<&[Change]>
+        ensures { option_map (λ changes. map value_of changes.now) result ≡ due self.now.most self.now.log number }
+    {
+        let first = self.number - (self.changes.len() - self.start);
+        if number == 0
+            || number < first
+            || self.number < number
+            || self.most < self.number - number
+        {
+            return None;
+        }
+        Some(&self.changes[self.start + (number - first)..])
+    }
+}

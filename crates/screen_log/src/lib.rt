@@ -1,0 +1,9 @@
+//! Logs of numbered changes: the definitions, a log of bounded length, and the law that it answers as
+//! one that keeps all.
+#![tactic(auto)]
+
+mod change_log;
+pub mod laws;
+mod text_pool;
+
+pub use change_log::ChangeLog;

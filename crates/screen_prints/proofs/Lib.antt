@@ -1,3 +1,0 @@
-pub mod CellPrints
-pub mod DifferencePrints
-pub mod JoinLemmas

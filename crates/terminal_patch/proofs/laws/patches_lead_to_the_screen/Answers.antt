@@ -1,5 +1,0 @@
-use Rattle.terminal_patch.proofs.LeadLemmas.{patch_leads}
-use Rattle.terminal_patch.proofs.laws.patches_lead_to_the_screen.Goals as goal
-
-pub returns : goal.returns
-returns c = patch_leads c.differences_draw_their_cells.ensures.others c.differences_draw_their_cells.ensures.region c.differences_show_the_new_side.ensures.screens

@@ -1,4 +1,0 @@
-pub mod CountLemmas
-pub mod RowsLemmas
-pub mod PutLemmas
-pub mod StreamLemmas

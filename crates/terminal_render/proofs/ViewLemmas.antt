@@ -1,0 +1,168 @@
+-- Events leave views whose parts have a spelling, and so have the changes that are logged for them.
+use Rattle.std.proofs.Common.{◌≡◌, ℕ, inl, List, [], ◌∷◌, ◌++◌, length, map, replicate, refl, subst, ◌∙◌}
+use Rattle.std.specs.Prelude.{⊤, ◌==◌, Option, Some, None}
+use Rattle.std.specs.List.{AllByRecursion}
+use Rattle.std.proofs.lemmas.Bool.{cond_both}
+use Rattle.std.proofs.lemmas.List.{length-replicate}
+use Rattle.cell_base.specs.declared.attributes.LineAttribute.TheVariants.{SingleWidthLine}
+use Rattle.cell_base.specs.Screen.{Screen, height}
+use Rattle.cell_base.proofs.Pieces.{all_joined}
+use Rattle.screen_change.specs.ChangeValue.{ChangeValue, Text}
+use Rattle.screen_effects.proofs.SizeLemmas.{effect_size}
+use Rattle.screen_log.specs.LogSteps as log
+use Rattle.screen_log.specs.LogSteps.{LogStep, Logged}
+use Rattle.screen_log.specs.Log.{most_due}
+use Rattle.escape_stream.specs.StreamAction.{is_print, printed}
+use Rattle.screen_effects.specs.Display.{Display, IsDisplay}
+use Rattle.screen_effects.specs.Effect.{effect, replay}
+use Rattle.screen_effects.proofs.EffectLaws.{effect_is}
+use Rattle.terminal_table.specs.State.{SavedCursor, State, IsState}
+use Rattle.terminal_table.specs.Functions as table
+use Rattle.terminal_table.specs.Functions.{ControlFunction, function_of}
+use Rattle.terminal_table.specs.Steps.{saved_step, step_of, run_step}
+use Rattle.terminal_table.specs.Changes.{changes, changes_of, run_change}
+use Rattle.terminal_table.specs.History.{Event, Act, Looked, Resized, Forgot}
+use Rattle.terminal_table.specs.Meaning.{View, new_view, settled, event_done}
+use Rattle.terminal_table.specs.Logged.{run_logged, event_logged}
+use Rattle.terminal_table.specs.Turns.{IsPrinted, IsView, IsEvent, changes_in}
+use Rattle.terminal_table.proofs.TurnLemmas.{step_turns, action_turns}
+use Rattle.terminal_table.proofs.RunLemmas.{run_step_turns}
+use Rattle.terminal_table.proofs.EventLemmas.{event_is, event_turns}
+use Rattle.terminal_render.specs.Spelling.{IsSpelledText, IsSpelledScreen, IsSpelledSaved, IsSpelledState, IsSpelledView, IsSpelledRequest, IsSpelledEvent, HasSpelling, HaveSpellings}
+use Rattle.terminal_render.proofs.TextLemmas.{spelled_append, spelled_nil}
+use Rattle.terminal_render.proofs.DisplayLemmas.{effect_spelled, replay_spelled, size_spelled, screen_spelled}
+use Rattle.terminal_render.proofs.ChangeLemmas.{has_spelling, have_spellings, changes_are_parts, changes_spelled, changes_placed}
+
+-- ---- steps and runs
+
+-- a display that shows a screen
+abbrev pub display_on : Screen → Display
+display_on screen = record { screen = screen; sizes = replicate (height screen) SingleWidthLine; shape = None }
+
+pub display_on_is : (state : State) → IsState state → IsDisplay (display_on state.screen)
+display_on_is state h = record { lawful = h.lawful; whole = h.whole; sized = length-replicate (height state.screen) SingleWidthLine }
+
+saved_spelled : (function : ControlFunction) (saved : Option SavedCursor) (s : Screen) → IsSpelledSaved saved → IsSpelledScreen s → IsSpelledSaved (saved_step function saved s)
+saved_spelled table.SaveCursor saved s g p = p.pen
+saved_spelled table.FullReset saved s g p = tt
+saved_spelled _ saved s g p = g
+
+step_spelled : (request : Option ControlFunction) (state : State) → IsState state → IsSpelledRequest request → IsSpelledState state → IsSpelledState (step_of request state)
+step_spelled None state h f p = p
+step_spelled (Some function) state h f p =
+    let d = display_on_is state h in
+    record {
+      screen = subst IsSpelledScreen (step_turns (λ text. 1) function state (display_on state.screen) d refl).screen
+          (replay_spelled (λ text. 1) (changes function state.saved state.screen) (display_on state.screen) d (changes_spelled function state.saved state.screen f p.saved p.screen) p.screen);
+      saved = saved_spelled function state.saved state.screen p.saved p.screen;
+    }
+
+run_spelled : (width_of : List ℕ → ℕ) (text : List ℕ) (state : State) → IsState state → IsPrinted text → IsSpelledText text → IsSpelledScreen state.screen → IsSpelledScreen (run_step width_of text state).screen
+run_spelled width_of text state h n t p =
+    subst IsSpelledScreen (run_step_turns width_of text state (display_on state.screen) n refl).screen (effect_spelled width_of (display_on state.screen) (run_change text) (display_on_is state h) t p)
+
+-- ---- views
+
+pub new_spelled : (width height : ℕ) → IsSpelledView (new_view width height)
+new_spelled width height = record { state = record { screen = screen_spelled width height; saved = tt }; held = spelled_nil }
+
+pub settled_spelled : (width_of : List ℕ → ℕ) (v : View) → IsView v → IsSpelledView v → IsSpelledView (settled width_of v)
+settled_spelled width_of v h p = record {
+  state = cond_both (length v.held == 0) v.state (run_step width_of v.held v.state) IsSpelledState (λ e. p.state)
+      (λ e. record { screen = run_spelled width_of v.held v.state h.lawful h.plain p.held p.state.screen; saved = p.state.saved });
+  held = spelled_nil;
+}
+
+pub settled_is : (width_of : List ℕ → ℕ) (v : View) → IsView v → IsView (settled width_of v)
+settled_is width_of v h = event_is width_of v Looked h tt
+
+pub event_spelled : (width_of : List ℕ → ℕ) (v : View) (event : Event) → IsView v → IsEvent event → IsSpelledView v → IsSpelledEvent event → IsSpelledView (event_done width_of v event)
+event_spelled width_of v (Act action) h k p q =
+    cond_both (is_print action) _ _ IsSpelledView (λ e. record { state = p.state; held = spelled_append v.held (printed action) p.held q.0 })
+    (λ e. record { state = step_spelled (function_of action) (settled width_of v).state (settled_is width_of v h).lawful q.1 (settled_spelled width_of v h p).state; held = spelled_nil })
+event_spelled width_of v Looked h k p q = settled_spelled width_of v h p
+event_spelled width_of v (Resized width height) h k p q =
+    let s = settled_spelled width_of v h p in
+    record { state = record { screen = size_spelled width height (settled width_of v).state.screen s.state.screen; saved = s.state.saved }; held = spelled_nil }
+event_spelled width_of v (Forgot number) h k p q = p
+
+-- ---- sizes
+
+-- as wide and as high
+pub record HasSize (s t : Screen) : Type 0 where
+  pub wide : s.width ≡ t.width
+  pub tall : height s ≡ height t
+
+pub replay_size : (width_of : List ℕ → ℕ) (cs : List ChangeValue) (d : Display) → IsDisplay d → HasSize (replay width_of d cs).screen d.screen
+replay_size width_of [] d h = record { wide = refl; tall = refl }
+replay_size width_of (change ∷ cs) d h =
+    let one = effect_size width_of d change h in
+    let rest = replay_size width_of cs (effect width_of d change) (effect_is width_of d change h) in
+    record { wide = rest.wide ∙ one.width; tall = rest.tall ∙ one.tall }
+
+-- a screen into which changes turn another has its size
+turned_size : (width_of : List ℕ → ℕ) (cs : List ChangeValue) (s t : Screen) → IsDisplay (display_on s) → (replay width_of (display_on s) cs).screen ≡ t → HasSize t s
+turned_size width_of cs s t h e = subst (λ (x : Screen). HasSize x s) e (replay_size width_of cs (display_on s) h)
+
+pub settled_size : (width_of : List ℕ → ℕ) (v : View) → IsView v → HasSize (settled width_of v).state.screen v.state.screen
+settled_size width_of v h =
+    let d = display_on_is v.state h.lawful in
+    turned_size width_of (changes_in (run_logged v)) v.state.screen (settled width_of v).state.screen d (event_turns width_of v Looked (display_on v.state.screen) h tt d refl).screen
+
+pub step_size : (request : Option ControlFunction) (state : State) → IsState state → HasSize (step_of request state).screen state.screen
+step_size request state h =
+    let d = display_on_is state h in
+    turned_size (λ text. 1) (changes_of request state) state.screen (step_of request state).screen d (action_turns (λ text. 1) request state (display_on state.screen) d refl).screen
+
+-- at another size of the same numbers
+pub moved_has : (s t : Screen) (changes : List ChangeValue) → HasSize s t → HaveSpellings s.width (height s) changes → HaveSpellings t.width (height t) changes
+moved_has s t changes size h = subst (λ n. HaveSpellings t.width n changes) size.tall (subst (λ n. HaveSpellings n (height s) changes) size.wide h)
+
+-- ---- what is logged
+
+-- a change that is logged has a spelling
+abbrev pub IsSent : ℕ → ℕ → LogStep → Type 0
+IsSent width tall (Logged change) = HasSpelling width tall change
+IsSent width tall (log.Forgotten number) = ⊤
+IsSent width tall (log.Resized most) = ⊤
+
+abbrev pub AreSent : ℕ → ℕ → List LogStep → Type 0
+AreSent width tall = AllByRecursion (IsSent width tall)
+
+logged_sent : (width tall : ℕ) (cs : List ChangeValue) → HaveSpellings width tall cs → AreSent width tall (map Logged cs)
+logged_sent width tall [] h = tt
+logged_sent width tall (c ∷ cs) h = (h.0, logged_sent width tall cs h.1)
+
+sent_have : (width tall : ℕ) (steps : List LogStep) → AreSent width tall steps → HaveSpellings width tall (changes_in steps)
+sent_have width tall [] h = tt
+sent_have width tall (Logged change ∷ steps) h = (h.0, sent_have width tall steps h.1)
+sent_have width tall (log.Forgotten number ∷ steps) h = sent_have width tall steps h.1
+sent_have width tall (log.Resized most ∷ steps) h = sent_have width tall steps h.1
+
+run_sent : (width tall : ℕ) (v : View) → IsView v → IsSpelledView v → AreSent width tall (run_logged v)
+run_sent width tall v h p = cond_both (length v.held == 0) _ _ (AreSent width tall) (λ e. tt) (λ e. (has_spelling width tall (Text v.held) p.held tt (inl h.plain), tt))
+
+pub request_has : (request : Option ControlFunction) (state : State) → IsState state → IsSpelledRequest request → IsSpelledState state → HaveSpellings state.screen.width (height state.screen) (changes_of request state)
+request_has None state h f p = tt
+request_has (Some function) state h f p =
+    have_spellings state.screen.width (height state.screen) (changes function state.saved state.screen)
+    (changes_spelled function state.saved state.screen f p.saved p.screen) (changes_placed function state.saved state.screen h.lawful.wide_enough) (changes_are_parts function state.saved state.screen)
+
+-- at the size of the screen before the event
+pub event_sent : (width_of : List ℕ → ℕ) (v : View) (event : Event) → IsView v → IsSpelledView v → IsSpelledEvent event → AreSent v.state.screen.width (height v.state.screen) (event_logged width_of v event)
+event_sent width_of v (Act action) h p q =
+    let sent = IsSent v.state.screen.width (height v.state.screen) in
+    let own = settled width_of v in
+    let changes = changes_of (function_of action) own.state in
+    let has = request_has (function_of action) own.state (settled_is width_of v h).lawful q.1 (settled_spelled width_of v h p).state in
+    cond_both (is_print action) [] (run_logged v ++ map Logged changes) (AreSent v.state.screen.width (height v.state.screen)) (λ e. tt)
+    (λ e.
+    all_joined sent (run_logged v) (map Logged changes) (run_sent v.state.screen.width (height v.state.screen) v h p)
+    (logged_sent v.state.screen.width (height v.state.screen) changes (moved_has own.state.screen v.state.screen changes (settled_size width_of v h) has)))
+event_sent width_of v Looked h p q = run_sent v.state.screen.width (height v.state.screen) v h p
+event_sent width_of v (Resized width tall) h p q =
+    all_joined (IsSent v.state.screen.width (height v.state.screen)) (run_logged v) (log.Resized (most_due width tall) ∷ []) (run_sent v.state.screen.width (height v.state.screen) v h p) (tt, tt)
+event_sent width_of v (Forgot number) h p q = (tt, tt)
+
+pub event_has : (width_of : List ℕ → ℕ) (v : View) (event : Event) → IsView v → IsSpelledView v → IsSpelledEvent event → HaveSpellings v.state.screen.width (height v.state.screen) (changes_in (event_logged width_of v event))
+event_has width_of v event h p q = sent_have v.state.screen.width (height v.state.screen) (event_logged width_of v event) (event_sent width_of v event h p q)

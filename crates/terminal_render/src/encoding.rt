@@ -1,0 +1,146 @@
+//! Encodings: the actions of a change for which something can be sent. Nothing here asks whether it can.
+ghost use Rattle.std.specs.Prelude.{◌≡◌, ◌≢◌, ◌==◌, ◌<◌, ◌^◌, ◌++◌, ◌∷◌, [], length};
+ghost use Rattle.std.specs.Prelude.{map, min, take, if◌then◌else◌, OnErr, OnOk, None, Some, option_map};
+ghost use Rattle.screen_change.specs.ValueOf.{value_of as change_value};
+ghost use Rattle.escape_stream.specs.StreamText.{stream_text};
+ghost use Rattle.terminal_render.specs.Lists.{all_rendered};
+ghost use Rattle.terminal_render.specs.Rendering.{behind, edited, rendering, visibility_mode};
+
+use crate::actions::Actions;
+use crate::pen::{push_attribute, push_clear, push_clear_screen, push_pen};
+use crate::places::push_position;
+use crate::texts::push_text;
+use cell_base::CursorVisibility;
+use csi_codec::{DecPrivateMode, DecPrivateModeCode, Edit, EraseInDisplay, EraseInLine, Mode};
+use screen_change::Change;
+use std::alloc::{AllocError, Global};
+
+// At most the height.
+fn row_count(height: usize, count: usize) -> u32
+    requires { height < 2 ^ 32 }
+    ensures { result ≡ min count height }
+{
+    count.min(height) as u32
+}
+
+// A scroll of all rows; none by 0.
+fn push_scroll(actions: &mut Actions<'_>, count: usize, scroll: Edit) -> Result<(), AllocError>
+    ensures { OnOk result (actions.new ≡ actions.old ++ (if count == 0 then [] else edited scroll ∷ [])) }
+{
+    if count == 0 {
+        return Ok(());
+    }
+    actions.push_edit(scroll)
+}
+
+// DECTCEM.
+fn visibility_mode(visibility: CursorVisibility) -> Mode
+    ensures { result ≡ visibility_mode visibility }
+{
+    match visibility {
+        CursorVisibility::Visible => {
+            Mode::SetDecPrivateMode(DecPrivateMode::Code(DecPrivateModeCode::ShowCursor))
+        }
+        CursorVisibility::Hidden => {
+            Mode::ResetDecPrivateMode(DecPrivateMode::Code(DecPrivateModeCode::ShowCursor))
+        }
+    }
+}
+
+/// The encoding of a change that has one.
+#[tactic(auto, unfolding(crate::specs::Rendering::scroll_rendering, crate::specs::Texts::text_rendering, crate::specs::Texts::title_rendering))]
+pub(crate) fn push_change<'a>(
+    actions: &mut Actions<'a>,
+    change: &'a Change,
+    width: usize,
+    height: usize,
+) -> Result<(), AllocError>
+    requires columns { 0 < width }
+    requires width { width < 2 ^ 32 }
+    requires rows { 0 < height }
+    requires height { height < 2 ^ 32 }
+    requires encoded { rendering (change_value change.now) width height ≢ None }
+    ensures { OnOk result (behind actions.old (rendering (change_value change.now) width height) ≡ Some actions.new) }
+{
+    match change {
+        Change::Text(text) => push_text(actions, text.as_str()),
+        Change::Title(title) => actions.push_title(title.as_str()),
+        Change::Attribute(change) => push_attribute(actions, change),
+        Change::AllAttributes(pen) => push_pen(actions, pen),
+        Change::ClearScreen(color) => push_clear_screen(actions, *color),
+        Change::ClearToEndOfLine(color) => push_clear(
+            actions,
+            *color,
+            Edit::EraseInLine(EraseInLine::EraseToEndOfLine),
+        ),
+        Change::ClearToEndOfScreen(color) => push_clear(
+            actions,
+            *color,
+            Edit::EraseInDisplay(EraseInDisplay::EraseToEndOfDisplay),
+        ),
+        Change::CursorPosition { x, y } => push_position(actions, width, height, *x, *y),
+        Change::CursorVisibility(visibility) => actions.push_mode(visibility_mode(*visibility)),
+        Change::ScrollRegionUp { scroll_count, .. } => {
+            let scroll = Edit::ScrollUp(row_count(height, *scroll_count));
+            push_scroll(actions, *scroll_count, scroll)
+        }
+        Change::ScrollRegionDown { scroll_count, .. } => {
+            let scroll = Edit::ScrollDown(row_count(height, *scroll_count));
+            push_scroll(actions, *scroll_count, scroll)
+        }
+        Change::CursorColor(_) | Change::CursorShape(_) | Change::LineAttribute(_) => Ok(()),
+    }
+}
+
+/// Appends the bytes of what is sent for changes in turn, each of which has an encoding: those that `encode` writes
+/// of the actions that `render` answers for each. They take no list of their own. Want of memory is the only refusal;
+/// `bytes` stay as they were then.
+pub fn append_encodings(
+    alloc: Global,
+    changes: &[Change],
+    width: usize,
+    height: usize,
+    bytes: &mut Vec<u8>,
+) -> Result<(), AllocError>
+    requires columns { 0 < width }
+    requires width { width < 2 ^ 32 }
+    requires rows { 0 < height }
+    requires height { height < 2 ^ 32 }
+    requires encoded { all_rendered (map change_value changes.now) width height ≢ None }
+    ensures ok { OnOk result (option_map (λ actions. bytes.old.items ++ stream_text actions)
+        (all_rendered (map change_value changes.now) width height) ≡ Some bytes.new.items) }
+    ensures refused { OnErr result (bytes.new.items ≡ bytes.old.items) }
+{
+    let len = bytes.len();
+    let result = append_each(alloc, changes, width, height, bytes);
+    if result.is_err() {
+        bytes.truncate(len);
+    }
+    result
+}
+
+// Appends each encoding in turn; what was appended before a refusal stays.
+fn append_each(
+    alloc: Global,
+    changes: &[Change],
+    width: usize,
+    height: usize,
+    bytes: &mut Vec<u8>,
+) -> Result<(), AllocError>
+    requires columns { 0 < width }
+    requires width { width < 2 ^ 32 }
+    requires rows { 0 < height }
+    requires height { height < 2 ^ 32 }
+    requires encoded { all_rendered (map change_value changes.now) width height ≢ None }
+    ensures ok { OnOk result (option_map (λ actions. bytes.old.items ++ stream_text actions)
+        (all_rendered (map change_value changes.now) width height) ≡ Some bytes.new.items) }
+    ensures front { take (length bytes.old.items) bytes.new.items ≡ bytes.old.items }
+{
+    let mut actions = Actions::new(alloc);
+    for change in changes {
+        push_change(&mut actions, change, width, height)?;
+        actions.append_to(bytes)?;
+        actions.clear();
+    }
+    Ok(())
+}

@@ -1,4 +1,0 @@
-pub mod HistoryLemmas
-pub mod ChainLemmas
-pub mod SessionLemmas
-pub mod ReplyLemmas

@@ -1,5 +1,0 @@
-use Rattle.terminal_spelling.proofs.PrintedLemmas.{lists_print}
-use Rattle.terminal_spelling.proofs.sizes.deltas_print_each_run_once.Goals as goal
-
-pub returns : goal.returns
-returns c = lists_print

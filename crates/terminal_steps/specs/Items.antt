@@ -1,0 +1,54 @@
+-- What a parser hands out as events, and what they make of what a terminal keeps.
+use Rattle.std.specs.Prelude.{◌≡◌, ℕ, Bool, false, List, [], ◌∷◌, ◌++◌, None, map, fold}
+use Rattle.cell_surface.specs.declared.error.SurfaceError.{SurfaceError}
+use Rattle.cell_surface.specs.declared.error.SurfaceError.TheVariants as refusal
+use Rattle.screen_log.specs.LogSteps.{Sized, step_of_kept}
+use Rattle.escape_stream.specs.Items.{Item, Text, Single}
+use Rattle.escape_stream.specs.StreamAction.{is_print, print_string}
+use Rattle.terminal_table.specs.Functions.{function_of}
+use Rattle.terminal_table.specs.History.{Event, Act}
+use Rattle.terminal_table.specs.Logged.{events_logged}
+use Rattle.terminal_table.specs.Meaning.{View, event_done}
+use Rattle.terminal_table.specs.Turns.{AreEvents}
+use Rattle.terminal_steps.specs.Events.{IsReady, Had, Does, NeedsNumber}
+use Rattle.terminal_steps.specs.Memory.{NeedsMemory, TakesMemory}
+use Rattle.terminal_steps.specs.declared.state.TerminalState.{TerminalState}
+
+-- a text is printed
+abbrev pub item_event : Item → Event
+item_event (Text text) = Act (print_string text)
+item_event (Single action) = Act action
+
+abbrev pub item_events : List Item → List Event
+item_events items = map item_event items
+
+-- an item had its meaning
+abbrev pub DoesItem : {W : Type 0} → (W → List ℕ → ℕ) → TerminalState W → Item → TerminalState W → Type 0
+DoesItem width_of before item after = Does width_of before after (item_event item ∷ [])
+
+-- why an item is refused
+abbrev pub RefusesItem : {W : Type 0} → (W → List ℕ → ℕ) → TerminalState W → Item → SurfaceError → TerminalState W
+    → Type 0
+RefusesItem width_of before item refusal.Failed after = IsReady before → ⊥
+RefusesItem width_of before item refusal.Number after = NeedsNumber width_of before (item_event item ∷ [])
+RefusesItem width_of before item refusal.Memory after = NeedsMemory width_of before (item_event item) after
+
+-- some items had their meaning
+abbrev pub Leads : {W : Type 0} → (W → List ℕ → ℕ) → TerminalState W → TerminalState W → List Item → Type 0
+Leads width_of before after items =
+    IsReady before → AreEvents (item_events items) → Had width_of before after (item_events items)
+
+-- Of some items one is refused memory, behind those before it.
+pub record SomeNeedsMemory
+    (width_of : List ℕ → ℕ) (view : View) (log : Sized) (items : List Item) (failed : Bool) : Type 0 where
+  pub done : List Item
+  pub item : Item
+  pub left : List Item
+  pub whole : items ≡ done ++ (item ∷ left)
+  pub takes : TakesMemory width_of (fold (event_done width_of) view (item_events done))
+      (fold step_of_kept log (events_logged width_of view (item_events done))) (item_event item) failed
+
+-- an item asks for nothing: an action that prints nothing and has no control function
+abbrev pub AsksNothing : Item → Type 0
+AsksNothing (Text text) = ⊥
+AsksNothing (Single action) = (is_print action ≡ false) × (function_of action ≡ None)

@@ -1,0 +1,72 @@
+-- What a terminal takes memory for, where it is refused some.
+use Rattle.std.specs.Prelude.{◌≡◌, ◌<◌, ◌+◌, ◌^◌, ◌⊎◌, ℕ, Bool, true, false, List, length, Option, Some, None, fold}
+use Rattle.screen_log.specs.LogSteps.{Sized, step_of_kept}
+use Rattle.csi_codec.specs.declared.rendition.Sgr.{Sgr}
+use Rattle.csi_codec.specs.declared.rendition.Sgr.TheVariants as sgr
+use Rattle.escape_stream.specs.StreamAction.{is_print}
+use Rattle.terminal_table.specs.Functions.{ControlFunction, LineFeed, CarriageReturn, NextRow, EraseToEndOfDisplay}
+use Rattle.terminal_table.specs.Functions.{EraseDisplay, EraseToEndOfLine, EraseLine, Rendition, SaveCursor}
+use Rattle.terminal_table.specs.Functions.{RestoreCursor, ReportStatus, ReportPosition, function_of}
+use Rattle.terminal_table.specs.History.{Event, Act}
+use Rattle.terminal_table.specs.Logged.{event_logged, run_logged}
+use Rattle.terminal_table.specs.Meaning.{View}
+use Rattle.terminal_steps.specs.Events.{IsReady, view_of}
+use Rattle.terminal_steps.specs.declared.state.TerminalState.{TerminalState}
+
+-- SGR that sets the pen as a whole, from a copy
+abbrev pub copies_pen : Sgr → Bool
+copies_pen sgr.Reset = true
+copies_pen (sgr.UnderlineColor color) = true
+copies_pen (sgr.Overline on) = true
+copies_pen (sgr.VerticalAlign align) = true
+copies_pen _ = false
+
+-- a control function copies a text or a pen for its changes
+abbrev pub copies : ControlFunction → Bool
+copies LineFeed = true
+copies CarriageReturn = true
+copies NextRow = true
+copies EraseToEndOfDisplay = true
+copies EraseDisplay = true
+copies EraseToEndOfLine = true
+copies EraseLine = true
+copies (Rendition value) = copies_pen value
+copies RestoreCursor = true
+copies _ = false
+
+-- a control function saves a copy of the cursor, or writes a reply
+abbrev pub keeps : ControlFunction → Bool
+keeps SaveCursor = true
+keeps ReportStatus = true
+keeps ReportPosition = true
+keeps _ = false
+
+-- Beside its changes an action takes memory for what its control function copies, where its first change has a number
+-- behind this one, or for what that keeps.
+abbrev pub TakesOwnMemory : Option ControlFunction → ℕ → Type 0
+TakesOwnMemory None number = ⊥
+TakesOwnMemory (Some function) number =
+    ((copies function ≡ true) × (number + 1 < 2 ^ 64)) ⊎ (keeps function ≡ true)
+
+-- a change is refused memory: there is one, and the surface has failed
+abbrev pub IsChangeRefused : {A : Type 0} → List A → Bool → Type 0
+IsChangeRefused changes failed = (0 < length changes) × (failed ≡ true)
+
+-- the number behind the run that is held, once it has ended
+abbrev pub number_settled : View → Sized → ℕ
+number_settled view log = (fold step_of_kept log (run_logged view)).log.number
+
+-- From a view and a log on an event is refused memory, and then the surface has failed or not: a print joins the run,
+-- what an action asks for takes memory of its own, or one of the changes is refused some.
+abbrev pub TakesMemory : (List ℕ → ℕ) → View → Sized → Event → Bool → Type 0
+TakesMemory width_of view log (Act action) failed =
+    (is_print action ≡ true) ⊎ TakesOwnMemory (function_of action) (number_settled view log)
+    ⊎ IsChangeRefused (event_logged width_of view (Act action)) failed
+TakesMemory width_of view log event failed = IsChangeRefused (event_logged width_of view event) failed
+
+-- so it is with a terminal that was ready for it
+abbrev pub NeedsMemory : {W : Type 0} → (W → List ℕ → ℕ) → TerminalState W → Event → TerminalState W → Type 0
+NeedsMemory width_of before event after =
+    IsReady before
+    → TakesMemory (width_of before.surface.grid.widths) (view_of before) before.surface.log event
+    after.surface.is_failed

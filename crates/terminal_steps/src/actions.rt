@@ -1,0 +1,176 @@
+//! What a terminal does with an action, and with a run of printed characters.
+ghost use Rattle.std.specs.Prelude.{◌≡◌, ◌⊎◌, ◌+◌, ◌-◌, ◌^◌, ◌<◌, ◌≤◌, ◌↔◌, true, false, IfOk, OnOk, IsErr, IsErrOf};
+ghost use Rattle.std.specs.Prelude.{[], ◌∷◌, length};
+ghost use Rattle.std.specs.String.{string_bytes};
+ghost use Rattle.cell_surface.specs.Surface.{number_of, shown_by};
+ghost use Rattle.escape_stream.specs.StreamActionView.{value_of};
+ghost use Rattle.terminal_table.specs.Changes.{changes, changes_of, run_change, visibility};
+ghost use Rattle.terminal_table.specs.Functions.{function_of};
+ghost use Rattle.terminal_table.specs.Steps.{reply_step, saved_step, step_of};
+ghost use Rattle.terminal_steps.specs.Additions.{AddsAll};
+ghost use Rattle.terminal_steps.specs.TerminalStates.{state_of};
+ghost use Rattle.terminal_steps.specs.FunctionView.{table_function};
+ghost use Rattle.terminal_steps.specs.Memory.{IsChangeRefused, TakesOwnMemory, copies, keeps};
+
+use crate::changes::{add, add_attribute, add_nothing, add_run, add_text};
+use crate::control_functions::control_function_of;
+use crate::cursor_moves::move_cursor;
+use crate::erase::{
+    erase_display, erase_line, erase_to_end_of_display, erase_to_end_of_line, reverse_index,
+    scroll_down, scroll_up,
+};
+use crate::function::ControlFunction;
+use crate::pen::render;
+use crate::replies::{report_position, report_status};
+use crate::saved::{SavedCursor, full_reset, restore_cursor, save_cursor};
+use cell_base::{AttributeChange, CursorVisibility, Widths};
+use cell_surface::{Surface, SurfaceError};
+use escape_stream::Action;
+use screen_change::Change;
+
+// Whether the cursor is shown, as a change.
+fn visibility(shown: bool) -> CursorVisibility
+    ensures { result ≡ visibility shown }
+{
+    if shown {
+        CursorVisibility::Visible
+    } else {
+        CursorVisibility::Hidden
+    }
+}
+
+// Refuses a control function that copies a text or a pen where no change has a number any more: so numbers come before
+// memory.
+fn check_number<W: Widths + Drop>(
+    surface: &Surface<W>,
+    function: &ControlFunction,
+) -> Result<(), SurfaceError>
+    ensures ok { OnOk result (copies (table_function function.now) ≡ true → number_of surface.now + 1 < 2 ^ 64) }
+    ensures numbers { IsErrOf result SurfaceError.Number
+        → (copies (table_function function.now) ≡ true) × (number_of surface.now ≡ 2 ^ 64 - 1) }
+    ensures only { IsErr result → IsErrOf result SurfaceError.Number }
+{
+    if surface.current_seqno() == usize::MAX && function.copies() {
+        return Err(SurfaceError::Number);
+    }
+    Ok(())
+}
+
+// What a control function does.
+fn perform<W: Widths + Drop>(
+    surface: &mut Surface<W>,
+    saved: &mut Option<SavedCursor>,
+    replies: &mut Vec<u8>,
+    function: ControlFunction,
+) -> Result<(), SurfaceError>
+    ensures added { IfOk result
+        (λ _. AddsAll (λ w. W.width_of w) surface.old surface.new
+        (changes (table_function function) saved.old (shown_by surface.old).screen)) }
+    ensures saved { IfOk result
+        (λ _. saved.new ≡ saved_step (table_function function) saved.old (shown_by surface.old).screen) }
+    ensures replies { IfOk result
+        (λ _. replies.new.items
+        ≡ reply_step (table_function function) replies.old.items (shown_by surface.old).screen) }
+    ensures failed { IsErrOf result SurfaceError.Failed → surface.old.is_failed ≡ true }
+    ensures numbers { IsErrOf result SurfaceError.Number
+        → 2 ^ 64
+        ≤ number_of surface.old
+        + length (changes (table_function function) saved.old (shown_by surface.old).screen) }
+    ensures memory { IsErrOf result SurfaceError.Memory
+        → copies (table_function function) ≡ false → keeps (table_function function) ≡ false
+        → IsChangeRefused (changes (table_function function) saved.old (shown_by surface.old).screen)
+        surface.new.is_failed }
+{
+    match function {
+        ControlFunction::Moves(movement) => move_cursor(surface, movement),
+        ControlFunction::LineFeed => add_text(surface, "\n"),
+        ControlFunction::CarriageReturn => add_text(surface, "\r"),
+        ControlFunction::NextRow => add_text(surface, "\r\n"),
+        ControlFunction::ReverseIndex => reverse_index(surface),
+        ControlFunction::EraseToEndOfDisplay => erase_to_end_of_display(surface),
+        ControlFunction::EraseDisplay => erase_display(surface),
+        ControlFunction::EraseToEndOfLine => erase_to_end_of_line(surface),
+        ControlFunction::EraseLine => erase_line(surface),
+        ControlFunction::ScrollUp(count) => scroll_up(surface, count),
+        ControlFunction::ScrollDown(count) => scroll_down(surface, count),
+        ControlFunction::Rendition(value) => render(surface, value),
+        ControlFunction::Hyperlink(link) => {
+            add_attribute(surface, AttributeChange::Hyperlink(link))
+        }
+        ControlFunction::Title(text) => add(surface, Change::Title(text)),
+        ControlFunction::ShowCursor(shown) => {
+            add(surface, Change::CursorVisibility(visibility(shown)))
+        }
+        ControlFunction::SaveCursor => save_cursor(surface, saved),
+        ControlFunction::RestoreCursor => restore_cursor(surface, saved),
+        ControlFunction::FullReset => full_reset(surface, saved),
+        ControlFunction::ReportStatus => {
+            report_status(replies)?;
+            add_nothing(surface)
+        }
+        ControlFunction::ReportPosition => {
+            report_position(surface, replies)?;
+            add_nothing(surface)
+        }
+    }
+}
+
+/// What the terminal's table has for an action: its changes are added to the surface, the cursor is saved
+/// or a saved one forgotten, and a reply comes behind those that there are. An action for which the
+/// terminal has no control function, as a print, does nothing.
+///
+/// Refusals are those of the surface, and want of memory for what is copied, for a saved cursor or for a reply; a
+/// change that has no number is refused before its text or its pen is copied. One leaves what was done so far.
+pub fn apply<W: Widths + Drop>(
+    surface: &mut Surface<W>,
+    saved: &mut Option<SavedCursor>,
+    replies: &mut Vec<u8>,
+    action: Action,
+) -> Result<(), SurfaceError>
+    ensures added { IfOk result
+        (λ _. AddsAll (λ w. W.width_of w) surface.old surface.new
+        (changes_of (function_of (value_of action)) (state_of surface.old saved.old replies.old.items))) }
+    ensures saved { IfOk result
+        (λ _. saved.new
+        ≡ (step_of (function_of (value_of action)) (state_of surface.old saved.old replies.old.items)).saved) }
+    ensures replies { IfOk result
+        (λ _. replies.new.items
+        ≡ (step_of (function_of (value_of action)) (state_of surface.old saved.old replies.old.items)).replies) }
+    ensures failed { IsErrOf result SurfaceError.Failed ↔ (surface.old.is_failed ≡ true) }
+    ensures numbers { IsErrOf result SurfaceError.Number
+        → 2 ^ 64
+        ≤ number_of surface.old
+        + length
+        (changes_of (function_of (value_of action)) (state_of surface.old saved.old replies.old.items)) }
+    ensures memory { IsErrOf result SurfaceError.Memory
+        → TakesOwnMemory (function_of (value_of action)) (number_of surface.old)
+        ⊎ IsChangeRefused
+        (changes_of (function_of (value_of action)) (state_of surface.old saved.old replies.old.items))
+        surface.new.is_failed }
+{
+    if surface.is_failed() {
+        return Err(SurfaceError::Failed);
+    }
+    match control_function_of(action) {
+        Some(function) => {
+            check_number(surface, &function)?;
+            perform(surface, saved, replies, function)
+        }
+        None => Ok(()),
+    }
+}
+
+/// A run of printed characters: one change, which puts each of their clusters at the cursor. Refusals are those of the
+/// surface.
+pub fn print<W: Widths + Drop>(surface: &mut Surface<W>, text: String) -> Result<(), SurfaceError>
+    ensures added { IfOk result
+        (λ _. AddsAll (λ w. W.width_of w) surface.old surface.new (run_change (string_bytes text) ∷ [])) }
+    ensures failed { IsErrOf result SurfaceError.Failed ↔ (surface.old.is_failed ≡ true) }
+    ensures numbers { IsErrOf result SurfaceError.Number → 2 ^ 64 ≤ number_of surface.old + 1 }
+    ensures memory { IsErrOf result SurfaceError.Memory → surface.new.is_failed ≡ true }
+{
+    if surface.is_failed() {
+        return Err(SurfaceError::Failed);
+    }
+    add_run(surface, text)
+}

@@ -1,0 +1,100 @@
+//! Moves of the cursor.
+ghost use Rattle.std.specs.Prelude.{◌≡◌, ◌+◌, ◌^◌, ◌≤◌, Option, true, min, IfOk, IsErrOf, []};
+ghost use Rattle.cell_surface.specs.Surface.{number_of, shown_by};
+ghost use Rattle.terminal_table.specs.Changes.{changes, move_change, position};
+ghost use Rattle.terminal_table.specs.Functions as table;
+ghost use Rattle.terminal_table.specs.Steps.{active_column, target};
+ghost use Rattle.terminal_steps.specs.Additions.{AddsAll};
+ghost use Rattle.terminal_steps.specs.Cursor.{place_change};
+ghost use Rattle.terminal_steps.specs.FunctionView.{move_of};
+
+use crate::changes::add_place;
+use crate::cursor::Place;
+use crate::function::Move;
+use cell_base::Widths;
+use cell_surface::{Surface, SurfaceError};
+
+/// The cursor's column; where a wrap is pending, the last one.
+pub(crate) fn current_column<W: Widths + Drop>(surface: &Surface<W>) -> usize
+    ensures { result ≡ active_column (shown_by surface.now).screen }
+{
+    let (width, _) = surface.dimensions();
+    let (column, _) = surface.cursor_position();
+    column.min(width.saturating_sub(1))
+}
+
+/// The place at a column and a row, or at the last ones.
+pub(crate) fn position_at<W: Widths + Drop>(
+    surface: &Surface<W>,
+    column: usize,
+    row: usize,
+) -> Place
+    ensures { place_change result ≡ position (column, row) (shown_by surface.now).screen }
+{
+    let (width, height) = surface.dimensions();
+    Place {
+        column: column.min(width.saturating_sub(1)),
+        row: row.min(height.saturating_sub(1)),
+    }
+}
+
+// Where a move leads from a column and a row: at most to the last ones.
+fn place_of(
+    movement: Move,
+    column: usize,
+    row: usize,
+    last_column: usize,
+    last_row: usize,
+) -> (usize, usize)
+    ensures column { result.0 ≡ min (target (move_of movement) column row).0 last_column }
+    ensures row { result.1 ≡ min (target (move_of movement) column row).1 last_row }
+{
+    let (column, row) = match movement {
+        Move::Up(n) => (column, row.saturating_sub(n as usize)),
+        Move::Down(n) => (column, row.saturating_add(n as usize)),
+        Move::Left(n) => (column.saturating_sub(n as usize), row),
+        Move::Right(n) => (column.saturating_add(n as usize), row),
+        Move::NextTab => ((column / 8 + 1).saturating_mul(8), row),
+        Move::NextLine(n) => (0, row.saturating_add(n as usize)),
+        Move::PrecedingLine(n) => (0, row.saturating_sub(n as usize)),
+        Move::ToColumn(name) => ((name as usize).saturating_sub(1), row),
+        Move::ToLine(name) => (column, (name as usize).saturating_sub(1)),
+        Move::ToPlace(line, name) => (
+            (name as usize).saturating_sub(1),
+            (line as usize).saturating_sub(1),
+        ),
+    };
+    (column.min(last_column), row.min(last_row))
+}
+
+/// Where a move leads.
+pub(crate) fn move_place<W: Widths + Drop>(surface: &Surface<W>, movement: Move) -> Place
+    ensures { place_change result ≡ move_change (move_of movement) (shown_by surface.now).screen }
+{
+    let (width, height) = surface.dimensions();
+    let (_, row) = surface.cursor_position();
+    let (column, row) = place_of(
+        movement,
+        current_column(surface),
+        row,
+        width.saturating_sub(1),
+        height.saturating_sub(1),
+    );
+    Place { column, row }
+}
+
+/// A move of the cursor.
+pub(crate) fn move_cursor<W: Widths + Drop>(
+    surface: &mut Surface<W>,
+    movement: Move,
+) -> Result<(), SurfaceError>
+    ensures added { IfOk result
+        (λ _. AddsAll (λ w. W.width_of w) surface.old surface.new
+        (changes (table.Moves (move_of movement)) None (shown_by surface.old).screen)) }
+    ensures failed { IsErrOf result SurfaceError.Failed → surface.old.is_failed ≡ true }
+    ensures numbers { IsErrOf result SurfaceError.Number → 2 ^ 64 ≤ number_of surface.old + 1 }
+    ensures memory { IsErrOf result SurfaceError.Memory → surface.new.is_failed ≡ true }
+{
+    let place = move_place(surface, movement);
+    add_place(surface, place)
+}

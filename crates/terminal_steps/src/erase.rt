@@ -1,0 +1,177 @@
+//! Erasures, scrolls and the line before.
+ghost use Rattle.std.specs.Prelude.{◌≡◌, ◌+◌, ◌^◌, ◌≤◌, None, true, IfOk, IsErrOf, [], ◌∷◌};
+ghost use Rattle.screen_change.specs.ValueOf.{value_of};
+ghost use Rattle.cell_surface.specs.Surface.{number_of, shown_by};
+ghost use Rattle.terminal_table.specs.Changes.{changes, same_place};
+ghost use Rattle.terminal_table.specs.Functions as table;
+ghost use Rattle.terminal_steps.specs.Additions.{AddsAll};
+ghost use Rattle.terminal_steps.specs.Cursor.{place_change};
+
+use crate::changes::{add, add_cursor, add_line_end, add_pen, add_place};
+use crate::cursor::{Pen, Place};
+use crate::cursor_moves::{current_column, move_place, position_at};
+use crate::function::Move;
+use cell_base::Widths;
+use cell_surface::{Surface, SurfaceError};
+use screen_change::Change;
+use std::alloc::AllocError;
+
+// The pen, to be set again: what erases takes its background for the pen.
+fn current_pen<W: Widths + Drop>(surface: &Surface<W>) -> Result<Pen, AllocError>
+    ensures { IfOk result (λ pen. pen.attributes ≡ (shown_by surface.now).screen.pen) }
+{
+    Ok(Pen {
+        attributes: surface.pen().try_clone()?,
+    })
+}
+
+/// The columns from the cursor to the end of its row become blanks.
+pub(crate) fn erase_to_end_of_line<W: Widths + Drop>(
+    surface: &mut Surface<W>,
+) -> Result<(), SurfaceError>
+    ensures added { IfOk result
+        (λ _. AddsAll (λ w. W.width_of w) surface.old surface.new
+        (changes table.EraseToEndOfLine None (shown_by surface.old).screen)) }
+    ensures failed { IsErrOf result SurfaceError.Failed → surface.old.is_failed ≡ true }
+    ensures numbers { IsErrOf result SurfaceError.Number → 2 ^ 64 ≤ number_of surface.old + 2 }
+{
+    let pen = current_pen(surface)?;
+    add_line_end(surface, pen.line_end())?;
+    add_pen(surface, pen)?;
+    Ok(())
+}
+
+/// The columns from the cursor to the end of its row, and all rows below, become blanks.
+pub(crate) fn erase_to_end_of_display<W: Widths + Drop>(
+    surface: &mut Surface<W>,
+) -> Result<(), SurfaceError>
+    ensures added { IfOk result
+        (λ _. AddsAll (λ w. W.width_of w) surface.old surface.new
+        (changes table.EraseToEndOfDisplay None (shown_by surface.old).screen)) }
+    ensures failed { IsErrOf result SurfaceError.Failed → surface.old.is_failed ≡ true }
+    ensures numbers { IsErrOf result SurfaceError.Number → 2 ^ 64 ≤ number_of surface.old + 2 }
+{
+    let pen = current_pen(surface)?;
+    add(surface, Change::ClearToEndOfScreen(pen.background()))?;
+    add_pen(surface, pen)?;
+    Ok(())
+}
+
+// Where the cursor is; no wrap is pending there.
+fn same_place<W: Widths + Drop>(surface: &Surface<W>) -> Place
+    ensures { place_change result ≡ same_place (shown_by surface.now).screen }
+{
+    let (_, row) = surface.cursor_position();
+    position_at(surface, current_column(surface), row)
+}
+
+/// The whole screen becomes blanks.
+pub(crate) fn erase_display<W: Widths + Drop>(surface: &mut Surface<W>) -> Result<(), SurfaceError>
+    ensures added { IfOk result
+        (λ _. AddsAll (λ w. W.width_of w) surface.old surface.new
+        (changes table.EraseDisplay None (shown_by surface.old).screen)) }
+    ensures failed { IsErrOf result SurfaceError.Failed → surface.old.is_failed ≡ true }
+    ensures numbers { IsErrOf result SurfaceError.Number → 2 ^ 64 ≤ number_of surface.old + 3 }
+{
+    let pen = current_pen(surface)?;
+    let here = same_place(surface);
+    add(surface, Change::ClearScreen(pen.background()))?;
+    add_cursor(surface, here, pen)?;
+    Ok(())
+}
+
+/// The cursor's row becomes blanks.
+pub(crate) fn erase_line<W: Widths + Drop>(surface: &mut Surface<W>) -> Result<(), SurfaceError>
+    ensures added { IfOk result
+        (λ _. AddsAll (λ w. W.width_of w) surface.old surface.new
+        (changes table.EraseLine None (shown_by surface.old).screen)) }
+    ensures failed { IsErrOf result SurfaceError.Failed → surface.old.is_failed ≡ true }
+    ensures numbers { IsErrOf result SurfaceError.Number → 2 ^ 64 ≤ number_of surface.old + 4 }
+{
+    let pen = current_pen(surface)?;
+    let (_, row) = surface.cursor_position();
+    let start = position_at(surface, 0, row);
+    let place = same_place(surface);
+    add_place(surface, start)?;
+    add_line_end(surface, pen.line_end())?;
+    add_cursor(surface, place, pen)?;
+    Ok(())
+}
+
+/// All rows move up, as far as there are rows.
+pub(crate) fn scroll_up<W: Widths + Drop>(
+    surface: &mut Surface<W>,
+    count: u32,
+) -> Result<(), SurfaceError>
+    ensures added { IfOk result
+        (λ _. AddsAll (λ w. W.width_of w) surface.old surface.new
+        (changes (table.ScrollUp count) None (shown_by surface.old).screen)) }
+    ensures failed { IsErrOf result SurfaceError.Failed → surface.old.is_failed ≡ true }
+    ensures numbers { IsErrOf result SurfaceError.Number → 2 ^ 64 ≤ number_of surface.old + 1 }
+    ensures memory { IsErrOf result SurfaceError.Memory → surface.new.is_failed ≡ true }
+{
+    let (_, height) = surface.dimensions();
+    let scroll_count = height.min(count as usize);
+    add(
+        surface,
+        Change::ScrollRegionUp {
+            first_row: 0,
+            region_size: height,
+            scroll_count,
+        },
+    )
+}
+
+/// All rows move down, as far as there are rows.
+pub(crate) fn scroll_down<W: Widths + Drop>(
+    surface: &mut Surface<W>,
+    count: u32,
+) -> Result<(), SurfaceError>
+    ensures added { IfOk result
+        (λ _. AddsAll (λ w. W.width_of w) surface.old surface.new
+        (changes (table.ScrollDown count) None (shown_by surface.old).screen)) }
+    ensures failed { IsErrOf result SurfaceError.Failed → surface.old.is_failed ≡ true }
+    ensures numbers { IsErrOf result SurfaceError.Number → 2 ^ 64 ≤ number_of surface.old + 1 }
+    ensures memory { IsErrOf result SurfaceError.Memory → surface.new.is_failed ≡ true }
+{
+    let (_, height) = surface.dimensions();
+    let scroll_count = height.min(count as usize);
+    add(
+        surface,
+        Change::ScrollRegionDown {
+            first_row: 0,
+            region_size: height,
+            scroll_count,
+        },
+    )
+}
+
+// The row before; on the first one all rows move down.
+fn reverse_change<W: Widths + Drop>(surface: &Surface<W>) -> Change
+    ensures { value_of result ∷ [] ≡ changes table.ReverseIndex None (shown_by surface.now).screen }
+{
+    let (_, height) = surface.dimensions();
+    let (_, row) = surface.cursor_position();
+    if row == 0 {
+        Change::ScrollRegionDown {
+            first_row: 0,
+            region_size: height,
+            scroll_count: 1,
+        }
+    } else {
+        Change::from(move_place(surface, Move::Up(1)))
+    }
+}
+
+/// The row before; on the first one all rows move down.
+pub(crate) fn reverse_index<W: Widths + Drop>(surface: &mut Surface<W>) -> Result<(), SurfaceError>
+    ensures added { IfOk result
+        (λ _. AddsAll (λ w. W.width_of w) surface.old surface.new
+        (changes table.ReverseIndex None (shown_by surface.old).screen)) }
+    ensures failed { IsErrOf result SurfaceError.Failed → surface.old.is_failed ≡ true }
+    ensures numbers { IsErrOf result SurfaceError.Number → 2 ^ 64 ≤ number_of surface.old + 1 }
+    ensures memory { IsErrOf result SurfaceError.Memory → surface.new.is_failed ≡ true }
+{
+    let change = reverse_change(surface);
+    add(surface, change)
+}

@@ -1,0 +1,30 @@
+//! Replies to the application.
+ghost use Rattle.std.specs.Prelude.{◌≡◌, ◌++◌, ◌+◌, IfOk, decimal, OnOk};
+ghost use Rattle.cell_surface.specs.Surface.{shown_by};
+ghost use Rattle.terminal_table.specs.Steps.{position_reply, status_reply};
+
+use crate::cursor_moves::current_column;
+use cell_base::Widths;
+use cell_surface::Surface;
+use std::alloc::AllocError;
+
+/// The terminal is ready.
+pub(crate) fn report_status(replies: &mut Vec<u8>) -> Result<(), AllocError>
+    ensures { OnOk result (replies.new.items ≡ replies.old.items ++ status_reply) }
+{
+    replies.extend_from_slice(b"\x1b[0n")
+}
+
+/// The cursor's line and column, counted from 1.
+pub(crate) fn report_position<W: Widths + Drop>(
+    surface: &Surface<W>,
+    replies: &mut Vec<u8>,
+) -> Result<(), AllocError>
+    ensures { OnOk result (replies.new.items ≡ replies.old.items ++ position_reply (shown_by surface.now).screen) }
+{
+    let (_, row) = surface.cursor_position();
+    let line = row as u128 + 1;
+    let column = current_column(surface) as u128 + 1;
+    let text = format!(in *replies.allocator(); "\x1b[{line};{column}R")?;
+    replies.extend_from_slice(text.as_bytes())
+}

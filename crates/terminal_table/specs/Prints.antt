@@ -1,0 +1,85 @@
+-- What a stream prints, and plain streams: those of which only the runs change rows, and nothing scrolls.
+use Rattle.std.specs.Prelude.{◌≡◌, ℕ, ◌+◌, ◌==◌, ⊤, Bool, true, false, not, List, [], ◌∷◌, ◌++◌, map, Option, Some}
+use Rattle.std.specs.Prelude.{None, if◌then◌else◌}
+use Rattle.cell_base.specs.Cluster.{clusters}
+use Rattle.cell_base.specs.Screen.{Screen, height}
+use Rattle.escape_stream.specs.StreamAction.{is_print}
+use Rattle.screen_effects.specs.Strokes.{Stroke, Cluster}
+use Rattle.screen_difference.specs.Prints.{PlacedText, strokes_print, strokes_scroll}
+use Rattle.terminal_table.specs.Functions.{ControlFunction, LineFeed, NextRow, ReverseIndex, ScrollUp, ScrollDown}
+use Rattle.terminal_table.specs.Functions.{function_of}
+use Rattle.terminal_table.specs.History.{Event, Act, Looked, Resized, Forgot, History, Piece, Look, events}
+use Rattle.terminal_table.specs.Meaning.{View, settled, event_done}
+
+-- ---- runs
+
+-- whether an event ends the held run
+abbrev pub ends_run : Event → Bool
+ends_run (Act action) = not (is_print action)
+ends_run Looked = true
+ends_run (Resized width height) = true
+ends_run (Forgot number) = false
+
+-- the clusters of the held run
+abbrev pub run_strokes : View → List Stroke
+run_strokes view = map Cluster (clusters view.held)
+
+-- the view on which an event does what it does by itself: behind the run, if the event ends it
+abbrev pub run_ended : (List ℕ → ℕ) → View → Event → View
+run_ended width_of view event = if ends_run event then settled width_of view else view
+
+-- ---- what is printed
+
+-- an event prints the run that it ends
+abbrev pub event_prints : (List ℕ → ℕ) → View → Event → List PlacedText
+event_prints width_of view event =
+    if ends_run event then strokes_print width_of view.state.screen (run_strokes view) else []
+
+-- the events in turn
+abbrev pub events_print : (List ℕ → ℕ) → View → List Event → List PlacedText
+events_print width_of view [] = []
+events_print width_of view (event ∷ events) =
+    event_prints width_of view event ++ events_print width_of (event_done width_of view event) events
+
+-- a stream that is read to its end: a look ends its last run
+abbrev pub read : List ℕ → History
+read bytes = Piece bytes ∷ Look ∷ []
+
+-- what a stream prints that goes on from a view
+abbrev pub prints : (List ℕ → ℕ) → View → List ℕ → List PlacedText
+prints width_of view bytes = events_print width_of view (events view.stream (read bytes))
+
+-- ---- plain streams
+
+-- whether a control function scrolls
+abbrev pub function_scrolls : ControlFunction → Screen → Bool
+function_scrolls LineFeed screen = screen.row + 1 == height screen
+function_scrolls NextRow screen = screen.row + 1 == height screen
+function_scrolls ReverseIndex screen = screen.row == 0
+function_scrolls (ScrollUp n) screen = true
+function_scrolls (ScrollDown n) screen = true
+function_scrolls _ screen = false
+
+-- what an action asks for, and an event by itself
+abbrev pub request_scrolls : Option ControlFunction → Screen → Bool
+request_scrolls None screen = false
+request_scrolls (Some function) screen = function_scrolls function screen
+
+abbrev pub event_scrolls : Event → Screen → Bool
+event_scrolls (Act action) screen = request_scrolls (function_of action) screen
+event_scrolls _ screen = false
+
+-- An event by itself changes no row, and neither it nor a run that it ends scrolls.
+pub record IsPlainEvent (width_of : List ℕ → ℕ) (view : View) (event : Event) : Type 0 where
+  pub rows : (event_done width_of view event).state.screen.rows ≡ (run_ended width_of view event).state.screen.rows
+  pub still : event_scrolls event (run_ended width_of view event).state.screen ≡ false
+  pub run : ends_run event ≡ true → strokes_scroll width_of view.state.screen (run_strokes view) ≡ false
+
+abbrev pub ArePlainEvents : (List ℕ → ℕ) → View → List Event → Type 0
+ArePlainEvents width_of view [] = ⊤
+ArePlainEvents width_of view (event ∷ events) =
+    IsPlainEvent width_of view event × ArePlainEvents width_of (event_done width_of view event) events
+
+-- a stream that goes on from a view is plain
+abbrev pub IsPlain : (List ℕ → ℕ) → View → List ℕ → Type 0
+IsPlain width_of view bytes = ArePlainEvents width_of view (events view.stream (read bytes))

@@ -1,8 +1,0 @@
-use Rattle.terminal_update.proofs.CountLemmas.{painted_count, update_count}
-use Rattle.terminal_update.proofs.laws.updates_are_counted.Goals as goal
-
-pub returns-clause-painted : goal.returns-clause-painted
-returns-clause-painted c = painted_count
-
-pub returns-clause-update : goal.returns-clause-update
-returns-clause-update c = update_count

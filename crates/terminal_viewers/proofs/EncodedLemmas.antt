@@ -1,0 +1,89 @@
+-- What is sent for changes in turn.
+use Rattle.std.proofs.Common.{◌≡◌, ◌≢◌, ℕ, zero, suc, ◌<◌, false, List, [], ◌∷◌, ◌++◌, length, get_or, map, refl, sym, ap, subst, ◌∙◌, arith}
+use Rattle.std.specs.Prelude.{Option, Some, None, IfSome, option_map, option_and_then}
+use Rattle.std.specs.List.{flat_map}
+use Rattle.screen_change.specs.declared.change.Change.{Change}
+use Rattle.screen_change.specs.ChangeValue.{ChangeValue}
+use Rattle.screen_change.specs.ValueOf.{value_of}
+use Rattle.escape_stream.specs.StreamAction.{StreamAction}
+use Rattle.escape_stream.specs.StreamText.{begins_terminated, stream_text}
+use Rattle.terminal_render.proofs.OpeningLemmas.{following_bytes, joined_open, rendering_opens}
+use Rattle.terminal_render.specs.Lists.{all_rendered}
+use Rattle.terminal_render.specs.Rendering.{rendering}
+use Rattle.terminal_render.specs.Spelling.{HasSpelling, HaveSpellings}
+use Rattle.terminal_render.proofs.LogLemmas.{all_some}
+use Rattle.terminal_viewers.specs.Encoding.{actions_or_none, all_encoded, encoded_for, encoded_text, encoded_texts}
+
+-- ---- changes with a spelling
+
+-- something is sent for one
+pub spelled_some : (width tall : ℕ) (change : ChangeValue) → HasSpelling width tall change → rendering change width tall ≢ None
+spelled_some width tall change h none =
+    all_some width tall (change ∷ []) (h, tt) (ap (λ found. option_and_then (λ first. option_map (λ others. first ++ others) (Some [])) found) none)
+
+or_none : (found : Option (List StreamAction)) → found ≢ None → found ≡ Some (actions_or_none found)
+or_none None h = absurd (h refl)
+or_none (Some actions) h = refl
+
+one_is_sent : (width tall : ℕ) (change : ChangeValue) → HasSpelling width tall change → rendering change width tall ≡ Some (encoded_for width tall change)
+unfolding encoded_for
+one_is_sent width tall change h = or_none (rendering change width tall) (spelled_some width tall change h)
+
+pub all_are_sent : (width tall : ℕ) (changes : List ChangeValue) → HaveSpellings width tall changes → all_rendered changes width tall ≡ Some (all_encoded width tall changes)
+all_are_sent width tall [] h = refl
+all_are_sent width tall (change ∷ changes) h =
+    λ i. option_and_then (λ first. option_map (λ others. first ++ others) (all_are_sent width tall changes h.1 i)) (one_is_sent width tall change h.0 i)
+
+-- ---- their bytes
+
+or_open : (found : Option (List StreamAction)) → IfSome found (λ actions. begins_terminated actions ≡ false) → begins_terminated (actions_or_none found) ≡ false
+or_open None h = refl
+or_open (Some actions) h = h
+
+sent_opens : (width tall : ℕ) (change : ChangeValue) → begins_terminated (encoded_for width tall change) ≡ false
+unfolding encoded_for
+sent_opens width tall change = or_open (rendering change width tall) (rendering_opens change width tall)
+
+all_open : (width tall : ℕ) (changes : List ChangeValue) → begins_terminated (all_encoded width tall changes) ≡ false
+all_open width tall [] = refl
+all_open width tall (change ∷ changes) = joined_open (encoded_for width tall change) (all_encoded width tall changes) (sent_opens width tall change) (all_open width tall changes)
+
+-- the bytes of all are those of each
+pub texts_are : (width tall : ℕ) (changes : List ChangeValue) → stream_text (all_encoded width tall changes) ≡ encoded_texts width tall changes
+unfolding encoded_text
+texts_are width tall [] = refl
+texts_are width tall (change ∷ changes) =
+    following_bytes (encoded_for width tall change) (all_encoded width tall changes) (all_open width tall changes) ∙ ap (λ rest. stream_text (encoded_for width tall change) ++ rest) (texts_are width tall changes)
+
+-- what was appended was sent
+pub appended_sent : (width tall : ℕ) (changes : List ChangeValue) (before after : List ℕ) → HaveSpellings width tall changes
+    → option_map (λ actions. before ++ stream_text actions) (all_rendered changes width tall) ≡ Some after → after ≡ before ++ encoded_texts width tall changes
+appended_sent width tall changes before after h e =
+    let same : Some (before ++ stream_text (all_encoded width tall changes)) ≡ Some after = ap (option_map (λ actions. before ++ stream_text actions)) (sym (all_are_sent width tall changes h)) ∙ e in
+    let k : before ++ stream_text (all_encoded width tall changes) ≡ after = cc same in
+    sym k ∙ ap (λ text. before ++ text) (texts_are width tall changes)
+
+-- one change by itself
+pub one_spelled : (width tall : ℕ) (change : Change) (changes : List Change) → changes ≡ change ∷ [] → HasSpelling width tall (value_of change) → HaveSpellings width tall (map value_of changes)
+one_spelled width tall change changes e h = subst (λ (cs : List Change). HaveSpellings width tall (map value_of cs)) (sym e) (h, tt)
+
+-- ---- lists of them
+
+pub spellings_front : (width tall : ℕ) (xs ys : List ChangeValue) → HaveSpellings width tall (xs ++ ys) → HaveSpellings width tall xs
+spellings_front width tall [] ys h = tt
+spellings_front width tall (x ∷ xs) ys h = (h.0, spellings_front width tall xs ys h.1)
+
+pub spellings_after : (width tall : ℕ) (xs ys : List ChangeValue) → HaveSpellings width tall (xs ++ ys) → HaveSpellings width tall ys
+spellings_after width tall [] ys h = h
+spellings_after width tall (x ∷ xs) ys h = spellings_after width tall xs ys h.1
+
+module _ {X : Type 0} (width tall : ℕ) (value : X → ChangeValue) where
+  pub spelled_at : (xs : List X) (i : ℕ) (x : X) → i < length xs → x ≡ get_or xs i x → HaveSpellings width tall (map value xs) → HasSpelling width tall (value x)
+  spelled_at [] i x lt e h = absurd (omega (arith, lt))
+  spelled_at (y ∷ xs) zero x lt e h = subst (λ (z : X). HasSpelling width tall (value z)) (sym e) h.0
+  spelled_at (y ∷ xs) (suc i) x lt e h = spelled_at xs i x (omega (arith, lt)) e h.1
+
+  pub spelled_in : (told : ChangeValue → List ChangeValue) (xs : List X) (i : ℕ) (x : X) → i < length xs → x ≡ get_or xs i x → HaveSpellings width tall (flat_map told (map value xs)) → HaveSpellings width tall (told (value x))
+  spelled_in told [] i x lt e h = absurd (omega (arith, lt))
+  spelled_in told (y ∷ xs) zero x lt e h = subst (λ (z : X). HaveSpellings width tall (told (value z))) (sym e) (spellings_front width tall (told (value y)) (flat_map told (map value xs)) h)
+  spelled_in told (y ∷ xs) (suc i) x lt e h = spelled_in told xs i x (omega (arith, lt)) e (spellings_after width tall (told (value y)) (flat_map told (map value xs)) h)

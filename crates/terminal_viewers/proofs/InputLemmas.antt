@@ -1,0 +1,161 @@
+-- A new viewer that is fed the updates of an input shows what the terminal shows.
+use Rattle.std.proofs.Common.{◌≡◌, ℕ, ◌+◌, ◌<◌, ◌≤◌, ◌^◌, Bool, true, false, List, [], ◌∷◌, ◌++◌, length, refl, sym, ap, subst, ◌∙◌, arith}
+use Rattle.std.specs.Prelude.{◌==◌, if◌then◌else◌}
+use Rattle.std.proofs.lemmas.List.{length-replicate}
+use Rattle.cell_base.specs.Row.{space, plain_row}
+use Rattle.cell_base.specs.Screen.{Screen, height}
+use Rattle.screen_log.specs.LogSteps.{Sized}
+use Rattle.escape_framing.specs.Held.{hand_out, held_of, nothing_held}
+use Rattle.terminal_render.specs.Effects.{IsReady}
+use Rattle.terminal_render.specs.Spelling.{HaveSpellings, IsSpelledView}
+use Rattle.terminal_render.proofs.LogLemmas.{history_keeps}
+use Rattle.terminal_render.proofs.StreamLemmas.{history_spelled}
+use Rattle.terminal_render.proofs.ViewLemmas.{new_spelled, display_on_is}
+use Rattle.terminal_table.specs.Alone.{IsIdle}
+use Rattle.terminal_table.specs.History.{Piece}
+use Rattle.terminal_table.specs.Logged.{logged}
+use Rattle.terminal_table.specs.Meaning.{View, new_view, after}
+use Rattle.terminal_table.specs.State.{State, IsState}
+use Rattle.terminal_table.specs.Turns.{IsView}
+use Rattle.terminal_table.proofs.EventLemmas.{after_is}
+use Rattle.terminal_table.proofs.JoinLemmas.{PiecesJoin, after_joins, cut_after, nothing_after}
+use Rattle.terminal_table.proofs.PrintLemmas.{AllCut}
+use Rattle.terminal_table.proofs.StateLemmas.{new_is}
+use Rattle.terminal_viewers.specs.Shows.{Shows}
+use Rattle.terminal_viewers.specs.Update.{update_of}
+use Rattle.terminal_viewers.specs.Updates.{Standing, in_pieces, looks, new_standing, standing_after, updated, updates, updates_after}
+use Rattle.terminal_viewers.specs.Viewers.{CanRead, UpdatesAreShown, UpdatesLeaveIdle}
+use Rattle.terminal_viewers.proofs.DueLemmas.{steps_reach}
+use Rattle.terminal_viewers.proofs.ShowLemmas.{history_shows, shows_itself}
+use Rattle.terminal_viewers.proofs.SoundLemmas.{IsSoundScreen, new_sound, history_sound}
+
+-- what a terminal keeps that updates are made of
+record Stands (width_of : List ℕ → ℕ) (s : Standing) : Type 0 where
+  lawful : IsView s.view
+  spelled : IsSpelledView s.view
+  sound : IsSoundScreen width_of s.view.state.screen
+  spellings : HaveSpellings s.view.state.screen.width (height s.view.state.screen) s.log.log.entries
+  counted : length s.log.log.entries ≤ s.log.log.number
+
+-- what a viewer keeps that reads them
+record Reads (viewer : View) : Type 0 where
+  ready : IsReady viewer
+  idle : IsIdle viewer
+
+-- a viewer behind an update shows its screen, and can be sent more
+record HasRead (behind : View) (screen : Screen) : Type 0 where
+  screen_is : behind.state.screen ≡ screen
+  reads : Reads behind
+
+-- ---- one piece
+
+module _ (cut : AllCut) (shown : UpdatesAreShown) (idles : UpdatesLeaveIdle) (width_of : List ℕ → ℕ) (narrow : width_of space ≡ 1) where
+  next_stands : (s : Standing) (piece : List ℕ) → Stands width_of s → Stands width_of (standing_after width_of s (looks (piece ∷ [])))
+  next_stands s piece h =
+      let history = looks (piece ∷ []) in
+      record {
+        lawful = after_is cut width_of s.view history h.lawful tt;
+        spelled = history_spelled cut width_of s.view history h.lawful tt h.spelled;
+        sound = history_sound width_of narrow cut s.view history h.lawful tt h.spelled h.sound;
+        spellings = history_keeps cut width_of s.view history s.log h.lawful tt h.spelled h.spellings;
+        counted = (steps_reach 0 (logged width_of s.view history) s.log (record { counted = h.counted; reached = omega arith })).counted;
+      }
+
+  can_read : (s : Standing) (piece : List ℕ) (number : ℕ) (viewer : View) → Stands width_of s → Reads viewer → number ≤ s.log.log.number → Shows width_of viewer.state.screen number s.view.state.screen s.log
+      → CanRead width_of viewer (standing_after width_of s (looks (piece ∷ []))).view.state.screen (standing_after width_of s (looks (piece ∷ []))).log number
+  can_read s piece number viewer h r n p =
+      let behind = next_stands s piece h in
+      record {
+        narrow = narrow;
+        ready = r.ready;
+        idle = r.idle;
+        display = display_on_is (standing_after width_of s (looks (piece ∷ []))).view.state behind.lawful.lawful;
+        sound = behind.sound;
+        spelled = behind.spelled.state.screen;
+        spellings = behind.spellings;
+        shows = history_shows width_of cut viewer.state.screen number s.view s.log (looks (piece ∷ [])) h.lawful tt (display_on_is viewer.state r.ready.lawful) h.counted n p;
+      }
+
+  has_read : (viewer : View) (screen : Screen) (log : Sized) (number : ℕ) → CanRead width_of viewer screen log number → HasRead (after width_of viewer (Piece (update_of screen log number) ∷ [])) screen
+  has_read viewer screen log number can =
+      let state_is = shown width_of viewer screen log number can in
+      let idle = idles width_of viewer screen log number can in
+      let screen_is = ap (λ (x : State). x.screen) state_is in
+      record {
+        screen_is = screen_is;
+        reads = record {
+          ready = record {
+            lawful = subst IsState (sym state_is) (record { lawful = can.display.lawful; whole = can.display.whole });
+            width = subst (λ n. n < 2 ^ 32) (can.shows.wide ∙ ap (λ (x : Screen). x.width) (sym screen_is)) can.ready.width;
+            height = subst (λ n. n < 2 ^ 32) (can.shows.tall ∙ ap (λ (x : Screen). height x) (sym screen_is)) can.ready.height;
+            run = idle.run;
+          };
+          idle = idle;
+        };
+      }
+
+  -- ---- all pieces
+
+  all_shown : PiecesJoin → (piece : List ℕ) (pieces : List (List ℕ)) (s : Standing) (number : ℕ) (viewer : View) → Stands width_of s → Reads viewer → number ≤ s.log.log.number → Shows width_of viewer.state.screen number s.view.state.screen s.log
+      → HasRead (after width_of viewer (Piece (updates_after width_of s number (piece ∷ pieces)) ∷ [])) (after width_of s.view (looks (piece ∷ pieces))).state.screen
+  all_shown joins piece [] s number viewer h r n p =
+      let behind = standing_after width_of s (looks (piece ∷ [])) in
+      subst (λ (bytes : List ℕ). HasRead (after width_of viewer (Piece bytes ∷ [])) behind.view.state.screen) (sym (nothing_after (update_of behind.view.state.screen behind.log number)))
+      (has_read viewer behind.view.state.screen behind.log number (can_read s piece number viewer h r n p))
+  all_shown joins piece (other ∷ pieces) s number viewer h r n p =
+      let behind = standing_after width_of s (looks (piece ∷ [])) in
+      let update = update_of behind.view.state.screen behind.log number in
+      let rest = updates_after width_of behind behind.log.log.number (other ∷ pieces) in
+      let stands = next_stands s piece h in
+      let read = has_read viewer behind.view.state.screen behind.log number (can_read s piece number viewer h r n p) in
+      let shows = subst (λ (x : Screen). Shows width_of x behind.log.log.number behind.view.state.screen behind.log) (sym read.screen_is) (shows_itself width_of behind.view.state.screen behind.log stands.counted) in
+      let others = all_shown joins other pieces behind behind.log.log.number (after width_of viewer (Piece update ∷ [])) stands read.reads (omega arith) shows in
+      subst (λ (v : View). HasRead v (after width_of s.view (looks (piece ∷ other ∷ pieces))).state.screen)
+      (sym (sym (cut_after joins width_of viewer update rest []) ∙ after_joins width_of viewer (Piece update ∷ []) (Piece rest ∷ [])))
+      (subst (λ (v : View). HasRead (after width_of (after width_of viewer (Piece update ∷ [])) (Piece rest ∷ [])) v.state.screen) (sym (after_joins width_of s.view (looks (piece ∷ [])) (looks (other ∷ pieces)))) others)
+
+  -- ---- the input
+
+  some_piece : (every : ℕ) (begun input : List ℕ) → (piece : List ℕ) × (pieces : List (List ℕ)) × (in_pieces every begun input ≡ piece ∷ pieces)
+  some_piece every begun [] = (begun, [], refl)
+  some_piece every begun (byte ∷ input) = by_test (length begun + 1 == every) (some_piece every (begun ++ byte ∷ []) input)
+    where
+      by_test : (b : Bool) → (piece : List ℕ) × (pieces : List (List ℕ)) × (in_pieces every (begun ++ byte ∷ []) input ≡ piece ∷ pieces)
+          → (piece : List ℕ) × (pieces : List (List ℕ)) × ((if b then (begun ++ byte ∷ []) ∷ in_pieces every [] input else in_pieces every (begun ++ byte ∷ []) input) ≡ piece ∷ pieces)
+      by_test true r = (begun ++ byte ∷ [], in_pieces every [] input, refl)
+      by_test false r = r
+
+  new_stands : (width height : ℕ) → 0 < width → 0 < height → Stands width_of (new_standing width height)
+  new_stands width height w t = record {
+    lawful = record { lawful = new_is width height w t; plain = refl };
+    spelled = new_spelled width height;
+    sound = new_sound width_of narrow width height;
+    spellings = tt;
+    counted = omega arith;
+  }
+
+  idle_stream : held_of [] ≡ nothing_held
+  unfolding hand_out
+  idle_stream = refl
+
+  new_reads : (width height : ℕ) → 0 < width → width < 2 ^ 32 → 0 < height → height < 2 ^ 32 → Reads (new_view width height)
+  new_reads width height w wide t tall = record {
+    ready = record { lawful = new_is width height w t; width = wide; height = subst (λ n. n < 2 ^ 32) (sym (length-replicate height (plain_row width))) tall; run = refl };
+    idle = record { run = refl; stream = idle_stream };
+  }
+
+  input_read : PiecesJoin → (width height every : ℕ) (input : List ℕ) → 0 < width → width < 2 ^ 32 → 0 < height → height < 2 ^ 32
+      → HasRead (after width_of (new_view width height) (Piece (updates width_of width height every input) ∷ [])) (updated width_of width height every input).state.screen
+  input_read joins width height every input w wide t tall =
+      let s = new_standing width height in
+      let p = some_piece every [] input in
+      subst (λ pieces. HasRead (after width_of (new_view width height) (Piece (updates_after width_of s 0 pieces) ∷ [])) (after width_of (new_view width height) (looks pieces)).state.screen) (sym p.2)
+      (all_shown joins p.0 p.1 s 0 (new_view width height) (new_stands width height w t) (new_reads width height w wide t tall) (omega arith) (record { wide = refl; tall = refl; leads = tt }))
+
+  pub input_is_shown : PiecesJoin → (width height every : ℕ) (input : List ℕ) → 0 < width → width < 2 ^ 32 → 0 < height → height < 2 ^ 32
+      → (after width_of (new_view width height) (Piece (updates width_of width height every input) ∷ [])).state.screen ≡ (updated width_of width height every input).state.screen
+  input_is_shown joins width height every input w wide t tall = (input_read joins width height every input w wide t tall).screen_is
+
+  pub input_leaves_idle : PiecesJoin → (width height every : ℕ) (input : List ℕ) → 0 < width → width < 2 ^ 32 → 0 < height → height < 2 ^ 32
+      → IsIdle (after width_of (new_view width height) (Piece (updates width_of width height every input) ∷ []))
+  input_leaves_idle joins width height every input w wide t tall = (input_read joins width height every input w wide t tall).reads.idle

@@ -1,0 +1,208 @@
+-- The changes of a repaint have a spelling.
+use Rattle.std.proofs.Common.{◌≡◌, ℕ, ◌+◌, ◌<◌, ◌≤◌, ◌⊎◌, inl, inr, Bool, true, false, List, [], ◌∷◌, ◌++◌, map, fold, refl, sym, subst, arith}
+use Rattle.std.specs.Prelude.{All, ⊤, not, ◌==◌, ◌&&◌, ◌||◌, pos, Option, Some, None, if◌then◌else◌}
+use Rattle.std.specs.List.{AllByRecursion, list_any, concat}
+use Rattle.std.proofs.lemmas.Bool.{cond_both}
+use Rattle.std.proofs.lemmas.List.Elements.{All-head, All-tail}
+use Rattle.cell_base.specs.declared.attributes.CursorShape.{CursorShape as Shape}
+use Rattle.cell_base.specs.declared.attributes.CursorVisibility.TheVariants.{Hidden, Visible}
+use Rattle.cell_base.specs.declared.attributes.Position.TheVariants.{Absolute, Relative}
+use Rattle.cell_base.specs.declared.color.ColorAttribute.{ColorAttribute}
+use Rattle.cell_base.specs.declared.color.ColorAttribute.TheVariants as attribute
+use Rattle.cell_base.specs.Attributes.{Attributes, plain}
+use Rattle.cell_base.specs.CellContent.{CellContent}
+use Rattle.cell_base.specs.Row.{Row, Narrow, LeftHalf, RightHalf}
+use Rattle.cell_base.specs.SameAttributes.{same_attributes}
+use Rattle.cell_base.specs.Screen.{Screen, IsScreen, height}
+use Rattle.screen_change.specs.CellChanges.{attributes_due, runs_written, cells_written, clear_due}
+use Rattle.screen_change.specs.CellRuns.{CellRun, before_runs, cell_runs, is_blank_of, background_at_end, less_blanks}
+use Rattle.screen_change.specs.ChangeValue.{ChangeValue, AllAttributes, Text, ClearScreen, ClearToEndOfLine, ClearToEndOfScreen, CursorPosition, CursorVisibility, Title}
+use Rattle.screen_change.specs.Texts.{stay_apart, texts}
+use Rattle.cell_base.specs.UpToLast.{up_to_last}
+use Rattle.cell_edits.specs.VisibleCells.{visible_from, contents}
+use Rattle.escape_framing.proofs.Existence.Utf8Lemmas.{order}
+use Rattle.screen_effects.specs.Display.{Display, IsDisplay}
+use Rattle.screen_repaint.specs.Repaint.{pen_left, row_cells, go_with_blanks, end_cleared, row_painted, in_next_row, rows_painted, are_some, cursor_placed, cursor_shown, title_due, repaint}
+use Rattle.terminal_render.specs.Spelling.{IsSpelledColor, IsSpelledPen, IsSpelledRun, IsSpelledRow, IsSpelledScreen, HasSpelling, HaveSpellings, IsLeftOut, HaveOtherSpellings}
+use Rattle.terminal_render.proofs.TextLemmas.{AreSpelledRuns, run_append, run_nil}
+use Rattle.terminal_render.proofs.ChangeLemmas.{has_spelling, spellings_append, place_some}
+
+-- ---- cells
+
+abbrev pub AreSpelledCells : List CellContent → Type 0
+AreSpelledCells = AllByRecursion (λ cell. IsSpelledRun cell.text × IsSpelledPen cell.attributes)
+
+visible_spelled : (at : ℕ) (row : Row) → IsSpelledRow row → AreSpelledCells (contents (visible_from at row))
+visible_spelled at [] p = tt
+visible_spelled at (Narrow text attributes ∷ row) p = ((p.0, p.1), visible_spelled (at + 1) row p.2)
+visible_spelled at (LeftHalf text attributes ∷ row) p = ((p.0, p.1), visible_spelled (at + 1) row p.2)
+visible_spelled at (RightHalf attributes ∷ row) p = visible_spelled (at + 1) row p.1
+
+kept_spelled : (passes : CellContent → Bool) (cells : List CellContent) → AreSpelledCells cells → AreSpelledCells (up_to_last passes cells)
+kept_spelled passes [] p = tt
+kept_spelled passes (cell ∷ cells) p = cond_both (passes cell || list_any passes cells) _ _ AreSpelledCells (λ e. (p.0, kept_spelled passes cells p.1)) (λ e. tt)
+
+less_spelled : (background : Option ColorAttribute) (cells : List CellContent) → AreSpelledCells cells → AreSpelledCells (less_blanks background cells)
+less_spelled None cells p = p
+less_spelled (Some color) cells p = kept_spelled (λ cell. not (is_blank_of color cell)) cells p
+
+abbrev IsSpelledOption : Option ColorAttribute → Type 0
+IsSpelledOption None = ⊤
+IsSpelledOption (Some color) = IsSpelledColor color
+
+background_from : (start : Option ColorAttribute) (cells : List CellContent) → IsSpelledOption start → AreSpelledCells cells
+    → IsSpelledOption (fold (λ _ cell. if is_blank_of cell.attributes.background cell then Some cell.attributes.background else None) start cells)
+background_from start [] h p = h
+background_from start (cell ∷ cells) h p =
+    background_from (if is_blank_of cell.attributes.background cell then Some cell.attributes.background else None) cells
+    (cond_both (is_blank_of cell.attributes.background cell) _ _ IsSpelledOption (λ e. p.0.1.background) (λ e. tt)) p.1
+
+background_told : (cells : List CellContent) → AreSpelledCells cells → IsSpelledOption (background_at_end cells)
+background_told cells p = background_from None cells tt p
+
+-- ---- runs
+
+concat_spelled : (ts : List (List ℕ)) → AreSpelledRuns ts → IsSpelledRun (concat ts)
+concat_spelled [] p = run_nil
+concat_spelled (t ∷ ts) p = run_append t (concat ts) p.0 (concat_spelled ts p.1)
+
+pub texts_spelled : (cells : List (List ℕ)) → AreSpelledRuns cells → AreSpelledRuns (texts cells)
+unfolding texts
+texts_spelled [] p = tt
+texts_spelled (cell ∷ cells) p = cond_both (stay_apart (cell ∷ cells)) _ _ AreSpelledRuns (λ e. (concat_spelled (cell ∷ cells) p, tt)) (λ e. p)
+
+abbrev pub AreSpelledCellRuns : List CellRun → Type 0
+AreSpelledCellRuns = AllByRecursion (λ run. IsSpelledPen run.attributes × AreSpelledRuns run.cells)
+
+before_spelled : (cell : CellContent) (runs : List CellRun) → IsSpelledRun cell.text → IsSpelledPen cell.attributes → AreSpelledCellRuns runs → AreSpelledCellRuns (before_runs cell runs)
+before_spelled cell [] t a p = ((a, (t, tt)), tt)
+before_spelled cell (run ∷ runs) t a p = cond_both (same_attributes cell.attributes run.attributes) _ _ AreSpelledCellRuns (λ e. ((p.0.0, (t, p.0.1)), p.1)) (λ e. ((a, (t, tt)), p))
+
+pub runs_spelled : (cells : List CellContent) → AreSpelledCells cells → AreSpelledCellRuns (cell_runs cells)
+runs_spelled [] p = tt
+runs_spelled (cell ∷ cells) p = before_spelled cell (cell_runs cells) p.0.0 p.0.1 (runs_spelled cells p.1)
+
+-- ---- a repaint
+
+module _ (width tall : ℕ) (some : 0 < width) where
+  abbrev Sent : List ChangeValue → Type 0
+  Sent changes = HaveSpellings width tall changes
+
+  pub due_sent : (pen a : Attributes) → IsSpelledPen a → Sent (attributes_due pen a)
+  due_sent pen a p = cond_both (same_attributes a pen) _ _ Sent (λ e. tt) (λ e. (has_spelling width tall (AllAttributes a) p tt tt, tt))
+
+  encoded_texts : (ts : List (List ℕ)) → AreSpelledRuns ts → Sent (map Text ts)
+  encoded_texts [] p = tt
+  encoded_texts (t ∷ ts) p = (has_spelling width tall (Text t) p.0.spelled tt (inl p.0.printed), encoded_texts ts p.1)
+
+  runs_sent : (pen : Attributes) (runs : List CellRun) → AreSpelledCellRuns runs → Sent (runs_written pen runs)
+  runs_sent pen [] p = tt
+  runs_sent pen (run ∷ runs) p =
+      spellings_append width tall (attributes_due pen run.attributes ++ map Text (texts run.cells)) (runs_written run.attributes runs)
+      (spellings_append width tall (attributes_due pen run.attributes) (map Text (texts run.cells)) (due_sent pen run.attributes p.0.0) (encoded_texts (texts run.cells) (texts_spelled run.cells p.0.1)))
+      (runs_sent run.attributes runs p.1)
+
+  clear_sent : (color : ColorAttribute) → IsSpelledColor color → Sent (clear_due color)
+  clear_sent (attribute.TrueColorWithPaletteFallback c index) h = absurd h
+  clear_sent (attribute.TrueColorWithDefaultFallback c) h = (has_spelling width tall (ClearToEndOfLine (attribute.TrueColorWithDefaultFallback c)) h tt tt, tt)
+  clear_sent (attribute.PaletteIndex index) h = (has_spelling width tall (ClearToEndOfLine (attribute.PaletteIndex index)) h tt tt, tt)
+  clear_sent attribute.Default h = tt
+
+  end_sent : (background : Option ColorAttribute) (below_too : Bool) → IsSpelledOption background → Sent (end_cleared background below_too)
+  end_sent None below_too h = tt
+  end_sent (Some color) true h = (has_spelling width tall (ClearToEndOfScreen color) h tt tt, tt)
+  end_sent (Some color) false h = clear_sent color h
+
+  row_sent : (pen : Attributes) (cells : List CellContent) (below_too : Bool) → AreSpelledCells cells → Sent (row_painted pen cells below_too)
+  row_sent pen cells below_too p =
+      let background = background_at_end cells in
+      spellings_append width tall (cells_written pen (less_blanks background cells)) (end_cleared background below_too)
+      (runs_sent pen (cell_runs (less_blanks background cells)) (runs_spelled (less_blanks background cells) (less_spelled background cells p)))
+      (end_sent background below_too (background_told cells p))
+
+  next_sent : (changes : List ChangeValue) → Sent changes → Sent (in_next_row changes)
+  next_sent [] p = tt
+  next_sent (change ∷ changes) p = (has_spelling width tall (CursorPosition (Absolute 0) (Relative (pos 1))) tt (place_some width tall 0 (Relative (pos 1)) some) tt, p)
+
+  pub rows_sent : (pen : Attributes) (rows : List Row) → All IsSpelledRow rows → Sent (rows_painted pen rows)
+  rows_sent pen [] p = tt
+  rows_sent pen (row ∷ below) p =
+      let below_too = go_with_blanks (background_at_end (row_cells row)) below in
+      let own = row_painted pen (row_cells row) below_too in
+      let first = row_sent pen (row_cells row) below_too (visible_spelled 0 row (All-head IsSpelledRow row below p)) in
+      let rest = next_sent (rows_painted (pen_left pen own) below) (rows_sent (pen_left pen own) below (All-tail IsSpelledRow row below p)) in
+      cond_both below_too own (own ++ in_next_row (rows_painted (pen_left pen own) below)) Sent (λ e. first) (λ e. spellings_append width tall own (in_next_row (rows_painted (pen_left pen own) below)) first rest)
+
+  title_sent : (title : List ℕ) → HaveSpellings width tall (Title title ∷ []) → Sent (title_due title)
+  title_sent [] h = tt
+  title_sent (byte ∷ title) h = h
+
+-- ---- but for the place of a pending wrap and the cursor's shape
+
+others_append : (s : Screen) (xs ys : List ChangeValue) → HaveOtherSpellings s xs → HaveOtherSpellings s ys → HaveOtherSpellings s (xs ++ ys)
+others_append s [] ys p q = q
+others_append s (x ∷ xs) ys p q = (p.0, others_append s xs ys p.1 q)
+
+all_others : (s : Screen) (xs : List ChangeValue) → HaveSpellings s.width (height s) xs → HaveOtherSpellings s xs
+all_others s [] p = tt
+all_others s (x ∷ xs) p = (inl p.0, all_others s xs p.1)
+
+-- what stands before the cursor's place: a clear with the cursor hidden, the title, and the rows
+abbrev front_of : Display → List ChangeValue
+front_of d = (CursorVisibility Hidden ∷ ClearScreen attribute.Default ∷ []) ++ title_due d.screen.title ++ rows_painted plain d.screen.rows
+
+front_sent : (d : Display) → IsDisplay d → IsSpelledScreen d.screen → HaveSpellings d.screen.width (height d.screen) (front_of d)
+front_sent d h p =
+    let w = d.screen.width in
+    let n = height d.screen in
+    let begin = CursorVisibility Hidden ∷ ClearScreen attribute.Default ∷ [] in
+    spellings_append w n (begin ++ title_due d.screen.title) (rows_painted plain d.screen.rows)
+    (spellings_append w n begin (title_due d.screen.title)
+    (has_spelling w n (CursorVisibility Hidden) tt tt tt, (has_spelling w n (ClearScreen attribute.Default) tt tt tt, tt))
+    (title_sent w n h.lawful.wide_enough d.screen.title (has_spelling w n (Title d.screen.title) p.title tt tt, tt)))
+    (rows_sent w n h.lawful.wide_enough plain d.screen.rows p.rows)
+
+pub placed_sent : (width tall : ℕ) (painted : Bool) (column row : ℕ) → column < width → HaveSpellings width tall (cursor_placed painted column row)
+placed_sent width tall painted column row h =
+    cond_both (not painted && (column == 0 && row == 0)) _ _ (HaveSpellings width tall) (λ e. tt)
+    (λ e. (has_spelling width tall (CursorPosition (Absolute column) (Absolute row)) tt (place_some width tall column (Absolute row) h) tt, tt))
+
+pub shown_sent : (width tall : ℕ) (visible : Bool) → HaveSpellings width tall (cursor_shown visible None)
+shown_sent width tall true = (has_spelling width tall (CursorVisibility Visible) tt tt tt, tt)
+shown_sent width tall false = tt
+
+pub repaint_sent : (d : Display) → IsDisplay d → IsSpelledScreen d.screen → d.screen.column < d.screen.width → d.shape ≡ None → HaveSpellings d.screen.width (height d.screen) (repaint d)
+repaint_sent d h p c e =
+    let s = d.screen in
+    let painted = rows_painted plain s.rows in
+    let placed = cursor_placed (are_some painted) s.column s.row in
+    let due = attributes_due (pen_left plain painted) s.pen in
+    spellings_append s.width (height s) (front_of d ++ placed ++ due) (cursor_shown s.visible d.shape)
+    (spellings_append s.width (height s) (front_of d ++ placed) due
+    (spellings_append s.width (height s) (front_of d) placed (front_sent d h p) (placed_sent s.width (height s) (are_some painted) s.column s.row c))
+    (due_sent s.width (height s) h.lawful.wide_enough (pen_left plain painted) s.pen p.pen))
+    (subst (λ shape. HaveSpellings s.width (height s) (cursor_shown s.visible shape)) (sym e) (shown_sent s.width (height s) s.visible))
+
+place_or : (s : Screen) (painted : Bool) → IsScreen s → HaveOtherSpellings s (cursor_placed painted s.column s.row)
+place_or s painted h = cond_both (not painted && (s.column == 0 && s.row == 0)) _ _ (HaveOtherSpellings s) (λ e. tt) (λ e. (either (order s.column s.width), tt))
+  where
+    either : (s.column < s.width) ⊎ (s.width ≤ s.column) → HasSpelling s.width (height s) (CursorPosition (Absolute s.column) (Absolute s.row)) ⊎ IsLeftOut s (CursorPosition (Absolute s.column) (Absolute s.row))
+    either (inl l) = inl (has_spelling s.width (height s) (CursorPosition (Absolute s.column) (Absolute s.row)) tt (place_some s.width (height s) s.column (Absolute s.row) l) tt)
+    either (inr l) = let k = h.column_in in inr (inl (omega arith, refl))
+
+shape_or : (s : Screen) (visible : Bool) (shape : Option Shape) → HaveOtherSpellings s (cursor_shown visible shape)
+shape_or s true None = (inl (has_spelling s.width (height s) (CursorVisibility Visible) tt tt tt), tt)
+shape_or s true (Some shape) = (inl (has_spelling s.width (height s) (CursorVisibility Visible) tt tt tt), (inr (inr (shape, refl)), tt))
+shape_or s false shape = tt
+
+pub repaint_others : (d : Display) → IsDisplay d → IsSpelledScreen d.screen → HaveOtherSpellings d.screen (repaint d)
+repaint_others d h p =
+    let s = d.screen in
+    let painted = rows_painted plain s.rows in
+    let placed = cursor_placed (are_some painted) s.column s.row in
+    let due = attributes_due (pen_left plain painted) s.pen in
+    others_append s (front_of d ++ placed ++ due) (cursor_shown s.visible d.shape)
+    (others_append s (front_of d ++ placed) due
+    (others_append s (front_of d) placed (all_others s (front_of d) (front_sent d h p)) (place_or s (are_some painted) h.lawful))
+    (all_others s due (due_sent s.width (height s) h.lawful.wide_enough (pen_left plain painted) s.pen p.pen)))
+    (shape_or s s.visible d.shape)

@@ -1,0 +1,88 @@
+-- The changes of an update have a spelling.
+use Rattle.std.proofs.Common.{◌≡◌, ℕ, ◌+◌, ◌<◌, ◌≤◌, inl, List, [], ◌∷◌, ◌++◌, length, sym, subst, arith}
+use Rattle.std.specs.Prelude.{◌==◌, ⊤, IfSome, Option, Some, None, fold}
+use Rattle.std.specs.List.{flat_map}
+use Rattle.std.proofs.lemmas.Bool.Decides.{nat_tests}
+use Rattle.cell_base.specs.declared.attributes.CursorVisibility.TheVariants.{Hidden}
+use Rattle.cell_base.specs.declared.attributes.Position.TheVariants.{Absolute}
+use Rattle.cell_base.specs.declared.color.ColorAttribute.TheVariants as attribute
+use Rattle.cell_base.specs.Attributes.{plain}
+use Rattle.cell_base.specs.Row.{Row, Narrow, LeftHalf, RightHalf}
+use Rattle.cell_base.specs.Screen.{Screen, IsScreen, height}
+use Rattle.screen_change.specs.ChangeValue.{ChangeValue, AllAttributes, ClearScreen, CursorPosition, CursorVisibility, Text, Title}
+use Rattle.screen_change.proofs.TextLemmas.{by_test}
+use Rattle.cell_edits.specs.VisibleCells.{VisibleCell, visible_at, visible_from}
+use Rattle.screen_log.specs.Log.{due}
+use Rattle.screen_log.specs.LogSteps.{Sized}
+use Rattle.screen_effects.specs.Display.{IsDisplay}
+use Rattle.screen_effects.specs.Effect.{cursor_row}
+use Rattle.screen_repaint.specs.Repaint.{are_some, cursor_shown, pen_left}
+use Rattle.terminal_render.specs.Spelling.{HaveSpellings, IsSpelledPen, IsSpelledRow, IsSpelledRun, IsSpelledScreen}
+use Rattle.terminal_render.proofs.ChangeLemmas.{has_spelling, place_some, spellings_append}
+use Rattle.terminal_render.proofs.LogLemmas.{due_has}
+use Rattle.terminal_viewers.proofs.RepaintLemmas.{due_sent, placed_sent, rows_sent, shown_sent}
+use Rattle.terminal_viewers.specs.Update.{display_on, due_or, last_cell, painted_anew, told, update_changes, written_again}
+use Rattle.terminal_viewers.proofs.PaintLemmas.{due_of, front_of, painted_rows, place_of, told_here, told_is, told_there}
+
+-- ---- the last cell of a row
+
+-- a cell with such a text and such attributes, before a column, if there is one
+abbrev pub IsSpelledCell : ℕ → Option VisibleCell → Type 0
+IsSpelledCell bound None = ⊤
+IsSpelledCell bound (Some v) = IsSpelledRun v.cell.text × IsSpelledPen v.cell.attributes × (v.column < bound)
+
+pub last_from : (bound at : ℕ) (row : Row) (start : Option VisibleCell) → at + length row ≤ bound → IsSpelledRow row → IsSpelledCell bound start → IsSpelledCell bound (fold (λ _ v. Some v) start (visible_from at row))
+last_from bound at [] start h p q = q
+last_from bound at (Narrow text attributes ∷ row) start h p q = last_from bound (at + 1) row (Some (visible_at at text 1 attributes)) (omega (arith, h)) p.2 (p.0, p.1, omega (arith, h))
+last_from bound at (LeftHalf text attributes ∷ row) start h p q = last_from bound (at + 1) row (Some (visible_at at text 2 attributes)) (omega (arith, h)) p.2 (p.0, p.1, omega (arith, h))
+last_from bound at (RightHalf attributes ∷ row) start h p q = last_from bound (at + 1) row start (omega (arith, h)) p.1 q
+
+written_sent : (s : Screen) → IsSpelledScreen s → (o : Option VisibleCell) → IsSpelledCell s.width o → HaveSpellings s.width (height s) (written_again s o)
+written_sent s p None q = tt
+written_sent s p (Some v) q =
+    let w = s.width in
+    let n = height s in (
+      has_spelling w n (CursorPosition (Absolute v.column) (Absolute s.row)) tt (place_some w n v.column (Absolute s.row) q.2) tt,
+      (has_spelling w n (AllAttributes v.cell.attributes) q.1 tt tt, (has_spelling w n (Text v.cell.text) q.0.spelled tt (inl q.0.printed), (has_spelling w n (AllAttributes s.pen) p.pen tt tt, tt))),
+    )
+
+-- ---- the screen painted anew
+
+place_sent : (s : Screen) → IsScreen s → IsSpelledScreen s → HaveSpellings s.width (height s) (flat_map (told s) (place_of s))
+place_sent s h p =
+    by_test (s.column == s.width)
+    (λ e.
+    let row : Row = cursor_row s in
+    let even : length row ≡ s.width = h.even s.row [] h.row_in in
+    subst (HaveSpellings s.width (height s)) (sym (told_there s h.wide_enough e))
+    (written_sent s p (last_cell row) (last_from s.width 0 row None (omega (arith, even)) (p.rows s.row [] h.row_in) tt)))
+    (λ e.
+    let in_columns = h.column_in in
+    let before : s.column < s.width = grind (arith, nat_tests) in
+    subst (HaveSpellings s.width (height s)) (sym (told_here s e)) (placed_sent s.width (height s) (are_some (painted_rows s)) s.column s.row before))
+
+pub painted_has : (s : Screen) → IsDisplay (display_on s) → IsSpelledScreen s → HaveSpellings s.width (height s) (painted_anew s)
+painted_has s d p =
+    let w = s.width in
+    let n = height s in
+    let h : IsScreen s = d.lawful in
+    let place : List ChangeValue = flat_map (told s) (place_of s) in
+    let begin : HaveSpellings w n ((CursorVisibility Hidden ∷ ClearScreen attribute.Default ∷ []) ++ (Title s.title ∷ [])) =
+    (has_spelling w n (CursorVisibility Hidden) tt tt tt, (has_spelling w n (ClearScreen attribute.Default) tt tt tt, (has_spelling w n (Title s.title) p.title tt tt, tt))) in
+    let front : HaveSpellings w n (front_of s) =
+    spellings_append w n ((CursorVisibility Hidden ∷ ClearScreen attribute.Default ∷ []) ++ (Title s.title ∷ [])) (painted_rows s) begin (rows_sent w n h.wide_enough plain s.rows p.rows) in
+    subst (HaveSpellings w n) (sym (told_is s h.wide_enough))
+    (spellings_append w n (front_of s ++ place ++ due_of s) (cursor_shown s.visible None)
+    (spellings_append w n (front_of s ++ place) (due_of s)
+    (spellings_append w n (front_of s) place front (place_sent s h p))
+    (due_sent w n h.wide_enough (pen_left plain (painted_rows s)) s.pen p.pen))
+    (shown_sent w n s.visible))
+
+-- ---- an update
+
+due_or_has : (w n : ℕ) (painted : List ChangeValue) (o : Option (List ChangeValue)) → HaveSpellings w n painted → IfSome o (HaveSpellings w n) → HaveSpellings w n (due_or painted o)
+due_or_has w n painted None p q = p
+due_or_has w n painted (Some changes) p q = q
+
+pub update_has : (s : Screen) (log : Sized) (number : ℕ) → IsDisplay (display_on s) → IsSpelledScreen s → HaveSpellings s.width (height s) log.log.entries → HaveSpellings s.width (height s) (update_changes s log number)
+update_has s log number d p kept = due_or_has s.width (height s) (painted_anew s) (due log.most log.log number) (painted_has s d p) (due_has s.width (height s) log.most log.log number kept)

@@ -1,0 +1,41 @@
+-- The actions that are sent for changes, one after another.
+use Rattle.std.specs.Prelude.{ℕ, ◌==◌, Bool, false, List, [], ◌∷◌, Option, Some, None}
+use Rattle.std.specs.List.{flat_map}
+use Rattle.cell_base.specs.declared.attributes.Position.TheVariants.{Absolute}
+use Rattle.cell_base.specs.Screen.{Screen}
+use Rattle.screen_change.specs.ChangeValue.{ChangeValue, ClearScreen, CursorPosition, Title}
+use Rattle.escape_stream.specs.StreamAction.{StreamAction}
+use Rattle.escape_stream.specs.StreamText.{stream_text}
+use Rattle.terminal_render.specs.Rendering.{rendering}
+use Rattle.terminal_viewers.specs.Update.{told}
+
+-- actions, if there are any
+abbrev pub actions_or_none : Option (List StreamAction) → List StreamAction
+actions_or_none None = []
+actions_or_none (Some actions) = actions
+
+-- the actions that are sent for a change to a terminal of a width and a height, and for changes in turn
+unfoldable pub encoded_for : ℕ → ℕ → ChangeValue → List StreamAction
+encoded_for width height change = actions_or_none (rendering change width height)
+
+abbrev pub all_encoded : ℕ → ℕ → List ChangeValue → List StreamAction
+all_encoded width height changes = flat_map (encoded_for width height) changes
+
+-- the bytes of one, and of each in turn
+unfoldable pub encoded_text : ℕ → ℕ → ChangeValue → List ℕ
+encoded_text width height change = stream_text (encoded_for width height change)
+
+abbrev pub encoded_texts : ℕ → ℕ → List ChangeValue → List ℕ
+encoded_texts width height changes = flat_map (encoded_text width height) changes
+
+-- whether a change leads to the place of a wrap that is pending
+abbrev pub is_pending : ℕ → ChangeValue → Bool
+is_pending width (CursorPosition (Absolute column) y) = column == width
+is_pending width _ = false
+
+-- a change of a repaint as it is sent: the title comes behind the clear, also an empty one, and the place of a wrap
+-- that is pending as `told` has it
+abbrev pub retold : Screen → ChangeValue → List ChangeValue
+retold screen (ClearScreen color) = ClearScreen color ∷ Title screen.title ∷ []
+retold screen (Title title) = []
+retold screen change = told screen change

@@ -1,0 +1,10 @@
+pub mod Update
+pub mod Encodable
+pub mod Encoding
+pub mod Shows
+pub mod Updates
+pub mod Viewers
+pub mod Patch
+pub mod Reading
+pub mod Sessions
+pub mod Showing

@@ -1,0 +1,39 @@
+-- What a viewer is sent that shows another screen of the same size.
+use Rattle.std.specs.Prelude.{ℕ, ◌==◌, List, [], ◌∷◌, ◌++◌, Option, Some, None, if◌then◌else◌}
+use Rattle.cell_base.specs.declared.attributes.Position.TheVariants.{Absolute}
+use Rattle.cell_base.specs.Screen.{Screen, height}
+use Rattle.screen_change.specs.ChangeValue.{ChangeValue, AllAttributes, CursorPosition, CursorVisibility, Title}
+use Rattle.cell_edits.specs.VisibleCells.{VisibleCell}
+use Rattle.screen_difference.specs.Difference.{difference}
+use Rattle.screen_difference.specs.FreshCells.{screen_fresh}
+use Rattle.screen_effects.specs.Effect.{cursor_row}
+use Rattle.screen_difference.specs.Prints.{PlacedText}
+use Rattle.terminal_render.specs.Lists.{all_rendered}
+use Rattle.terminal_table.specs.Changes.{visibility}
+use Rattle.terminal_viewers.specs.Update.{bytes_of, last_cell, written_again}
+
+-- The cursor's place and the pen. Nothing but a character leads behind the last column: where a wrap is pending the
+-- last visible cell of the cursor's row is written once more, and the pen behind it.
+abbrev pub place_and_pen : Screen → List ChangeValue
+place_and_pen screen =
+    if screen.column == screen.width then written_again screen (last_cell (cursor_row screen))
+    else CursorPosition (Absolute screen.column) (Absolute screen.row) ∷ AllAttributes screen.pen ∷ []
+
+-- the title, the cells that the old screen doesn't show, the cursor's place and the pen, and whether the cursor is
+-- visible
+abbrev pub patch_changes : Screen → Screen → List ChangeValue
+patch_changes old new =
+    Title new.title ∷ difference (screen_fresh old new) ++ place_and_pen new
+    ++ CursorVisibility (visibility new.visible) ∷ []
+
+-- the patch: the bytes of what is sent for these changes in turn
+abbrev pub patch_of : Screen → Screen → List ℕ
+patch_of old new = bytes_of (all_rendered (patch_changes old new) new.width (height new))
+
+-- what is printed for the place of a wrap that is pending: the cell that is written once more, where it stands
+abbrev pub print_again : Screen → Option VisibleCell → List PlacedText
+print_again screen None = []
+print_again screen (Some v) = record { row = screen.row; column = v.column; text = v.cell.text } ∷ []
+
+abbrev pub place_prints : Screen → List PlacedText
+place_prints screen = if screen.column == screen.width then print_again screen (last_cell (cursor_row screen)) else []

@@ -1,0 +1,51 @@
+-- The updates of an input: a new terminal is looked at behind each of some number of bytes, and once more at the end.
+use Rattle.std.specs.Prelude.{ℕ, ◌+◌, ◌==◌, List, [], ◌∷◌, ◌++◌, length, if◌then◌else◌}
+use Rattle.std.specs.List.{flat_map}
+use Rattle.screen_log.specs.Log.{most_due, new_log}
+use Rattle.screen_log.specs.LogSteps.{Sized}
+use Rattle.terminal_table.specs.History.{History, Piece, Look}
+use Rattle.terminal_table.specs.Logged.{log_after}
+use Rattle.terminal_table.specs.Meaning.{View, new_view, after}
+use Rattle.terminal_viewers.specs.Update.{update_of}
+
+-- an input in pieces of so many bytes, of which the first has begun; the last one is shorter, and empty where nothing
+-- is left for it
+abbrev pub in_pieces : ℕ → List ℕ → List ℕ → List (List ℕ)
+in_pieces every begun [] = begun ∷ []
+in_pieces every begun (byte ∷ input) =
+    if length begun + 1 == every then (begun ++ byte ∷ []) ∷ in_pieces every [] input
+    else in_pieces every (begun ++ byte ∷ []) input
+
+-- each piece, and a look behind it
+abbrev pub looks : List (List ℕ) → History
+looks pieces = flat_map (λ piece. Piece piece ∷ Look ∷ []) pieces
+
+-- where a terminal stands: its view, and its log
+pub record Standing : Type 0 where
+  pub view : View
+  pub log : Sized
+
+abbrev pub new_standing : ℕ → ℕ → Standing
+new_standing width height =
+    record { view = new_view width height; log = record { most = most_due width height; log = new_log } }
+
+-- where a history leads
+abbrev pub standing_after : (List ℕ → ℕ) → Standing → History → Standing
+standing_after width_of s history =
+    record { view = after width_of s.view history; log = log_after width_of s.view s.log history }
+
+-- behind each piece the update for the number that was given last
+abbrev pub updates_after : (List ℕ → ℕ) → Standing → ℕ → List (List ℕ) → List ℕ
+updates_after width_of s number [] = []
+updates_after width_of s number (piece ∷ pieces) =
+    let next = standing_after width_of s (looks (piece ∷ [])) in
+    update_of next.view.state.screen next.log number ++ updates_after width_of next next.log.log.number pieces
+
+-- the updates of an input, joined; a new viewer is at number 0
+abbrev pub updates : (List ℕ → ℕ) → ℕ → ℕ → ℕ → List ℕ → List ℕ
+updates width_of width height every input =
+    updates_after width_of (new_standing width height) 0 (in_pieces every [] input)
+
+-- what the terminal shows at the end
+abbrev pub updated : (List ℕ → ℕ) → ℕ → ℕ → ℕ → List ℕ → View
+updated width_of width height every input = after width_of (new_view width height) (looks (in_pieces every [] input))

@@ -1,0 +1,344 @@
+//! The update. Only `terminal` and `patch` call what stands here: it asks for a surface each change of which
+//! can be sent, as only a terminal's is known to be.
+ghost use Rattle.std.specs.Prelude.{◌≡◌, ◌<◌, ◌^◌, ◌++◌, false, length, map, take, IfOk, OnErr, OnOk};
+ghost use Rattle.std.specs.List.{flat_map};
+ghost use Rattle.std.specs.Option.{option_map};
+ghost use Rattle.cell_base.specs.declared.attributes.Position.TheVariants as place;
+ghost use Rattle.cell_base.specs.Screen.{height};
+ghost use Rattle.screen_change.specs.ChangeValue.{AllAttributes, CursorPosition, Text, Title};
+ghost use Rattle.screen_change.specs.ValueOf.{value_of};
+ghost use Rattle.cell_views.specs.CellRefView.{shown_by as cell_shown};
+ghost use Rattle.cell_surface.specs.Surface.{Answers, shown_by};
+ghost use Rattle.screen_log.specs.Log.{due};
+ghost use Rattle.screen_effects.specs.Display.{IsDisplay};
+ghost use Rattle.screen_effects.specs.Effect.{cursor_row};
+ghost use Rattle.screen_repaint.specs.Repaint.{repaint};
+ghost use Rattle.terminal_render.specs.Spelling.{HasSpelling, HaveSpellings};
+ghost use Rattle.terminal_viewers.specs.Encodable.{CanBeEncoded};
+ghost use Rattle.terminal_viewers.specs.Encoding.{is_pending, retold, encoded_text, encoded_texts};
+ghost use Rattle.terminal_viewers.specs.Update.{last_cell, update_changes, update_of, written_again};
+
+use cell_base::{CellAttributes, Position, SequenceNo, Widths};
+use cell_line::{CellRef, Line};
+use cell_surface::Surface;
+use cell_surface::laws::surfaces_stay_lawful;
+use screen_change::Change;
+use std::alloc::{AllocError, Global};
+use std::borrow::CowSlice;
+use std::slice;
+use terminal_render::append_encodings;
+
+// The last visible cell of a line, if there is one.
+fn last_cell(line: &Line) -> Option<CellRef<'_>>
+    ensures { option_map cell_shown result ≡ last_cell line.now.columns }
+{
+    let mut last = None;
+    for cell in line.visible_cells() {
+        last = Some(cell);
+    }
+    last
+}
+
+// The cursor's line.
+fn cursor_line<W: Widths + Drop>(surface: &Surface<W>) -> &Line
+    requires { surface.now.is_failed ≡ false }
+    ensures { result.now.columns ≡ cursor_row (shown_by surface.now).screen }
+{
+    surfaces_stay_lawful(surface);
+    let (_, row) = surface.cursor_position();
+    &surface.screen_lines()[row]
+}
+
+// Whether a change leads to the place of a wrap that is pending.
+fn is_pending(change: &Change, width: usize) -> bool
+    ensures { result ≡ is_pending width (value_of change.now) }
+{
+    match change {
+        Change::CursorPosition {
+            x: Position::Absolute(column),
+            ..
+        } => *column == width,
+        _ => false,
+    }
+}
+
+// The changes that are due, or the repaint. A surface that hasn't failed is refused memory alone.
+fn due_changes<W: Widths + Drop>(
+    surface: &Surface<W>,
+    number: SequenceNo,
+) -> Result<CowSlice<'_, Change>, AllocError>
+    requires { surface.now.is_failed ≡ false }
+    ensures { IfOk result
+        (λ changes. Answers (due surface.now.log.most surface.now.log.log number) (repaint (shown_by surface.now))
+        changes) }
+{
+    match surface.get_changes(number) {
+        Ok((_, changes)) => Ok(changes),
+        Err(_) => Err(AllocError),
+    }
+}
+
+/// Encodes changes for a viewer of so many columns and rows: the bytes of what is sent for them are
+/// appended, by ECMA-48 and xterm's control sequences. Want of memory is the only refusal; the bytes stay as they
+/// were then.
+#[derive(Clone, Copy)]
+pub struct ViewerEncoder {
+    alloc: Global,
+    /// The columns, from 1 to 2^32 - 1.
+    pub width: usize,
+    /// The rows, from 1 to 2^32 - 1.
+    pub height: usize,
+    ghost columns: { 0 < width },
+    ghost width_fits: { width < 2 ^ 32 },
+    ghost rows: { 0 < height },
+    ghost height_fits: { height < 2 ^ 32 },
+}
+
+impl ViewerEncoder {
+    /// A terminal of a surface's size. What the surface shows is lawful.
+    pub fn of<W: Widths + Drop>(alloc: Global, surface: &Surface<W>) -> ViewerEncoder
+        requires { CanBeEncoded surface.now }
+        ensures width { result.width ≡ (shown_by surface.now).screen.width }
+        ensures height { result.height ≡ height (shown_by surface.now).screen }
+        ensures lawful { IsDisplay (shown_by surface.now) }
+    {
+        surfaces_stay_lawful(surface);
+        let (width, height) = surface.dimensions();
+        ViewerEncoder {
+            alloc,
+            width,
+            height,
+        }
+    }
+
+    /// Encodes changes in turn, each of which has a spelling.
+    pub fn encode_all(&self, bytes: &mut Vec<u8>, changes: &[Change]) -> Result<(), AllocError>
+        requires { HaveSpellings self.now.width self.now.height (map value_of changes.now) }
+        ensures ok { OnOk result
+            (bytes.new.items
+            ≡ bytes.old.items ++ encoded_texts self.now.width self.now.height (map value_of changes.now)) }
+        ensures refused { OnErr result (bytes.new.items ≡ bytes.old.items) }
+    {
+        append_encodings(self.alloc, changes, self.width, self.height, bytes)
+    }
+
+    /// Encodes a change.
+    pub fn encode(&self, bytes: &mut Vec<u8>, change: &Change) -> Result<(), AllocError>
+        requires { HasSpelling self.now.width self.now.height (value_of change.now) }
+        ensures ok { OnOk result
+            (bytes.new.items ≡ bytes.old.items ++ encoded_text self.now.width self.now.height (value_of change.now)) }
+        ensures refused { OnErr result (bytes.new.items ≡ bytes.old.items) }
+    {
+        self.encode_all(bytes, slice::from_ref(change))
+    }
+
+    /// Encodes a title.
+    pub fn encode_title(&self, bytes: &mut Vec<u8>, title: &str) -> Result<(), AllocError>
+        requires { HasSpelling self.now.width self.now.height (Title title.now) }
+        ensures ok { OnOk result
+            (bytes.new.items ≡ bytes.old.items ++ encoded_text self.now.width self.now.height (Title title.now)) }
+        ensures refused { OnErr result (bytes.new.items ≡ bytes.old.items) }
+    {
+        let title = String::from_str(self.alloc, title)?;
+        self.encode(bytes, &Change::Title(title))
+    }
+
+    // Encodes a text.
+    fn encode_text(&self, bytes: &mut Vec<u8>, text: &str) -> Result<(), AllocError>
+        requires { HasSpelling self.now.width self.now.height (Text text.now) }
+        ensures ok { OnOk result
+            (bytes.new.items ≡ bytes.old.items ++ encoded_text self.now.width self.now.height (Text text.now)) }
+        ensures refused { OnErr result (bytes.new.items ≡ bytes.old.items) }
+    {
+        let text = String::from_str(self.alloc, text)?;
+        self.encode(bytes, &Change::Text(text))
+    }
+
+    /// Encodes attributes.
+    pub fn encode_pen(&self, bytes: &mut Vec<u8>, pen: &CellAttributes) -> Result<(), AllocError>
+        requires { HasSpelling self.now.width self.now.height (AllAttributes pen.now) }
+        ensures ok { OnOk result
+            (bytes.new.items ≡ bytes.old.items ++ encoded_text self.now.width self.now.height (AllAttributes pen.now)) }
+        ensures refused { OnErr result (bytes.new.items ≡ bytes.old.items) }
+    {
+        let pen = pen.try_clone()?;
+        self.encode(bytes, &Change::AllAttributes(pen))
+    }
+
+    /// Encodes a place, whose column and row count from 0.
+    pub fn encode_place(
+        &self,
+        bytes: &mut Vec<u8>,
+        column: usize,
+        row: usize,
+    ) -> Result<(), AllocError>
+        requires { HasSpelling self.now.width self.now.height
+            (CursorPosition (place.Absolute column) (place.Absolute row)) }
+        ensures ok { OnOk result
+            (bytes.new.items
+            ≡ bytes.old.items
+            ++ encoded_text self.now.width self.now.height
+            (CursorPosition (place.Absolute column) (place.Absolute row))) }
+        ensures refused { OnErr result (bytes.new.items ≡ bytes.old.items) }
+    {
+        let place = Change::CursorPosition {
+            x: Position::Absolute(column),
+            y: Position::Absolute(row),
+        };
+        self.encode(bytes, &place)
+    }
+
+    /// Encodes the last cell of the cursor's row once more, where it stands, and then the pen: so a wrap is pending
+    /// where that cell ends in the last column.
+    pub fn encode_again<W: Widths + Drop>(
+        &self,
+        bytes: &mut Vec<u8>,
+        surface: &Surface<W>,
+    ) -> Result<(), AllocError>
+        requires stays { surface.now.is_failed ≡ false }
+        requires spelled { HaveSpellings self.now.width self.now.height
+            (written_again (shown_by surface.now).screen (last_cell (cursor_row (shown_by surface.now).screen))) }
+        ensures ok { OnOk result
+            (bytes.new.items
+            ≡ bytes.old.items
+            ++ encoded_texts self.now.width self.now.height
+            (written_again (shown_by surface.now).screen
+            (last_cell (cursor_row (shown_by surface.now).screen)))) }
+        ensures refused { OnErr result (bytes.new.items ≡ bytes.old.items) }
+    {
+        let len = bytes.len();
+        let result = self.append_again(bytes, surface);
+        if result.is_err() {
+            bytes.truncate(len);
+        }
+        result
+    }
+
+    // Appends what is sent; what was appended before a refusal stays.
+    fn append_again<W: Widths + Drop>(
+        &self,
+        bytes: &mut Vec<u8>,
+        surface: &Surface<W>,
+    ) -> Result<(), AllocError>
+        requires stays { surface.now.is_failed ≡ false }
+        requires spelled { HaveSpellings self.now.width self.now.height
+            (written_again (shown_by surface.now).screen (last_cell (cursor_row (shown_by surface.now).screen))) }
+        ensures ok { OnOk result
+            (bytes.new.items
+            ≡ bytes.old.items
+            ++ encoded_texts self.now.width self.now.height
+            (written_again (shown_by surface.now).screen
+            (last_cell (cursor_row (shown_by surface.now).screen)))) }
+        ensures front { take (length bytes.old.items) bytes.new.items ≡ bytes.old.items }
+    {
+        let Some(cell) = last_cell(cursor_line(surface)) else {
+            return Ok(());
+        };
+        let (_, row) = surface.cursor_position();
+        self.encode_place(bytes, cell.cell_index(), row)?;
+        self.encode_pen(bytes, cell.attrs())?;
+        self.encode_text(bytes, cell.str())?;
+        self.encode_pen(bytes, surface.pen())?;
+        Ok(())
+    }
+
+    // Encodes a change of a repaint.
+    fn encode_painted<W: Widths + Drop>(
+        &self,
+        bytes: &mut Vec<u8>,
+        surface: &Surface<W>,
+        change: &Change,
+    ) -> Result<(), AllocError>
+        requires stays { surface.now.is_failed ≡ false }
+        requires width { self.now.width ≡ (shown_by surface.now).screen.width }
+        requires spelled { HaveSpellings self.now.width self.now.height
+            (retold (shown_by surface.now).screen (value_of change.now)) }
+        ensures { OnOk result
+            (bytes.new.items
+            ≡ bytes.old.items
+            ++ encoded_texts self.now.width self.now.height
+            (retold (shown_by surface.now).screen (value_of change.now))) }
+    {
+        if is_pending(change, self.width) {
+            return self.encode_again(bytes, surface);
+        }
+        match change {
+            Change::Title(_) => {}
+            Change::ClearScreen(_) => {
+                self.encode(bytes, change)?;
+                self.encode_title(bytes, surface.title())?;
+            }
+            _ => self.encode(bytes, change)?,
+        }
+        Ok(())
+    }
+
+    // Encodes the changes of a repaint in turn.
+    fn encode_repaint<W: Widths + Drop>(
+        &self,
+        bytes: &mut Vec<u8>,
+        surface: &Surface<W>,
+        changes: &[Change],
+    ) -> Result<(), AllocError>
+        requires stays { surface.now.is_failed ≡ false }
+        requires width { self.now.width ≡ (shown_by surface.now).screen.width }
+        requires spelled { HaveSpellings self.now.width self.now.height
+            (flat_map (retold (shown_by surface.now).screen) (map value_of changes.now)) }
+        ensures { OnOk result
+            (bytes.new.items
+            ≡ bytes.old.items
+            ++ encoded_texts self.now.width self.now.height
+            (flat_map (retold (shown_by surface.now).screen) (map value_of changes.now))) }
+    {
+        for change in changes {
+            self.encode_painted(bytes, surface, change)?;
+        }
+        Ok(())
+    }
+
+    // Encodes an update.
+    fn encode_update<W: Widths + Drop>(
+        &self,
+        bytes: &mut Vec<u8>,
+        surface: &Surface<W>,
+        number: SequenceNo,
+    ) -> Result<(), AllocError>
+        requires lawful { IsDisplay (shown_by surface.now) }
+        requires sendable { CanBeEncoded surface.now }
+        requires width { self.now.width ≡ (shown_by surface.now).screen.width }
+        requires height { self.now.height ≡ height (shown_by surface.now).screen }
+        ensures { OnOk result
+            (bytes.new.items
+            ≡ bytes.old.items
+            ++ encoded_texts self.now.width self.now.height
+            (update_changes (shown_by surface.now).screen surface.now.log number)) }
+    {
+        match due_changes(surface, number)? {
+            CowSlice::Borrowed(changes) => self.encode_all(bytes, changes)?,
+            CowSlice::Owned(changes) => self.encode_repaint(bytes, surface, changes.as_slice())?,
+        }
+        Ok(())
+    }
+}
+
+/// The bytes that are sent to a terminal of the surface's size which shows what the surface showed at a
+/// number of changes, so that it shows what the surface shows: those of the changes that are due from
+/// that number on; or, where none are, of those that paint the screen anew on any terminal of its size,
+/// from a clear on, with the title, also an empty one, and with a wrap that is pending, by the last cell
+/// of the cursor's row, which is written once more.
+///
+/// Want of memory is the only refusal. Changes are lent from the log, and each one's bytes are appended as it is
+/// rendered.
+pub fn update<W: Widths + Drop>(
+    alloc: Global,
+    surface: &Surface<W>,
+    number: SequenceNo,
+) -> Result<Vec<u8>, AllocError>
+    requires { CanBeEncoded surface.now }
+    ensures { IfOk result (λ bytes. bytes.items ≡ update_of (shown_by surface.now).screen surface.now.log number) }
+{
+    let receiver = ViewerEncoder::of(alloc, surface);
+    let mut bytes = Vec::new(alloc);
+    receiver.encode_update(&mut bytes, surface, number)?;
+    Ok(bytes)
+}

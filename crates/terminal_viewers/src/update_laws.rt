@@ -1,0 +1,56 @@
+//! Laws of updates: each is the contract of a function that does nothing.
+ghost use Rattle.std.specs.Prelude.{◌≡◌, ℕ, ◌+◌, ◌*◌, ◌≤◌, List, [], length, Some, None};
+ghost use Rattle.cell_base.specs.Row.{space};
+ghost use Rattle.cell_base.specs.Screen.{IsScreen, Screen, height};
+ghost use Rattle.screen_change.specs.ChangeValue.{ChangeValue};
+ghost use Rattle.screen_log.specs.Log.{due, most_due};
+ghost use Rattle.screen_log.specs.LogSteps.{Sized};
+ghost use Rattle.screen_effects.specs.Display.{Display, IsDisplay};
+ghost use Rattle.screen_effects.specs.Effect.{replay};
+ghost use Rattle.screen_effects.specs.WrittenCells.{IsSoundDisplay};
+ghost use Rattle.terminal_render.specs.Spelling.{HaveSpellings, IsSpelledScreen};
+ghost use Rattle.terminal_viewers.specs.Update.{display_on, painted_anew, update_changes, update_of};
+
+/// Any display of the same size on which the changes that paint a screen anew are replayed shows that
+/// screen: its rows, its cursor with a wrap that may be pending, its pen, and its title, also an empty
+/// one. A space takes one column, and each cell of the screen has a text that is by itself one cluster
+/// (UAX 29) without C0 controls and DEL, in as many columns as it takes, as all cells have that changes
+/// write.
+pub fn updates_paint_the_screen()
+    ensures { (width_of : List ℕ → ℕ) (other : Display) (screen : Screen) → width_of space ≡ 1
+        → IsDisplay (display_on screen) → IsSoundDisplay width_of (display_on screen) → IsDisplay other
+        → other.screen.width ≡ screen.width → length other.screen.rows ≡ length screen.rows
+        → (replay width_of other (painted_anew screen)).screen ≡ screen }
+{}
+
+/// Each change that paints such a screen anew has a spelling at its size, and so has each of an update
+/// where those have one that the log keeps.
+pub fn updates_have_spellings()
+    ensures painted { (screen : Screen) → IsDisplay (display_on screen) → IsSpelledScreen screen
+        → HaveSpellings screen.width (height screen) (painted_anew screen) }
+    ensures update { (screen : Screen) (log : Sized) (number : ℕ) → IsDisplay (display_on screen)
+        → IsSpelledScreen screen → HaveSpellings screen.width (height screen) log.log.entries
+        → HaveSpellings screen.width (height screen) (update_changes screen log number) }
+{}
+
+/// At most 2wh + 2h + 11 changes paint a screen of w columns and h rows anew, and an update has no more,
+/// where the log answers with as many changes as may be due at that size. Each change that the log
+/// keeps is taken to have a number, as in all logs.
+pub fn updates_are_counted()
+    ensures painted { (screen : Screen) → IsScreen screen
+        → length (painted_anew screen) ≤ 2 * screen.width * height screen + 2 * height screen + 11 }
+    ensures update { (screen : Screen) (log : Sized) (number : ℕ) → IsScreen screen
+        → length log.log.entries ≤ log.log.number → log.most ≡ most_due screen.width (height screen)
+        → length (update_changes screen log number) ≤ 2 * screen.width * height screen + 2 * height screen + 11 }
+{}
+
+/// An update is of the changes that are due, exactly where some list of changes is due, and else of those that
+/// paint the screen anew; and where the list is empty it has no bytes.
+pub fn updates_are_what_is_due()
+    ensures due { (screen : Screen) (log : Sized) (number : ℕ) (changes : List ChangeValue)
+        → due log.most log.log number ≡ Some changes → update_changes screen log number ≡ changes }
+    ensures painted { (screen : Screen) (log : Sized) (number : ℕ) → due log.most log.log number ≡ None
+        → update_changes screen log number ≡ painted_anew screen }
+    ensures nothing { (screen : Screen) (log : Sized) (number : ℕ) → due log.most log.log number ≡ Some []
+        → update_of screen log number ≡ [] }
+{}

@@ -1,0 +1,56 @@
+//! Laws of viewers: each is the contract of a function that does nothing.
+ghost use Rattle.terminal_viewers.specs.Viewers.{EventsKeepSound, HistoriesKeepSound, NewViewsAreSound};
+ghost use Rattle.terminal_viewers.specs.Viewers.{ScreensShowThemselves, UpdatesAreShown, UpdatesLeaveIdle};
+ghost use Rattle.terminal_viewers.specs.Viewers.{UpdatesLeaveNewViewersIdle, UpdatesShowTheInput, ViewersGoOnShowing};
+
+use crate::update_laws::{updates_have_spellings, updates_paint_the_screen};
+use escape_framing::laws::one_cut;
+use escape_stream::action_laws::actions_of_pieces_join;
+use terminal_render::laws::lists_have_the_effect;
+use terminal_render::spelling_laws::spelled_changes_are_writable;
+
+/// Each cell of a terminal's screen has a text that is by itself one cluster (UAX 29), without C0
+/// controls and DEL, and the columns that it takes: so it is on a new screen, and so it stays whatever
+/// comes, where what comes has a spelling. A space takes one column.
+pub fn views_stay_sound()
+    ensures new { NewViewsAreSound }
+    ensures event { EventsKeepSound }
+    ensures history { HistoriesKeepSound }
+{
+    one_cut();
+}
+
+/// A screen that shows a terminal's at a number goes on to show it at that number, whatever the terminal
+/// is fed, wherever it is looked at and whatever its log forgets, if it takes on the same sizes in turn:
+/// where changes are due from that number on they lead from the one screen to the other. And each screen
+/// shows itself at the number of its log.
+pub fn viewers_go_on_showing()
+    ensures history { ViewersGoOnShowing }
+    ensures seen { ScreensShowThemselves }
+{
+    one_cut();
+}
+
+/// A viewer of a screen's size that shows the screen at a number, can be sent changes and has nothing
+/// unfinished, shows the screen once it is fed the update for that number: its saved cursor and its
+/// replies stay, and nothing is unfinished or held behind. The screen's cells are sound, and they and the
+/// changes that its log keeps have a spelling.
+pub fn viewers_read_updates()
+    ensures shown { UpdatesAreShown }
+    ensures idle { UpdatesLeaveIdle }
+{
+    lists_have_the_effect();
+    spelled_changes_are_writable();
+    updates_have_spellings();
+    updates_paint_the_screen();
+}
+
+/// A new viewer that is fed all updates of an input shows in the end what the terminal shows, and is idle.
+pub fn updates_show_the_input()
+    ensures shown { UpdatesShowTheInput }
+    ensures idle { UpdatesLeaveNewViewersIdle }
+{
+    one_cut();
+    actions_of_pieces_join();
+    viewers_read_updates();
+}

@@ -1,8 +1,0 @@
-use Rattle.text_clusters.proofs.TextLemmas.{joined_clusters, clusters_behind}
-use Rattle.text_clusters.proofs.laws.clusters_behind_clusters.Goals as goal
-
-pub returns-clause-joined : goal.returns-clause-joined
-returns-clause-joined c = joined_clusters c.args.text.now c.utf8.text
-
-pub returns-clause-behind : goal.returns-clause-behind
-returns-clause-behind c = λ count. clusters_behind count c.args.text.now c.utf8.text
