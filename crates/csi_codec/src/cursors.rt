@@ -132,8 +132,7 @@ impl CursorTabulationControl {
     }
 }
 
-/// A cursor sequence. Counts and places are `u32` or count from 1; see the variants' standards in the table of
-/// spellings.
+/// A cursor sequence. Counts and places are `u32` or count from 1; the table of spellings names each standard.
 #[derive(Clone, Copy, Debug, PartialEq, Eq)]
 pub enum Cursor {
     Up(u32),

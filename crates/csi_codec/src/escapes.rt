@@ -188,8 +188,7 @@ impl Esc {
         }
     }
 
-    /// What an ESC pair means; it takes no memory. An intermediate of 0 in front of the final byte of a known lone
-    /// code is no intermediate.
+    /// What an ESC pair means; it takes no memory. Intermediate 0 before the final byte of a single code is none.
     pub fn parse(intermediate: Option<u8>, control: u8) -> Self
         ensures { result ≡ esc_reading intermediate control }
     {

@@ -45,8 +45,7 @@ pub fn writable_texts_are_short()
     ensures action { ActionsAreShort }
 {}
 
-/// The longest shape decides: no listed shape of SGR that stands at the front of a list is longer than the one that is
-/// chosen there.
+/// The longest shape decides: no listed shape of SGR at the front of a list is longer than the one chosen there.
 pub fn longest_shape_decides()
     ensures { LongestShapeDecides }
 {}

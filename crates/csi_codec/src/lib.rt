@@ -1,5 +1,4 @@
-//! CSI, SGR and ESC sequences both ways: what a list of parameters with its final byte means, and the exact
-//! bytes of every action.
+//! CSI, SGR and ESC sequences both ways: what parameters with a final byte mean, and the bytes of every action.
 #![tactic(auto)]
 
 mod cracked;

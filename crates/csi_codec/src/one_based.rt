@@ -57,16 +57,14 @@ impl OneBased {
         Self::from_param(1, *param)
     }
 
-    /// The place that a parameter names, where 0 is `u32::MAX`, the last there is. Refuses as
-    /// `from_esc_param` does.
+    /// The place that a parameter names; 0 is `u32::MAX`, the last there is. Refuses as `from_esc_param` does.
     pub fn from_esc_param_with_big_default(param: &CsiParam) -> Result<Self, CrackError>
         ensures { result ≡ one_based word_max param.now }
     {
         Self::from_param(u32::MAX, *param)
     }
 
-    /// The place that a parameter names, where 0 and an absent one are the first. Refuses as
-    /// `from_esc_param` does.
+    /// The place that a parameter names; 0 and an absent one are the first. Refuses as `from_esc_param` does.
     pub fn from_optional_esc_param(param: Option<&CsiParam>) -> Result<Self, CrackError>
         ensures { result ≡ optional_one_based (option_copied param.entry) }
     {

@@ -31,9 +31,8 @@ impl ParamCursor {
         ParamCursor { index: 0 }
     }
 
-    /// The action at this place of a list, with the flag and the final byte of the list, which have to be the same at
-    /// each call. It goes on to the next place. After a refusal of memory, and after the last action, it answers
-    /// `None`.
+    /// The action at this place of a list, with the list's flag and final byte, which must be the same at each call.
+    /// It goes on to the next place. After a refusal of memory, and after the last action, it answers `None`.
     #[inline(always)]
     pub fn next(
         &mut self,
@@ -101,8 +100,7 @@ impl ParamCursor {
         }
     }
 
-    /// The mode at this place of a list of modes, which stands behind the first `start` tokens, or else all that is
-    /// left.
+    /// The mode at this place of a list of modes after the first `start` tokens, or else all that is left.
     #[inline(always)]
     fn mode(
         &mut self,

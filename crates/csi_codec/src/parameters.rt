@@ -76,8 +76,7 @@ impl fmt::Display for Unspecified {
 }
 
 impl Unspecified {
-    /// Appends the bytes of `ESC [`, the parameters and the final byte. Where memory is refused, `bytes` stay as they
-    /// were.
+    /// Appends the bytes of `ESC [`, the parameters and the final byte. Refused memory leaves `bytes` as it was.
     pub(crate) fn append_bytes_to(&self, bytes: &mut Vec<u8>) -> Result<(), AllocError>
         ensures ok { OnOk result (bytes.new.items
             ≡ bytes.old.items ++ sequence_text (spelled self.now.params.items self.now.control)) }

@@ -58,8 +58,7 @@ fn with_alpha(len: usize, red: i64, green: i64, blue: i64, alpha: i64) -> Option
     Some((ColorSpec::TrueColor(color), len))
 }
 
-/// The colour told with `;` by its kind and what stands behind that, and how many tokens it takes with the sign and the
-/// kind.
+/// The colour given with `;` by its kind and the rest, and how many tokens it takes with the sign and the kind.
 #[tactic(auto, unfolding(crate::specs::Rendition::colour_form))]
 fn semicolon_form(kind: i64, params: &[CsiParam]) -> Option<(ColorSpec, usize)>
     ensures { result ≡ colour_form (P 59 ∷ Integer kind ∷ params.now) }
@@ -82,8 +81,7 @@ fn semicolon_form(kind: i64, params: &[CsiParam]) -> Option<(ColorSpec, usize)>
     }
 }
 
-/// The colour told with `:` by its kind and what stands behind that, and how many tokens it takes with the sign and the
-/// kind.
+/// The colour given with `:` by its kind and the rest, and how many tokens it takes with the sign and the kind.
 #[tactic(auto, unfolding(crate::specs::Rendition::colour_form))]
 fn colon_form(kind: i64, params: &[CsiParam]) -> Option<(ColorSpec, usize)>
     ensures { result ≡ colour_form (P 58 ∷ Integer kind ∷ params.now) }
