@@ -102,7 +102,7 @@ def crates_with_libraries():
 
 def without_body(function, text):
     """Returns the text with a body that meets every contract, on as many lines. A body that callers read stays: that of
-    a `const fn`, and that behind an `impl` type."""
+    a `const fn`, and that after an `impl` type."""
     head = text[: function.start].rsplit(b"\n", 1)[-1] + text[function.start : function.body]
     if re.search(rb"\bconst\s+fn\b|->\s*impl\b", head):
         return text

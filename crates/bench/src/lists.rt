@@ -3,7 +3,7 @@ use csi_codec::{CSI, CsiFront, CsiParam, read_csi};
 use std::alloc::Global;
 use std::fmt::Write;
 
-fn front(alloc: Global, input: &[u8]) -> Option<CsiFront<'_>> {
+fn prefix(alloc: Global, input: &[u8]) -> Option<CsiFront<'_>> {
     read_csi(alloc, input).ok()?
 }
 
@@ -26,10 +26,16 @@ fn read_over(
     Some(sum)
 }
 
-/// Reads the list of the control sequence at the front so often, and counts its actions.
+/// Reads the list of the control sequence at the start so often, and counts its actions.
 pub fn read(alloc: Global, input: &[u8], count: u32) -> Option<u64> {
-    let front = front(alloc, input)?;
-    read_over(alloc, &front.params, front.truncated, front.control, count)
+    let prefix = prefix(alloc, input)?;
+    read_over(
+        alloc,
+        &prefix.params,
+        prefix.truncated,
+        prefix.control,
+        count,
+    )
 }
 
 // Writes an action so often, and counts the bytes, in a function of its own too.
@@ -45,10 +51,10 @@ fn write_over(alloc: Global, action: &CSI, count: u32) -> Option<u64> {
     Some(sum)
 }
 
-/// Writes the first action of the control sequence at the front so often, and counts the bytes.
+/// Writes the first action of the control sequence at the start so often, and counts the bytes.
 pub fn write(alloc: Global, input: &[u8], count: u32) -> Option<u64> {
-    let front = front(alloc, input)?;
-    let mut actions = CSI::parse(alloc, &front.params, front.truncated, front.control);
+    let prefix = prefix(alloc, input)?;
+    let mut actions = CSI::parse(alloc, &prefix.params, prefix.truncated, prefix.control);
     let action = actions.next()?.ok()?;
     write_over(alloc, &action, count)
 }

@@ -20,17 +20,17 @@ pub enum Part {
     Encode,
     /// A terminal of 80 columns and 24 rows that is fed, and its rows.
     Show,
-    /// The control sequence at the front, read.
+    /// The control sequence at the start, read.
     ReadList,
-    /// The actions of the control sequence at the front, written.
+    /// The actions of the control sequence at the start, written.
     WriteList,
     /// Lines that are added to a surface.
     Lines,
     /// Words and attributes in turn that are added to a surface.
     Words,
-    /// Lines that are added to a surface, and the changes behind each.
+    /// Lines that are added to a surface, and the changes after each.
     Due,
-    /// Lines that are added to a surface of 1600 columns and 480 rows, and the changes behind each.
+    /// Lines that are added to a surface of 1600 columns and 480 rows, and the changes after each.
     DueLarge,
     /// A surface of 2000 columns and 500 rows, its difference and its repaint.
     Large,

@@ -66,7 +66,7 @@ fn add_words(surface: &mut Plain, words: &[&str]) -> Option<()> {
     Some(())
 }
 
-/// Adds each word of the input with the space that ends it, and behind it an attribute, to a surface of 80 columns and
+/// Adds each word of the input with the space that ends it, and after it an attribute, to a surface of 80 columns and
 /// 24 rows, so often.
 pub fn words(alloc: Global, input: &[u8], count: u32) -> Option<u64> {
     let words = split_inclusive(alloc, input, " ")?;
@@ -89,7 +89,7 @@ fn add_and_take(surface: &mut Plain, lines: &[&str]) -> Option<u64> {
 }
 
 /// Adds each line of the input, which ends in CR LF, to a surface of this size without the LF, so that nothing scrolls,
-/// and takes the changes behind each, so often.
+/// and takes the changes after each, so often.
 pub fn due(alloc: Global, input: &[u8], width: usize, height: usize, count: u32) -> Option<u64> {
     let lines = split(alloc, input, "\n")?;
     let mut surface = surface_of(alloc, width, height)?;

@@ -17,9 +17,9 @@ fn say_unwrapped(text: &str, sheet: &mut Sheet) {
             piece.split_once(" }")
         };
         is_first = false;
-        let (number, behind) = cut.unwrap_or((piece, ""));
+        let (number, after) = cut.unwrap_or((piece, ""));
         sheet.add(number.as_bytes());
-        sheet.add(behind.as_bytes());
+        sheet.add(after.as_bytes());
     }
 }
 
@@ -107,7 +107,7 @@ pub fn say_action(alloc: Global, action: &Action, sheet: &mut Sheet) {
     }
 }
 
-/// Actions, one behind the other.
+/// Actions, one after the other.
 pub fn say_actions(alloc: Global, actions: &[Action], sheet: &mut Sheet) {
     for action in actions {
         say_action(alloc, action, sheet);

@@ -31,7 +31,7 @@ impl<'a> Call<'a> {
         self.words.get(place).copied().unwrap_or("")
     }
 
-    /// The words from a place on.
+    /// The words from a position on.
     pub fn words_from(&self, place: usize) -> &[&'a str] {
         let (_, words) = self.words.split_at(place.min(self.words.len()));
         words

@@ -1,4 +1,4 @@
-//! Changes, as rows write them: a text in quotes, all attributes by their words, a place as `to X Y`, where `3` is
+//! Changes, as rows write them: a text in quotes, all attributes by their words, a position as `to X Y`, where `3` is
 //! counted from the start, `<1` from the end, and `+1` and `-1` from the cursor; a colour as `Default` or its number in
 //! the palette; a row's size and the cursor's shape by their names.
 use crate::attributes;

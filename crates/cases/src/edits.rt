@@ -88,7 +88,7 @@ fn set_bits(line: &mut Line, call: &Call<'_>, sheet: &mut Sheet) -> bool {
     true
 }
 
-// The line of a text goes behind the line.
+// The line of a text goes after the line.
 fn append(line: &mut Line, call: &Call<'_>, sheet: &mut Sheet) -> Result<(), Fault> {
     let text = call.text(1)?;
     let other = Line::try_from_text(call.alloc(), text.as_str(), &ProgramWidth)?;

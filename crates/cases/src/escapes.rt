@@ -25,46 +25,46 @@ fn hex_byte(high: u8, low: u8) -> Result<u8, Fault> {
 }
 
 // A byte, and then those that stand for themselves.
-fn push_with(bytes: &mut Vec<u8>, byte: u8, behind: &[u8]) -> Result<(), Fault> {
+fn push_with(bytes: &mut Vec<u8>, byte: u8, after: &[u8]) -> Result<(), Fault> {
     bytes.push(byte)?;
-    bytes.extend_from_slice(behind)?;
+    bytes.extend_from_slice(after)?;
     Ok(())
 }
 
 // A character by its number before a `}`, and then what stands for itself.
 fn push_character(bytes: &mut Vec<u8>, text: &str) -> Result<(), Fault> {
-    let (digits, behind) = text.split_once('}').ok_or(Fault::Escape)?;
+    let (digits, after) = text.split_once('}').ok_or(Fault::Escape)?;
     let number = u32::from_str_radix(digits, 16).ok().ok_or(Fault::Escape)?;
     let character = char::from_u32(number).ok_or(Fault::Escape)?;
     let mut buffer = [0u8; 4];
     bytes.extend_from_slice(character.encode_utf8(&mut buffer).as_bytes())?;
-    bytes.extend_from_slice(behind.as_bytes())?;
+    bytes.extend_from_slice(after.as_bytes())?;
     Ok(())
 }
 
-// What stands behind a `\`, up to the next one.
+// What follows a `\`, up to the next one.
 fn push_escape(bytes: &mut Vec<u8>, text: &str) -> Result<(), Fault> {
     if let Some(number) = text.strip_prefix("u{") {
         return push_character(bytes, number);
     }
     match text.as_bytes() {
-        [b'x', high, low, behind @ ..] => push_with(bytes, hex_byte(*high, *low)?, behind),
-        [b'n', behind @ ..] => push_with(bytes, b'\n', behind),
-        [b'r', behind @ ..] => push_with(bytes, b'\r', behind),
-        [b's', behind @ ..] => push_with(bytes, b' ', behind),
+        [b'x', high, low, after @ ..] => push_with(bytes, hex_byte(*high, *low)?, after),
+        [b'n', after @ ..] => push_with(bytes, b'\n', after),
+        [b'r', after @ ..] => push_with(bytes, b'\r', after),
+        [b's', after @ ..] => push_with(bytes, b' ', after),
         _ => Err(Fault::Escape),
     }
 }
 
 // A text so many times, at most 9,999, before `>>`, and then what stands for itself.
 fn push_copies(all: &mut String, text: &str) -> Result<(), Fault> {
-    let (digits, behind) = text.split_once(" of ").ok_or(Fault::Escape)?;
-    let (copied, behind) = behind.split_once(">>").ok_or(Fault::Escape)?;
+    let (digits, after) = text.split_once(" of ").ok_or(Fault::Escape)?;
+    let (copied, after) = after.split_once(">>").ok_or(Fault::Escape)?;
     let count = digits.parse::<u16>().ok().ok_or(Fault::Escape)?;
     for _ in 0..count.min(9999) {
         all.push_str(copied)?;
     }
-    all.push_str(behind)?;
+    all.push_str(after)?;
     Ok(())
 }
 

@@ -4,7 +4,7 @@ use crate::row::Row;
 use crate::sheet::Sheet;
 use escape_framing::{Event, Framer, Read};
 
-// The tokens of a control sequence in brackets, with `!` behind them where some were dropped.
+// The tokens of a control sequence in brackets, with `!` after them where some were dropped.
 fn say_parameters(framer: &Framer, sheet: &mut Sheet) {
     sheet.word("CSI[");
     for token in framer.parameters() {
@@ -17,13 +17,13 @@ fn say_parameters(framer: &Framer, sheet: &mut Sheet) {
     });
 }
 
-// A name, bytes in brackets, and bytes behind them.
-fn say_body(name: &str, body: &[u8], behind: &[u8], sheet: &mut Sheet) {
+// A name, bytes in brackets, and bytes after them.
+fn say_body(name: &str, body: &[u8], after: &[u8], sheet: &mut Sheet) {
     sheet.word(name);
     sheet.add(b"[");
     sheet.add(body);
     sheet.add(b"]");
-    sheet.add(behind);
+    sheet.add(after);
 }
 
 // A character between quotes.
@@ -33,7 +33,7 @@ fn say_character(character: char, sheet: &mut Sheet) {
     sheet.add(b"'");
 }
 
-// A character between quotes, a control or data by its number, an escape sequence behind ESC, and what others hold in
+// A character between quotes, a control or data by its number, an escape sequence after ESC, and what others hold in
 // brackets.
 fn say_event(framer: &Framer, event: Event, sheet: &mut Sheet) {
     match event {
@@ -90,7 +90,7 @@ fn say_fed(framer: &mut Framer, byte: u8, sheet: &mut Sheet) -> Result<(), Fault
     Ok(())
 }
 
-// What some bytes hand out, with a word behind what each byte does, if there is one.
+// What some bytes hand out, with a word after what each byte does, if there is one.
 fn say_all(
     framer: &mut Framer,
     bytes: &[u8],
@@ -106,7 +106,7 @@ fn say_all(
     Ok(())
 }
 
-/// `BYTES => EVENTS | idle or open`: what a stream hands out, and whether something is unfinished behind it.
+/// `BYTES => EVENTS | idle or open`: what a stream hands out, and whether something is unfinished after it.
 pub fn framing(row: &Row<'_>, sheet: &mut Sheet) -> Result<(), Fault> {
     let bytes = row.bytes(0)?;
     let mut framer = Framer::new(row.alloc());
@@ -116,7 +116,7 @@ pub fn framing(row: &Row<'_>, sheet: &mut Sheet) -> Result<(), Fault> {
     Ok(())
 }
 
-/// `BYTES => EVENTS`: what a stream hands out, with a `/` behind what each byte does.
+/// `BYTES => EVENTS`: what a stream hands out, with a `/` after what each byte does.
 pub fn places(row: &Row<'_>, sheet: &mut Sheet) -> Result<(), Fault> {
     let bytes = row.bytes(0)?;
     say_all(&mut Framer::new(row.alloc()), &bytes, Some("/"), sheet)

@@ -78,7 +78,7 @@ pub fn answer(kind: &str, row: &Row<'_>, sheet: &mut Sheet) -> Result<(), Fault>
     match kind {
         "csi" => sequences::csi(row, sheet),
         "csi tokens" => sequences::csi_tokens(row, sheet),
-        "csi front" => sequences::front(row, sheet),
+        "csi front" => sequences::prefix(row, sheet),
         "csi entries" => sequences::cracked(row, sheet),
         "csi place" => sequences::place(row, sheet),
         "code" => codes::code(row, sheet),

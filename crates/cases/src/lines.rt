@@ -55,7 +55,7 @@ fn page_of(alloc: Global, text: &str) -> Result<Page, Fault> {
     })
 }
 
-// The page behind the calls of a row, which have `; ` between them. The line is kept so before each of them and behind
+// The page after the calls of a row, which have `; ` between them. The line is kept so before each of them and after
 // the last.
 fn page_after(row: &Row<'_>, keeping: Keeping, sheet: &mut Sheet) -> Result<Page, Fault> {
     let text = row.text(0)?;
@@ -99,7 +99,7 @@ fn say_line(line: &Line, sheet: &mut Sheet) -> Result<(), Fault> {
     Ok(())
 }
 
-// What the calls of a row answer where the line is kept so, and if asked for what the line is behind them.
+// What the calls of a row answer where the line is kept so, and if asked for what the line is after them.
 fn say_after(
     row: &Row<'_>,
     keeping: Keeping,
@@ -113,7 +113,7 @@ fn say_after(
     Ok(page)
 }
 
-// Whether the answers of a row and the line behind its calls are these, however the line is kept.
+// Whether the answers of a row and the line after its calls are these, however the line is kept.
 fn is_kept_alike(row: &Row<'_>, is_shown: bool, page: &Page, sheet: &Sheet) -> Result<bool, Fault> {
     for keeping in &[Keeping::Clustered, Keeping::Opened] {
         let mut answers = Sheet::new(row.alloc());
@@ -133,7 +133,7 @@ fn say_each_way(row: &Row<'_>, is_shown: bool, sheet: &mut Sheet) -> Result<(), 
     Ok(())
 }
 
-/// `TEXT | CALLS => TEXT | COLUMNS | NUMBER | SIZE`: the line of a text with number 0 behind these calls; the same
+/// `TEXT | CALLS => TEXT | COLUMNS | NUMBER | SIZE`: the line of a text with number 0 after these calls; the same
 /// where it is made clustered before each of them, and where it is opened to cells again.
 pub fn edited(row: &Row<'_>, sheet: &mut Sheet) -> Result<(), Fault> {
     say_each_way(row, true, sheet)

@@ -70,7 +70,7 @@ fn told(outcome: Result<(), Fault>) -> io::Result<()> {
     }
 }
 
-// Runs the cases of the files that the words name behind the first, or of standard input where there is none.
+// Runs the cases of the files that the words name after the first, or of standard input where there is none.
 fn run_all<R: Files + Input + Env + AllocGlobal, W: Write>(
     rt: &R,
     out: &mut W,

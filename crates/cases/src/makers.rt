@@ -8,7 +8,7 @@ use cell_base::{Cell, CellAttributes, ProgramWidth};
 use cell_line::Line;
 use std::mem;
 
-// The cells of the words from a place on.
+// The cells of the words from a position on.
 fn cells_from(call: &Call<'_>, place: usize, attrs: &CellAttributes) -> Result<Vec<Cell>, Fault> {
     let mut cells = Vec::new(call.alloc());
     for word in call.words_from(place) {
@@ -44,7 +44,7 @@ fn made(call: &Call<'_>, pen: &CellAttributes, sheet: &mut Sheet) -> Result<Line
     }
 }
 
-// The attributes of the words behind the name.
+// The attributes of the words after the name.
 fn pen_of(call: &Call<'_>) -> Result<CellAttributes, Fault> {
     let mut pen = CellAttributes::blank();
     for word in call.words_from(1) {
@@ -78,12 +78,12 @@ fn picked(page: &Page, place: usize) -> Result<Line, Fault> {
     }
 }
 
-// Cuts the line, and keeps what is behind.
+// Cuts the line, and keeps what follows.
 fn split_off(page: &mut Page, call: &Call<'_>, sheet: &mut Sheet) -> Result<(), Fault> {
-    let behind = page
+    let after = page
         .line
         .split_off(call.number(1, sheet), call.number(2, sheet))?;
-    page.rows.push(behind)?;
+    page.rows.push(after)?;
     Ok(())
 }
 

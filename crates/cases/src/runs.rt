@@ -26,7 +26,7 @@ fn columns_of(line: &Line, call: &Call<'_>, sheet: &mut Sheet) -> Result<Range<u
 }
 
 /// `set_blanks START END` sets blanks with the pen's attributes; `set_text START END TEXT` sets a text with them,
-/// `set_plain START END TEXT` the printable ASCII characters at its front, and both say the text that is left.
+/// `set_plain START END TEXT` the printable ASCII characters at its start, and both say the text that is left.
 pub fn set(
     line: &mut Line,
     call: &Call<'_>,
@@ -40,8 +40,8 @@ pub fn set(
     }
     let text = call.text(3)?;
     if call.word(0) == "set_plain" {
-        let (front, left) = split_plain(text.as_str(), columns.end - columns.start);
-        set_plain(line, columns.start, front, pen)?;
+        let (prefix, left) = split_plain(text.as_str(), columns.end - columns.start);
+        set_plain(line, columns.start, prefix, pen)?;
         sheet.quoted(left);
         return Ok(());
     }

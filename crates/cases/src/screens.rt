@@ -21,8 +21,8 @@ fn say_screen(terminal: &Plain, sheet: &mut Sheet) -> Result<(), Fault> {
     Ok(())
 }
 
-/// `WIDTH HEIGHT | BYTES => ROWS | COLUMN ROW | NUMBER`: what a terminal shows behind some bytes, each row with `\n`
-/// behind it, its cursor and its number; whole, byte by byte, and cut in two at each place.
+/// `WIDTH HEIGHT | BYTES => ROWS | COLUMN ROW | NUMBER`: what a terminal shows after some bytes, each row with `\n`
+/// after it, its cursor and its number; whole, byte by byte, and cut in two at each position.
 pub fn screen(row: &Row<'_>, sheet: &mut Sheet) -> Result<(), Fault> {
     let bytes = row.bytes(1)?;
     let whole = Seen::in_two(row.alloc(), row.column(0), &bytes, 0)?;
@@ -42,7 +42,7 @@ fn feed_piece(terminal: &mut Plain, row: &Row<'_>, piece: &str) -> Result<(), Fa
     Ok(())
 }
 
-/// `WIDTH HEIGHT | PIECES => ROWS | COLUMN ROW | NUMBER`: the same behind pieces with ` + ` between them, of which
+/// `WIDTH HEIGHT | PIECES => ROWS | COLUMN ROW | NUMBER`: the same after pieces with ` + ` between them, of which
 /// `<settle>` settles; what is held at the end is not shown.
 pub fn settled(row: &Row<'_>, sheet: &mut Sheet) -> Result<(), Fault> {
     let mut terminal = terminal_of(row.alloc(), row.column(0))?;

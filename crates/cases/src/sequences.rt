@@ -40,11 +40,11 @@ fn text_of(alloc: Global, tokens: &[CsiParam], control: char) -> Result<String, 
 
 // Whether a text is one control sequence whose actions have that text again.
 fn is_one_sequence(alloc: Global, text: &str) -> Result<bool, Fault> {
-    let Some(front) = read_csi(alloc, text.as_bytes())? else {
+    let Some(prefix) = read_csi(alloc, text.as_bytes())? else {
         return Ok(false);
     };
-    let again = text_of(alloc, &front.params, front.control)?;
-    Ok(front.rest.is_empty() && again.as_str() == text)
+    let again = text_of(alloc, &prefix.params, prefix.control)?;
+    Ok(prefix.rest.is_empty() && again.as_str() == text)
 }
 
 // Whether a copy of an action is the action.
@@ -123,24 +123,24 @@ pub fn esc(row: &Row<'_>, sheet: &mut Sheet) -> Result<(), Fault> {
     Ok(())
 }
 
-// Writes the sequence at a front, its tokens side by side.
-fn say_front(alloc: Global, front: &CsiFront<'_>, sheet: &mut Sheet) -> Result<(), Fault> {
+// Writes the sequence at a prefix, its tokens side by side.
+fn say_front(alloc: Global, prefix: &CsiFront<'_>, sheet: &mut Sheet) -> Result<(), Fault> {
     let mut printed = String::new(alloc);
-    for token in &front.params {
+    for token in &prefix.params {
         write!(printed, "{token}")?;
     }
     let again = tokens_of(alloc, printed.as_bytes())?;
     sheet.word(printed.as_str());
     sheet.word_if(
-        again.as_slice() != front.params.as_slice(),
+        again.as_slice() != prefix.params.as_slice(),
         "(in other tokens)",
     );
     sheet.column();
-    sheet.show(&front.control);
+    sheet.show(&prefix.control);
     sheet.column();
-    sheet.add(front.rest);
+    sheet.add(prefix.rest);
     sheet.column();
-    sheet.word(if front.truncated {
+    sheet.word(if prefix.truncated {
         "truncated"
     } else {
         "whole"
@@ -148,12 +148,12 @@ fn say_front(alloc: Global, front: &CsiFront<'_>, sheet: &mut Sheet) -> Result<(
     Ok(())
 }
 
-/// `BYTES => TOKENS | FINAL | REST | whole or truncated`: the control sequence at the front of some bytes, its tokens
+/// `BYTES => TOKENS | FINAL | REST | whole or truncated`: the control sequence at the start of some bytes, its tokens
 /// side by side; `none` where there is none.
-pub fn front(row: &Row<'_>, sheet: &mut Sheet) -> Result<(), Fault> {
+pub fn prefix(row: &Row<'_>, sheet: &mut Sheet) -> Result<(), Fault> {
     let bytes = row.bytes(0)?;
     match read_csi(row.alloc(), &bytes)? {
-        Some(front) => say_front(row.alloc(), &front, sheet),
+        Some(prefix) => say_front(row.alloc(), &prefix, sheet),
         None => {
             sheet.word("none");
             Ok(())
@@ -177,7 +177,7 @@ fn say_entry(cracked: &Cracked, place: usize, sheet: &mut Sheet) {
     sheet.word_if(is_other, "(which the entry isn't)");
 }
 
-// The entries of a list, and one place past them; equal to their copy.
+// The entries of a list, and one position past them; equal to their copy.
 fn say_entries(cracked: &Cracked, sheet: &mut Sheet) -> Result<(), Fault> {
     sheet.show(&cracked.len());
     sheet.column();
@@ -191,7 +191,7 @@ fn say_entries(cracked: &Cracked, sheet: &mut Sheet) -> Result<(), Fault> {
     Ok(())
 }
 
-/// `TOKENS => COUNT | ENTRIES`: a list as entries, and one place past them, each a number or why there is none.
+/// `TOKENS => COUNT | ENTRIES`: a list as entries, and one position past them, each a number or why there is none.
 pub fn cracked(row: &Row<'_>, sheet: &mut Sheet) -> Result<(), Fault> {
     let tokens = tokens_of(row.alloc(), &row.bytes(0)?)?;
     match Cracked::parse(row.alloc(), &tokens) {
@@ -203,7 +203,7 @@ pub fn cracked(row: &Row<'_>, sheet: &mut Sheet) -> Result<(), Fault> {
     }
 }
 
-// A place that was read, from 1 and from 0, or why there is none.
+// A position that was read, from 1 and from 0, or why there is none.
 fn say_place(read: Result<OneBased, CrackError>, sheet: &mut Sheet) {
     match read {
         Ok(place) => {

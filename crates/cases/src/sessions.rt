@@ -122,7 +122,7 @@ impl Chain {
         }
     }
 
-    // A call; says behind which answer a viewer shows another screen.
+    // A call; says after which answer a viewer shows another screen.
     fn call(&mut self, call: &Call<'_>, sheet: &mut Sheet) -> Result<(), Fault> {
         if self.goes_on(call, sheet)? {
             return Ok(());
@@ -156,7 +156,7 @@ fn inner(step: &str) -> Option<&str> {
     step.strip_prefix('<')?.strip_suffix('>')
 }
 
-/// `WIDTH HEIGHT | STEPS => COUNT`: how often a viewer was answered; says behind which answers it shows another screen.
+/// `WIDTH HEIGHT | STEPS => COUNT`: how often a viewer was answered; says after which answers it shows another screen.
 pub fn session(row: &Row<'_>, sheet: &mut Sheet) -> Result<(), Fault> {
     let mut chain = Chain::new(row.alloc(), row.column(0))?;
     for step in row.column(1).split(" + ") {

@@ -7,7 +7,7 @@ use crate::sheet::Sheet;
 use escape_stream::{Action, DeviceControlMode, ParseError, Parser, Piece, encode};
 use std::alloc::Global;
 
-// A stream is cut in two at its first places only, so that a long one takes no longer.
+// A stream is cut in two at its first positions only, so that a long one takes no longer.
 const MOST_CUTS: usize = 1000;
 
 /// By which call of a parser a stream is read.
@@ -91,11 +91,11 @@ impl Way {
         count: usize,
         whole: &[Action],
     ) -> Result<bool, Fault> {
-        let (front, behind) = bytes.split_at(count.min(bytes.len()));
+        let (prefix, after) = bytes.split_at(count.min(bytes.len()));
         let mut parser = Parser::new(alloc);
         let mut actions = Vec::new(alloc);
-        self.read_on(&mut parser, front, &mut actions)?;
-        self.read_on(&mut parser, behind, &mut actions)?;
+        self.read_on(&mut parser, prefix, &mut actions)?;
+        self.read_on(&mut parser, after, &mut actions)?;
         Ok(actions.as_slice() == whole)
     }
 
@@ -147,7 +147,7 @@ fn say_stream(alloc: Global, bytes: &[u8], sheet: &mut Sheet) -> Result<(), Faul
     say_torn(alloc, bytes, &whole, sheet)
 }
 
-/// `BYTES => ACTIONS`: a stream, whole, byte by byte and cut in two at each place, by `parse_as_vec`, by `parse`
+/// `BYTES => ACTIONS`: a stream, whole, byte by byte and cut in two at each position, by `parse_as_vec`, by `parse`
 /// and by `pieces`.
 pub fn stream(row: &Row<'_>, sheet: &mut Sheet) -> Result<(), Fault> {
     let bytes = row.bytes(0)?;
@@ -181,7 +181,7 @@ fn push_piece(alloc: Global, piece: &str, all: &mut Vec<Action>) -> Result<(), F
     }
 }
 
-// The actions of the pieces of a column, each read by itself, one behind the other.
+// The actions of the pieces of a column, each read by itself, one after the other.
 fn list_of(row: &Row<'_>) -> Result<Vec<Action>, Fault> {
     let mut all = Vec::new(row.alloc());
     for piece in row.column(0).split(" + ") {
@@ -241,7 +241,7 @@ fn say_first(alloc: Global, found: Option<(Action, usize)>, sheet: &mut Sheet) {
 }
 
 /// `PIECES => ANSWERS`: what `parse_first` answers for each piece, all handed to one parser: an action and how many
-/// bytes were read, or `none`, each with a `+` behind it.
+/// bytes were read, or `none`, each with a `+` after it.
 pub fn first(row: &Row<'_>, sheet: &mut Sheet) -> Result<(), Fault> {
     let mut parser = Parser::new(row.alloc());
     for piece in row.column(0).split(" + ") {
@@ -293,7 +293,7 @@ fn say_pieces(
 }
 
 /// `PIECES => ITEMS`: what `pieces` lends of each piece, all handed to one parser: texts between quotes and the actions
-/// between them, with a `+` behind the items of each piece.
+/// between them, with a `+` after the items of each piece.
 pub fn pieces(row: &Row<'_>, sheet: &mut Sheet) -> Result<(), Fault> {
     let mut parser = Parser::new(row.alloc());
     for piece in row.column(0).split(" + ") {

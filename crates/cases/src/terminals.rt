@@ -1,4 +1,4 @@
-//! Terminals behind pieces and calls.
+//! Terminals after pieces and calls.
 use crate::call::Call;
 use crate::fault::Fault;
 use crate::row::{Row, number_up_to};
@@ -76,7 +76,7 @@ fn take_step(alloc: Global, pair: &mut Pair, step: &str, sheet: &mut Sheet) -> R
     Ok(())
 }
 
-/// `WIDTH HEIGHT | STEPS => ANSWERS`: what a new terminal answers behind pieces and calls with ` + ` between them; a
+/// `WIDTH HEIGHT | STEPS => ANSWERS`: what a new terminal answers after pieces and calls with ` + ` between them; a
 /// call stands in `<>`.
 pub fn terminal(row: &Row<'_>, sheet: &mut Sheet) -> Result<(), Fault> {
     let mut pair = Pair::new(row.alloc(), row.column(0))?;
@@ -115,16 +115,16 @@ impl Seen {
         })
     }
 
-    /// Behind two pieces, the first with so many bytes.
+    /// After two pieces, the first with so many bytes.
     pub fn in_two(alloc: Global, size: &str, bytes: &[u8], count: usize) -> Result<Seen, Fault> {
-        let (front, behind) = bytes.split_at(count.min(bytes.len()));
+        let (prefix, after) = bytes.split_at(count.min(bytes.len()));
         let mut terminal = terminal_of(alloc, size)?;
-        terminal.feed(front)?;
-        terminal.feed(behind)?;
+        terminal.feed(prefix)?;
+        terminal.feed(after)?;
         Seen::settled(terminal)
     }
 
-    /// Behind pieces of one byte.
+    /// After pieces of one byte.
     pub fn byte_by_byte(alloc: Global, size: &str, bytes: &[u8]) -> Result<Seen, Fault> {
         let mut terminal = terminal_of(alloc, size)?;
         feed_each(&mut terminal, bytes)?;
@@ -149,7 +149,7 @@ impl Seen {
     }
 }
 
-// The bytes are cut in two at their first places only, so that many take no longer.
+// The bytes are cut in two at their first positions only, so that many take no longer.
 const MOST_CUTS: usize = 400;
 
 /// Says in which pieces the bytes lead to something else; whether there are none.
@@ -183,7 +183,7 @@ fn say_apart(alloc: Global, size: &str, bytes: &[u8], sheet: &mut Sheet) -> Resu
 }
 
 /// `BYTES => same`: whether terminals of several sizes show the same, and are sent the same, if the bytes are cut in
-/// two at each place, and byte by byte; and whether a new viewer that reads the update for 0 byte by byte shows the
+/// two at each position, and byte by byte; and whether a new viewer that reads the update for 0 byte by byte shows the
 /// screen.
 pub fn torn(row: &Row<'_>, sheet: &mut Sheet) -> Result<(), Fault> {
     let bytes = row.bytes(0)?;

@@ -172,7 +172,7 @@ fn written(row: &Row<'_>, most: usize) -> Result<Vec<u8>, Fault> {
     Ok(text)
 }
 
-/// `WIDTH HEIGHT | EVERY | INPUT => UPDATES`: what `run` writes for an input with a look behind each `EVERY` bytes;
+/// `WIDTH HEIGHT | EVERY | INPUT => UPDATES`: what `run` writes for an input with a look after each `EVERY` bytes;
 /// also where one byte is read and written at a time.
 pub fn run_input(row: &Row<'_>, sheet: &mut Sheet) -> Result<(), Fault> {
     let whole = written(row, usize::MAX)?;

@@ -62,7 +62,7 @@ fn printable_of(text: &str) -> u8
     }
 }
 
-// The cell of a printable character: a new one, or an italic one of か in whose place it is set.
+// The cell of a printable character: a new one, or an italic one of か in whose position it is set.
 fn ascii_cell(row: &Row<'_>, text: &str, attrs: CellAttributes) -> Result<Cell, AllocError> {
     let character = printable_of(text);
     if row.column(0) == "new_ascii" {
@@ -109,7 +109,7 @@ pub fn cell(row: &Row<'_>, sheet: &mut Sheet) -> Result<(), Fault> {
     Ok(())
 }
 
-// Attributes, equal to their copy, and what an erased place keeps of them.
+// Attributes, equal to their copy, and what an erased position keeps of them.
 fn say_attributes(attrs: &CellAttributes, sheet: &mut Sheet) -> Result<(), Fault> {
     attributes::say(attrs, sheet);
     let copy = attrs.try_clone()?;
@@ -120,7 +120,7 @@ fn say_attributes(attrs: &CellAttributes, sheet: &mut Sheet) -> Result<(), Fault
 }
 
 /// `WORDS => WORDS | WORDS`: attributes that are set by these words, what is then read of them, and the same of what
-/// erased places keep.
+/// erased positions keep.
 pub fn attribute(row: &Row<'_>, sheet: &mut Sheet) -> Result<(), Fault> {
     let mut attrs = CellAttributes::blank();
     for word in row.column(0).split_ascii_whitespace() {

@@ -64,7 +64,7 @@ kind_at (suc (suc (suc n))) = DirectOrIndexed
 abbrev byte_at : List ℕ → ℕ → ℕ
 byte_at bytes k = get_or bytes k 0
 
--- the colour whose bytes begin at a place, and its channels
+-- the colour whose bytes begin at a position, and its channels
 channels_at : List ℕ → ℕ → SrgbaTuple
 channels_at bytes k = record {
   0 = byte_at bytes (1 + k);
@@ -173,7 +173,7 @@ kind_known Indexed channels index = refl
 kind_known Direct channels index = refl
 kind_known DirectOrIndexed channels index = refl
 
--- a stored colour behind a byte, and bytes behind it
+-- a stored colour after a byte, and bytes after it
 abbrev stored_bytes : ℕ → StoredColor → List ℕ → List ℕ
 stored_bytes kind stored rest =
     let channels = stored.channels in

@@ -115,7 +115,7 @@ pub first_within : (c : ℕ) (bs : List ℕ) → list_any (λ b. eqb b c) bs ≡
 first_within c [] h = absurd (false≢true h)
 first_within c (b ∷ bs) h = first_within_by (position_or_len (λ x. eqb x c) bs) (length bs) (eqb b c) (list_any (λ x. eqb x c) bs) h (first_within c bs)
 
--- a text that has c is what stands before its first c, that c, and what stands behind it
+-- a text that has c is what stands before its first c, that c, and what follows it
 pub cut_joined : (c : ℕ) (bs : List ℕ) → list_any (λ b. eqb b c) bs ≡ true → before_first (λ b. eqb b c) bs ++ c ∷ after_first (λ b. eqb b c) bs ≡ bs
 cut_joined c bs h =
     let l = first_within c bs h in
@@ -133,7 +133,7 @@ pub before_lacks : (c : ℕ) (bs : List ℕ) → Lacks c (before_first (λ b. eq
 before_lacks c [] = tt
 before_lacks c (b ∷ bs) = lacks_by_cond c b bs (eqb b c) refl (before_lacks c bs)
 
--- where c first stands behind a text that lacks it
+-- where c first follows a text that lacks it
 pub first_at : (c : ℕ) (xs ys : List ℕ) → Lacks c xs → position_or_len (λ b. eqb b c) (xs ++ c ∷ ys) ≡ length xs
 first_at c [] ys h = ap (λ t. cond (not t) (1 + position_or_len (λ b. eqb b c) ys) 0) (eq-eqb c c refl)
 first_at c (x ∷ xs) ys h =

@@ -26,11 +26,11 @@ clusters_are text u = same_at_clusters read_cluster (λ p. p) read_alone text u 
 
 -- ---- printable ASCII
 
-pub read_each : (front : List ℕ) (gs : List (List ℕ)) → list_all is_printable front ≡ true → map read_cluster (each front ++ gs) ≡ each front ++ map read_cluster gs
+pub read_each : (prefix : List ℕ) (gs : List (List ℕ)) → list_all is_printable prefix ≡ true → map read_cluster (each prefix ++ gs) ≡ each prefix ++ map read_cluster gs
 read_each [] gs h = refl
-read_each (c ∷ front) gs h =
-    let parts = and_parts (is_printable c) (list_all is_printable front) h in
-    λ i. read_alone (c ∷ []) (one_alone c parts.0) i ∷ read_each front gs parts.1 i
+read_each (c ∷ prefix) gs h =
+    let parts = and_parts (is_printable c) (list_all is_printable prefix) h in
+    λ i. read_alone (c ∷ []) (one_alone c parts.0) i ∷ read_each prefix gs parts.1 i
 
 pub plain_alone : (text : List ℕ) → prefix_len is_printable text ≡ length text → clusters text ≡ each text
 plain_alone text h =

@@ -19,7 +19,7 @@ length-closed_start (x ∷ r) = refl
 
 pub length-set_columns : (row : Row) (at : ℕ) (columns : Row) → at + length columns ≤ length row → length (set_columns row at columns) ≡ length row
 length-set_columns row at columns h =
-    let front = length-closed_end (take at row) in
+    let prefix = length-closed_end (take at row) in
     let cut = length-take-le at row (omega arith) in
     let back = length-closed_start (drop (at + length columns) row) in
     let rest = length-drop (at + length columns) row in
@@ -34,9 +34,9 @@ whole-append [] b p q = q
 whole-append (Narrow text attributes ∷ a) b p q = whole-append a b p q
 whole-append (RightHalf attributes ∷ a) b p q = absurd p
 whole-append (LeftHalf text attributes ∷ []) b p q = absurd p
-whole-append (LeftHalf text attributes ∷ Narrow other others ∷ a) b p q = absurd p
-whole-append (LeftHalf text attributes ∷ LeftHalf other others ∷ a) b p q = absurd p
-whole-append (LeftHalf text attributes ∷ RightHalf others ∷ a) b p q = (p.0, whole-append a b p.1 q)
+whole-append (LeftHalf text attributes ∷ Narrow other remaining ∷ a) b p q = absurd p
+whole-append (LeftHalf text attributes ∷ LeftHalf other remaining ∷ a) b p q = absurd p
+whole-append (LeftHalf text attributes ∷ RightHalf remaining ∷ a) b p q = (p.0, whole-append a b p.1 q)
 
 closed_end-pair : (t : List ℕ) (a b : Attributes) (r : Row) → closed_end (LeftHalf t a ∷ RightHalf b ∷ r) ≡ LeftHalf t a ∷ RightHalf b ∷ closed_end r
 closed_end-pair t a b [] = refl
@@ -46,16 +46,16 @@ closed_end-narrow : (t : List ℕ) (a : Attributes) (r : Row) → closed_end (Na
 closed_end-narrow t a [] = refl
 closed_end-narrow t a (x ∷ r) = refl
 
-pub whole-front : (at : ℕ) (row : Row) → IsWhole row → IsWhole (closed_end (take at row))
-whole-front zero row p = tt
-whole-front (suc at) [] p = tt
-whole-front (suc at) (Narrow text attributes ∷ row) p = subst IsWhole (sym (closed_end-narrow text attributes (take at row))) (whole-front at row p)
-whole-front (suc at) (RightHalf attributes ∷ row) p = absurd p
-whole-front (suc at) (LeftHalf text attributes ∷ []) p = absurd p
-whole-front (suc at) (LeftHalf text attributes ∷ Narrow other others ∷ row) p = absurd p
-whole-front (suc at) (LeftHalf text attributes ∷ LeftHalf other others ∷ row) p = absurd p
-whole-front (suc zero) (LeftHalf text attributes ∷ RightHalf others ∷ row) p = tt
-whole-front (suc (suc at)) (LeftHalf text attributes ∷ RightHalf others ∷ row) p = subst IsWhole (sym (closed_end-pair text attributes others (take at row))) (p.0, whole-front at row p.1)
+pub whole-prefix : (at : ℕ) (row : Row) → IsWhole row → IsWhole (closed_end (take at row))
+whole-prefix zero row p = tt
+whole-prefix (suc at) [] p = tt
+whole-prefix (suc at) (Narrow text attributes ∷ row) p = subst IsWhole (sym (closed_end-narrow text attributes (take at row))) (whole-prefix at row p)
+whole-prefix (suc at) (RightHalf attributes ∷ row) p = absurd p
+whole-prefix (suc at) (LeftHalf text attributes ∷ []) p = absurd p
+whole-prefix (suc at) (LeftHalf text attributes ∷ Narrow other remaining ∷ row) p = absurd p
+whole-prefix (suc at) (LeftHalf text attributes ∷ LeftHalf other remaining ∷ row) p = absurd p
+whole-prefix (suc zero) (LeftHalf text attributes ∷ RightHalf remaining ∷ row) p = tt
+whole-prefix (suc (suc at)) (LeftHalf text attributes ∷ RightHalf remaining ∷ row) p = subst IsWhole (sym (closed_end-pair text attributes remaining (take at row))) (p.0, whole-prefix at row p.1)
 
 -- a whole row doesn't begin with a right half, nor end in a left one
 pub whole_starts : (row : Row) → IsWhole row → closed_start row ≡ row
@@ -69,31 +69,31 @@ whole_ends [] p = refl
 whole_ends (Narrow text attributes ∷ row) p = closed_end-narrow text attributes row ∙ ap (λ (r : Row). Narrow text attributes ∷ r) (whole_ends row p)
 whole_ends (RightHalf attributes ∷ row) p = absurd p
 whole_ends (LeftHalf text attributes ∷ []) p = absurd p
-whole_ends (LeftHalf text attributes ∷ Narrow other others ∷ row) p = absurd p
-whole_ends (LeftHalf text attributes ∷ LeftHalf other others ∷ row) p = absurd p
-whole_ends (LeftHalf text attributes ∷ RightHalf others ∷ row) p = closed_end-pair text attributes others row ∙ ap (λ (r : Row). LeftHalf text attributes ∷ RightHalf others ∷ r) (whole_ends row p.1)
+whole_ends (LeftHalf text attributes ∷ Narrow other remaining ∷ row) p = absurd p
+whole_ends (LeftHalf text attributes ∷ LeftHalf other remaining ∷ row) p = absurd p
+whole_ends (LeftHalf text attributes ∷ RightHalf remaining ∷ row) p = closed_end-pair text attributes remaining row ∙ ap (λ (r : Row). LeftHalf text attributes ∷ RightHalf remaining ∷ r) (whole_ends row p.1)
 
-pub whole-behind : (at : ℕ) (row : Row) → IsWhole row → IsWhole (closed_start (drop at row))
-whole-behind zero row p = subst IsWhole (sym (whole_starts row p)) p
-whole-behind (suc at) [] p = tt
-whole-behind (suc at) (Narrow text attributes ∷ row) p = whole-behind at row p
-whole-behind (suc at) (RightHalf attributes ∷ row) p = absurd p
-whole-behind (suc at) (LeftHalf text attributes ∷ []) p = absurd p
-whole-behind (suc at) (LeftHalf text attributes ∷ Narrow other others ∷ row) p = absurd p
-whole-behind (suc at) (LeftHalf text attributes ∷ LeftHalf other others ∷ row) p = absurd p
-whole-behind (suc zero) (LeftHalf text attributes ∷ RightHalf others ∷ row) p = p.1
-whole-behind (suc (suc at)) (LeftHalf text attributes ∷ RightHalf others ∷ row) p = whole-behind at row p.1
+pub whole-after : (at : ℕ) (row : Row) → IsWhole row → IsWhole (closed_start (drop at row))
+whole-after zero row p = subst IsWhole (sym (whole_starts row p)) p
+whole-after (suc at) [] p = tt
+whole-after (suc at) (Narrow text attributes ∷ row) p = whole-after at row p
+whole-after (suc at) (RightHalf attributes ∷ row) p = absurd p
+whole-after (suc at) (LeftHalf text attributes ∷ []) p = absurd p
+whole-after (suc at) (LeftHalf text attributes ∷ Narrow other remaining ∷ row) p = absurd p
+whole-after (suc at) (LeftHalf text attributes ∷ LeftHalf other remaining ∷ row) p = absurd p
+whole-after (suc zero) (LeftHalf text attributes ∷ RightHalf remaining ∷ row) p = p.1
+whole-after (suc (suc at)) (LeftHalf text attributes ∷ RightHalf remaining ∷ row) p = whole-after at row p.1
 
 pub whole-set_columns : (row : Row) (at : ℕ) (columns : Row) → IsWhole row → IsWhole columns → IsWhole (set_columns row at columns)
 whole-set_columns row at columns p q =
     whole-append (closed_end (take at row) ++ columns) (closed_start (drop (at + length columns) row))
-    (whole-append (closed_end (take at row)) columns (whole-front at row p) q) (whole-behind (at + length columns) row p)
+    (whole-append (closed_end (take at row)) columns (whole-prefix at row p) q) (whole-after (at + length columns) row p)
 
 pub whole-blanks : (n : ℕ) (a : Attributes) → IsWhole (replicate n (blank a))
 whole-blanks zero a = tt
 whole-blanks (suc n) a = whole-blanks n a
 
--- ---- columns set behind others
+-- ---- columns set after others
 
 closed_end-again : (r : Row) → closed_end (closed_end r) ≡ closed_end r
 closed_end-again [] = refl
@@ -114,7 +114,7 @@ closed_end-append [] x r = refl
 closed_end-append (y ∷ []) x r = refl
 closed_end-append (y ∷ z ∷ l) x r = ap (λ (s : Row). y ∷ s) (closed_end-append (z ∷ l) x r)
 
--- what was cut ends closed, also behind whole columns
+-- what was cut ends closed, also after whole columns
 cut_ends : (l a : Row) → IsWhole a → closed_end (closed_end l ++ a) ≡ closed_end l ++ a
 cut_ends l [] p = ap closed_end (append-nil (closed_end l)) ∙ closed_end-again l ∙ sym (append-nil (closed_end l))
 cut_ends l (x ∷ a) p = closed_end-append (closed_end l) x a ∙ ap (λ (r : Row). closed_end l ++ r) (whole_ends (x ∷ a) p)
@@ -124,16 +124,16 @@ cut_starts zero r = closed_start-again r
 cut_starts (suc n) [] = refl
 cut_starts (suc n) (x ∷ r) = refl
 
--- columns that are set behind others are set with them
+-- columns that are set after others are set with them
 pub set_columns-again : (row : Row) (at : ℕ) (a b : Row) → at + length a ≤ length row → IsWhole a → set_columns (set_columns row at a) (at + length a) b ≡ set_columns row at (a ++ b)
 set_columns-again row at a b h p =
-    let front : Row = closed_end (take at row) in
+    let prefix : Row = closed_end (take at row) in
     let back : Row = closed_start (drop (at + length a) row) in
-    let count : length (front ++ a) ≡ at + length a =
-    length-append front a ∙ ap (λ n. n + length a) (length-closed_end (take at row) ∙ length-take-le at row (omega arith)) in
-    let behind : at + length a + length b ≡ at + length (a ++ b) = omega (arith, length-append a b) in
-    (λ i. closed_end (take_at (front ++ a) back (at + length a) count i) ++ b
-    ++ closed_start ((ap (λ n. drop (n + length b) ((front ++ a) ++ back)) (sym count) ∙ drop-append-add (front ++ a) back (length b)) i))
+    let count : length (prefix ++ a) ≡ at + length a =
+    length-append prefix a ∙ ap (λ n. n + length a) (length-closed_end (take at row) ∙ length-take-le at row (omega arith)) in
+    let after : at + length a + length b ≡ at + length (a ++ b) = omega (arith, length-append a b) in
+    (λ i. closed_end (take_at (prefix ++ a) back (at + length a) count i) ++ b
+    ++ closed_start ((ap (λ n. drop (n + length b) ((prefix ++ a) ++ back)) (sym count) ∙ drop-append-add (prefix ++ a) back (length b)) i))
     ∙ (λ i. cut_ends (take at row) a p i ++ b ++ cut_starts (length b) (drop (at + length a) row) i)
-    ∙ ap (λ (r : Row). (front ++ a) ++ b ++ closed_start r) (drop-drop (length b) (at + length a) row ∙ ap (λ n. drop n row) behind)
-    ∙ ap (λ (r : Row). r ++ closed_start (drop (at + length (a ++ b)) row)) (append_assoc front a b)
+    ∙ ap (λ (r : Row). (prefix ++ a) ++ b ++ closed_start r) (drop-drop (length b) (at + length a) row ∙ ap (λ n. drop n row) after)
+    ∙ ap (λ (r : Row). r ++ closed_start (drop (at + length (a ++ b)) row)) (append_assoc prefix a b)

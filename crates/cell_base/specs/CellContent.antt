@@ -10,7 +10,7 @@ pub record CellContent : Type 0 where
   pub width : ℕ
   pub attributes : Attributes
 
--- what stands in no cell as it is: the empty text, a lone control, and CR LF
+-- what stands in no cell as it is: the empty text, a single control, and CR LF
 abbrev pub shows_as_space : List ℕ → Bool
 shows_as_space [] = true
 shows_as_space (a ∷ []) = is_ascii_control a
@@ -28,8 +28,8 @@ cell_of text width attributes =
 abbrev pub blank_cell : Attributes → CellContent
 blank_cell attributes = record { text = space; width = 1; attributes = attributes }
 
--- Cells read from the left as a row. The cell that is stored behind a wide one isn't looked at, and a wide cell with
--- none behind it counts as a blank with its attributes.
+-- Cells read from the left as a row. The cell that is stored after a wide one isn't looked at, and a wide cell with
+-- none after it counts as a blank with its attributes.
 abbrev pub row_of_cells : List CellContent → Row
 row_of_cells [] = []
 row_of_cells (cell ∷ []) =

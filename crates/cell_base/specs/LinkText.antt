@@ -40,7 +40,7 @@ abbrev pub param_of : List ℕ → Param
 param_of text = (before_first (λ b. b == 61) text, after_first (λ b. b == 61) text)
 
 -- a parameter put in its place in the order of the keys' bytes; where the key is there, its value takes the other's
--- place
+-- position
 abbrev pub put_param : List Param → Param → List Param
 put_param ps p = insert_entry (slice_cmp nat_cmp) ps p.0 p.1
 

@@ -46,13 +46,13 @@ align_byte SubScript = 2
 abbrev pub flag_byte : Bool → ℕ
 flag_byte flag = if flag then 1 else 0
 
--- the bytes of a colour, and more behind them
+-- the bytes of a colour, and more after them
 abbrev pub color_bytes : ColorAttribute → List ℕ → List ℕ
 color_bytes color rest =
     let channels = channels_of color in
     kind_byte (kind_of color) ∷ channels.0 ∷ channels.1 ∷ channels.2 ∷ channels.3 ∷ index_of color ∷ rest
 
--- the bytes of the flags, and more behind them
+-- the bytes of the flags, and more after them
 abbrev pub flag_bytes : Attributes → List ℕ → List ℕ
 flag_bytes a rest =
     flag_byte a.italic ∷ flag_byte a.reverse ∷ flag_byte a.strikethrough ∷ flag_byte a.invisible ∷ flag_byte a.wrapped

@@ -38,7 +38,7 @@ right_alone (RightHalf attributes) = blank attributes
 right_alone (Narrow text attributes) = Narrow text attributes
 right_alone (LeftHalf text attributes) = LeftHalf text attributes
 
--- columns that were cut off from what stood behind them, and from what stood before them
+-- columns that were cut off from what followed them, and from what stood before them
 abbrev pub closed_end : Row → Row
 closed_end [] = []
 closed_end (column ∷ []) = left_alone column ∷ []
@@ -48,7 +48,7 @@ abbrev pub closed_start : Row → Row
 closed_start [] = []
 closed_start (column ∷ row) = right_alone column ∷ row
 
--- the row with these columns from a place on; halves left alone on either side become blanks
+-- the row with these columns from a position on; halves left alone on either side become blanks
 abbrev pub set_columns : Row → ℕ → Row → Row
 set_columns row at columns = closed_end (take at row) ++ columns ++ closed_start (drop (at + length columns) row)
 

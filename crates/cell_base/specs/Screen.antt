@@ -51,7 +51,7 @@ line_feed screen = if screen.row + 1 == height screen then scrolled screen else 
 abbrev pub carriage_return : Screen → Screen
 carriage_return screen = record screen { column = 0 }
 
--- the columns from the cursor on become these, and the cursor stands behind them
+-- the columns from the cursor on become these, and the cursor follows them
 abbrev pub write_columns : Row → Screen → Screen
 write_columns columns screen = record screen {
   rows =
@@ -77,6 +77,6 @@ put width_of screen cluster =
 abbrev pub put_run : (List ℕ → ℕ) → Screen → List ℕ → Screen
 put_run width_of screen text = fold (put width_of) screen (clusters text)
 
--- the rows as a text, each with a line feed behind it
+-- the rows as a text, each with a line feed after it
 abbrev pub screen_text : Screen → List ℕ
 screen_text screen = flat_map (λ row. row_text row ++ 10 ∷ []) screen.rows

@@ -2,12 +2,12 @@
 use Rattle.std.specs.Prelude.{◌≡◌, ⊤, [], ◌∷◌}
 use Rattle.cell_base.specs.Row.{Row, Narrow, LeftHalf, RightHalf}
 
--- behind each left half stands a right half with its attributes, and no right half stands elsewhere
+-- after each left half stands a right half with its attributes, and no right half stands elsewhere
 abbrev pub IsWhole : Row → Type 0
 IsWhole [] = ⊤
 IsWhole (Narrow text attributes ∷ row) = IsWhole row
 IsWhole (RightHalf attributes ∷ row) = ⊥
 IsWhole (LeftHalf text attributes ∷ []) = ⊥
-IsWhole (LeftHalf text attributes ∷ Narrow other others ∷ row) = ⊥
-IsWhole (LeftHalf text attributes ∷ LeftHalf other others ∷ row) = ⊥
-IsWhole (LeftHalf text attributes ∷ RightHalf others ∷ row) = (others ≡ attributes) × IsWhole row
+IsWhole (LeftHalf text attributes ∷ Narrow other remaining ∷ row) = ⊥
+IsWhole (LeftHalf text attributes ∷ LeftHalf other remaining ∷ row) = ⊥
+IsWhole (LeftHalf text attributes ∷ RightHalf remaining ∷ row) = (remaining ≡ attributes) × IsWhole row

@@ -16,7 +16,7 @@ use std::alloc::{AllocError, Global};
 use std::marker::Model;
 
 /// A cell: a text, which is a space or one cluster, the one or two columns that it takes, and its
-/// attributes. The empty text, a lone C0 control or DEL, and CR LF stand as a space of width 1.
+/// attributes. The empty text, a single C0 control or DEL, and CR LF stand as a space of width 1.
 #[derive(Debug, Drop)]
 pub struct Cell {
     text: CellText,

@@ -177,14 +177,14 @@ impl CellAttributes {
         self
     }
 
-    /// Whether the line goes on in the next row behind this cell.
+    /// Whether the line goes on in the next row after this cell.
     pub fn wrapped(&self) -> bool
         ensures { result ≡ self.now.wrapped }
     {
         self.look.style.flags.wrapped
     }
 
-    /// Sets whether the line goes on in the next row behind this cell, and lends the attributes on.
+    /// Sets whether the line goes on in the next row after this cell, and lends the attributes on.
     pub fn set_wrapped(&mut self, value: bool) -> &mut CellAttributes
         ensures chains { result.ghost_name ≡ self.entry.ghost_name }
         ensures set { result.now ≡ record self.old { wrapped = value } }
@@ -258,14 +258,14 @@ impl CellAttributes {
         self
     }
 
-    /// The colour behind the text.
+    /// The colour after the text.
     pub fn background(&self) -> ColorAttribute
         ensures { result ≡ self.now.background }
     {
         self.look.background.color()
     }
 
-    /// Sets the colour behind the text, and lends the attributes on.
+    /// Sets the colour after the text, and lends the attributes on.
     pub fn set_background<C: Into<ColorAttribute>>(&mut self, color: C) -> &mut CellAttributes
         ensures chains { result.ghost_name ≡ self.entry.ghost_name }
         ensures set { (c : ColorAttribute) × C.converts color c
@@ -325,7 +325,7 @@ impl CellAttributes {
     }
 
     /// A copy without semantic type, underline, overline, strikethrough and link: what a cell keeps
-    /// where an erased place is filled.
+    /// where an erased position is filled.
     pub fn clone_sgr_only(&self) -> CellAttributes
         ensures { result ≡ sgr_only self.now }
     {

@@ -62,7 +62,7 @@ impl Hyperlink {
     }
 
     /// A link to a URI with the one parameter `id`, by which a terminal tells apart or joins the
-    /// places that show it.
+    /// positions that show it.
     pub fn new_with_id(alloc: Global, uri: &str, id: &str) -> Result<Hyperlink, AllocError>
         ensures { IfOk result (λ l. l ≡ record {
           params = (codes "id", id.now) ∷ [];

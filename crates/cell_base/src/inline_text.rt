@@ -53,7 +53,7 @@ impl InlineText {
     }
 }
 
-// The bytes, and zeros behind them.
+// The bytes, and zeros after them.
 fn padded(bytes: &[u8]) -> [u8; 15]
     requires { length bytes.now ≤ 15 }
     ensures { take (length bytes.now) result ≡ bytes.now }

@@ -6,7 +6,7 @@ ghost use Rattle.cell_base.specs.Screen.{write_columns, put};
 ghost use Rattle.cell_base.specs.WholeRow.{IsWhole};
 
 /// Columns set within a row leave its length; whole columns set in a whole row leave it whole; and
-/// columns set behind others are set with them.
+/// columns set after others are set with them.
 pub fn columns_set_within()
     ensures len { (row : Row) (at : ℕ) (columns : Row) → at + length columns ≤ length row
         → length (set_columns row at columns) ≡ length row }

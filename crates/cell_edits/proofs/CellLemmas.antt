@@ -1,4 +1,4 @@
--- Cells that are read from the left, cut at a place and joined.
+-- Cells that are read from the left, cut at a position and joined.
 use Rattle.std.proofs.Common.{◌≡◌, ℕ, zero, suc, ◌<◌, ◌≤◌, Bool, true, false, List, [], ◌∷◌, ◌++◌, length, get_or, take, drop, refl, sym, ap, subst, ◌∙◌, ◌-◌, arith, inl, inr}
 use Rattle.std.proofs.lemmas.Bool.{false≢true, le-leb}
 use Rattle.std.proofs.lemmas.Bool.Decides.{leb_tells}
@@ -18,7 +18,7 @@ wide_is width h = le-leb 2 width h
 pub narrow_is : (width : ℕ) → width < 2 → nat_le 2 width ≡ false
 narrow_is width h = elim (leb_tells 2 width) [ inl p ↦ absurd (omega arith) | inr p ↦ p.0 ]
 
--- the default of a place that is there does not matter
+-- the default of a position that is there does not matter
 pub get_or-default : {X : Type 0} (xs : List X) (i : ℕ) (d e : X) → i < length xs → get_or xs i d ≡ get_or xs i e
 get_or-default [] i d e h = absurd (omega arith)
 get_or-default (x ∷ xs) zero d e h = refl
@@ -128,7 +128,7 @@ after_cut (c ∷ n ∷ cs) (suc (suc p)) d h l = by_test (nat_le 2 c.width)
     (λ e. after_cut cs p d (sym (halved_wide c n (take (suc p) cs) e) ∙ h) (omega arith) ∙ sym (ap (λ (r : Row). closed_start (drop (suc (suc (suc p))) r)) (row_wide c n cs e)))
     (λ e. after_cut (n ∷ cs) (suc p) d (sym (halved_narrow c n (take (suc p) cs) e) ∙ h) (omega arith) ∙ sym (ap (λ (r : Row). closed_start (drop (suc (suc (suc p))) r)) (row_narrow c n cs e)))
 
--- what is cut at the end where nothing is behind it
+-- what is cut at the end where nothing is after it
 pub cut_whole : (cells : List CellContent) (p : ℕ) (a : Attributes) → ends_split (take (suc p) cells) ≡ true → p < length cells → ends_split (take p cells ++ blank_cell a ∷ []) ≡ false
 cut_whole [] p a h l = absurd (omega arith)
 cut_whole (c ∷ []) zero a h l = refl

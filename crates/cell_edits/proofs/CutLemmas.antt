@@ -16,7 +16,7 @@ use Rattle.cell_edits.proofs.CellLemmas.{by_test, row_wide, row_narrow, length-r
 leb_false : (m n : ℕ) → n < m → nat_le m n ≡ false
 leb_false m n h = elim (leb_tells m n) [ inl p ↦ absurd (omega arith) | inr p ↦ p.0 ]
 
--- ---- one or two places written
+-- ---- one or two positions written
 
 pub take_less : {X : Type 0} (n m : ℕ) (xs : List X) → n ≤ m → take n (take m xs) ≡ take n xs
 take_less zero m xs h = refl
@@ -39,7 +39,7 @@ split_after {X} cells joined at l r h e =
     let on : at + 1 + 1 ≡ at + 2 = omega arith in
     drop-set-lt (at + 1) joined at l (omega arith) ∙ ap (drop (at + 1)) e ∙ drop-set cells (at + 1) r h ∙ ap (λ n. r ∷ drop n cells) on
 
--- ---- a cut at a place
+-- ---- a cut at a position
 
 pub cut_before : (cells new : List CellContent) (p at : ℕ) → at ≡ p + 1 → ends_split (take at cells) ≡ true → p < length cells
     → take (p + 1) new ≡ take p cells ++ blank_for cells p ∷ [] → row_of_cells (take at new) ≡ cut at (row_of_cells cells)
@@ -90,9 +90,9 @@ drop-closed_start j [] = refl
 drop-closed_start j (x ∷ r) = refl
 
 -- the row of cells that were cut
-pub row_cut : (new : List CellContent) (at : ℕ) (before behind : Row) → ends_split (take at new) ≡ false → row_of_cells (take at new) ≡ before → row_of_cells (drop at new) ≡ behind
-    → row_of_cells new ≡ before ++ behind
-row_cut new at before behind w b d =
+pub row_cut : (new : List CellContent) (at : ℕ) (before after : Row) → ends_split (take at new) ≡ false → row_of_cells (take at new) ≡ before → row_of_cells (drop at new) ≡ after
+    → row_of_cells new ≡ before ++ after
+row_cut new at before after w b d =
     ap row_of_cells (sym (take-append-drop at new)) ∙ row_joined (take at new) (drop at new) w ∙ (λ i. b i ++ d i)
 
 front_of_joined : (r : Row) (s j : ℕ) → s ≤ length r → closed_start (drop (s + suc j) (cut s r ++ cut_prefix s r)) ≡ cut_prefix (s + suc j) r
@@ -115,7 +115,7 @@ pub still_before : (first second : List CellContent) (s e : ℕ) → s < e → t
 still_before first second s e h k =
     sym (take_less s (e - 1) second (omega arith)) ∙ ap (take s) k ∙ take_less s (e - 1) first (omega arith)
 
--- ---- a cell between what stands before it and behind it
+-- ---- a cell between what stands before it and after it
 
 pub row_narrow_any : (c : CellContent) (cs : List CellContent) → nat_le 2 c.width ≡ false → row_of_cells (c ∷ cs) ≡ Narrow c.text c.attributes ∷ row_of_cells cs
 row_narrow_any c [] e = rw e refl
@@ -136,23 +136,23 @@ count_narrow c e = by_test (nat_le 2 c.width) (λ t. absurd (e (ap length (colum
 pub length-cell_columns : (c : CellContent) → (length (cell_columns c) ≡ 1) ⊎ (length (cell_columns c) ≡ 2)
 length-cell_columns c = by_test (nat_le 2 c.width) (λ t. inr (ap length (columns_wide c t))) (λ t. inl (ap length (columns_narrow c t)))
 
-pub between_narrow : (before behind : List CellContent) (c : CellContent) (b d : Row) → ends_split before ≡ false → row_of_cells before ≡ b → row_of_cells behind ≡ d → nat_le 2 c.width ≡ false
-    → row_of_cells (before ++ c ∷ behind) ≡ b ++ cell_columns c ++ d
-between_narrow before behind c b d w p q t =
-    row_joined before (c ∷ behind) w ∙ (λ i. p i ++ (row_narrow_any c behind t ∙ ap (λ (r : Row). Narrow c.text c.attributes ∷ r) q) i)
+pub between_narrow : (before after : List CellContent) (c : CellContent) (b d : Row) → ends_split before ≡ false → row_of_cells before ≡ b → row_of_cells after ≡ d → nat_le 2 c.width ≡ false
+    → row_of_cells (before ++ c ∷ after) ≡ b ++ cell_columns c ++ d
+between_narrow before after c b d w p q t =
+    row_joined before (c ∷ after) w ∙ (λ i. p i ++ (row_narrow_any c after t ∙ ap (λ (r : Row). Narrow c.text c.attributes ∷ r) q) i)
     ∙ ap (λ (r : Row). b ++ (r ++ d)) (sym (columns_narrow c t)) ∙ sym (append_assoc b (cell_columns c) d)
 
-pub between_wide : (before behind : List CellContent) (c f : CellContent) (b d : Row) → ends_split before ≡ false → row_of_cells before ≡ b → row_of_cells behind ≡ d → nat_le 2 c.width ≡ true
-    → row_of_cells (before ++ c ∷ f ∷ behind) ≡ b ++ cell_columns c ++ d
-between_wide before behind c f b d w p q t =
-    row_joined before (c ∷ f ∷ behind) w ∙ (λ i. p i ++ (row_wide c f behind t ∙ ap (λ (r : Row). LeftHalf c.text c.attributes ∷ RightHalf c.attributes ∷ r) q) i)
+pub between_wide : (before after : List CellContent) (c f : CellContent) (b d : Row) → ends_split before ≡ false → row_of_cells before ≡ b → row_of_cells after ≡ d → nat_le 2 c.width ≡ true
+    → row_of_cells (before ++ c ∷ f ∷ after) ≡ b ++ cell_columns c ++ d
+between_wide before after c f b d w p q t =
+    row_joined before (c ∷ f ∷ after) w ∙ (λ i. p i ++ (row_wide c f after t ∙ ap (λ (r : Row). LeftHalf c.text c.attributes ∷ RightHalf c.attributes ∷ r) q) i)
     ∙ ap (λ (r : Row). b ++ (r ++ d)) (sym (columns_wide c t)) ∙ sym (append_assoc b (cell_columns c) d)
 
--- one place written
+-- one position written
 pub set_one : {X : Type 0} (xs : List X) (at : ℕ) (x : X) → at < length xs → set xs at x ≡ take at xs ++ x ∷ drop (at + 1) xs
 set_one xs at x h = let on : suc at ≡ at + 1 = omega arith in set_split xs at x h ∙ ap (λ n. take at xs ++ x ∷ drop n xs) on
 
--- a place and the one behind it written
+-- a position and the one after it written
 pub set_two : {X : Type 0} (xs : List X) (at : ℕ) (x y : X) → at + 1 < length xs → set (set xs (at + 1) y) at x ≡ take at xs ++ x ∷ y ∷ drop (at + 2) xs
 set_two {X} xs at x y h =
     let n = length-set xs (at + 1) y in
@@ -251,18 +251,18 @@ pub falls_short : (rest : Row) (m : ℕ) (a : Attributes) → length rest + 1 < 
     → rest ≡ (if nat_le m (length rest + 1) then inserted (m - 1) (blank a ∷ []) rest else rest)
 falls_short rest m a h = sym (ap (λ t. if t then inserted (m - 1) (blank a ∷ []) rest else rest) (leb_false m (length rest + 1) h))
 
--- ---- behind a cell that was written no wide one stands on both sides
+-- ---- after a cell that was written no wide one stands on both sides
 
-pub whole_narrow : (before behind : List CellContent) (c : CellContent) (new : List CellContent) (n : ℕ) → n ≡ length before + 1 → new ≡ before ++ c ∷ behind → ends_split before ≡ false → nat_le 2 c.width ≡ false
+pub whole_narrow : (before after : List CellContent) (c : CellContent) (new : List CellContent) (n : ℕ) → n ≡ length before + 1 → new ≡ before ++ c ∷ after → ends_split before ≡ false → nat_le 2 c.width ≡ false
     → ends_split (take n new) ≡ false
-whole_narrow before behind c new n l e w narrow =
+whole_narrow before after c new n l e w narrow =
     let long = length-append before (c ∷ []) in
-    ap (λ xs. ends_split (take n xs)) (e ∙ sym (append_assoc before (c ∷ []) behind))
-    ∙ ap ends_split (take_at (before ++ c ∷ []) behind n (omega arith)) ∙ halved_joined before (c ∷ []) w ∙ narrow
+    ap (λ xs. ends_split (take n xs)) (e ∙ sym (append_assoc before (c ∷ []) after))
+    ∙ ap ends_split (take_at (before ++ c ∷ []) after n (omega arith)) ∙ halved_joined before (c ∷ []) w ∙ narrow
 
-pub whole_wide : (before behind : List CellContent) (c f : CellContent) (new : List CellContent) (n : ℕ) → n ≡ length before + 2 → new ≡ before ++ c ∷ f ∷ behind → ends_split before ≡ false → nat_le 2 c.width ≡ true
+pub whole_wide : (before after : List CellContent) (c f : CellContent) (new : List CellContent) (n : ℕ) → n ≡ length before + 2 → new ≡ before ++ c ∷ f ∷ after → ends_split before ≡ false → nat_le 2 c.width ≡ true
     → ends_split (take n new) ≡ false
-whole_wide before behind c f new n l e w wide =
+whole_wide before after c f new n l e w wide =
     let long = length-append before (c ∷ f ∷ []) in
-    ap (λ xs. ends_split (take n xs)) (e ∙ sym (append_assoc before (c ∷ f ∷ []) behind))
-    ∙ ap ends_split (take_at (before ++ c ∷ f ∷ []) behind n (omega arith)) ∙ halved_joined before (c ∷ f ∷ []) w ∙ halved_wide c f [] wide
+    ap (λ xs. ends_split (take n xs)) (e ∙ sym (append_assoc before (c ∷ f ∷ []) after))
+    ∙ ap ends_split (take_at (before ++ c ∷ f ∷ []) after n (omega arith)) ∙ halved_joined before (c ∷ f ∷ []) w ∙ halved_wide c f [] wide

@@ -58,22 +58,22 @@ last_narrow cells k d l w v =
     one true e = e
     one false e = e
 
--- a column behind a left half
+-- a column after a left half
 pub record EndsRight (r : Row) : Type 0 where
-  pub front : Row
+  pub prefix : Row
   pub attributes : Attributes
-  pub is : r ≡ front ++ RightHalf attributes ∷ []
+  pub is : r ≡ prefix ++ RightHalf attributes ∷ []
 
 ends_right : (xs : List CellContent) (c : CellContent) → ends_split xs ≡ true → EndsRight (row_of_cells (xs ++ c ∷ []))
 ends_right [] c h = absurd (false≢true h)
-ends_right (x ∷ []) c h = record { front = LeftHalf x.text x.attributes ∷ []; attributes = x.attributes; is = row_wide x c [] h }
+ends_right (x ∷ []) c h = record { prefix = LeftHalf x.text x.attributes ∷ []; attributes = x.attributes; is = row_wide x c [] h }
 ends_right (x ∷ y ∷ ys) c h = by_test (nat_le 2 x.width)
     (λ e.
     let rest = ends_right ys c (sym (halved_wide x y ys e) ∙ h) in
-    record { front = LeftHalf x.text x.attributes ∷ RightHalf x.attributes ∷ rest.front; attributes = rest.attributes; is = row_wide x y (ys ++ c ∷ []) e ∙ ap (λ (r : Row). LeftHalf x.text x.attributes ∷ RightHalf x.attributes ∷ r) rest.is })
+    record { prefix = LeftHalf x.text x.attributes ∷ RightHalf x.attributes ∷ rest.prefix; attributes = rest.attributes; is = row_wide x y (ys ++ c ∷ []) e ∙ ap (λ (r : Row). LeftHalf x.text x.attributes ∷ RightHalf x.attributes ∷ r) rest.is })
     (λ e.
     let rest = ends_right (y ∷ ys) c (sym (halved_narrow x y ys e) ∙ h) in
-    record { front = Narrow x.text x.attributes ∷ rest.front; attributes = rest.attributes; is = row_narrow x y (ys ++ c ∷ []) e ∙ ap (λ (r : Row). Narrow x.text x.attributes ∷ r) rest.is })
+    record { prefix = Narrow x.text x.attributes ∷ rest.prefix; attributes = rest.attributes; is = row_narrow x y (ys ++ c ∷ []) e ∙ ap (λ (r : Row). Narrow x.text x.attributes ∷ r) rest.is })
 
 pub last_right : (cells : List CellContent) (k : ℕ) (d : CellContent) → k < length cells → ends_split (take k cells) ≡ true → EndsRight (row_of_cells (take (k + 1) cells))
 last_right cells k d l h = subst (λ (xs : List CellContent). EndsRight (row_of_cells xs)) (sym (take_more cells k d l)) (ends_right (take k cells) (get_or cells k d) h)
@@ -100,7 +100,7 @@ pub prune_stops_wide : (cells : List CellContent) (k : ℕ) (d : CellContent) �
     → pruned_row (row_of_cells (take (k + 1) cells)) ≡ row_of_cells (take (k + 1) cells)
 prune_stops_wide cells k d l h =
     let e = last_right cells k d l h in
-    ap pruned_row e.is ∙ up_to_passing is_kept e.front (RightHalf e.attributes) refl ∙ sym e.is
+    ap pruned_row e.is ∙ up_to_passing is_kept e.prefix (RightHalf e.attributes) refl ∙ sym e.is
 
 pub prune_step : (cells : List CellContent) (w : ℕ) (d : CellContent) → 0 < w → w ≤ length cells → ends_split (take w cells) ≡ false → ends_split (take (w - 1) cells) ≡ false
     → is_plain_blank (Narrow (get_or cells (w - 1) d).text (get_or cells (w - 1) d).attributes) ≡ true
@@ -124,7 +124,7 @@ prune_end_wide cells w d s l h =
 
 -- ---- the last cell
 
--- it is the last one, or the one before it, behind which the last one is not looked at
+-- it is the last one, or the one before it, after which the last one is not looked at
 pub end_is : (cells : List CellContent) (k : ℕ) → length cells ≡ suc k → last_read cells ≡ (if ends_split (take k cells) then k - 1 else k)
 end_is [] k e = absurd (omega arith)
 end_is (c ∷ []) zero e = refl
@@ -196,7 +196,7 @@ pub end_set : (cells : List CellContent) (at : ℕ) (b : Bool) (d : CellContent)
 end_set [] at b d new l e n = absurd (omega arith)
 end_set (c ∷ cs) at b d new l e n = (λ i. row_of_cells (set (c ∷ cs) (e i) ((n ∙ ap (λ m. mark_cell b (get_or (c ∷ cs) m d)) e) i))) ∙ set_end 0 b c cs d
 
--- whether the line goes on behind the last cell
+-- whether the line goes on after the last cell
 wrapped_end : (i : ℕ) (b : Bool) (c : CellContent) (cs : List CellContent) (d : CellContent)
     → (get_or (c ∷ cs) (last_read (c ∷ cs)) d).attributes.wrapped ≡ fold (λ _ (v : VisibleCell). v.cell.attributes.wrapped) b (visible_from i (row_of_cells (c ∷ cs)))
 wrapped_end i b c [] d = by_test (nat_le 2 c.width) (λ e. rw e refl) (λ e. rw e refl)

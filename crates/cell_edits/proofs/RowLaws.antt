@@ -45,7 +45,7 @@ visible-append i (Narrow t a ∷ r) b = let e : i + 1 + length r ≡ i + suc (le
 visible-append i (LeftHalf t a ∷ r) b = let e : i + 1 + length r ≡ i + suc (length r) = omega arith in ap (λ (vs : List VisibleCell). record { column = i; cell = record { text = t; width = 2; attributes = a } } ∷ vs) (visible-append (i + 1) r b ∙ ap (λ n. visible_from (i + 1) r ++ visible_from n b) e)
 visible-append i (RightHalf a ∷ r) b = let e : i + 1 + length r ≡ i + suc (length r) = omega arith in visible-append (i + 1) r b ∙ ap (λ n. visible_from (i + 1) r ++ visible_from n b) e
 
--- those of a row in which columns were set: before them, theirs, and behind them
+-- those of a row in which columns were set: before them, theirs, and after them
 pub visible-set : (row : Row) (at : ℕ) (columns : Row) → at ≤ length row
     → visible_cells (set_columns row at columns) ≡ visible_cells (cut at row) ++ visible_from at columns ++ visible_from (at + length columns) (cut_prefix (at + length columns) row)
 visible-set row at columns h =

@@ -21,18 +21,18 @@ use Rattle.cell_edits.proofs.CellLemmas.{by_test, length-row, row_joined}
 use Rattle.cell_edits.proofs.CutLemmas.{row_narrow_any, columns_narrow, length-cell_columns, set_one}
 use Rattle.cell_edits.proofs.RowLaws.{overlaid_next, overlaid_within}
 
--- ---- places written one after another
+-- ---- positions written one after another
 
 pub written_more : {X : Type 0} (first now done : List X) (at : ℕ) (x : X) → now ≡ done ++ drop at first → length done ≡ at → at < length first
     → set now at x ≡ (done ++ x ∷ []) ++ drop (at + 1) first
 written_more {X} first now done at x e n h =
     let long : length now ≡ length done + length (drop at first) = ap length e ∙ length-append done (drop at first) in
     let rest = length-drop at first in
-    let front : take at now ≡ done = ap (take at) e ∙ take_at done (drop at first) at n in
+    let prefix : take at now ≡ done = ap (take at) e ∙ take_at done (drop at first) at n in
     let on : length done + 1 ≡ at + 1 = omega arith in
-    let behind : drop (at + 1) now ≡ drop (at + 1) first =
+    let after : drop (at + 1) now ≡ drop (at + 1) first =
     ap (drop (at + 1)) e ∙ ap (λ m. drop m (done ++ drop at first)) (sym on) ∙ drop-append-add done (drop at first) 1 ∙ drop-drop 1 at first in
-    set_one now at x (omega arith) ∙ (λ i. front i ++ x ∷ behind i) ∙ sym (append_assoc done (x ∷ []) (drop (at + 1) first))
+    set_one now at x (omega arith) ∙ (λ i. prefix i ++ x ∷ after i) ∙ sym (append_assoc done (x ∷ []) (drop (at + 1) first))
 
 one_more : {X : Type 0} (n : ℕ) (x : X) → replicate n x ++ x ∷ [] ≡ replicate (suc n) x
 one_more zero x = refl
@@ -41,14 +41,14 @@ one_more {X} (suc n) x = ap (λ (xs : List X). x ∷ xs) (one_more n x)
 pub blanks_more : {X : Type 0} (first now : List X) (start at : ℕ) (x : X) → start ≤ at → at < length first → now ≡ take start first ++ replicate (at - start) x ++ drop at first
     → set now at x ≡ take start first ++ replicate (at + 1 - start) x ++ drop (at + 1) first
 blanks_more {X} first now start at x o h e =
-    let front = length-take-le start first (omega arith) in
+    let prefix = length-take-le start first (omega arith) in
     let count = length-replicate (at - start) x in
     let long = length-append (take start first) (replicate (at - start) x) in
     let on : suc (at - start) ≡ at + 1 - start = omega arith in
     written_more first now (take start first ++ replicate (at - start) x) at x e (omega arith) h
     ∙ ap (λ (xs : List X). xs ++ drop (at + 1) first) (append_assoc (take start first) (replicate (at - start) x) (x ∷ []) ∙ ap (λ (xs : List X). take start first ++ xs) (one_more (at - start) x ∙ ap (λ n. replicate n x) on))
 
--- blanks in place of all that there is, and behind
+-- blanks in place of all that there is, and after
 pub blanks_after : {X : Type 0} (first now new : List X) (len width : ℕ) (x : X) → len ≡ length first → len ≤ width → now ≡ take 0 first ++ replicate (len - 0) x ++ drop len first → new ≡ now ++ replicate (width - len) x → new ≡ replicate width x
 blanks_after {X} first now new len width x e h n m =
     let all : len - 0 ≡ len = omega arith in
@@ -81,7 +81,7 @@ pub plain_more : (first now : List CellContent) (start i d : ℕ) (bytes : List 
     → now ≡ take start first ++ plain_cells (take i bytes) a ++ drop (start + i) first
     → set now (start + i) (cell_of (get_or bytes i d ∷ []) 1 a) ≡ take start first ++ plain_cells (take (i + 1) bytes) a ++ drop (start + (i + 1)) first
 plain_more first now start i d bytes a h l e =
-    let front = length-take-le start first (omega arith) in
+    let prefix = length-take-le start first (omega arith) in
     let taken = length-take-le i bytes (omega arith) in
     let count = plain_length (take i bytes) a in
     let long = length-append (take start first) (plain_cells (take i bytes) a) in
@@ -97,12 +97,12 @@ blanks_row : (n : ℕ) (a : Attributes) (cells : List CellContent) → row_of_ce
 blanks_row zero a cells = refl
 blanks_row (suc n) a cells = row_narrow_any (blank_cell a) (replicate n (blank_cell a) ++ cells) refl ∙ ap (λ (r : Row). blank a ∷ r) (blanks_row n a cells)
 
--- cells between those before and behind them
-between : (before behind mid : List CellContent) (b d m : Row) → ends_split before ≡ false → row_of_cells before ≡ b → row_of_cells behind ≡ d
-    → ((cells : List CellContent) → row_of_cells (mid ++ cells) ≡ m ++ row_of_cells cells) → row_of_cells (before ++ mid ++ behind) ≡ b ++ m ++ d
-between before behind mid b d m w p q t =
-    ap row_of_cells (append_assoc before mid behind) ∙ row_joined before (mid ++ behind) w
-    ∙ (λ i. p i ++ (t behind ∙ ap (λ (r : Row). m ++ r) q) i) ∙ sym (append_assoc b m d)
+-- cells between those before and after them
+between : (before after mid : List CellContent) (b d m : Row) → ends_split before ≡ false → row_of_cells before ≡ b → row_of_cells after ≡ d
+    → ((cells : List CellContent) → row_of_cells (mid ++ cells) ≡ m ++ row_of_cells cells) → row_of_cells (before ++ mid ++ after) ≡ b ++ m ++ d
+between before after mid b d m w p q t =
+    ap row_of_cells (append_assoc before mid after) ∙ row_joined before (mid ++ after) w
+    ∙ (λ i. p i ++ (t after ∙ ap (λ (r : Row). m ++ r) q) i) ∙ sym (append_assoc b m d)
 
 pub blanks_set : (cells opened now : List CellContent) (start end : ℕ) (a : Attributes) → start ≤ end → ends_split (take start opened) ≡ false
     → row_of_cells (take start opened) ≡ cut start (row_of_cells cells) → row_of_cells (drop end opened) ≡ cut_prefix end (row_of_cells cells)
@@ -193,43 +193,43 @@ module _ (width_of : List ℕ → ℕ) (a : Attributes) where
   abbrev made : List ℕ → CellContent
   made cluster = cell_of cluster (width_of cluster) a
 
-  made_each : (front : List ℕ) (gs : List (List ℕ)) → list_all is_printable front ≡ true → ((byte : ℕ) → is_printable byte ≡ true → width_of (byte ∷ []) ≡ 1) → map made (each front ++ gs) ≡ plain_cells front a ++ map made gs
+  made_each : (prefix : List ℕ) (gs : List (List ℕ)) → list_all is_printable prefix ≡ true → ((byte : ℕ) → is_printable byte ≡ true → width_of (byte ∷ []) ≡ 1) → map made (each prefix ++ gs) ≡ plain_cells prefix a ++ map made gs
   made_each [] gs p n = refl
-  made_each (b ∷ front) gs p n =
-      let parts = and_parts (is_printable b) (list_all is_printable front) p in
-      λ i. cell_of (b ∷ []) (n b parts.0 i) a ∷ made_each front gs parts.1 n i
+  made_each (b ∷ prefix) gs p n =
+      let parts = and_parts (is_printable b) (list_all is_printable prefix) p in
+      λ i. cell_of (b ∷ []) (n b parts.0 i) a ∷ made_each prefix gs parts.1 n i
 
-  pub cells_front : (text front rest : List ℕ) → graphemes true text ≡ each front ++ graphemes true rest → list_all is_printable front ≡ true → ((byte : ℕ) → is_printable byte ≡ true → width_of (byte ∷ []) ≡ 1)
-      → text_cells width_of text a ≡ plain_cells front a ++ text_cells width_of rest a
-  cells_front text front rest e p n =
-      ap (λ gs. map made (map read_cluster gs)) e ∙ ap (map made) (read_each front (graphemes true rest) p) ∙ made_each front (clusters rest) p n
+  pub cells_front : (text prefix rest : List ℕ) → graphemes true text ≡ each prefix ++ graphemes true rest → list_all is_printable prefix ≡ true → ((byte : ℕ) → is_printable byte ≡ true → width_of (byte ∷ []) ≡ 1)
+      → text_cells width_of text a ≡ plain_cells prefix a ++ text_cells width_of rest a
+  cells_front text prefix rest e p n =
+      ap (λ gs. map made (map read_cluster gs)) e ∙ ap (map made) (read_each prefix (graphemes true rest) p) ∙ made_each prefix (clusters rest) p n
 
   pub cells_first : (text g rest : List ℕ) → graphemes true text ≡ g ∷ graphemes true rest → graphemes true g ≡ g ∷ [] → text_cells width_of text a ≡ cell_of g (width_of g) a ∷ text_cells width_of rest a
   cells_first text g rest e alone = ap (λ gs. map made (map read_cluster gs)) e ∙ ap (λ c. made c ∷ text_cells width_of rest a) (read_alone g alone)
 
   -- ---- steps
 
-  pub leads_front : (row next : Row) (at end : ℕ) (text front rest : List ℕ) → at ≤ end → length front ≤ end - at → graphemes true text ≡ each front ++ graphemes true rest → list_all is_printable front ≡ true
-      → ((byte : ℕ) → is_printable byte ≡ true → width_of (byte ∷ []) ≡ 1) → next ≡ overlaid row at (plain_cells front a) → concat (graphemes true rest) ≡ rest → Leads width_of end a row at text next (at + length front) rest
-  leads_front row next at end text front rest o l e p n is whole =
-      let cells = cells_front text front rest e p n in
-      let room : end - at - length front ≡ end - (at + length front) = omega arith in
-      let fit : fitting (end - at) (text_cells width_of text a) ≡ plain_cells front a ++ fitting (end - (at + length front)) (text_cells width_of rest a) =
-      ap (fitting (end - at)) cells ∙ fitting_front (end - at) front a (text_cells width_of rest a) l ∙ ap (λ k. plain_cells front a ++ fitting k (text_cells width_of rest a)) room in
-      let count = plain_count front a in
-      let on : at + length (flat_map cell_columns (plain_cells front a)) ≡ at + length front = omega arith in
-      let more = length-append (plain_cells front a) (fitting (end - (at + length front)) (text_cells width_of rest a)) in
-      let plain = plain_length front a in
-      let bytes = each_length front in
+  pub leads_front : (row next : Row) (at end : ℕ) (text prefix rest : List ℕ) → at ≤ end → length prefix ≤ end - at → graphemes true text ≡ each prefix ++ graphemes true rest → list_all is_printable prefix ≡ true
+      → ((byte : ℕ) → is_printable byte ≡ true → width_of (byte ∷ []) ≡ 1) → next ≡ overlaid row at (plain_cells prefix a) → concat (graphemes true rest) ≡ rest → Leads width_of end a row at text next (at + length prefix) rest
+  leads_front row next at end text prefix rest o l e p n is whole =
+      let cells = cells_front text prefix rest e p n in
+      let room : end - at - length prefix ≡ end - (at + length prefix) = omega arith in
+      let fit : fitting (end - at) (text_cells width_of text a) ≡ plain_cells prefix a ++ fitting (end - (at + length prefix)) (text_cells width_of rest a) =
+      ap (fitting (end - at)) cells ∙ fitting_front (end - at) prefix a (text_cells width_of rest a) l ∙ ap (λ k. plain_cells prefix a ++ fitting k (text_cells width_of rest a)) room in
+      let count = plain_count prefix a in
+      let on : at + length (flat_map cell_columns (plain_cells prefix a)) ≡ at + length prefix = omega arith in
+      let more = length-append (plain_cells prefix a) (fitting (end - (at + length prefix)) (text_cells width_of rest a)) in
+      let plain = plain_length prefix a in
+      let bytes = each_length prefix in
       let fits = ap length fit in
-      let rest_cells = fitting (end - (at + length front)) (text_cells width_of rest a) in
-      let wide : length (flat_map cell_columns (fitting (end - at) (text_cells width_of text a))) ≡ length (flat_map cell_columns (plain_cells front a)) + length (flat_map cell_columns rest_cells) =
-      ap (λ (cs : List CellContent). length (flat_map cell_columns cs)) fit ∙ columns-append (plain_cells front a) rest_cells in
-      let drops : length (each front) + length (fitting (end - (at + length front)) (text_cells width_of rest a)) ≡ length (fitting (end - at) (text_cells width_of text a)) = omega arith in
+      let rest_cells = fitting (end - (at + length prefix)) (text_cells width_of rest a) in
+      let wide : length (flat_map cell_columns (fitting (end - at) (text_cells width_of text a))) ≡ length (flat_map cell_columns (plain_cells prefix a)) + length (flat_map cell_columns rest_cells) =
+      ap (λ (cs : List CellContent). length (flat_map cell_columns cs)) fit ∙ columns-append (plain_cells prefix a) rest_cells in
+      let drops : length (each prefix) + length (fitting (end - (at + length prefix)) (text_cells width_of rest a)) ≡ length (fitting (end - at) (text_cells width_of text a)) = omega arith in
       record {
-        columns = sym (ap (overlaid row at) fit ∙ overlaid-append row at (plain_cells front a) _ ∙ (λ i. overlaid (sym is i) (on i) (fitting (end - (at + length front)) (text_cells width_of rest a))));
-        behind = omega (arith, wide, count);
-        left = ap concat (sym (drop-append-add (each front) (graphemes true rest) (length (fitting (end - (at + length front)) (text_cells width_of rest a)))) ∙ (λ i. drop (drops i) (sym e i)));
+        columns = sym (ap (overlaid row at) fit ∙ overlaid-append row at (plain_cells prefix a) _ ∙ (λ i. overlaid (sym is i) (on i) (fitting (end - (at + length prefix)) (text_cells width_of rest a))));
+        after = omega (arith, wide, count);
+        left = ap concat (sym (drop-append-add (each prefix) (graphemes true rest) (length (fitting (end - (at + length prefix)) (text_cells width_of rest a)))) ∙ (λ i. drop (drops i) (sym e i)));
         order = omega arith;
         within = omega arith;
         whole = whole;
@@ -248,7 +248,7 @@ module _ (width_of : List ℕ → ℕ) (a : Attributes) where
       record {
         columns = sym (ap (overlaid row at) fit ∙ overlaid_next row at cell (fitting (end - (at + length (cell_columns cell))) (text_cells width_of rest a)) (omega arith) ∙ ap (λ (r : Row). overlaid r (at + length (cell_columns cell)) (fitting (end - (at + length (cell_columns cell))) (text_cells width_of rest a))) (sym step));
         left = sym (λ i. concat (drop (length (fit i)) (e i)));
-        behind = omega (arith, wide);
+        after = omega (arith, wide);
         order = omega arith;
         within = omega arith;
         whole = whole;
@@ -258,7 +258,7 @@ module _ (width_of : List ℕ → ℕ) (a : Attributes) where
   stopped row at end text whole e = record {
     columns = ap (overlaid row at) e;
     left = ap (λ (cs : List CellContent). text_after (length cs) text) e ∙ whole;
-    behind = let none = ap (λ (cs : List CellContent). length (flat_map cell_columns cs)) e in omega (arith, none);
+    after = let none = ap (λ (cs : List CellContent). length (flat_map cell_columns cs)) e in omega (arith, none);
   }
 
   pub stops_full : (row : Row) (at end : ℕ) (text : List ℕ) → concat (graphemes true text) ≡ text → end ≤ at → Stops width_of end a row at text
@@ -275,19 +275,19 @@ module _ (width_of : List ℕ → ℕ) (a : Attributes) where
       stopped row at end text whole (ap (fitting (end - at)) (cells_first text g rest e alone ∙ ap (λ c. c ∷ text_cells width_of rest a) (sym is)) ∙ fitting_stops (end - at) cell (text_cells width_of rest a) h)
 
   pub leads_same : (row : Row) (at end : ℕ) (text : List ℕ) → at ≤ end → concat (graphemes true text) ≡ text → Leads width_of end a row at text row at text
-  leads_same row at end text o whole = record { columns = refl; left = refl; behind = refl; order = omega arith; within = o; whole = whole }
+  leads_same row at end text o whole = record { columns = refl; left = refl; after = refl; order = omega arith; within = o; whole = whole }
 
 -- ---- the rest of a text
 
-joined_each : (front : List ℕ) (gs : List (List ℕ)) → concat (each front ++ gs) ≡ front ++ concat gs
+joined_each : (prefix : List ℕ) (gs : List (List ℕ)) → concat (each prefix ++ gs) ≡ prefix ++ concat gs
 joined_each [] gs = refl
-joined_each (b ∷ front) gs = ap (λ (bs : List ℕ). b ∷ bs) (joined_each front gs)
+joined_each (b ∷ prefix) gs = ap (λ (bs : List ℕ). b ∷ bs) (joined_each prefix gs)
 
-same_after : (front xs ys : List ℕ) → front ++ xs ≡ front ++ ys → xs ≡ ys
-same_after front xs ys e = sym (drop_at front xs (length front) refl) ∙ ap (drop (length front)) e ∙ drop_at front ys (length front) refl
+same_after : (prefix xs ys : List ℕ) → prefix ++ xs ≡ prefix ++ ys → xs ≡ ys
+same_after prefix xs ys e = sym (drop_at prefix xs (length prefix) refl) ∙ ap (drop (length prefix)) e ∙ drop_at prefix ys (length prefix) refl
 
-pub rest_front : (text front rest : List ℕ) → concat (graphemes true text) ≡ text → text ≡ front ++ rest → graphemes true text ≡ each front ++ graphemes true rest → concat (graphemes true rest) ≡ rest
-rest_front text front rest whole parts e = same_after front _ rest (sym (joined_each front (graphemes true rest)) ∙ ap concat (sym e) ∙ whole ∙ parts)
+pub rest_front : (text prefix rest : List ℕ) → concat (graphemes true text) ≡ text → text ≡ prefix ++ rest → graphemes true text ≡ each prefix ++ graphemes true rest → concat (graphemes true rest) ≡ rest
+rest_front text prefix rest whole parts e = same_after prefix _ rest (sym (joined_each prefix (graphemes true rest)) ∙ ap concat (sym e) ∙ whole ∙ parts)
 
 pub rest_first : (text g rest : List ℕ) → concat (graphemes true text) ≡ text → text ≡ g ++ rest → graphemes true text ≡ g ∷ graphemes true rest → concat (graphemes true rest) ≡ rest
 rest_first text g rest whole parts e = same_after g _ rest (ap concat (sym e) ∙ whole ∙ parts)

@@ -40,12 +40,12 @@ settled_narrow old xs p d l some w s =
     let cs : List CellContent = drop (suc p) xs in
     let e : nat_le 2 c.width ≡ false = narrow_is c.width w in
     let on : p + 1 ≡ suc p = omega arith in
-    let front : take (p + 1) xs ≡ take p xs ++ c ∷ [] = take_more xs p d l in
+    let prefix : take (p + 1) xs ≡ take p xs ++ c ∷ [] = take_more xs p d l in
     let shown : lent_cells (row_of_cells (drop p xs)) ≡ c ∷ lent_cells (row_of_cells cs) = ap (λ (ys : List CellContent). lent_cells (row_of_cells ys)) (from_place xs p d l) ∙ shown_narrow c cs e (omega arith) in
     record {
-      whole = ap ends_split front ∙ halved_joined (take p xs) (c ∷ []) s.whole ∙ e;
+      whole = ap ends_split prefix ∙ halved_joined (take p xs) (c ∷ []) s.whole ∙ e;
       row = s.row;
-      same = (λ i. front i ++ lent_cells (row_of_cells (drop (on i) xs))) ∙ append_assoc (take p xs) (c ∷ []) (lent_cells (row_of_cells cs)) ∙ ap (λ (ys : List CellContent). take p xs ++ ys) (sym shown) ∙ s.same;
+      same = (λ i. prefix i ++ lent_cells (row_of_cells (drop (on i) xs))) ∙ append_assoc (take p xs) (c ∷ []) (lent_cells (row_of_cells cs)) ∙ ap (λ (ys : List CellContent). take p xs ++ ys) (sym shown) ∙ s.same;
     }
 
 pub settled_wide : (old xs : List CellContent) (p : ℕ) (d : CellContent) → p + 1 < length xs → 2 ≤ (get_or xs p d).width → (get_or xs p d).width ≤ 2 → IsSettled p xs old
@@ -58,18 +58,18 @@ settled_wide old xs p d l w most s =
     let new : List CellContent = set xs (p + 1) b in
     let e : nat_le 2 c.width ≡ true = wide_is c.width w in
     let on : p + 1 + 1 ≡ suc (suc p) = omega arith in
-    let front : take (p + 1 + 1) new ≡ take p xs ++ c ∷ b ∷ [] =
+    let prefix : take (p + 1 + 1) new ≡ take p xs ++ c ∷ b ∷ [] =
     take_more_set xs (p + 1) b l ∙ ap (λ (ys : List CellContent). ys ++ b ∷ []) (take_more xs p d (omega arith)) ∙ append_assoc (take p xs) (c ∷ []) (b ∷ []) in
-    let behind : drop (p + 1 + 1) new ≡ cs = drop-set-lt (p + 1 + 1) xs (p + 1) b (omega arith) ∙ ap (λ m. drop m xs) on in
+    let back : drop (p + 1 + 1) new ≡ cs = drop-set-lt (p + 1 + 1) xs (p + 1) b (omega arith) ∙ ap (λ m. drop m xs) on in
     let left : drop p xs ≡ c ∷ n ∷ cs = from_place xs p d (omega arith) ∙ ap (λ (ys : List CellContent). c ∷ ys) (from_place xs (suc p) d (omega arith)) in
     let shown : lent_cells (row_of_cells (drop p xs)) ≡ c ∷ b ∷ lent_cells (row_of_cells cs) = ap (λ (ys : List CellContent). lent_cells (row_of_cells ys)) left ∙ shown_wide c n cs e (omega arith) in
     let before : xs ≡ take p xs ++ c ∷ n ∷ cs = sym (take-append-drop p xs) ∙ ap (λ (ys : List CellContent). take p xs ++ ys) left in
-    let after : new ≡ take p xs ++ c ∷ b ∷ cs = sym (take-append-drop (p + 1 + 1) new) ∙ (λ i. front i ++ behind i) ∙ append_assoc (take p xs) (c ∷ b ∷ []) cs in
+    let after : new ≡ take p xs ++ c ∷ b ∷ cs = sym (take-append-drop (p + 1 + 1) new) ∙ (λ i. prefix i ++ back i) ∙ append_assoc (take p xs) (c ∷ b ∷ []) cs in
     record {
-      whole = ap ends_split front ∙ halved_joined (take p xs) (c ∷ b ∷ []) s.whole ∙ halved_wide c b [] e;
+      whole = ap ends_split prefix ∙ halved_joined (take p xs) (c ∷ b ∷ []) s.whole ∙ halved_wide c b [] e;
       row = ap row_of_cells after ∙ row_joined (take p xs) (c ∷ b ∷ cs) s.whole ∙ ap (λ (r : Row). row_of_cells (take p xs) ++ r) (row_wide c b cs e ∙ sym (row_wide c n cs e))
           ∙ sym (row_joined (take p xs) (c ∷ n ∷ cs) s.whole) ∙ sym (ap row_of_cells before) ∙ s.row;
-      same = (λ i. front i ++ lent_cells (row_of_cells (behind i))) ∙ append_assoc (take p xs) (c ∷ b ∷ []) (lent_cells (row_of_cells cs)) ∙ ap (λ (ys : List CellContent). take p xs ++ ys) (sym shown) ∙ s.same;
+      same = (λ i. prefix i ++ lent_cells (row_of_cells (back i))) ∙ append_assoc (take p xs) (c ∷ b ∷ []) (lent_cells (row_of_cells cs)) ∙ ap (λ (ys : List CellContent). take p xs ++ ys) (sym shown) ∙ s.same;
     }
 
 pub settled_last : (old xs : List CellContent) (p : ℕ) (d : CellContent) → length xs ≡ p + 1 → 2 ≤ (get_or xs p d).width → IsSettled p xs old
@@ -81,18 +81,18 @@ settled_last old xs p d l w s =
     let e : nat_le 2 c.width ≡ true = wide_is c.width w in
     let long : length new ≡ p + 1 = length-set xs p b ∙ l in
     let all : new ≡ take p xs ++ b ∷ [] = sym (take_all (p + 1) new (omega arith)) ∙ take_more_set xs p b (omega arith) in
-    let front : take (p + 1 + 1) new ≡ take p xs ++ b ∷ [] = take_all (p + 1 + 1) new (omega arith) ∙ all in
+    let prefix : take (p + 1 + 1) new ≡ take p xs ++ b ∷ [] = take_all (p + 1 + 1) new (omega arith) ∙ all in
     let none : drop (p + 1 + 1) new ≡ [] = drop_all (p + 1 + 1) new (omega arith) in
     let left : drop p xs ≡ c ∷ [] = from_place xs p d (omega arith) ∙ ap (λ (ys : List CellContent). c ∷ ys) (drop_all (suc p) xs (omega arith)) in
     let before : xs ≡ take p xs ++ c ∷ [] = sym (take-append-drop p xs) ∙ ap (λ (ys : List CellContent). take p xs ++ ys) left in
     record {
-      whole = ap ends_split front ∙ halved_joined (take p xs) (b ∷ []) s.whole;
+      whole = ap ends_split prefix ∙ halved_joined (take p xs) (b ∷ []) s.whole;
       row = ap row_of_cells all ∙ row_joined (take p xs) (b ∷ []) s.whole ∙ ap (λ (r : Row). row_of_cells (take p xs) ++ r) (sym (shown_last c e))
           ∙ sym (row_joined (take p xs) (c ∷ []) s.whole) ∙ sym (ap row_of_cells before) ∙ s.row;
-      same = (λ i. front i ++ lent_cells (row_of_cells (none i))) ∙ append_assoc (take p xs) (b ∷ []) [] ∙ ap (λ (ys : List CellContent). take p xs ++ ys) (sym (ap (λ (ys : List CellContent). lent_cells (row_of_cells ys)) left ∙ ap lent_cells (shown_last c e))) ∙ s.same;
+      same = (λ i. prefix i ++ lent_cells (row_of_cells (none i))) ∙ append_assoc (take p xs) (b ∷ []) [] ∙ ap (λ (ys : List CellContent). take p xs ++ ys) (sym (ap (λ (ys : List CellContent). lent_cells (row_of_cells ys)) left ∙ ap lent_cells (shown_last c e))) ∙ s.same;
     }
 
--- the blank is put behind the wide cell, or in its place where it is the last
+-- the blank is put after the wide cell, or in its place where it is the last
 pub settled_put : (old xs : List CellContent) (p n : ℕ) (d : CellContent) → n ≡ length xs → p < length xs → 2 ≤ (get_or xs p d).width → (get_or xs p d).width ≤ 2 → IsSettled p xs old
     → IsSettled (p + 1 + 1) (set xs (if nat_lt (p + 1) n then p + 1 else p) (blank_cell (get_or xs p d).attributes)) old
 settled_put old xs p n d long l w most s =

@@ -18,7 +18,7 @@ text_cells width_of text attributes = map (λ cluster. cell_of cluster (width_of
 abbrev pub text_row : (List ℕ → ℕ) → List ℕ → Attributes → Row
 text_row width_of text attributes = flat_map cell_columns (text_cells width_of text attributes)
 
--- the last cell that is read is a wide one, with no cell behind it
+-- the last cell that is read is a wide one, with no cell after it
 abbrev pub ends_split : List CellContent → Bool
 ends_split [] = false
 ends_split (cell ∷ []) = nat_le 2 cell.width
@@ -32,6 +32,6 @@ last_read (cell ∷ next ∷ []) = if nat_le 2 cell.width then 0 else 1
 last_read (cell ∷ next ∷ more ∷ cells) =
     if nat_le 2 cell.width then suc (suc (last_read (more ∷ cells))) else suc (last_read (next ∷ more ∷ cells))
 
--- a blank with the attributes of the cell at a place
+-- a blank with the attributes of the cell at a position
 abbrev pub blank_for : List CellContent → ℕ → CellContent
 blank_for cells at = blank_cell (slice_index_or cells at (blank_cell plain)).attributes

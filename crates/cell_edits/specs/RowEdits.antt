@@ -14,7 +14,7 @@ use Rattle.cell_edits.specs.CellList.{cell_columns}
 abbrev pub cut : ℕ → Row → Row
 cut width row = closed_end (take width row)
 
--- the columns from a place on
+-- the columns from a position on
 abbrev pub cut_prefix : ℕ → Row → Row
 cut_prefix at row = closed_start (drop at row)
 
@@ -26,7 +26,7 @@ padded width row = row ++ plain_row (width - length row)
 abbrev pub resized : ℕ → Row → Row
 resized width row = if nat_lt width (length row) then cut width row else padded width row
 
--- the cell stands at a place, which is padded to if it is missing
+-- the cell stands at a position, which is padded to if it is missing
 abbrev pub with_cell : Row → ℕ → CellContent → Row
 with_cell row at cell = let columns = cell_columns cell in set_columns (padded (at + length columns) row) at columns
 
@@ -34,11 +34,11 @@ with_cell row at cell = let columns = cell_columns cell in set_columns (padded (
 abbrev pub removed : ℕ → Row → Row
 removed at row = cut at row ++ cut_prefix (at + 1) row
 
--- columns stand between the columns before a place and those behind it
+-- columns stand between the columns before a position and those after it
 abbrev pub inserted : ℕ → Row → Row → Row
 inserted at columns row = cut at row ++ columns ++ cut_prefix at row
 
--- the last column within the margin goes if it is there, and the cell's columns are inserted at a place, which is
+-- the last column within the margin goes if it is there, and the cell's columns are inserted at a position, which is
 -- padded to
 abbrev pub with_inserted : Row → ℕ → CellContent → ℕ → Row
 with_inserted row at cell margin =
@@ -65,7 +65,7 @@ is_plain_blank (RightHalf attributes) = false
 abbrev pub pruned_row : Row → Row
 pruned_row row = up_to_last (λ column. not (is_plain_blank column)) row
 
--- cells set side by side from a place on
+-- cells set side by side from a position on
 abbrev pub overlaid : Row → ℕ → List CellContent → Row
 overlaid row at [] = row
 overlaid row at (cell ∷ cells) = overlaid (with_cell row at cell) (at + length (cell_columns cell)) cells

@@ -8,7 +8,7 @@ use Rattle.cell_base.specs.Row.{Row}
 use Rattle.cell_edits.specs.CellList.{cell_columns, text_cells}
 use Rattle.cell_edits.specs.RowEdits.{overlaid}
 
--- the cells at the front that fit side by side in so many columns
+-- the cells at the start that fit side by side in so many columns
 abbrev pub fitting : ℕ → List CellContent → List CellContent
 fitting room [] = []
 fitting room (cell ∷ cells) =
@@ -18,7 +18,7 @@ fitting room (cell ∷ cells) =
 abbrev pub fitting_cells : (List ℕ → ℕ) → ℕ → List ℕ → Attributes → List CellContent
 fitting_cells width_of room text attributes = fitting room (text_cells width_of text attributes)
 
--- what stands behind so many clusters of a text
+-- what follows so many clusters of a text
 abbrev pub text_after : ℕ → List ℕ → List ℕ
 text_after count text = concat (drop count (graphemes true text))
 
@@ -30,7 +30,7 @@ text_on width_of end attributes row at text = overlaid row at (fitting_cells wid
 abbrev pub text_left : (List ℕ → ℕ) → ℕ → Attributes → ℕ → List ℕ → List ℕ
 text_left width_of end attributes at text = text_after (length (fitting_cells width_of (end - at) text attributes)) text
 
--- the column behind the cells of a text that fit
+-- the column after the cells of a text that fit
 abbrev pub place_after : (List ℕ → ℕ) → ℕ → Attributes → ℕ → List ℕ → ℕ
 place_after width_of end attributes at text =
     at + length (flat_map cell_columns (fitting_cells width_of (end - at) text attributes))
@@ -41,12 +41,12 @@ plain_cells text attributes = map (λ byte. cell_of (byte ∷ []) 1 attributes) 
 
 -- a step leads on: from a row, a column and a text to others from which the whole comes out the same
 pub record Leads (width_of : List ℕ → ℕ) (end : ℕ) (attributes : Attributes) (row : Row) (at : ℕ) (text : List ℕ)
-    (next : Row) (place : ℕ) (rest : List ℕ) : Type 0 where
-  pub columns : text_on width_of end attributes next place rest ≡ text_on width_of end attributes row at text
-  pub left : text_left width_of end attributes place rest ≡ text_left width_of end attributes at text
-  pub behind : place_after width_of end attributes place rest ≡ place_after width_of end attributes at text
-  pub order : at ≤ place
-  pub within : place ≤ end
+    (next : Row) (position : ℕ) (rest : List ℕ) : Type 0 where
+  pub columns : text_on width_of end attributes next position rest ≡ text_on width_of end attributes row at text
+  pub left : text_left width_of end attributes position rest ≡ text_left width_of end attributes at text
+  pub after : place_after width_of end attributes position rest ≡ place_after width_of end attributes at text
+  pub order : at ≤ position
+  pub within : position ≤ end
   pub whole : concat (graphemes true rest) ≡ rest
 
 -- nothing more fits
@@ -54,4 +54,4 @@ pub record Stops (width_of : List ℕ → ℕ) (end : ℕ) (attributes : Attribu
     0 where
   pub columns : text_on width_of end attributes row at text ≡ row
   pub left : text_left width_of end attributes at text ≡ text
-  pub behind : place_after width_of end attributes at text ≡ at
+  pub after : place_after width_of end attributes at text ≡ at

@@ -76,18 +76,18 @@ last_column cells = fold (λ _ v. v.column) 0 cells
 abbrev pub texts_joined : List VisibleCell → List ℕ
 texts_joined cells = flat_map (λ v. v.cell.text) cells
 
--- whether the line goes on behind the last cell; not where there is none
+-- whether the line goes on after the last cell; not where there is none
 abbrev pub ends_wrapped : List VisibleCell → Bool
 ends_wrapped cells = fold (λ _ v. v.cell.attributes.wrapped) false cells
 
--- the cell is set to be one behind which the line goes on, or not
+-- the cell is set to be one after which the line goes on, or not
 abbrev pub mark_cell : Bool → CellContent → CellContent
 mark_cell wrapped cell = record cell { attributes = record cell.attributes { wrapped = wrapped } }
 
 abbrev pub mark_wrapped : Bool → VisibleCell → VisibleCell
 mark_wrapped wrapped v = record v { cell = mark_cell wrapped v.cell }
 
--- the last cell is set to be one behind which the line goes on, or not
+-- the last cell is set to be one after which the line goes on, or not
 abbrev pub with_end_wrapped : Bool → List VisibleCell → List VisibleCell
 with_end_wrapped wrapped [] = []
 with_end_wrapped wrapped (v ∷ []) = mark_wrapped wrapped v ∷ []

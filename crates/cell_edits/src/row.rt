@@ -1,4 +1,4 @@
-//! Steps on the cells of a line, which are read from the left: the cell stored behind a wide one
+//! Steps on the cells of a line, which are read from the left: the cell stored after a wide one
 //! isn't looked at.
 ghost use Rattle.std.specs.Prelude.{◌≡◌, ℕ, ◌+◌, ◌-◌, ◌≤◌, ◌<◌, ◌++◌, ◌&&◌, true, false, length, take, drop, [], ◌∷◌};
 ghost use Rattle.std.specs.Prelude.{slice_set, replicate, map, vec_len, nat_lt, if◌then◌else◌, OnOk, OnErr, IfOk};
@@ -32,10 +32,10 @@ pub fn is_split(cells: &[Cell], at: usize) -> bool
     ensures { result ≡ ends_split (take at cells.now) }
 {
     let mut halved = false;
-    let mut place = at;
-    while place > 0 && cells[place - 1].width() >= 2 {
+    let mut position = at;
+    while position > 0 && cells[position - 1].width() >= 2 {
         halved = !halved;
-        place -= 1;
+        position -= 1;
     }
     halved
 }
@@ -62,7 +62,7 @@ pub(crate) fn put(cells: &mut Vec<Cell>, at: usize, cell: Cell)
     cells[at] = cell;
 }
 
-// The cell and the one behind it become blanks with its attributes.
+// The cell and the one after it become blanks with its attributes.
 #[cold]
 #[inline(never)]
 fn split_cell(cells: &mut Vec<Cell>, at: usize) -> Result<(), AllocError>
@@ -70,7 +70,7 @@ fn split_cell(cells: &mut Vec<Cell>, at: usize) -> Result<(), AllocError>
     ensures len { vec_len cells.new ≡ vec_len cells.old }
     ensures before { OnOk result
         (take (at + 1) cells.new.items ≡ take at cells.old.items ++ blank_for cells.old.items at ∷ []) }
-    ensures behind { OnOk result
+    ensures after { OnOk result
         (at + 1 < vec_len cells.old
         → drop (at + 1) cells.new.items ≡ blank_for cells.old.items at ∷ drop (at + 2) cells.old.items) }
 {
@@ -90,7 +90,7 @@ fn cut_at(cells: &mut Vec<Cell>, at: usize) -> Result<(), AllocError>
     ensures len { vec_len cells.new ≡ vec_len cells.old }
     ensures whole { OnOk result (ends_split (take at cells.new.items) ≡ false) }
     ensures before { OnOk result (row_of_cells (take at cells.new.items) ≡ cut at (row_of_cells cells.old.items)) }
-    ensures behind { OnOk result
+    ensures after { OnOk result
         (row_of_cells (drop at cells.new.items) ≡ cut_prefix at (row_of_cells cells.old.items)) }
     ensures earlier { OnOk result (take (at - 1) cells.new.items ≡ take (at - 1) cells.old.items) }
 {
@@ -109,7 +109,7 @@ pub(crate) fn open(cells: &mut Vec<Cell>, start: usize, end: usize) -> Result<()
     ensures whole { OnOk result (ends_split (take start cells.new.items) ≡ false) }
     ensures before { OnOk result
         (row_of_cells (take start cells.new.items) ≡ cut start (row_of_cells cells.old.items)) }
-    ensures behind { OnOk result
+    ensures after { OnOk result
         (row_of_cells (drop end cells.new.items) ≡ cut_prefix end (row_of_cells cells.old.items)) }
 {
     cut_at(cells, start)?;
@@ -248,7 +248,7 @@ pub fn split_off(cells: &mut Vec<Cell>, at: usize) -> Result<Vec<Cell>, AllocErr
     cells.split_off(at)
 }
 
-/// The other row comes behind this one.
+/// The other row follows this one.
 pub fn append(cells: &mut Vec<Cell>, mut other: Vec<Cell>) -> Result<(), AllocError>
     ensures { OnOk result (row_of_cells cells.new.items ≡ row_of_cells cells.old.items ++ row_of_cells other.items) }
 {
@@ -311,7 +311,7 @@ pub fn erase_within(
     Ok(())
 }
 
-/// The cell's columns come behind those that are there.
+/// The cell's columns follow those that are there.
 pub fn push_cell(cells: &mut Vec<Cell>, cell: Cell) -> Result<(), AllocError>
     requires { ends_split cells.old.items ≡ false }
     ensures whole { OnOk result (ends_split cells.new.items ≡ false) }
@@ -336,8 +336,8 @@ pub fn fill(cells: &mut Vec<Cell>, start: usize, end: usize, cell: &Cell) -> Res
     Ok(())
 }
 
-// The cell stored behind a wide one becomes the blank that is shown there, and a wide cell with none
-// behind it the blank that it is read as.
+// The cell stored after a wide one becomes the blank that is shown there, and a wide cell with none
+// after it the blank that it is read as.
 fn settle_cell(cells: &mut Vec<Cell>, at: usize) -> Result<(), AllocError>
     requires { at < vec_len cells.old }
     ensures done { OnOk result
@@ -423,7 +423,7 @@ pub fn prune(cells: &mut Vec<Cell>) -> Result<bool, AllocError>
     Ok(true)
 }
 
-// Sets whether the line goes on behind the cell.
+// Sets whether the line goes on after the cell.
 fn mark(cell: &mut Cell, wrapped: bool)
     ensures { cell.new ≡ mark_cell wrapped cell.old }
 {
@@ -432,7 +432,7 @@ fn mark(cell: &mut Cell, wrapped: bool)
     *cell.attrs_mut() = attrs;
 }
 
-/// Sets whether the line goes on behind the last cell.
+/// Sets whether the line goes on after the last cell.
 pub fn set_end_wrapped(cells: &mut Vec<Cell>, wrapped: bool)
     ensures { row_of_cells cells.new.items ≡ row_end_wrapped wrapped (row_of_cells cells.old.items) }
 {
@@ -473,7 +473,7 @@ pub fn drop_implicit_links(cells: &mut [Cell])
     }
 }
 
-/// A wide cell with none behind it becomes the blank that it is read as.
+/// A wide cell with none after it becomes the blank that it is read as.
 pub fn close_end(cells: &mut Vec<Cell>) -> Result<(), AllocError>
     ensures whole { OnOk result (ends_split cells.new.items ≡ false) }
     ensures row { OnOk result (row_of_cells cells.new.items ≡ row_of_cells cells.old.items) }

@@ -13,9 +13,9 @@ ghost use Rattle.cell_edits.specs.TextRuns.{place_after, plain_cells, text_on, t
 use crate::row::{open, push_blanks_with};
 use cell_base::{Cell, CellAttributes, Widths};
 use std::alloc::{AllocError, Global};
-use text_clusters::{begins_plainly, split_first_cluster, split_printable};
+use text_clusters::split_first_cluster;
 
-// The cell at a place becomes that of a printable character.
+// The cell at a position becomes that of a printable character.
 #[inline(always)]
 fn put_ascii(
     cells: &mut Vec<Cell>,
@@ -32,7 +32,7 @@ fn put_ascii(
     cells[at].set_ascii(character, attrs)
 }
 
-// The cell at a place becomes a space.
+// The cell at a position becomes a space.
 #[inline(always)]
 fn put_blank(cells: &mut Vec<Cell>, at: usize, attrs: &CellAttributes) -> Result<(), AllocError>
     requires { at < vec_len cells.old }
@@ -42,7 +42,7 @@ fn put_blank(cells: &mut Vec<Cell>, at: usize, attrs: &CellAttributes) -> Result
     cells[at].set_blank(attrs)
 }
 
-// The cell at a place becomes that of a cluster.
+// The cell at a position becomes that of a cluster.
 #[inline(always)]
 fn put_cluster(
     alloc: Global,
@@ -112,7 +112,7 @@ pub fn clear(cells: &mut Vec<Cell>, width: usize, attrs: &CellAttributes) -> Res
     Ok(())
 }
 
-// Cells of one printable character each stand from a place on.
+// Cells of one printable character each stand from a position on.
 #[inline(always)]
 fn write_plain(
     cells: &mut Vec<Cell>,
@@ -154,34 +154,6 @@ pub fn set_plain(
     open(cells, at, at + text.len())?;
     write_plain(cells, at, text.as_bytes(), attrs)?;
     Ok(())
-}
-
-// Sets the plain front of a text as far as it fits before `end`; answers the next column and the
-// rest.
-fn set_plain_prefix<'a, W: Widths>(
-    cells: &mut Vec<Cell>,
-    at: usize,
-    end: usize,
-    text: &'a str,
-    attrs: &CellAttributes,
-    w: &W,
-) -> Result<(usize, &'a str), AllocError>
-    requires order { at ≤ end }
-    requires within { end ≤ vec_len cells.old }
-    ensures len { vec_len cells.new ≡ vec_len cells.old }
-    ensures leads { IfOk result
-        (λ next. Leads (W.width_of w.now) end attrs.now (row_of_cells cells.old.items) at text.now
-        (row_of_cells cells.new.items) next.0 next.1.now) }
-{
-    if !begins_plainly(text) {
-        return Ok((at, text));
-    }
-    if !w.has_narrow_ascii() {
-        return Ok((at, text));
-    }
-    let (front, rest) = split_printable(text, end - at);
-    set_plain(cells, at, front, attrs)?;
-    Ok((at + front.len(), rest))
 }
 
 // How many columns the cell of a cluster takes.
@@ -263,7 +235,7 @@ fn set_first_cluster<'a, W: Widths>(
 }
 
 /// Sets each cluster of a text side by side from `start` on, as far as they fit before `end`; answers
-/// the column behind them and the text that is left.
+/// the column after them and the text that is left.
 pub fn set_text<'a, W: Widths>(
     alloc: Global,
     cells: &mut Vec<Cell>,
@@ -278,18 +250,17 @@ pub fn set_text<'a, W: Widths>(
     ensures row { OnOk result
         (row_of_cells cells.new.items
         ≡ text_on (W.width_of w.now) end attrs.now (row_of_cells cells.old.items) start text.now) }
-    ensures behind { IfOk result (λ r. r.0 ≡ place_after (W.width_of w.now) end attrs.now start text.now) }
+    ensures after { IfOk result (λ r. r.0 ≡ place_after (W.width_of w.now) end attrs.now start text.now) }
     ensures left { IfOk result (λ r. r.1.now ≡ text_left (W.width_of w.now) end attrs.now start text.now) }
 {
     let mut at = start;
     let mut left = text;
     while at < end {
-        let (place, rest) = set_plain_prefix(cells, at, end, left, attrs, w)?;
-        match set_first_cluster(alloc, cells, place, end, rest, attrs, w)? {
-            None => return Ok((place, rest)),
-            Some((next, behind)) => {
+        match set_first_cluster(alloc, cells, at, end, left, attrs, w)? {
+            None => return Ok((at, left)),
+            Some((next, rest)) => {
                 at = next;
-                left = behind;
+                left = rest;
             }
         }
     }

@@ -9,7 +9,7 @@ use cell_base::{Cell, CellAttributes, Widths};
 use std::alloc::{AllocError, Global};
 use unicode_segmentation::UnicodeSegmentation;
 
-/// A cell for each cluster of the text, and a blank behind each wide one.
+/// A cell for each cluster of the text, and a blank after each wide one.
 pub fn cells_of_text<W: Widths>(
     alloc: Global,
     text: &str,

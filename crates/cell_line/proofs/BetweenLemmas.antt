@@ -1,4 +1,4 @@
--- A range of cells of which the last is a wide one with none behind it.
+-- A range of cells of which the last is a wide one with none after it.
 use Rattle.std.proofs.Common.{◌≡◌, ℕ, zero, suc, ◌+◌, ◌-◌, ◌<◌, ◌≤◌, Bool, true, false, not, List, [], ◌∷◌, ◌++◌, length, get_or, take, refl, sym, ap, ◌∙◌, inl, inr, arith}
 use Rattle.std.proofs.lemmas.List.{append-nil, take_more, take_all, length-take-le}
 use Rattle.std.proofs.lemmas.List.Elements.{filter-append}
@@ -54,12 +54,12 @@ between_last cells n m start end d e on h =
     let p : VisibleCell → Bool = λ v. nat_le start v.column && nat_lt v.column end in
     let some = halved_some cells n e h in
     let parts = halved_last cells n m d e on h in
-    let front = take m cells in
-    let columns : Row = row_of_cells front in
-    let long : length columns ≡ m = length-row front ∙ length-take-le m cells (omega arith) in
+    let prefix = take m cells in
+    let columns : Row = row_of_cells prefix in
+    let long : length columns ≡ m = length-row prefix ∙ length-take-le m cells (omega arith) in
     let at : 0 + length columns ≡ m = omega (arith, long) in
-    let all : cells ≡ front ++ x ∷ [] = sym (take_all (m + 1) cells (omega arith)) ∙ take_more cells m d (omega arith) in
-    let row : row_of_cells cells ≡ columns ++ blank a ∷ [] = ap row_of_cells all ∙ row_joined front (x ∷ []) parts.1 ∙ ap (λ (r : Row). columns ++ r) (one_last x parts.0) in
+    let all : cells ≡ prefix ++ x ∷ [] = sym (take_all (m + 1) cells (omega arith)) ∙ take_more cells m d (omega arith) in
+    let row : row_of_cells cells ≡ columns ++ blank a ∷ [] = ap row_of_cells all ∙ row_joined prefix (x ∷ []) parts.1 ∙ ap (λ (r : Row). columns ++ r) (one_last x parts.0) in
     let seen : visible_cells (row_of_cells cells) ≡ visible_cells columns ++ visible_at m space 1 a ∷ [] =
     ap visible_cells row ∙ visible_last 0 columns a ∙ ap (λ k. visible_cells columns ++ visible_at k space 1 a ∷ []) at in
     ap (λ vs. row_of_visible (filter p vs)) seen
@@ -71,24 +71,24 @@ pub between_within : (cells : List CellContent) (start end : ℕ) (x : CellConte
     → row_of_visible (cells_between start end (row_of_cells cells)) ≡ row_of_visible (cells_between start end (row_of_cells (take (length cells - 1) cells))) ++ blank x.attributes ∷ []
 between_within cells start end x h from to is =
     let m = length cells - 1 in
-    let front : Row = row_of_visible (cells_between start end (row_of_cells (take m cells))) in
+    let prefix : Row = row_of_visible (cells_between start end (row_of_cells (take m cells))) in
     between_last cells (length cells) m start end x refl refl h
-    ∙ (λ i. front ++ (if le-leb start m from i && lt-ltb m end to i then blank (sym is i).attributes ∷ [] else []))
+    ∙ (λ i. prefix ++ (if le-leb start m from i && lt-ltb m end to i then blank (sym is i).attributes ∷ [] else []))
 
 pub between_before : (cells : List CellContent) (start end : ℕ) → ends_split (take (length cells) cells) ≡ true → end ≤ length cells - 1
     → row_of_visible (cells_between start end (row_of_cells cells)) ≡ row_of_visible (cells_between start end (row_of_cells (take (length cells - 1) cells)))
 between_before cells start end h to =
     let m = length cells - 1 in
-    let front : Row = row_of_visible (cells_between start end (row_of_cells (take m cells))) in
+    let prefix : Row = row_of_visible (cells_between start end (row_of_cells (take m cells))) in
     between_last cells (length cells) m start end (blank_cell plain) refl refl h
-    ∙ ap (λ t. front ++ (if nat_le start m && t then blank (get_or cells m (blank_cell plain)).attributes ∷ [] else [])) (le-ltb m end to)
-    ∙ by_test (nat_le start m) (λ t. rw t (append-nil front)) (λ t. rw t (append-nil front))
+    ∙ ap (λ t. prefix ++ (if nat_le start m && t then blank (get_or cells m (blank_cell plain)).attributes ∷ [] else [])) (le-ltb m end to)
+    ∙ by_test (nat_le start m) (λ t. rw t (append-nil prefix)) (λ t. rw t (append-nil prefix))
 
 pub between_after : (cells : List CellContent) (start end : ℕ) → ends_split (take (length cells) cells) ≡ true → length cells - 1 < start
     → row_of_visible (cells_between start end (row_of_cells cells)) ≡ row_of_visible (cells_between start end (row_of_cells (take (length cells - 1) cells)))
 between_after cells start end h from =
     let m = length cells - 1 in
-    let front : Row = row_of_visible (cells_between start end (row_of_cells (take m cells))) in
+    let prefix : Row = row_of_visible (cells_between start end (row_of_cells (take m cells))) in
     between_last cells (length cells) m start end (blank_cell plain) refl refl h
-    ∙ ap (λ t. front ++ (if t && nat_lt m end then blank (get_or cells m (blank_cell plain)).attributes ∷ [] else [])) (not_le start m from)
-    ∙ append-nil front
+    ∙ ap (λ t. prefix ++ (if t && nat_lt m end then blank (get_or cells m (blank_cell plain)).attributes ∷ [] else [])) (not_le start m from)
+    ∙ append-nil prefix

@@ -27,7 +27,7 @@ clear_of Default other = absurd (other refl)
 pub all_kept : (cells : List VisibleCell) → contents (filter (λ v. is_kept_by None v.column) cells) ≡ contents cells
 all_kept cells = ap contents (all_pass cells)
 
--- a clear behind cells, with its attributes
+-- a clear after cells, with its attributes
 pub with_clear : (start : Attributes) (cells : List CellContent) (color : ColorAttribute) (cs : List ChangeValue) (w : Written)
     → cs ≡ finished (with_attributes (blank_of color) w) ++ clear_due color → w ≡ with_cells (begun start) cells → cs ≡ written_with_clear start cells color
 with_clear start cells color cs w e is =
@@ -91,7 +91,7 @@ row_before_blanks start color last cells order e is =
     by_test (list_all (λ v. is_blank_of color v.cell) cells)
     (λ all. absurd (none_some last (sym (last_of_none (λ v. is_blank_of color v.cell) None cells all) ∙ is)))
     (λ some.
-    let front : contents (filter (λ v. is_kept_by (Some last) v.column) cells) ≡ up_to_last (λ cell. not (is_blank_of color cell)) (contents cells) =
+    let prefix : contents (filter (λ v. is_kept_by (Some last) v.column) cells) ≡ up_to_last (λ cell. not (is_blank_of color cell)) (contents cells) =
     ap (λ (o : Option ℕ). contents (filter (λ v. is_kept_by o v.column) cells)) (sym is)
     ∙ ap contents (kept_some (λ v. is_blank_of color v.cell) cells order some)
     ∙ contents_up_to (λ cell. not (is_blank_of color cell)) cells in
@@ -100,4 +100,4 @@ row_before_blanks start color last cells order e is =
     (subst (λ (n : ℕ). 0 < n) (sym (same_count (up_to_last (λ v. not (is_blank_of color v.cell)) cells))) (some_up_to (λ v. is_blank_of color v.cell) cells some)) in
     row_with start (contents cells) (Some color) e
     ∙ clear_after_some start color (up_to_last (λ cell. not (is_blank_of color cell)) (contents cells)) many
-    ∙ ap (λ (cs : List CellContent). written_with_clear start cs color) (sym front))
+    ∙ ap (λ (cs : List CellContent). written_with_clear start cs color) (sym prefix))

@@ -18,9 +18,9 @@ use Rattle.cell_views.proofs.KeptLemmas.{some_up_to}
 
 -- ---- rows
 
-continued-behind : (row : Row) (rows : List Row) → 0 < length rows → continued (row ∷ rows) ≡ row_end_wrapped true row ∷ continued rows
-continued-behind row [] p = absurd (omega arith)
-continued-behind row (next ∷ rows) p = refl
+continued-after : (row : Row) (rows : List Row) → 0 < length rows → continued (row ∷ rows) ≡ row_end_wrapped true row ∷ continued rows
+continued-after row [] p = absurd (omega arith)
+continued-after row (next ∷ rows) p = refl
 
 row_of_one : (v : VisibleCell) → row_of_visible (v ∷ []) ≡ cell_columns v.cell
 row_of_one v = append-nil (cell_columns v.cell)
@@ -34,7 +34,7 @@ some_columns (v ∷ cells) p =
     let both = length-append (cell_columns v.cell) (row_of_visible cells) in
     lt-ltb 0 (length (row_of_visible (v ∷ cells))) (elim (length-cell_columns v.cell) [ inl e ↦ omega arith | inr e ↦ omega arith ])
 
--- behind the cells of an open row
+-- after the cells of an open row
 rows_after : (width : ℕ) (before cells : List VisibleCell) → 0 < length before
     → rows_from width (row_of_visible before) (contents cells) ≡ continued (map row_of_visible (fold (joined (begins_row width)) (before ∷ []) cells))
 rows_after width before [] p = refl
@@ -49,7 +49,7 @@ rows_after width before (v ∷ cells) p =
     (λ b. ap rest b
     ∙ ap (λ (r : Row). row_end_wrapped true row ∷ rows_from width r (contents cells)) (sym (row_of_one v))
     ∙ ap (λ (rs : List Row). row_end_wrapped true row ∷ rs) (rows_after width (v ∷ []) cells (omega arith))
-    ∙ sym (continued-behind row (map row_of_visible (fold (joined (begins_row width)) ((v ∷ []) ∷ []) cells)) (some_rows width v cells))
+    ∙ sym (continued-after row (map row_of_visible (fold (joined (begins_row width)) ((v ∷ []) ∷ []) cells)) (some_rows width v cells))
     ∙ ap (λ (gs : List (List VisibleCell)). continued (map row_of_visible gs)) (sym (fold_after (begins_row width) before ((v ∷ []) ∷ []) cells (omega arith)))
     ∙ sym (ap groups b))
     (λ b. ap rest b

@@ -58,7 +58,7 @@ new number = clustered_line_of number []
 abbrev pub from_text : List ℕ → Attributes → ℕ → (List ℕ → ℕ) → LineContent
 from_text text attributes number width_of = line_of number (text_row width_of text attributes)
 
--- the same, and the line goes on behind its last visible cell
+-- the same, and the line goes on after its last visible cell
 abbrev pub from_text_with_wrapped_last_col : List ℕ → Attributes → ℕ → (List ℕ → ℕ) → LineContent
 from_text_with_wrapped_last_col text attributes number width_of =
     line_of number (row_end_wrapped true (text_row width_of text attributes))
@@ -78,7 +78,7 @@ abbrev pub resize_and_clear : LineContent → ℕ → ℕ → Attributes → Lin
 resize_and_clear line width number attributes =
     record (changed line number (replicate width (blank attributes))) { bits = SingleWidthLine }
 
--- a line with no text but spaces stays as it is, alone; of another the cells behind the last text that isn't one space
+-- a line with no text but spaces stays as it is, alone; of another the cells after the last text that isn't one space
 -- go, and the rest stand in rows, each a line of cells with this number and no bits: a cell begins a new row where the
 -- row would pass the width, unless it is the row's first, and the last cell of each row but the last one is wrapped
 abbrev pub wrap : LineContent → ℕ → ℕ → List LineContent
@@ -142,7 +142,7 @@ invalidate_implicit_hyperlinks line number =
     if has_implicit_link line.columns then changed line number (map (column_with without_implicit) line.columns)
     else line
 
--- the columns before the place, or before the end if that comes first; the number stays
+-- the columns before the position, or before the end if that comes first; the number stays
 abbrev pub split_off_kept : LineContent → ℕ → LineContent
 split_off_kept line at = record line { columns = cut (min at (length line.columns)) line.columns }
 
@@ -151,15 +151,15 @@ abbrev pub split_off : LineContent → ℕ → ℕ → LineContent
 split_off line at number =
     record line { number = number; columns = cut_prefix (min at (length line.columns)) line.columns; clustered = false }
 
--- the other line's columns behind this one's
+-- the other line's columns after this one's
 abbrev pub append_line : LineContent → LineContent → ℕ → LineContent
 append_line line other number = changed line number (line.columns ++ other.columns)
 
 -- nothing at the column, where that is at the end or past it. Else the words are the visible cells whose texts pass the
--- test: up to one past the first column of the last of the unbroken words from the first cell at or behind the column
+-- test: up to one past the first column of the last of the unbroken words from the first cell at or after the column
 -- on; down to the first column of the first of the unbroken words from the last cell at or before it back; each the
 -- column itself where there is none. With a wrap where the range isn't empty, reaches the end, and the line goes on
--- behind its last visible cell
+-- after its last visible cell
 abbrev pub compute_double_click_range : LineContent → ℕ → (List ℕ → Bool) → DoubleClickRange
 compute_double_click_range line at is_word = double_click_range is_word at line.columns
 
@@ -175,7 +175,7 @@ columns_as_line line start end = line_of line.number (row_of_visible (cells_betw
 
 -- ---- setting
 
--- padded with plain blanks to the end of the cell, whose columns then stand from this place on
+-- padded with plain blanks to the end of the cell, whose columns then stand from this position on
 abbrev pub set_cell : LineContent → ℕ → CellContent → ℕ → LineContent
 set_cell line at cell number = changed line number (with_cell line.columns at cell)
 
@@ -187,7 +187,7 @@ set_cell_clearing_image_placements line at cell number = set_cell line at cell n
 abbrev pub set_cell_grapheme : LineContent → ℕ → List ℕ → ℕ → Attributes → ℕ → LineContent
 set_cell_grapheme line at text width attributes number = set_cell line at (cell_of text width attributes) number
 
--- the same for a cell with these attributes for each cluster of a text, side by side from this place on
+-- the same for a cell with these attributes for each cluster of a text, side by side from this position on
 abbrev pub overlay_text_with_attribute : LineContent → ℕ → List ℕ → Attributes → ℕ → (List ℕ → ℕ) → LineContent
 overlay_text_with_attribute line at text attributes number width_of =
     changed line number (overlaid line.columns at (text_cells width_of text attributes))
@@ -203,7 +203,7 @@ abbrev pub set_text : LineContent → ℕ → ℕ → List ℕ → Attributes �
 set_text line start end text attributes width_of =
     record line { columns = text_on width_of end attributes line.columns start text }
 
--- the column behind the cells that `set_text` sets
+-- the column after the cells that `set_text` sets
 abbrev pub set_text_end : ℕ → ℕ → List ℕ → Attributes → (List ℕ → ℕ) → ℕ
 set_text_end start end text attributes width_of = place_after width_of end attributes start text
 
@@ -211,13 +211,13 @@ set_text_end start end text attributes width_of = place_after width_of end attri
 abbrev pub set_clusters : ℕ → ℕ → List ℕ → Attributes → (List ℕ → ℕ) → ℕ
 set_clusters start end text attributes width_of = length (fitting_cells width_of (end - start) text attributes)
 
--- a cell of one column with these attributes for each byte, side by side from a place on; the number stays
+-- a cell of one column with these attributes for each byte, side by side from a position on; the number stays
 abbrev pub set_plain : LineContent → ℕ → List ℕ → Attributes → LineContent
 set_plain line at text attributes = record line { columns = overlaid line.columns at (plain_cells text attributes) }
 
 -- ---- inserting and removing
 
--- the last column within the margin is removed, if the line has it; then, padded with plain blanks to the place, the
+-- the last column within the margin is removed, if the line has it; then, padded with plain blanks to the position, the
 -- cell's columns are inserted there
 abbrev pub insert_cell : LineContent → ℕ → CellContent → ℕ → ℕ → LineContent
 insert_cell line at cell margin number = changed line number (with_inserted line.columns at cell margin)
@@ -301,11 +301,11 @@ is_whitespace line = is_whitespace_row line.columns
 abbrev pub compress_for_scrollback : LineContent → LineContent
 compress_for_scrollback line = record line { clustered = true }
 
--- whether the line goes on behind its last visible cell; false where there is none
+-- whether the line goes on after its last visible cell; false where there is none
 abbrev pub last_cell_was_wrapped : LineContent → Bool
 last_cell_was_wrapped line = ends_wrapped (visible line.columns)
 
--- the last visible cell is one behind which the line goes on, or not; no cell changes where there is none
+-- the last visible cell is one after which the line goes on, or not; no cell changes where there is none
 abbrev pub set_last_cell_was_wrapped : LineContent → Bool → ℕ → LineContent
 set_last_cell_was_wrapped line wrapped number = changed line number (row_end_wrapped wrapped line.columns)
 

@@ -25,7 +25,7 @@ clustered_line_of number columns =
     record { number = number; bits = SingleWidthLine; columns = columns; clustered = true }
 
 -- a line is clustered: its columns are kept as one text, the sizes of its cells, runs of equal attributes and the
--- blanks behind these, as `stored` tells
+-- blanks after these, as `stored` tells
 abbrev pub IsClustered : LineContent → Type 0
 IsClustered line = line.clustered ≡ true
 

@@ -16,7 +16,7 @@ background_of cell = if is_blank_of cell.attributes.background cell then Some ce
 abbrev pub last_non_blank : ColorAttribute → List VisibleCell → Option ℕ
 last_non_blank color cells = fold (λ last v. if is_blank_of color v.cell then last else Some v.column) None cells
 
--- cells, and a clear behind them with its attributes
+-- cells, and a clear after them with its attributes
 abbrev pub written_with_clear : Attributes → List CellContent → ColorAttribute → List ChangeValue
 written_with_clear start cells color =
     cells_written start cells ++ attributes_due (last_pen start cells) (blank_of color) ++ clear_due color

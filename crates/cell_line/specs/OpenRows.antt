@@ -7,11 +7,11 @@ use Rattle.cell_edits.specs.CellList.{cell_columns}
 use Rattle.cell_edits.specs.VisibleCells.{VisibleCell, is_space, row_end_wrapped}
 use Rattle.cell_views.specs.OpenZones.{is_kept_by}
 
--- whether a cell doesn't fit behind the columns that are there
+-- whether a cell doesn't fit after the columns that are there
 abbrev pub breaks : ℕ → ℕ → CellContent → Bool
 breaks width there cell = nat_lt 0 there && nat_lt width (there + length (cell_columns cell))
 
--- the rows that cells fill, behind the columns of an open row; each but the last goes on in the next one
+-- the rows that cells fill, after the columns of an open row; each but the last goes on in the next one
 abbrev pub rows_from : ℕ → Row → List CellContent → List Row
 rows_from width row [] = row ∷ []
 rows_from width row (cell ∷ cells) =

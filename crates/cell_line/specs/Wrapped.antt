@@ -6,7 +6,7 @@ use Rattle.cell_views.specs.Groups.{groups_by}
 use Rattle.cell_edits.specs.VisibleCells.{VisibleCell, is_space, row_of_visible, row_end_wrapped}
 use Rattle.cell_base.specs.UpToLast.{up_to_last}
 
--- whether a cell begins a new row behind the cells of the last one: the row would pass the width
+-- whether a cell begins a new row after the cells of the last one: the row would pass the width
 abbrev pub begins_row : ℕ → List VisibleCell → VisibleCell → Bool
 begins_row width cells v = nat_lt width (length (row_of_visible cells) + length (cell_columns v.cell))
 

@@ -142,7 +142,7 @@ fn all_written<'a>(
     Ok(changes)
 }
 
-// The cells up to a column, and a clear behind them that leaves blanks with these attributes.
+// The cells up to a column, and a clear after them that leaves blanks with these attributes.
 fn written_before<'a>(
     alloc: Global,
     cells: StoredCells<'a>,
@@ -166,7 +166,7 @@ fn written_before<'a>(
     Ok(changes)
 }
 
-// The cells up to a column, and a clear behind them.
+// The cells up to a column, and a clear after them.
 fn written_with_clear(
     alloc: Global,
     cells: StoredCells<'_>,

@@ -15,7 +15,7 @@ pub(crate) fn forget(alloc: Global, row: &mut ClusteredRow)
     *row = ClusteredRow::new(alloc, 0);
 }
 
-// Plain blanks come behind, where the row doesn't reach so far.
+// Plain blanks follow, where the row doesn't reach so far.
 #[inline(always)]
 fn pad(row: &mut ClusteredRow, width: usize) -> Result<(), AllocError>
     ensures row { OnOk result (row.new ≡ padded width row.old) }

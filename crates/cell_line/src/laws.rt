@@ -39,7 +39,7 @@ pub fn attribute_changes_are_equal_by_value(one: &AttributeChange, other: &Attri
     one == other
 }
 
-/// The columns of a line are whole: each left half has its right half behind it, and no right half
+/// The columns of a line are whole: each left half has its right half after it, and no right half
 /// stands elsewhere. So the columns of its visible cells are its columns.
 pub fn lines_are_whole(line: &Line)
     ensures whole { IsWhole line.now.columns }
@@ -49,7 +49,7 @@ pub fn lines_are_whole(line: &Line)
 }
 
 /// The columns of the visible cells of a whole row are the row; and the visible cells of a row in
-/// which columns were set are those before them, theirs, and those behind them.
+/// which columns were set are those before them, theirs, and those after them.
 pub fn rows_and_their_cells()
     ensures row { (row : Row) → IsWhole row → row_of_visible (visible_cells row) ≡ row }
     ensures joined { (at : ℕ) (first : Row) (second : Row)
@@ -103,7 +103,7 @@ pub fn lines_with_a_cell()
         ≡ line_of 7 (letters (codes "ax ")) }
     ensures right { set_cell (line_of 1 (letters (codes "a") ++ wide_letter)) 2 (letter_cell 120) 7
         ≡ line_of 7 (letters (codes "a x")) }
-    ensures behind { set_cell (new 1) 2 (letter_cell 120) 7 ≡ clustered_line_of 7 (letters (codes "  x")) }
+    ensures after { set_cell (new 1) 2 (letter_cell 120) 7 ≡ clustered_line_of 7 (letters (codes "  x")) }
 {}
 
 /// A law, which needs no call: what is inserted, erased, removed, filled, cut off and joined.
@@ -124,7 +124,7 @@ pub fn edited_lines()
         ≡ line_of 7 (letters (codes "abc")) }
 {}
 
-/// A law, which needs no call: a line that is wrapped goes on behind each row but the last, and a
+/// A law, which needs no call: a line that is wrapped goes on after each row but the last, and a
 /// line of spaces stays as it is.
 pub fn wrapped_lines()
     ensures rows { wrap (line_of 1 (letters (codes "abcd"))) 2 7

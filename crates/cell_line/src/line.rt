@@ -69,8 +69,8 @@ impl Line {
         Ok(Line::from_cells(alloc, cells, seqno))
     }
 
-    /// A line of these cells, read from the left: the one stored behind a wide one isn't looked at, and
-    /// a wide cell with none behind it counts as a blank with its attributes.
+    /// A line of these cells, read from the left: the one stored after a wide one isn't looked at, and
+    /// a wide cell with none after it counts as a blank with its attributes.
     pub fn from_cells(alloc: Global, cells: Vec<Cell>, seqno: SequenceNo) -> Line
         ensures { result ≡ from_cells cells.items seqno }
     {
@@ -143,7 +143,7 @@ impl Line {
         Line::from_text(alloc, s, &CellAttributes::blank(), SEQ_ZERO, w)
     }
 
-    /// The line of a text, as `from_text` makes it, with the last visible cell one behind which the line goes on.
+    /// The line of a text, as `from_text` makes it, with the last visible cell one after which the line goes on.
     pub fn from_text_with_wrapped_last_col<W: Widths>(
         alloc: Global,
         s: &str,
@@ -159,9 +159,9 @@ impl Line {
         Ok(Line::from_cells(alloc, cells, seqno))
     }
 
-    /// Lends a cell for each column: the one that begins there, and behind a wide cell the blank
+    /// Lends a cell for each column: the one that begins there, and after a wide cell the blank
     /// with its attributes. What is left there is read from the left as the line's columns: the
-    /// cell behind a wide one isn't looked at, and a wide cell with none behind it counts as a
+    /// cell after a wide one isn't looked at, and a wide cell with none after it counts as a
     /// blank with its attributes. Number and bits stay, and the line is one of cells.
     pub fn cells_mut(&mut self) -> Result<&mut [Cell], AllocError>
         ensures* writes_back { sem 𝓛 (LendsCells self.entry result) }

@@ -113,7 +113,7 @@ impl Line {
         Ok(())
     }
 
-    /// Inserts a cell before column `x`, behind plain blanks where the line doesn't reach so far.
+    /// Inserts a cell before column `x`, after plain blanks where the line doesn't reach so far.
     /// The last column within `right_margin` columns goes before that, if it is there.
     pub fn insert_cell(
         &mut self,
@@ -277,7 +277,7 @@ impl Line {
         Ok(())
     }
 
-    /// Sets whether the line goes on behind its last visible cell, if there is one.
+    /// Sets whether the line goes on after its last visible cell, if there is one.
     pub fn set_last_cell_was_wrapped(
         &mut self,
         wrapped: bool,

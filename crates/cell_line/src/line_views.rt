@@ -52,7 +52,7 @@ impl Line {
         RegionIter::new(self.stored_cells(), cols.start, cols.end)
     }
 
-    // Each left half has its right half behind it, and no right half stands elsewhere.
+    // Each left half has its right half after it, and no right half stands elsewhere.
     pub(crate) fn is_whole(&self)
         ensures { IsWhole self.now.columns }
     {
@@ -114,7 +114,7 @@ impl Line {
     }
 
     /// The line in rows of at most `width` columns, each a line of cells at normal size; a cell alone may
-    /// pass it. The spaces behind the last other text go. The line goes on behind each row but the last.
+    /// pass it. The spaces after the last other text go. The line goes on after each row but the last.
     /// A line with no text but spaces stays as it is. If memory is refused the line is dropped.
     pub fn wrap(mut self, width: usize, seqno: SequenceNo) -> Result<Vec<Line>, AllocError>
         ensures { IfOk result (λ lines. lines.items ≡ wrap self width seqno) }
@@ -142,7 +142,7 @@ impl Line {
         query::is_whitespace(self.stored_cells())
     }
 
-    /// Whether the line goes on behind its last visible cell; false where there is none.
+    /// Whether the line goes on after its last visible cell; false where there is none.
     pub fn last_cell_was_wrapped(&self) -> bool
         ensures { result ≡ last_cell_was_wrapped self.now }
     {
@@ -150,7 +150,7 @@ impl Line {
     }
 
     /// The zones: neighbouring visible cells of one semantic type, each from its first cell's
-    /// column to its last one's. Plain blanks behind all other cells are in no zone, unless there
+    /// column to its last one's. Plain blanks after all other cells are in no zone, unless there
     /// is nothing else. A column past 65,535 counts as that.
     pub fn semantic_zone_ranges(&self) -> Result<Vec<ZoneRange>, AllocError>
         ensures { IfOk result (λ found. found.items ≡ semantic_zone_ranges self.now) }
@@ -161,9 +161,9 @@ impl Line {
     /// The columns of the unbroken words round a column, where `is_word` says of a visible cell's
     /// text whether it belongs to one: from the first column of the first of them back from the
     /// last cell at or before `click_col` to one past the first column of the last of them from
-    /// the first cell at or behind it. Each end is `click_col` where there is none, and where that
+    /// the first cell at or after it. Each end is `click_col` where there is none, and where that
     /// is past the end of the line. `RangeWithWrap` says that the range reaches the end of the line
-    /// and the line goes on behind it. `is_word` is asked of the cells up to `click_col` and then of those
+    /// and the line goes on after it. `is_word` is asked of the cells up to `click_col` and then of those
     /// from it on, each time in order of columns, so it may be asked of one cell twice; nothing is promised
     /// of that.
     pub fn compute_double_click_range<F: Fn(&str) -> bool>(

@@ -80,14 +80,14 @@ impl Line {
         Ok(line)
     }
 
-    /// Puts the columns of another line behind those of this one.
+    /// Puts the columns of another line after those of this one.
     pub fn append_line(&mut self, mut other: Line, seqno: SequenceNo) -> Result<(), AllocError>
         ensures done { OnOk result (self.new ≡ append_line self.old other seqno) }
         ensures refused { OnErr result (IsRefused self.old self.new) }
     {
-        let behind = other.open()?;
+        let after = other.open()?;
         let mut cells = self.open()?;
-        let appended = row::append(&mut cells, behind);
+        let appended = row::append(&mut cells, after);
         self.close(cells)?;
         appended?;
         self.update_last_change_seqno(seqno);

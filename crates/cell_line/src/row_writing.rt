@@ -82,7 +82,7 @@ pub fn set_blanks(
 }
 
 /// Sets a cell for each cluster of a text, as UAX 29 cuts it, side by side from the start of a
-/// range on, up to the first that doesn't fit before its end. Answers the column behind them, and
+/// range on, up to the first that doesn't fit before its end. Answers the column after them, and
 /// the text that is left, whose clusters are those that weren't set. Number, bits and the count
 /// of columns stay.
 pub fn set_text<'a, W: Widths>(
@@ -96,7 +96,7 @@ pub fn set_text<'a, W: Widths>(
     requires within { cols.end ≤ length line.old.columns }
     ensures done { OnOk result
         (line.new ≡ set_text line.old cols.start cols.end text.now attrs.now (W.width_of w.now)) }
-    ensures behind { IfOk result (λ r. r.0 ≡ set_text_end cols.start cols.end text.now attrs.now (W.width_of w.now)) }
+    ensures after { IfOk result (λ r. r.0 ≡ set_text_end cols.start cols.end text.now attrs.now (W.width_of w.now)) }
     ensures left { IfOk result
         (λ r. r.1.now ≡ text_after (set_clusters cols.start cols.end text.now attrs.now (W.width_of w.now)) text.now) }
     ensures rest { IfOk result

@@ -60,7 +60,7 @@ fn read_between(
     Ok(kept)
 }
 
-// A blank with the cell's attributes comes behind the columns that are there.
+// A blank with the cell's attributes follows the columns that are there.
 fn push_blank_for(cells: &mut Vec<Cell>, cell: &Cell) -> Result<(), AllocError>
     requires { ends_split cells.old.items ≡ false }
     ensures { OnOk result
@@ -104,14 +104,14 @@ fn last_text(cells: &[Cell]) -> Option<usize>
     last
 }
 
-// Whether the cell doesn't fit behind the columns that are there.
+// Whether the cell doesn't fit after the columns that are there.
 fn breaks(width: usize, there: usize, cell: &Cell) -> bool
     ensures { result ≡ breaks width there cell.now }
 {
     there > 0 && there as u128 + column_count(cell) as u128 > width as u128
 }
 
-// The open row becomes a line behind which another goes on.
+// The open row becomes a line after which another goes on.
 fn close_row(
     alloc: Global,
     lines: &mut Vec<Line>,
@@ -129,7 +129,7 @@ fn close_row(
 }
 
 // The cell goes into the open row, or begins a new one where it doesn't fit.
-fn place(
+fn position(
     alloc: Global,
     lines: &mut Vec<Line>,
     row: &mut Vec<Cell>,
@@ -191,7 +191,7 @@ fn fill_rows(
     let mut open = Vec::new(alloc);
     for (column, cell) in TakenCells::new(cells) {
         if is_kept(last, column) {
-            place(alloc, &mut lines, &mut open, cell, width, seqno)?;
+            position(alloc, &mut lines, &mut open, cell, width, seqno)?;
         }
     }
     lines.push(Line::from_cells(alloc, open, seqno))?;

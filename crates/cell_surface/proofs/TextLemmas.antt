@@ -45,7 +45,7 @@ sound_new width_of d width rows narrow is = subst (IsSoundDisplay width_of) (sym
 pub resized_height : (width rows : ℕ) (d : Display) → length (resized width rows d).screen.rows ≡ rows
 resized_height width rows d =
     let all = map (resized_row width) d.screen.rows in
-    let front = length-take rows all in
+    let prefix = length-take rows all in
     let more = length-replicate (rows - length all) (plain_row width) in
     let both = length-append (take rows all) (replicate (rows - length all) (plain_row width)) in
     omega arith

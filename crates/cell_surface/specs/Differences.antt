@@ -16,13 +16,13 @@ regions_difference display x y width height other other_x other_y =
 abbrev pub lines_difference : Display → ℕ → List Row → List ChangeValue
 lines_difference display y rows = difference (lines_fresh display.screen.rows y rows)
 
--- the cursor's place, and the pen
+-- the cursor's position, and the pen
 abbrev pub brought_back : Display → List ChangeValue
 brought_back display =
     CursorPosition (Absolute display.screen.column) (Absolute display.screen.row) ∷ AllAttributes display.screen.pen
     ∷ []
 
--- another display drawn at a place, with the cursor and the pen as they were
+-- another display drawn at a position, with the cursor and the pen as they were
 abbrev pub drawn : Display → Display → ℕ → ℕ → List ChangeValue
 drawn display other x y =
     regions_difference display x y other.screen.width (length other.screen.rows) other 0 0 ++ brought_back display

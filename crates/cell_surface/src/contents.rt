@@ -24,7 +24,7 @@ fn push_line(text: &mut String, line: &Line) -> Result<(), AllocError>
     Ok(())
 }
 
-// A copy of a cell, and behind a wide one a blank with its attributes.
+// A copy of a cell, and after a wide one a blank with its attributes.
 fn push_cell(alloc: Global, cells: &mut Vec<Cell>, cell: &CellRef<'_>) -> Result<(), AllocError>
     ensures { OnOk result (cells.new.items ≡ cells.old.items ++ cells_of (cell_shown cell.now).cell) }
 {
@@ -56,7 +56,7 @@ fn line_len(line: &Line) -> usize {
 }
 
 // How many bytes the texts of lines have: room for them is asked for once, so that a large text never stands in two
-// places.
+// positions.
 fn text_len(lines: &[Line]) -> usize {
     let mut len = 0_usize;
     for line in lines {
@@ -65,7 +65,7 @@ fn text_len(lines: &[Line]) -> usize {
     len
 }
 
-// The texts of lines, each with a line feed behind it.
+// The texts of lines, each with a line feed after it.
 fn lines_text(alloc: Global, lines: &[Line]) -> Result<String, AllocError>
     ensures { IfOk result
         (λ text. string_bytes text ≡ flat_map (λ row. row_text row ++ 10 ∷ []) (map (λ line. line.columns) lines.now)) }
@@ -90,14 +90,14 @@ fn lines_cells(alloc: Global, lines: &[Line]) -> Result<Vec<Vec<Cell>>, AllocErr
 }
 
 impl<W: Widths + Drop> Surface<W> {
-    /// The rows as a text, each with a line feed behind it.
+    /// The rows as a text, each with a line feed after it.
     pub fn screen_chars_to_string(&self) -> Result<String, AllocError>
         ensures { IfOk result (λ text. string_bytes text ≡ screen_text (shown_by self.now).screen) }
     {
         lines_text(self.alloc, self.grid.lines())
     }
 
-    /// Copies of the cells of each row, one for each column: behind a wide cell stands a blank with its
+    /// Copies of the cells of each row, one for each column: after a wide cell stands a blank with its
     /// attributes.
     pub fn screen_cells(&self) -> Result<Vec<Vec<Cell>>, AllocError>
         ensures { IfOk result

@@ -5,6 +5,7 @@ ghost use Rattle.screen_change.specs.ValueOf.{value_of};
 ghost use Rattle.cell_surface.specs.Surface.{AddsAll, number_of, shown_by};
 ghost use Rattle.cell_surface.specs.Differences.{brought_back, drawn, regions_difference, lines_difference};
 ghost use Rattle.screen_difference.specs.FreshCells.{rows_of};
+ghost use Rattle.screen_effects.specs.Display.{IsDisplay};
 
 use crate::error::SurfaceError;
 use crate::surface::Surface;
@@ -16,7 +17,7 @@ use std::alloc::AllocError;
 impl<W: Widths + Drop> Surface<W> {
     /// The changes that make a region of this surface, whose top left is at column `x` and row `y`,
     /// show what the other one shows from `other_x` and `other_y` on: the cells that this one doesn't
-    /// show yet, each run of neighbours behind its place. Columns and rows that either side lacks are
+    /// show yet, each run of neighbours after its place. Columns and rows that either side lacks are
     /// left out, and a wide cell that the region's edge cuts counts as a blank with its attributes.
     pub fn diff_region(
         &self,
@@ -83,13 +84,15 @@ impl<W: Widths + Drop> Surface<W> {
         Ok(changes)
     }
 
-    /// The changes that make this surface show what another one shows, as far as both go.
+    /// The changes that make this surface show what another one shows, as far as both go. What this one shows is
+    /// lawful.
     pub fn diff_screens(&self, other: &Surface<W>) -> Result<Vec<Change>, SurfaceError>
         ensures changes { IfOk result
             (λ changes. map value_of changes.items
             ≡ regions_difference (shown_by self.now) 0 0 (shown_by self.now).screen.width
             (length (shown_by self.now).screen.rows) (shown_by other.now) 0 0) }
         ensures refused { OnErr result (IsErrOf result SurfaceError.Memory) }
+        ensures lawful { self.now.is_failed ≡ false → IsDisplay (shown_by self.now) }
     {
         let (width, _height) = self.grid.dimensions();
         let changes = screen_difference::diff_screens(
@@ -102,7 +105,7 @@ impl<W: Widths + Drop> Surface<W> {
     }
 
     /// Draws another surface with its top left at column `x` and row `y`: adds the difference there, and
-    /// then the cursor's place and the pen as they were. Columns and rows that this surface lacks are left
+    /// then the cursor's position and the pen as they were. Columns and rows that this surface lacks are left
     /// out. Answers as `add_changes` of the whole list.
     pub fn draw_from_screen(
         &mut self,
@@ -131,7 +134,7 @@ impl<W: Widths + Drop> Surface<W> {
         self.push_all(changes)
     }
 
-    // The difference where another surface is drawn, and the cursor's place and the pen as they are.
+    // The difference where another surface is drawn, and the cursor's position and the pen as they are.
     fn drawing(&self, other: &Surface<W>, x: usize, y: usize) -> Result<Vec<Change>, AllocError>
         ensures { IfOk result
             (λ changes. map value_of changes.items ≡ drawn (shown_by self.now) (shown_by other.now) x y) }
@@ -159,8 +162,8 @@ impl<W: Widths + Drop> Surface<W> {
 
     /// Copies a region, whose top left is at column `src_x` and row `src_y`, so that its top left stands at
     /// column `dest_x` and row `dest_y`: adds the difference there, and answers as `add_changes` of it.
-    /// Columns and rows that the surface lacks at either place are left out; the cursor and the pen are
-    /// where the difference leaves them. What is copied is what was shown before, also where both places
+    /// Columns and rows that the surface lacks at either position are left out; the cursor and the pen are
+    /// where the difference leaves them. What is copied is what was shown before, also where both positions
     /// share cells.
     pub fn copy_region(
         &mut self,

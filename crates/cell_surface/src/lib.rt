@@ -4,6 +4,7 @@
 mod contents;
 mod differences;
 mod error;
+pub mod for_viewers;
 pub mod laws;
 mod surface;
 

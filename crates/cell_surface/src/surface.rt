@@ -9,7 +9,7 @@ ghost use Rattle.screen_log.specs.Log.{due, most_due, new_log};
 ghost use Rattle.screen_log.specs.LogSteps.{Forgotten, step_of_kept};
 ghost use Rattle.screen_effects.specs.Effect.{is_visible};
 ghost use Rattle.screen_grid.specs.Grid.{IsDrawn};
-ghost use Rattle.screen_effects.specs.Display.{new_display};
+ghost use Rattle.screen_effects.specs.Display.{new_display, IsDisplay};
 ghost use Rattle.screen_repaint.specs.Repaint.{repaint};
 
 use crate::error::SurfaceError;
@@ -80,18 +80,20 @@ impl<W: Widths + Drop> Surface<W> {
         })
     }
 
-    /// How many columns and rows there are.
+    /// How many columns and rows there are: what is shown is lawful.
     pub fn dimensions(&self) -> (usize, usize)
         ensures width { result.0 ≡ self.now.grid.width }
         ensures height { result.1 ≡ length self.now.grid.lines }
+        ensures lawful { self.now.is_failed ≡ false → IsDisplay (shown_by self.now) }
     {
         self.grid.dimensions()
     }
 
-    /// The cursor's column and row. The column is the width while a wrap is pending.
+    /// The cursor's column and row, which are on the screen. The column is the width while a wrap is pending.
     pub fn cursor_position(&self) -> (usize, usize)
         ensures column { result.0 ≡ (shown_by self.now).screen.column }
         ensures row { result.1 ≡ (shown_by self.now).screen.row }
+        ensures within { self.now.is_failed ≡ false → result.1 < length (shown_by self.now).screen.rows }
     {
         self.grid.cursor_position()
     }
@@ -245,7 +247,7 @@ impl<W: Widths + Drop> Surface<W> {
     /// are; so for no changes at all the number less one, or 0.
     ///
     /// Where the number would pass `usize::MAX` before the last of them, none is made. Where one of them
-    /// is refused memory the surface has failed, and those behind it are dropped.
+    /// is refused memory the surface has failed, and those after it are dropped.
     pub fn add_changes(&mut self, changes: Vec<Change>) -> Result<SequenceNo, SurfaceError>
         ensures number { IfOk result (λ n. n ≡ number_of self.old - 1 + length changes.items) }
         ensures added { OnOk result

@@ -7,7 +7,7 @@ use Rattle.std.proofs.lemmas.List.{drop-drop, get_or_default, get_or-drop, lengt
 use Rattle.cell_base.specs.Attributes.{Attributes, plain}
 use Rattle.cell_base.specs.Row.{Narrow, LeftHalf, RightHalf, Row, space, blank, closed_end}
 use Rattle.cell_base.specs.WholeRow.{IsWhole}
-use Rattle.cell_base.proofs.RowLemmas.{whole-behind}
+use Rattle.cell_base.proofs.RowLemmas.{whole-after}
 use Rattle.cell_edits.specs.VisibleCells.{VisibleCell, visible_at, visible_from}
 use Rattle.cell_edits.proofs.CellLemmas.{by_test, closed_end-narrow}
 use Rattle.cell_edits.proofs.RowLaws.{visible-append}
@@ -24,10 +24,10 @@ whole_starts (Narrow text a ∷ row) w = refl
 whole_starts (LeftHalf text a ∷ row) w = refl
 whole_starts (RightHalf a ∷ row) w = absurd w
 
--- behind the second column of a wide cell none is cut, nor before it
+-- after the second column of a wide cell none is cut, nor before it
 after_half : (n : ℕ) (row : Row) → IsWhole row → is_split n row ≡ true → is_split (n + 1) row ≡ false
 after_half n row w h =
-    whole_starts (drop (n + 1) row) (subst IsWhole (start_halved n row (blank plain) h) (whole-behind n row w))
+    whole_starts (drop (n + 1) row) (subst IsWhole (start_halved n row (blank plain) h) (whole-after n row w))
 
 before_half : (n : ℕ) (row : Row) → IsWhole row → is_split (n + 1) row ≡ true → is_split n row ≡ false
 before_half n row w h = by_test (is_split n row)
@@ -82,7 +82,7 @@ end_within end row = by_test (is_split end row)
     (λ h. let is = end_is end row true h in omega arith)
     (λ h. let is = end_is end row false h in omega arith)
 
--- a column at which no cell is cut isn't one at which a cell is, nor behind the column beside that
+-- a column at which no cell is cut isn't one at which a cell is, nor after the column beside that
 clean_before : (from end : ℕ) (row : Row) → from ≤ end → is_split from row ≡ false → is_split end row ≡ true
     → from < end
 clean_before from end row o clean h = by_test (nat_lt from end)
@@ -128,7 +128,7 @@ end_step : (row : Row) (from end : ℕ) → IsWhole row → is_split from row �
     → closed_part from end row ≡ inner_part from (inner_end end row) row ++ end_half end row
 end_step row from end w clean o l =
     let tail : Row = drop from row in
-    let whole : IsWhole tail = subst IsWhole (start_closed from row clean) (whole-behind from row w) in
+    let whole : IsWhole tail = subst IsWhole (start_closed from row clean) (whole-after from row w) in
     let there : is_split (end - from) tail ≡ is_split end row =
     ap starts_split (drop-drop (end - from) from row) ∙ ap (λ n. is_split n row) (omega arith) in
     by_test (is_split end row)

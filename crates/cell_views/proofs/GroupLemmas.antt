@@ -61,7 +61,7 @@ whole_all {A = A} begins groups (x ∷ xs) =
 pub groups_are_cut : {A : Type 0} (begins : List A → A → Bool) (xs : List A) → AreGroupsOf begins xs (groups_by begins xs)
 groups_are_cut begins xs = record { whole = whole_all begins [] xs; cut = cut_all begins [] xs tt }
 
--- ---- groups behind others
+-- ---- groups after others
 
 joined_some : {A : Type 0} (begins : List A → A → Bool) (groups : List (List A)) (x : A) → 0 < length (joined begins groups x)
 joined_some begins [] x = omega arith
@@ -90,7 +90,7 @@ begins_next begins [] xs x b = ap (λ t. if t then xs ∷ (x ∷ []) ∷ [] else
 begins_next {A = A} begins (g ∷ []) xs x b = ap (λ (gs : List (List A)). g ∷ gs) (begins_next begins [] xs x b)
 begins_next {A = A} begins (g ∷ h ∷ groups) xs x b = ap (λ (gs : List (List A)). g ∷ gs) (begins_next begins (h ∷ groups) xs x b)
 
--- elements that go on behind an open group all join it
+-- elements that go on after an open group all join it
 join_all : {A : Type 0} (begins : List A → A → Bool) (groups : List (List A)) (before xs rest : List A) → GoOn begins before xs
     → fold (joined begins) (groups ++ before ∷ []) (xs ++ rest) ≡ fold (joined begins) (groups ++ (before ++ xs) ∷ []) rest
 join_all {A = A} begins groups before [] rest p = ap (λ (g : List A). fold (joined begins) (groups ++ g ∷ []) rest) (sym (append-nil before))
@@ -99,7 +99,7 @@ join_all {A = A} begins groups before (x ∷ xs) rest p =
     ∙ join_all begins groups (before ++ x ∷ []) xs rest p.1
     ∙ ap (λ (g : List A). fold (joined begins) (groups ++ g ∷ []) rest) (append_assoc before (x ∷ []) xs)
 
--- groups that are cut behind an open one come out as they are
+-- groups that are cut after an open one come out as they are
 all_again : {A : Type 0} (begins : List A → A → Bool) (groups : List (List A)) (before : List A) (more : List (List A)) → IsCut begins (before ∷ more) → fold (joined begins) (groups ++ before ∷ []) (flat_map (λ g. g) more) ≡ groups ++ before ∷ more
 all_again begins groups before [] p = refl
 all_again begins groups before ([] ∷ more) p = absurd p.1

@@ -66,8 +66,8 @@ last_of_none passes last (v ∷ cells) p =
 pub record Kept (passes : VisibleCell → Bool) (last : Option ℕ) (at : ℕ) (cells : List VisibleCell) : Type 0 where
   pub column : ℕ
   pub is : fold (λ o v. if passes v then o else Some v.column) last cells ≡ Some column
-  pub behind : at ≤ column
-  pub front : filter (λ v. nat_le v.column column) cells ≡ up_to_last (λ v. not (passes v)) cells
+  pub after : at ≤ column
+  pub prefix : filter (λ v. nat_le v.column column) cells ≡ up_to_last (λ v. not (passes v)) cells
 
 pub kept : (passes : VisibleCell → Bool) (last : Option ℕ) (at : ℕ) (cells : List VisibleCell) → AreInOrder at cells → list_all passes cells ≡ false → Kept passes last at cells
 kept passes last at [] c p = absurd (false≢true (sym p))
@@ -81,22 +81,22 @@ kept passes last at (v ∷ cells) c p =
     (λ b. record {
       column = v.column;
       is = last_of_none passes after cells all ∙ ap (λ t. if t then last else Some v.column) b;
-      behind = first;
-      front =
+      after = first;
+      prefix =
           ap (λ t. if t then v ∷ filter (λ w. nat_le w.column v.column) cells else filter (λ w. nat_le w.column v.column) cells) (le-leb v.column v.column (omega arith))
           ∙ ap (λ (vs : List VisibleCell). v ∷ vs) (none_before (v.column + 1) v.column cells (omega arith) c.1 ∙ sym (up_to_none passes cells all))
           ∙ sym (up_to_some passes v cells p);
     }))
     (λ some.
     let k = kept passes after (v.column + 1) cells c.1 some in
-    let far = k.behind in
+    let far = k.after in
     record {
       column = k.column;
       is = k.is;
-      behind = omega arith;
-      front =
+      after = omega arith;
+      prefix =
           ap (λ t. if t then v ∷ filter (λ w. nat_le w.column k.column) cells else filter (λ w. nat_le w.column k.column) cells) (le-leb v.column k.column (omega arith))
-          ∙ ap (λ (vs : List VisibleCell). v ∷ vs) k.front
+          ∙ ap (λ (vs : List VisibleCell). v ∷ vs) k.prefix
           ∙ sym (up_to_some passes v cells p);
     })
 
@@ -108,7 +108,7 @@ pub kept_some : (passes : VisibleCell → Bool) (cells : List VisibleCell) → A
     → filter (λ v. is_kept_by (fold (λ o w. if passes w then o else Some w.column) None cells) v.column) cells ≡ up_to_last (λ v. not (passes v)) cells
 kept_some passes cells c p =
     let k = kept passes None 0 cells c p in
-    ap (λ (o : Option ℕ). filter (λ v. is_kept_by o v.column) cells) k.is ∙ k.front
+    ap (λ (o : Option ℕ). filter (λ v. is_kept_by o v.column) cells) k.is ∙ k.prefix
 
 pub kept_or_all : (passes : VisibleCell → Bool) (cells : List VisibleCell) → AreInOrder 0 cells
     → filter (λ v. is_kept_by (fold (λ o w. if passes w then o else Some w.column) None cells) v.column) cells ≡ (if list_all passes cells then cells else up_to_last (λ v. not (passes v)) cells)

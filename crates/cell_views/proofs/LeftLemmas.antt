@@ -16,10 +16,10 @@ use Rattle.cell_views.specs.Halves.{half_left}
 use Rattle.cell_views.specs.declared.half.Half.{Half}
 use Rattle.cell_views.proofs.WordLemmas.{head_column, column_below}
 
--- the column behind the first one of a cell has a number, where that of the first cell of these has one
-fits_after : (front : List VisibleCell) (half : Option Half) (v : VisibleCell) (cells : List VisibleCell)
-    → ((u : VisibleCell) (us : List VisibleCell) → front ≡ u ∷ us → u.column + 1 < 2 ^ 64)
-    → front ++ half_left half ≡ v ∷ cells → v.column + 1 < 2 ^ 64
+-- the column after the first one of a cell has a number, where that of the first cell of these has one
+fits_after : (prefix : List VisibleCell) (half : Option Half) (v : VisibleCell) (cells : List VisibleCell)
+    → ((u : VisibleCell) (us : List VisibleCell) → prefix ≡ u ∷ us → u.column + 1 < 2 ^ 64)
+    → prefix ++ half_left half ≡ v ∷ cells → v.column + 1 < 2 ^ 64
 fits_after [] None v cells fit e = absurd (cc)
 fits_after [] (Some half) v cells fit e =
     let same : half.cell_index ≡ v.column = ap (head_column 0) e in
@@ -30,7 +30,7 @@ fits_after (u ∷ us) half v cells fit e =
     let fits = fit u us refl in
     omega arith
 
--- the column behind the first one of a cell has a number
+-- the column after the first one of a cell has a number
 pub column_fits : (left : Left) (v : VisibleCell) (cells : List VisibleCell) → left_of left ≡ v ∷ cells
     → v.column + 1 < 2 ^ 64
 column_fits (Cells s) v cells e =

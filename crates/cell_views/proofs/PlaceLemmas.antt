@@ -9,10 +9,10 @@ map-replicate : (f : Place → ℕ) (n : ℕ) (b : Place) → map f (replicate n
 map-replicate f zero b = refl
 map-replicate f (suc n) b = ap (λ (xs : List ℕ). f b ∷ xs) (map-replicate f n b)
 
--- copies behind some places
-pub after_more : (f : Place → ℕ) (front : List ℕ) (bs cs : List Place) (n : ℕ) (b : Place) → cs ≡ bs ++ replicate n b → front ++ map f cs ≡ (front ++ map f bs) ++ replicate n (f b)
-after_more f front bs cs n b e =
-    ap (λ xs. front ++ map f xs) e ∙ ap (λ xs. front ++ xs) (map-append f bs (replicate n b)) ∙ ap (λ xs. front ++ (map f bs ++ xs)) (map-replicate f n b) ∙ sym (append_assoc front (map f bs) (replicate n (f b)))
+-- copies after some positions
+pub after_more : (f : Place → ℕ) (prefix : List ℕ) (bs cs : List Place) (n : ℕ) (b : Place) → cs ≡ bs ++ replicate n b → prefix ++ map f cs ≡ (prefix ++ map f bs) ++ replicate n (f b)
+after_more f prefix bs cs n b e =
+    ap (λ xs. prefix ++ map f xs) e ∙ ap (λ xs. prefix ++ xs) (map-append f bs (replicate n b)) ∙ ap (λ xs. prefix ++ (map f bs ++ xs)) (map-replicate f n b) ∙ sym (append_assoc prefix (map f bs) (replicate n (f b)))
 
 pub range_more : (a n : ℕ) → range_with_len a (n + 1) ≡ range_with_len a n ++ (a + n) ∷ []
 range_more a zero = let e : a ≡ a + 0 = omega arith in ap (λ n. n ∷ []) e
@@ -22,14 +22,14 @@ range_more a (suc n) =
     ap (range_with_len a) e ∙ ap (λ (xs : List ℕ). a ∷ xs) (range_more (a + 1) n) ∙ ap (λ m. a ∷ (range_with_len (a + 1) n ++ m ∷ [])) last
 
 -- one more that is counted
-pub counted_more : (f : Place → ℕ) (front more : List ℕ) (bs : List Place) (n x : ℕ) → length bs ≡ 0 → n ≡ 1 → more ≡ front ++ x ∷ [] → more ++ map f bs ≡ (front ++ map f bs) ++ replicate n x
-counted_more f front more [] n x e one is = append-nil more ∙ is ∙ ap (λ xs. xs ++ x ∷ []) (sym (append-nil front)) ∙ ap (λ m. (front ++ []) ++ replicate m x) (sym one)
-counted_more f front more (b ∷ bs) n x e one is = absurd (omega arith)
+pub counted_more : (f : Place → ℕ) (prefix more : List ℕ) (bs : List Place) (n x : ℕ) → length bs ≡ 0 → n ≡ 1 → more ≡ prefix ++ x ∷ [] → more ++ map f bs ≡ (prefix ++ map f bs) ++ replicate n x
+counted_more f prefix more [] n x e one is = append-nil more ∙ is ∙ ap (λ xs. xs ++ x ∷ []) (sym (append-nil prefix)) ∙ ap (λ m. (prefix ++ []) ++ replicate m x) (sym one)
+counted_more f prefix more (b ∷ bs) n x e one is = absurd (omega arith)
 
--- a byte's place among those that are counted, and among those behind
-pub at_counted : (front ys : List ℕ) (i : ℕ) → i < length front → get_or (front ++ ys) i 0 ≡ get_or front i 0
-at_counted front ys i h = get_or_append_left front ys 0 i h
+-- a byte's position among those that are counted, and among those after
+pub at_counted : (prefix ys : List ℕ) (i : ℕ) → i < length prefix → get_or (prefix ++ ys) i 0 ≡ get_or prefix i 0
+at_counted prefix ys i h = get_or_append_left prefix ys 0 i h
 
-pub at_after : (f : Place → ℕ) (front : List ℕ) (bs : List Place) (i n : ℕ) (d : Place) → length front ≡ n → n ≤ i → i - n < length bs → get_or (front ++ map f bs) i 0 ≡ f (get_or bs (i - n) d)
-at_after f front bs i n d e h k =
-    ap (λ m. get_or (front ++ map f bs) m 0) (omega (arith, e, h)) ∙ get_or-append-add front (map f bs) (i - n) 0 ∙ get_or-map f bs (i - n) d 0 k
+pub at_after : (f : Place → ℕ) (prefix : List ℕ) (bs : List Place) (i n : ℕ) (d : Place) → length prefix ≡ n → n ≤ i → i - n < length bs → get_or (prefix ++ map f bs) i 0 ≡ f (get_or bs (i - n) d)
+at_after f prefix bs i n d e h k =
+    ap (λ m. get_or (prefix ++ map f bs) m 0) (omega (arith, e, h)) ∙ get_or-append-add prefix (map f bs) (i - n) 0 ∙ get_or-map f bs (i - n) d 0 k

@@ -1,4 +1,4 @@
--- Parts of a row, and what stands behind clusters of a text.
+-- Parts of a row, and what follows clusters of a text.
 use Rattle.std.proofs.Common.{◌≡◌, ℕ, zero, suc, ◌+◌, ◌-◌, ◌<◌, ◌≤◌, true, false, List, [], ◌∷◌, length, get_or, take, drop, map, IsUtf8, refl, sym, ap, ◌∙◌, arith}
 use Rattle.std.specs.Prelude.{nat_le}
 use Rattle.unicode_segmentation.specs.Grapheme.{graphemes}
@@ -43,15 +43,15 @@ pub region_halved : (cells : List CellContent) (start end : ℕ) (d : CellConten
 region_halved cells zero end d some o l h = absurd (omega arith)
 region_halved cells (suc p) end d some o l h =
     let a = (get_or cells p d).attributes in
-    let behind : List CellContent = drop (suc (suc p)) cells in
+    let after : List CellContent = drop (suc (suc p)) cells in
     let m = end - suc (suc p) in
     let at : suc p - 1 ≡ p = omega arith in
     let next : suc p + 1 ≡ suc (suc p) = omega arith in
     let count : end - suc p ≡ suc m = omega arith in
-    let front : blank a ∷ row_of_cells behind ≡ cut_prefix (suc p) (row_of_cells cells) = sym (row_narrow_any (blank_cell a) behind refl) ∙ after_cut cells p d h (omega arith) in
+    let prefix : blank a ∷ row_of_cells after ≡ cut_prefix (suc p) (row_of_cells cells) = sym (row_narrow_any (blank_cell a) after refl) ∙ after_cut cells p d h (omega arith) in
     (λ i. visible_at (suc p) space 1 (get_or cells (at i) d).attributes ∷ visible_from (suc p + 1) (row_of_cells (take (end - next i) (drop (next i) cells))))
-    ∙ ap (λ (r : Row). visible_from (suc p) (blank a ∷ r)) (row_taken behind m)
-    ∙ ap (visible_from (suc p)) (sym (closed_end-narrow space a (take m (row_of_cells behind))) ∙ ap (λ n. closed_end (take n (blank a ∷ row_of_cells behind))) (sym count) ∙ ap (cut (end - suc p)) front)
+    ∙ ap (λ (r : Row). visible_from (suc p) (blank a ∷ r)) (row_taken after m)
+    ∙ ap (visible_from (suc p)) (sym (closed_end-narrow space a (take m (row_of_cells after))) ∙ ap (λ n. closed_end (take n (blank a ∷ row_of_cells after))) (sym count) ∙ ap (cut (end - suc p)) prefix)
 
 -- ---- texts
 
@@ -60,7 +60,7 @@ drop_mapped f zero xs = refl
 drop_mapped f (suc n) [] = refl
 drop_mapped f (suc n) (x ∷ xs) = drop_mapped f n xs
 
--- the clusters of what stands behind some clusters
+-- the clusters of what follows some clusters
 pub clusters_left : (n : ℕ) (text left : List ℕ) → IsUtf8 text → left ≡ text_after n text → clusters left ≡ drop n (clusters text)
 clusters_left n text left u e =
     ap clusters e ∙ ap (map read_cluster) (clusters_after n text u) ∙ drop_mapped read_cluster n (graphemes true text)

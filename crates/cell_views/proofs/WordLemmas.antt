@@ -47,17 +47,17 @@ module _ (test : List ℕ → Bool) where
   pub end_stops : (at now whole : ℕ) (left : List VisibleCell) (v : VisibleCell) (cells : List VisibleCell) (column : ℕ)
       → left ≡ v ∷ cells → column ≡ v.column → at ≤ column → test v.cell.text ≡ false → end_from at now left ≡ whole → now ≡ whole
   end_stops at now whole left v cells column l c h f e =
-      let behind : nat_le at v.column ≡ true = ap (nat_le at) (sym c) ∙ le-leb at column h in
-      sym (ap (end_from at now) l ∙ ap (λ xs. fold (λ _ v. v.column + 1) now (prefix_words test xs)) (filter_in (λ v. nat_le at v.column) v cells behind)
+      let after : nat_le at v.column ≡ true = ap (nat_le at) (sym c) ∙ le-leb at column h in
+      sym (ap (end_from at now) l ∙ ap (λ xs. fold (λ _ v. v.column + 1) now (prefix_words test xs)) (filter_in (λ v. nat_le at v.column) v cells after)
       ∙ ap (λ xs. fold (λ _ v. v.column + 1) now xs) (front_none v (filter (λ v. nat_le at v.column) cells) f))
       ∙ e
 
   pub end_goes : (at now whole : ℕ) (left : List VisibleCell) (v : VisibleCell) (cells : List VisibleCell) (column : ℕ)
       → left ≡ v ∷ cells → column ≡ v.column → at ≤ column → test v.cell.text ≡ true → end_from at now left ≡ whole → end_from at (column + 1) cells ≡ whole
   end_goes at now whole left v cells column l c h f e =
-      let behind : nat_le at v.column ≡ true = ap (nat_le at) (sym c) ∙ le-leb at column h in
+      let after : nat_le at v.column ≡ true = ap (nat_le at) (sym c) ∙ le-leb at column h in
       ap (λ n. end_from at (n + 1) cells) c
-      ∙ sym (ap (end_from at now) l ∙ ap (λ xs. fold (λ _ v. v.column + 1) now (prefix_words test xs)) (filter_in (λ v. nat_le at v.column) v cells behind)
+      ∙ sym (ap (end_from at now) l ∙ ap (λ xs. fold (λ _ v. v.column + 1) now (prefix_words test xs)) (filter_in (λ v. nat_le at v.column) v cells after)
       ∙ ap (λ xs. fold (λ _ v. v.column + 1) now xs) (front_more v (filter (λ v. nat_le at v.column) cells) f))
       ∙ e
 

@@ -34,7 +34,7 @@ copy_of cell = cell_of cell.text cell.width cell.attributes
 abbrev pub left_of_cells : CellsLeft → List VisibleCell
 left_of_cells s = visible_from s.cell_index (row_of_cells s.cells.now)
 
--- those of a clustered row, and the half behind them
+-- those of a clustered row, and the half after them
 abbrev pub left_of_clustered : ClusteredLeft → List VisibleCell
 left_of_clustered s = clustered.cells_left s.cells ++ half_left s.half
 

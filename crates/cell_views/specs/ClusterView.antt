@@ -23,7 +23,7 @@ pub record IsPlaced (a : Inside) : Type 0 where
   pub columns : length (string_bytes a.text) ≤ length (columns_in a.places)
   pub widths : length (string_bytes a.text) ≤ length (widths_in a.places)
 
--- a cluster with a cell behind its own
+-- a cluster with a cell after its own
 abbrev pub grown : ClusterContent → VisibleCell → ClusterContent
 grown c v =
     record c {
@@ -39,7 +39,7 @@ last_of [] = []
 last_of (cells ∷ []) = cells
 last_of (cells ∷ more ∷ groups) = last_of (more ∷ groups)
 
--- whether a cell begins a cluster behind these
+-- whether a cell begins a cluster after these
 abbrev pub begins_after : List (List VisibleCell) → VisibleCell → Bool
 begins_after [] v = true
 begins_after (cells ∷ groups) v = begins_cluster (last_of (cells ∷ groups)) v

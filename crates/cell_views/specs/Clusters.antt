@@ -26,7 +26,7 @@ ends_in_space cells = fold (λ _ v. is_space v) false cells
 abbrev pub holds_text : List VisibleCell → Bool
 holds_text cells = list_any (λ v. not (is_space v)) cells
 
--- whether a cell begins a new cluster behind the cells of the last one: its attributes less `wrapped` differ from the
+-- whether a cell begins a new cluster after the cells of the last one: its attributes less `wrapped` differ from the
 -- cluster's, it is no space and follows a space, or it is a space and follows a space where another text stands
 abbrev pub begins_cluster : List VisibleCell → VisibleCell → Bool
 begins_cluster cells v =

@@ -1,4 +1,4 @@
--- Lists cut into groups by a rule, which says of an element whether it begins a new group behind those of the last one.
+-- Lists cut into groups by a rule, which says of an element whether it begins a new group after those of the last one.
 use Rattle.std.specs.Prelude.{◌≡◌, Bool, true, false, ⊤, List, [], ◌∷◌, ◌++◌, flat_map, fold, if◌then◌else◌}
 
 -- the element joins the last group, or begins a new one
@@ -13,7 +13,7 @@ groups_by begins xs = fold (joined begins) [] xs
 
 -- ---- the same without a walk
 
--- none of the elements begins a group behind those before it
+-- none of the elements begins a group after those before it
 abbrev pub GoOn : {A : Type 0} → (List A → A → Bool) → List A → List A → Type 0
 GoOn begins before [] = ⊤
 GoOn begins before (x ∷ xs) = (begins before x ≡ false) × GoOn begins (before ++ x ∷ []) xs

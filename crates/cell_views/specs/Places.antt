@@ -5,8 +5,8 @@ use Rattle.cell_views.specs.declared.places.Places.{Places}
 
 -- for each byte the first column of its cell: those that are counted stand side by side
 abbrev pub columns_in : Places → List ℕ
-columns_in p = range_with_len p.first p.counted ++ map (λ b. b.column) p.behind.items
+columns_in p = range_with_len p.first p.counted ++ map (λ b. b.column) p.after.items
 
 -- for each byte the columns that its cell takes: one where they are counted
 abbrev pub widths_in : Places → List ℕ
-widths_in p = replicate p.counted 1 ++ map (λ b. b.width) p.behind.items
+widths_in p = replicate p.counted 1 ++ map (λ b. b.width) p.after.items

@@ -14,11 +14,11 @@ use Rattle.cell_edits.specs.VisibleCells.{VisibleCell, visible_cells, ends_wrapp
 abbrev pub Answers : {F : Type 0} → Shared F (Bor (List ℕ) × Unit {0}) Bool → F → (List ℕ → Bool) → Type 0
 Answers g f test = (text : List ℕ) (answer : Bool) → IsUtf8 text → FnReturnsAt g f text answer → answer ≡ test text
 
--- the words at the front of cells
+-- the words at the start of cells
 abbrev pub prefix_words : (List ℕ → Bool) → List VisibleCell → List VisibleCell
 prefix_words is_word cells = take_while (λ v. is_word v.cell.text) cells
 
--- from the first cell at or behind a column on: one past the first column of the last unbroken word, or that column if
+-- from the first cell at or after a column on: one past the first column of the last unbroken word, or that column if
 -- there is none
 abbrev pub word_end : (List ℕ → Bool) → ℕ → List VisibleCell → ℕ
 word_end is_word at cells =
@@ -30,7 +30,7 @@ abbrev pub word_start : (List ℕ → Bool) → ℕ → List VisibleCell → ℕ
 word_start is_word at cells =
     fold (λ _ v. v.column) at (prefix_words is_word (reverse (filter (λ v. nat_le v.column at) cells)))
 
--- whether a range reaches to the end of a row that goes on behind it
+-- whether a range reaches to the end of a row that goes on after it
 abbrev pub goes_on : Row → ℕ → ℕ → Bool
 goes_on row start end = nat_lt start end && nat_le (length row) end && ends_wrapped (visible_cells row)
 

@@ -26,7 +26,7 @@ abbrev pub type_of : List VisibleCell → SemanticType
 type_of [] = Output
 type_of (v ∷ cells) = v.cell.attributes.semantic_type
 
--- whether a cell begins a new zone behind the cells of the last one: it has another type
+-- whether a cell begins a new zone after the cells of the last one: it has another type
 abbrev pub begins_zone : List VisibleCell → VisibleCell → Bool
 begins_zone cells v = not (same_type (type_of cells) v.cell.attributes.semantic_type)
 

@@ -17,7 +17,7 @@ use cell_base::CellAttributes;
 use std::alloc::{AllocError, Global};
 use std::marker::Model;
 
-// The attributes, as of a cell behind which the line doesn't go on.
+// The attributes, as of a cell after which the line doesn't go on.
 fn unwrapped(attrs: &CellAttributes) -> Result<CellAttributes, AllocError>
     ensures { IfOk result (λ copy. copy ≡ unwrapped attrs.now) }
 {
@@ -28,11 +28,11 @@ fn unwrapped(attrs: &CellAttributes) -> Result<CellAttributes, AllocError>
 
 /// Neighbouring visible cells that are shown together. A cell begins a new cluster where its
 /// attributes differ from the cluster's, where it follows a space and is none, and where it is a
-/// space and follows one in a cluster that holds another text too. Whether the line goes on behind
+/// space and follows one in a cluster that holds another text too. Whether the line goes on after
 /// a cell makes no difference, and a cluster's attributes say that it doesn't.
 #[derive(Debug, Drop)]
 pub struct CellCluster {
-    /// The attributes of its first cell, as of one behind which the line doesn't go on.
+    /// The attributes of its first cell, as of one after which the line doesn't go on.
     pub attrs: CellAttributes,
     /// The texts of its cells, joined.
     pub text: String,
@@ -132,7 +132,7 @@ impl CellCluster {
         Ok(cluster)
     }
 
-    // The cell goes behind those of the cluster.
+    // The cell goes after those of the cluster.
     fn grow(&mut self, cell: &CellRef<'_>) -> Result<(), AllocError>
         ensures { OnOk result (self.new ≡ grown self.old (shown_by cell.now)) }
     {
@@ -145,7 +145,7 @@ impl CellCluster {
     }
 }
 
-// The cell goes behind those of the last cluster.
+// The cell goes after those of the last cluster.
 fn grow_last(clusters: &mut Vec<CellCluster>, cell: &CellRef<'_>) -> Result<(), AllocError>
     requires { 0 < vec_len clusters.old }
     ensures { (d : ClusterContent)
@@ -158,7 +158,7 @@ fn grow_last(clusters: &mut Vec<CellCluster>, cell: &CellRef<'_>) -> Result<(), 
     clusters[last].grow(cell)
 }
 
-// Whether a cell, a space or not, begins a cluster behind cells of the same attributes or not, the
+// Whether a cell, a space or not, begins a cluster after cells of the same attributes or not, the
 // last of which is a space or not, and which hold another text or not.
 fn breaks(same: bool, space: bool, ends_in_space: bool, holds_text: bool) -> bool
     ensures { result ≡ (not same || not space && ends_in_space || space && ends_in_space && holds_text) }

@@ -4,6 +4,7 @@
 
 mod cell_ref;
 mod clusters;
+mod fast;
 mod half;
 mod places;
 pub mod query;

@@ -17,7 +17,7 @@ struct Place {
 pub(crate) struct Places {
     first: usize,
     counted: usize,
-    behind: Vec<Place>,
+    after: Vec<Place>,
     ghost within: { first + counted < 2 ^ 64 },
 }
 
@@ -35,7 +35,7 @@ fn is_counted(count: usize, column: usize, width: u8, next: usize) -> bool
     column == next && column < usize::MAX
 }
 
-// The place comes behind, once for each byte of a text.
+// The position follows, once for each byte of a text.
 fn push_copies(places: &mut Vec<Place>, text: &str, place: Place) -> Result<(), AllocError>
     ensures items { OnOk result (places.new.items ≡ places.old.items ++ replicate (length text.now) place) }
     ensures count { length places.old.items ≤ length places.new.items }
@@ -55,7 +55,7 @@ impl Places {
         Places {
             first,
             counted: 0,
-            behind: Vec::new(alloc),
+            after: Vec::new(alloc),
         }
     }
 
@@ -67,7 +67,7 @@ impl Places {
         if byte < self.counted {
             self.first + byte
         } else {
-            self.behind[byte - self.counted].column
+            self.after[byte - self.counted].column
         }
     }
 
@@ -79,11 +79,11 @@ impl Places {
         if byte < self.counted {
             1
         } else {
-            self.behind[byte - self.counted].width
+            self.after[byte - self.counted].width
         }
     }
 
-    // The bytes of a cell come behind.
+    // The bytes of a cell follow.
     pub(crate) fn push(&mut self, text: &str, column: usize, width: u8) -> Result<(), AllocError>
         ensures columns { OnOk result
             (columns_in self.new ≡ columns_in self.old ++ replicate (length text.now) column) }
@@ -92,11 +92,11 @@ impl Places {
         ensures width_count { length (widths_in self.old) ≤ length (widths_in self.new) }
     {
         let next = self.first + self.counted;
-        if self.behind.is_empty() && is_counted(text.len(), column, width, next) {
+        if self.after.is_empty() && is_counted(text.len(), column, width, next) {
             self.counted += 1;
             return Ok(());
         }
-        push_copies(&mut self.behind, text, Place { column, width })?;
+        push_copies(&mut self.after, text, Place { column, width })?;
         Ok(())
     }
 
@@ -108,7 +108,7 @@ impl Places {
         Ok(Places {
             first: self.first,
             counted: self.counted,
-            behind: self.behind.clone()?,
+            after: self.after.clone()?,
         })
     }
 }

@@ -70,7 +70,7 @@ pub fn cell_at(cells: StoredCells<'_>, column: usize) -> Option<CellRef<'_>>
     }
 }
 
-/// The texts of the cells that begin from `start` on and before `end` go behind the text.
+/// The texts of the cells that begin from `start` on and before `end` go after the text.
 pub fn push_texts(
     text: &mut String,
     cells: StoredCells<'_>,
@@ -90,7 +90,7 @@ pub fn push_texts(
     Ok(())
 }
 
-/// The texts of the cells go behind the text.
+/// The texts of the cells go after the text.
 pub fn push_all_texts(text: &mut String, cells: StoredCells<'_>) -> Result<(), AllocError>
     ensures { OnOk result
         (string_bytes text.new ≡ string_bytes text.old ++ texts_joined (visible_cells (stored_row cells.entry))) }
@@ -137,14 +137,14 @@ pub fn is_whitespace(cells: StoredCells<'_>) -> bool
     true
 }
 
-// Whether the line goes on behind the cell that is read last.
+// Whether the line goes on after the cell that is read last.
 fn reads_on(cells: &[Cell]) -> bool
     ensures { result ≡ ends_wrapped (visible_cells (row_of_cells cells.now)) }
 {
     !cells.is_empty() && cells[last_read(cells)].attrs().wrapped()
 }
 
-/// Whether the line goes on behind the last cell.
+/// Whether the line goes on after the last cell.
 pub fn ends_wrapped(cells: StoredCells<'_>) -> bool
     ensures { result ≡ ends_wrapped (visible_cells (stored_row cells.entry)) }
 {

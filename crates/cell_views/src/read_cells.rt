@@ -48,8 +48,8 @@ impl<'a> Iterator for ReadCells<'a> {
                 self.cells = rest;
                 Some((cell_index, cell))
             }
-            Some((_, behind)) => {
-                self.cells = behind;
+            Some((_, after)) => {
+                self.cells = after;
                 self.cell_index = cell_index + 2;
                 Some((cell_index, cell))
             }

@@ -9,7 +9,7 @@ use crate::cell_ref::CellRef;
 use crate::half::Half;
 use crate::stored_cells::StoredCells;
 use crate::visible_cells::VisibleCellIter;
-use cell_base::{Cell, CellAttributes};
+use cell_base::Cell;
 use cell_edits::row::is_split;
 use clustered_row::ClusteredRow;
 
@@ -17,8 +17,8 @@ use clustered_row::ClusteredRow;
 /// cuts shows as a blank with its attributes.
 #[derive(Drop)]
 pub struct RegionIter<'a> {
-    half: Option<Half<'a>>,
-    cells: VisibleCellIter<'a>,
+    pub(crate) half: Option<Half<'a>>,
+    pub(crate) cells: VisibleCellIter<'a>,
 }
 
 // The column beside an edge at which no cell is cut, and the half between the two, if there is one.
@@ -28,7 +28,7 @@ struct Edge<'a> {
     half: Option<Half<'a>>,
 }
 
-// At and behind a column.
+// At and after a column.
 fn start_edge(row: &ClusteredRow, start: usize) -> Edge<'_>
     requires within { start < length row.now }
     requires small { start + 1 < 2 ^ 64 }
@@ -134,30 +134,6 @@ impl<'a> RegionIter<'a> {
             half: first.half,
             cells: VisibleCellIter::of_clustered(cells, last.half),
         }
-    }
-}
-
-impl<'a> RegionIter<'a> {
-    ghost use Rattle.std.specs.Prelude.{◌≤◌, true, ◌++◌, IfSome, MatchOption};
-    ghost use Rattle.std.specs.List.{list_all};
-    ghost use Rattle.text_clusters.specs.Plain.{is_printable};
-    ghost use Rattle.cell_edits.specs.VisibleCells.{first_column, visible_each};
-    ghost use Rattle.cell_views.specs.Region.{region_left};
-
-    /// The printable ASCII characters (20h to 7Eh) that are left first, at most so many, as far as each is a cell of
-    /// one column, all have the same attributes, and they are kept side by side. They are left no more. `None`: the
-    /// next cell is another one, or none is asked for or left.
-    pub fn pass_plain(&mut self, most: usize) -> Option<(&'a str, &'a CellAttributes)>
-        ensures left { MatchOption result (region_left self.new ≡ region_left self.old)
-            (λ run. region_left self.old
-            ≡ visible_each (first_column (region_left self.old)) run.0.now run.1.now ++ region_left self.new) }
-        ensures some { IfSome result (λ run. (0 < length run.0.now) × (length run.0.now ≤ most)) }
-        ensures printable { IfSome result (λ run. list_all is_printable run.0.now ≡ true) }
-    {
-        if self.half.is_some() {
-            return None;
-        }
-        self.cells.pass_plain(most)
     }
 }
 

@@ -9,8 +9,8 @@ use clustered_row::ClusteredRow;
 /// What a line keeps of its row: cells, or one text and runs of equal attributes.
 #[derive(Clone, Copy)]
 pub enum StoredCells<'a> {
-    /// Read from the left: the cell stored behind a wide one isn't looked at, and a wide one with
-    /// none behind it is a blank with its attributes.
+    /// Read from the left: the cell stored after a wide one isn't looked at, and a wide one with
+    /// none after it is a blank with its attributes.
     Cells(&'a [Cell]),
     /// The row as it is kept, with no cells.
     Clustered(&'a ClusteredRow),
@@ -28,7 +28,7 @@ impl<'a> StoredCells<'a> {
         }
     }
 
-    /// Does nothing; its contract is a law of each row that is kept: behind the first column of a wide
+    /// Does nothing; its contract is a law of each row that is kept: after the first column of a wide
     /// cell stands the second one, with the same attributes, and none stands elsewhere.
     #[inline(always)]
     pub fn is_whole(&self)

@@ -4,12 +4,12 @@ ghost use Rattle.std.specs.Prelude.{◌≡◌, ◌+◌, ◌<◌, ◌^◌, ◌++�
 use crate::cell_ref::CellRef;
 use crate::half::Half;
 use crate::stored_cells::StoredCells;
-use cell_base::{Cell, CellAttributes};
+use cell_base::Cell;
 use clustered_row::ClusteredCells;
 
 // Those of cells that are read from the left, of which the first stands at a column.
 #[derive(Drop)]
-struct CellsLeft<'a> {
+pub(crate) struct CellsLeft<'a> {
     cells: &'a [Cell],
     cell_index: usize,
     ghost within: { cell_index + length cells.now < 2 ^ 64 },
@@ -44,8 +44,8 @@ impl<'a> Iterator for CellsLeft<'a> {
                     attrs: cell.attrs(),
                 })
             }
-            Some((_, behind)) => {
-                self.cells = behind;
+            Some((_, after)) => {
+                self.cells = after;
                 self.cell_index = cell_index + 2;
                 Some(CellRef::CellRef { cell_index, cell })
             }
@@ -53,10 +53,10 @@ impl<'a> Iterator for CellsLeft<'a> {
     }
 }
 
-// Those of a clustered row that are left, and the half behind them that an edge leaves.
+// Those of a clustered row that are left, and the half after them that an edge leaves.
 #[derive(Drop)]
-struct ClusteredLeft<'a> {
-    cells: ClusteredCells<'a>,
+pub(crate) struct ClusteredLeft<'a> {
+    pub(crate) cells: ClusteredCells<'a>,
     half: Option<Half<'a>>,
 }
 
@@ -80,29 +80,9 @@ impl<'a> Iterator for ClusteredLeft<'a> {
     }
 }
 
-impl<'a> ClusteredLeft<'a> {
-    ghost use Rattle.std.specs.Prelude.{◌≤◌, true, IfSome, MatchOption};
-    ghost use Rattle.std.specs.List.{list_all};
-    ghost use Rattle.text_clusters.specs.Plain.{is_printable};
-    ghost use Rattle.cell_edits.specs.VisibleCells.{first_column, visible_each};
-    ghost use Rattle.cell_views.specs.CellRefView.{left_of_clustered};
-
-    // The printable ASCII characters that are left first, as the row gives them; none of the half.
-    fn pass_plain(&mut self, most: usize) -> Option<(&'a str, &'a CellAttributes)>
-        ensures left { MatchOption result (left_of_clustered self.new ≡ left_of_clustered self.old)
-            (λ run. left_of_clustered self.old
-            ≡ visible_each (first_column (left_of_clustered self.old)) run.0.now run.1.now
-            ++ left_of_clustered self.new) }
-        ensures some { IfSome result (λ run. (0 < length run.0.now) × (length run.0.now ≤ most)) }
-        ensures printable { IfSome result (λ run. list_all is_printable run.0.now ≡ true) }
-    {
-        self.cells.pass_plain(most)
-    }
-}
-
 // Those that are left, of either kind of row.
 #[derive(Drop)]
-enum Left<'a> {
+pub(crate) enum Left<'a> {
     Cells(CellsLeft<'a>),
     Clustered(ClusteredLeft<'a>),
 }
@@ -110,7 +90,7 @@ enum Left<'a> {
 /// The visible cells of a row, in the order of their columns.
 #[derive(Drop)]
 pub struct VisibleCellIter<'a> {
-    left: Left<'a>,
+    pub(crate) left: Left<'a>,
 }
 
 impl<'a> VisibleCellIter<'a> {
@@ -143,7 +123,7 @@ impl<'a> VisibleCellIter<'a> {
         }
     }
 
-    // Those of a clustered row that are left, and a half behind them.
+    // Those of a clustered row that are left, and a half after them.
     #[inline(always)]
     pub(crate) fn of_clustered(
         cells: ClusteredCells<'a>,
@@ -153,30 +133,6 @@ impl<'a> VisibleCellIter<'a> {
     {
         VisibleCellIter {
             left: Left::Clustered(ClusteredLeft { cells, half }),
-        }
-    }
-}
-
-impl<'a> VisibleCellIter<'a> {
-    ghost use Rattle.std.specs.Prelude.{◌≤◌, true, ◌++◌, IfSome, MatchOption};
-    ghost use Rattle.std.specs.List.{list_all};
-    ghost use Rattle.text_clusters.specs.Plain.{is_printable};
-    ghost use Rattle.cell_edits.specs.VisibleCells.{first_column, visible_each};
-    ghost use Rattle.cell_views.specs.CellRefView.{cells_left};
-
-    /// The printable ASCII characters (20h to 7Eh) that are left first, at most so many, as far as each is a cell of
-    /// one column, all have the same attributes, and they are kept side by side. They are left no more. `None`: the
-    /// next cell is another one, or none is asked for or left.
-    pub fn pass_plain(&mut self, most: usize) -> Option<(&'a str, &'a CellAttributes)>
-        ensures left { MatchOption result (cells_left self.new ≡ cells_left self.old)
-            (λ run. cells_left self.old
-            ≡ visible_each (first_column (cells_left self.old)) run.0.now run.1.now ++ cells_left self.new) }
-        ensures some { IfSome result (λ run. (0 < length run.0.now) × (length run.0.now ≤ most)) }
-        ensures printable { IfSome result (λ run. list_all is_printable run.0.now ≡ true) }
-    {
-        match &mut self.left {
-            Left::Cells(_) => None,
-            Left::Clustered(cells) => cells.pass_plain(most),
         }
     }
 }

@@ -37,7 +37,7 @@ fn word_start<F: Fn(&str) -> bool>(cells: StoredCells<'_>, at: usize, is_word: &
     start.unwrap_or(at)
 }
 
-// One past the first column of the last of the unbroken words from the first cell at or behind a
+// One past the first column of the last of the unbroken words from the first cell at or after a
 // column on.
 fn word_end<F: Fn(&str) -> bool>(cells: StoredCells<'_>, at: usize, is_word: &F) -> usize
     requires { F.IsAlwaysCallable is_word.now }
@@ -64,7 +64,7 @@ fn reaches_end(cells: StoredCells<'_>, end: usize) -> bool
     end >= cells.len()
 }
 
-// Whether a range reaches to the end of a row that goes on behind it.
+// Whether a range reaches to the end of a row that goes on after it.
 fn goes_on(cells: StoredCells<'_>, start: usize, end: usize) -> bool
     ensures { result ≡ goes_on (stored_row cells.entry) start end }
 {

@@ -58,7 +58,7 @@ fn last_kept(cells: StoredCells<'_>) -> Option<usize>
     last
 }
 
-/// Whether a column is kept where all behind `last` go; where there is no last one, each is kept.
+/// Whether a column is kept where all after `last` go; where there is no last one, each is kept.
 pub fn is_kept(last: Option<usize>, column: usize) -> bool
     ensures { result ≡ is_kept_by last column }
 {

@@ -1,4 +1,4 @@
--- Where the parts of a text lead, one behind the other.
+-- Where the parts of a text lead, one after the other.
 use Rattle.std.proofs.Common.{◌≡◌, ℕ, List, [], ◌∷◌, ◌++◌, map, sym, ap, ◌∙◌, append-nil}
 use Rattle.std.specs.Prelude.{fold}
 use Rattle.std.specs.List.{flat_map}
@@ -12,7 +12,7 @@ use Rattle.change_sequence.specs.Sequence.{Place}
 
 module _ (step : Place → Stroke → Place) where
   abbrev done : Place → List TextPart → Place
-  done place parts = fold step place (flat_map part_strokes parts)
+  done position parts = fold step position (flat_map part_strokes parts)
 
   done-append : (p : Place) (xs ys : List TextPart) → done p (xs ++ ys) ≡ done (done p xs) ys
   done-append p xs ys = ap (fold step p) (flat_map-append part_strokes xs ys) ∙ fold-append step p (flat_map part_strokes xs) (flat_map part_strokes ys)
@@ -21,10 +21,10 @@ module _ (step : Place → Stroke → Place) where
   plain_done p [] = sym (ap (λ gs. fold step p (map Cluster (map read_cluster gs))) graphemes-nil)
   plain_done p (b ∷ text) = ap (fold step p) (append-nil (map Cluster (clusters (b ∷ text))))
 
-  pub front_leads : (p q : Place) (text front rest : List ℕ) → q ≡ fold step p (map Cluster (clusters front)) → text_parts text ≡ plain_part front ++ text_parts rest → done q (text_parts rest) ≡ done p (text_parts text)
-  front_leads p q text front rest s e =
-      ap (λ (r : Place). done r (text_parts rest)) (s ∙ sym (plain_done p front)) ∙ sym (done-append p (plain_part front) (text_parts rest)) ∙ ap (done p) (sym e)
+  pub front_leads : (p q : Place) (text prefix rest : List ℕ) → q ≡ fold step p (map Cluster (clusters prefix)) → text_parts text ≡ plain_part prefix ++ text_parts rest → done q (text_parts rest) ≡ done p (text_parts text)
+  front_leads p q text prefix rest s e =
+      ap (λ (r : Place). done r (text_parts rest)) (s ∙ sym (plain_done p prefix)) ∙ sym (done-append p (plain_part prefix) (text_parts rest)) ∙ ap (done p) (sym e)
 
-  pub control_leads : (p q : Place) (rest behind : List ℕ) (control : ℕ) → q ≡ done p (Control control ∷ []) → text_parts rest ≡ Control control ∷ text_parts behind → done q (text_parts behind) ≡ done p (text_parts rest)
-  control_leads p q rest behind control s e =
-      ap (λ (r : Place). done r (text_parts behind)) s ∙ sym (done-append p (Control control ∷ []) (text_parts behind)) ∙ ap (done p) (sym e)
+  pub control_leads : (p q : Place) (rest after : List ℕ) (control : ℕ) → q ≡ done p (Control control ∷ []) → text_parts rest ≡ Control control ∷ text_parts after → done q (text_parts after) ≡ done p (text_parts rest)
+  control_leads p q rest after control s e =
+      ap (λ (r : Place). done r (text_parts after)) s ∙ sym (done-append p (Control control ∷ []) (text_parts after)) ∙ ap (done p) (sym e)

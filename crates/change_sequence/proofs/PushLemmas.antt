@@ -7,16 +7,16 @@ use Rattle.change_sequence.specs.Places.{place_of}
 use Rattle.change_sequence.specs.Sequence.{Place, Sequence, change_moved, is_drawn, with_change}
 
 module _ {W : Type 0} (width_of : List ℕ → ℕ) (s : Sequence W) (change : ChangeValue) (p : ℕ × ℤ) (r : ℤ) (cs : List ChangeValue)
-    (moved : place_of p ≡ change_moved width_of s.columns s.rows s.place change) (row : r ≡ p.1) (changes : cs ≡ s.changes ++ change ∷ []) where
+    (moved : place_of p ≡ change_moved width_of s.columns s.rows s.position change) (row : r ≡ p.1) (changes : cs ≡ s.changes ++ change ∷ []) where
   abbrev stepped : Place → ℤ → ℤ → List ChangeValue → Sequence W
-  stepped place lowest highest changes = record s { place = place; lowest = lowest; highest = highest; changes = changes }
+  stepped position lowest highest changes = record s { position = position; lowest = lowest; highest = highest; changes = changes }
 
   by_test : Bool → Sequence W
   by_test b =
-      let place = change_moved width_of s.columns s.rows s.place change in
-      stepped place (if b then int_min s.lowest place.row else s.lowest) (if b then int_max s.highest place.row else s.highest) (s.changes ++ change ∷ [])
+      let position = change_moved width_of s.columns s.rows s.position change in
+      stepped position (if b then int_min s.lowest position.row else s.lowest) (if b then int_max s.highest position.row else s.highest) (s.changes ++ change ∷ [])
 
-  place_is : record { column = p.0; row = r } ≡ change_moved width_of s.columns s.rows s.place change
+  place_is : record { column = p.0; row = r } ≡ change_moved width_of s.columns s.rows s.position change
   place_is = ap (λ (z : ℤ). record { column = p.0; row = z }) row ∙ moved
 
   pub drawn_pushed : (l h : ℤ) → is_drawn change ≡ true → l ≡ int_min s.lowest r → h ≡ int_max s.highest r → stepped (record { column = p.0; row = r }) l h cs ≡ with_change width_of s change

@@ -27,19 +27,20 @@ columns_taken width_of columns cluster = if nat_lt 1 columns && nat_le 2 (width_
 
 -- as on a screen of so many columns: what doesn't fit goes to the start of the next row
 abbrev pub stroke_moved : (List ℕ → ℕ) → ℕ → Place → Stroke → Place
-stroke_moved width_of columns place CarriageReturn = record place { column = 0 }
-stroke_moved width_of columns place LineFeed = record place { row = next_row place.row }
-stroke_moved width_of columns place (Cluster cluster) =
+stroke_moved width_of columns position CarriageReturn = record position { column = 0 }
+stroke_moved width_of columns position LineFeed = record position { row = next_row position.row }
+stroke_moved width_of columns position (Cluster cluster) =
     let taken = columns_taken width_of columns cluster in
-    if nat_lt (columns - place.column) taken then record { column = taken; row = next_row place.row }
-    else record place { column = place.column + taken }
+    if nat_lt (columns - position.column) taken then record { column = taken; row = next_row position.row }
+    else record position { column = position.column + taken }
 
 -- the parts of a text in turn
 abbrev pub parts_moved : (List ℕ → ℕ) → ℕ → Place → List TextPart → Place
-parts_moved width_of columns place parts = fold (stroke_moved width_of columns) place (flat_map part_strokes parts)
+parts_moved width_of columns position parts =
+    fold (stroke_moved width_of columns) position (flat_map part_strokes parts)
 
 abbrev pub text_moved : (List ℕ → ℕ) → ℕ → Place → List ℕ → Place
-text_moved width_of columns place text = fold (stroke_moved width_of columns) place (strokes text)
+text_moved width_of columns position text = fold (stroke_moved width_of columns) position (strokes text)
 
 -- ---- positions: a column is cut below at 0 and taken modulo the columns, a row modulo the rows, with its sign kept
 
@@ -49,7 +50,7 @@ most_unsigned = 2 ^ 64 - 1
 abbrev pub most_signed : ℕ
 most_signed = 2 ^ 63 - 1
 
--- the place from the start, or from the end
+-- the position from the start, or from the end
 abbrev pub column_moved : ℕ → ℕ → Position → ℕ
 column_moved columns from (Absolute at) = at % columns
 column_moved columns from (EndRelative back) = (columns - back) % columns
@@ -69,17 +70,17 @@ row_moved rows from (Relative way) = signed_rest (saturate_signed w64 (from +ℤ
 -- ---- all changes
 
 abbrev pub change_moved : (List ℕ → ℕ) → ℕ → ℕ → Place → ChangeValue → Place
-change_moved width_of columns rows place (Text text) = text_moved width_of columns place text
-change_moved width_of columns rows place (CursorPosition x y) =
-    record { column = column_moved columns place.column x; row = row_moved rows place.row y }
-change_moved width_of columns rows place (ClearScreen color) = home
-change_moved width_of columns rows place (ScrollRegionUp first size count) = home
-change_moved width_of columns rows place (ScrollRegionDown first size count) = home
-change_moved width_of columns rows place _ = place
+change_moved width_of columns rows position (Text text) = text_moved width_of columns position text
+change_moved width_of columns rows position (CursorPosition x y) =
+    record { column = column_moved columns position.column x; row = row_moved rows position.row y }
+change_moved width_of columns rows position (ClearScreen color) = home
+change_moved width_of columns rows position (ScrollRegionUp first size count) = home
+change_moved width_of columns rows position (ScrollRegionDown first size count) = home
+change_moved width_of columns rows position _ = position
 
 -- ---- a list of changes
 
--- whether the row behind a change counts for the height
+-- whether the row after a change counts for the height
 abbrev pub is_drawn : ChangeValue → Bool
 is_drawn (Text text) = true
 is_drawn (CursorPosition x y) = true
@@ -91,7 +92,7 @@ pub record Sequence (W : Type 0) : Type 0 where
   pub widths : W
   pub columns : ℕ
   pub rows : ℕ
-  pub place : Place
+  pub position : Place
   pub lowest : ℤ
   pub highest : ℤ
   pub changes : List ChangeValue
@@ -99,11 +100,11 @@ pub record Sequence (W : Type 0) : Type 0 where
 -- one change more
 abbrev pub with_change : {W : Type 0} → (List ℕ → ℕ) → Sequence W → ChangeValue → Sequence W
 with_change width_of s change =
-    let place = change_moved width_of s.columns s.rows s.place change in
+    let position = change_moved width_of s.columns s.rows s.position change in
     record s {
-      place = place;
-      lowest = if is_drawn change then int_min s.lowest place.row else s.lowest;
-      highest = if is_drawn change then int_max s.highest place.row else s.highest;
+      position = position;
+      lowest = if is_drawn change then int_min s.lowest position.row else s.lowest;
+      highest = if is_drawn change then int_max s.highest position.row else s.highest;
       changes = s.changes ++ change ∷ [];
     }
 
@@ -117,8 +118,8 @@ pub record HasSome {W : Type 0} (width_of : List ℕ → ℕ) (before after : Se
   pub fewer : count < length changes
   pub added : after ≡ with_changes width_of before (take count changes)
 
--- from one place to another, as far as numbers of 64 bits go
+-- from one position to another, as far as numbers of 64 bits go
 abbrev pub move_to : Place → ℕ → ℤ → ChangeValue
-move_to place column row =
-    CursorPosition (Relative (saturate_signed w64 (pos column -ℤ pos place.column)))
-    (Relative (saturate_signed w64 (row -ℤ place.row)))
+move_to position column row =
+    CursorPosition (Relative (saturate_signed w64 (pos column -ℤ pos position.column)))
+    (Relative (saturate_signed w64 (row -ℤ position.row)))

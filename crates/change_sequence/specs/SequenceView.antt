@@ -10,13 +10,13 @@ sequence_of a =
       widths = a.widths;
       columns = a.columns;
       rows = a.rows;
-      place = record { column = a.column; row = a.row };
+      position = record { column = a.column; row = a.row };
       lowest = a.lowest;
       highest = a.highest;
       changes = map value_of a.changes.items;
     }
 
--- there are columns and rows, and the column is one of them, or the one behind the last
+-- there are columns and rows, and the column is one of them, or the one after the last
 pub record IsWithin {W : Type 0} (a : Inside W) : Type 0 where
   pub some_columns : 0 < a.columns
   pub some_rows : 0 < a.rows

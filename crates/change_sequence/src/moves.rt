@@ -13,15 +13,15 @@ use unicode_segmentation::UnicodeSegmentation;
 /// A column and a row.
 pub(crate) type Place = (usize, isize);
 
-// Behind a cluster.
-fn after_cluster<W: Widths>(widths: &W, columns: usize, place: Place, cluster: &str) -> Place
-    requires within { place.0 ≤ columns }
+// After a cluster.
+fn after_cluster<W: Widths>(widths: &W, columns: usize, position: Place, cluster: &str) -> Place
+    requires within { position.0 ≤ columns }
     requires some { 0 < columns }
     ensures moved { place_of result
-        ≡ stroke_moved (W.width_of widths.now) columns (place_of place) (Cluster cluster.now) }
+        ≡ stroke_moved (W.width_of widths.now) columns (place_of position) (Cluster cluster.now) }
     ensures within { result.0 ≤ columns }
 {
-    let (column, row) = place;
+    let (column, row) = position;
     let taken = if 1 < columns && 2 <= widths.width(cluster) {
         2
     } else {
@@ -34,54 +34,59 @@ fn after_cluster<W: Widths>(widths: &W, columns: usize, place: Place, cluster: &
     }
 }
 
-// Behind the clusters of a text.
+// After the clusters of a text.
 #[tactic(auto, using(cell_base::proofs::PlainClusters::clusters_are))]
-fn after_run<W: Widths>(widths: &W, columns: usize, place: Place, text: &str) -> Place
-    requires within { place.0 ≤ columns }
+fn after_run<W: Widths>(widths: &W, columns: usize, position: Place, text: &str) -> Place
+    requires within { position.0 ≤ columns }
     requires some { 0 < columns }
     ensures moved { place_of result
-        ≡ fold (stroke_moved (W.width_of widths.now) columns) (place_of place) (map Cluster (clusters text.now)) }
+        ≡ fold (stroke_moved (W.width_of widths.now) columns) (place_of position) (map Cluster (clusters text.now)) }
     ensures within { result.0 ≤ columns }
 {
-    let mut place = place;
+    let mut position = position;
     for cluster in text.graphemes(true) {
-        place = after_cluster(widths, columns, place, cluster);
+        position = after_cluster(widths, columns, position, cluster);
     }
-    place
+    position
 }
 
-// Behind a control in a text.
-fn after_control<W: Widths>(widths: &W, columns: usize, place: Place, control: u8) -> Place
-    requires within { place.0 ≤ columns }
+// After a control in a text.
+fn after_control<W: Widths>(widths: &W, columns: usize, position: Place, control: u8) -> Place
+    requires within { position.0 ≤ columns }
     requires some { 0 < columns }
     ensures moved { place_of result
-        ≡ parts_moved (W.width_of widths.now) columns (place_of place) (Control control ∷ []) }
+        ≡ parts_moved (W.width_of widths.now) columns (place_of position) (Control control ∷ []) }
     ensures within { result.0 ≤ columns }
 {
-    let (column, row) = place;
+    let (column, row) = position;
     match control {
         b'\r' => (0, row),
         b'\n' => (column, row.saturating_add(1)),
-        _ => after_cluster(widths, columns, place, " "),
+        _ => after_cluster(widths, columns, position, " "),
     }
 }
 
-/// Behind a text, as on a screen of so many columns that doesn't scroll.
-pub(crate) fn after_text<W: Widths>(widths: &W, columns: usize, place: Place, text: &str) -> Place
-    requires within { place.0 ≤ columns }
+/// After a text, as on a screen of so many columns that doesn't scroll.
+pub(crate) fn after_text<W: Widths>(
+    widths: &W,
+    columns: usize,
+    position: Place,
+    text: &str,
+) -> Place
+    requires within { position.0 ≤ columns }
     requires some { 0 < columns }
-    ensures moved { place_of result ≡ text_moved (W.width_of widths.now) columns (place_of place) text.now }
+    ensures moved { place_of result ≡ text_moved (W.width_of widths.now) columns (place_of position) text.now }
     ensures within { result.0 ≤ columns }
 {
-    let (front, mut rest) = split_at_control(text);
-    let mut place = after_run(widths, columns, place, front);
-    while let Some((control, behind)) = split_control(rest) {
-        place = after_control(widths, columns, place, control);
-        let (front, others) = split_at_control(behind);
-        place = after_run(widths, columns, place, front);
-        rest = others;
+    let (prefix, mut rest) = split_at_control(text);
+    let mut position = after_run(widths, columns, position, prefix);
+    while let Some((control, after)) = split_control(rest) {
+        position = after_control(widths, columns, position, control);
+        let (prefix, remaining) = split_at_control(after);
+        position = after_run(widths, columns, position, prefix);
+        rest = remaining;
     }
-    place
+    position
 }
 
 /// The column that a position names.

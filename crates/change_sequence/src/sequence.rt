@@ -40,7 +40,7 @@ impl<W> Model for ChangeSequence<W> {
     ghost invariant = { IsWithin };
 }
 
-// Whether the row behind the change counts for the height.
+// Whether the row after the change counts for the height.
 fn is_drawn(change: &Change) -> bool
     ensures { result ≡ is_drawn (value_of change.now) }
 {
@@ -48,29 +48,32 @@ fn is_drawn(change: &Change) -> bool
 }
 
 // Where a change leaves the cursor.
-fn behind<W: Widths>(
+fn after<W: Widths>(
     widths: &W,
     columns: usize,
     rows: usize,
-    place: Place,
+    position: Place,
     change: &Change,
 ) -> Place
-    requires within { place.0 ≤ columns }
+    requires within { position.0 ≤ columns }
     requires some_columns { 0 < columns }
     requires some_rows { 0 < rows }
     ensures moved { place_of result
-        ≡ change_moved (W.width_of widths.now) columns rows (place_of place) (value_of change.now) }
+        ≡ change_moved (W.width_of widths.now) columns rows (place_of position) (value_of change.now) }
     ensures within { result.0 ≤ columns }
 {
     match change {
-        Change::Text(text) => after_text(widths, columns, place, text.as_str()),
+        Change::Text(text) => after_text(widths, columns, position, text.as_str()),
         Change::CursorPosition { x, y } => {
-            (column_of(columns, place.0, *x), row_of(rows, place.1, *y))
+            (
+                column_of(columns, position.0, *x),
+                row_of(rows, position.1, *y),
+            )
         }
         Change::ClearScreen(_) => (0, 0),
         Change::ScrollRegionUp { .. } => (0, 0),
         Change::ScrollRegionDown { .. } => (0, 0),
-        _ => place,
+        _ => position,
     }
 }
 
@@ -84,7 +87,7 @@ impl<W: Widths + Drop> ChangeSequence<W> {
               widths = widths;
               columns = cols;
               rows = rows;
-              place = home;
+              position = home;
               lowest = pos 0;
               highest = pos 0;
               changes = [];
@@ -113,12 +116,12 @@ impl<W: Widths + Drop> ChangeSequence<W> {
 
     /// The column and the row where the changes leave the cursor.
     pub fn current_cursor_position(&self) -> (usize, isize)
-        ensures { place_of result ≡ self.now.place }
+        ensures { place_of result ≡ self.now.position }
     {
         (self.column, self.row)
     }
 
-    /// How far apart the least and the greatest are of row 0 and the rows behind texts and positions.
+    /// How far apart the least and the greatest are of row 0 and the rows after texts and positions.
     pub fn render_height(&self) -> usize
         ensures { result ≡ unsigned_abs (self.now.highest -ℤ self.now.lowest) }
     {
@@ -141,8 +144,8 @@ impl<W: Widths + Drop> ChangeSequence<W> {
         ensures added { OnOk result (self.new ≡ with_change (W.width_of self.old.widths) self.old (value_of change)) }
         ensures refused { OnErr result (self.new ≡ self.old) }
     {
-        let place = (self.column, self.row);
-        let (column, row) = behind(&self.widths, self.columns, self.rows, place, &change);
+        let position = (self.column, self.row);
+        let (column, row) = after(&self.widths, self.columns, self.rows, position, &change);
         let is_drawn = is_drawn(&change);
         self.changes.push(change)?;
         self.column = column;
@@ -178,14 +181,15 @@ impl<W: Widths + Drop> ChangeSequence<W> {
         Ok(())
     }
 
-    /// Adds the position that leads from the current place to another one, by how far it is away.
-    pub fn move_to(&mut self, place: (usize, isize)) -> Result<(), AllocError>
+    /// Adds the position that leads from the current position to another one, by how far it is away.
+    pub fn move_to(&mut self, position: (usize, isize)) -> Result<(), AllocError>
         ensures added { OnOk result
-            (self.new ≡ with_change (W.width_of self.old.widths) self.old (move_to self.old.place place.0 place.1)) }
+            (self.new ≡ with_change (W.width_of self.old.widths) self.old
+            (move_to self.old.position position.0 position.1)) }
         ensures refused { OnErr result (self.new ≡ self.old) }
     {
-        let x = way(self.column, place.0);
-        let y = place.1.saturating_sub(self.row);
+        let x = way(self.column, position.0);
+        let y = position.1.saturating_sub(self.row);
         self.push(Change::CursorPosition {
             x: Position::Relative(x),
             y: Position::Relative(y),

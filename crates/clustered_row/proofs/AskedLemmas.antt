@@ -1,4 +1,4 @@
--- What is asked of a row's columns, from its faces and attributes and from the blanks behind these.
+-- What is asked of a row's columns, from its faces and attributes and from the blanks after these.
 use Rattle.std.proofs.Common.{◌≡◌, ℕ, zero, suc, ◌+◌, ◌-◌, ◌<◌, ◌≤◌, Bool, true, false, List, [], ◌∷◌, ◌++◌, length, drop, replicate, get_or, Option, Some, None, refl, sym, ap, ◌∙◌, append-nil, length-append, arith}
 use Rattle.std.specs.Prelude.{find, fold, is_some, not, ◌==◌, if◌then◌else◌}
 use Rattle.std.proofs.lemmas.Bool.{ne_eqb, eq-eqb}
@@ -203,7 +203,7 @@ copy_at zero k x d h = absurd (omega arith)
 copy_at (suc n) zero x d h = refl
 copy_at (suc n) (suc k) x d h = copy_at n k x d (omega arith)
 
--- that of the blanks behind what was written
+-- that of the blanks after what was written
 pub blank_wrapped : (xs : Row) (n : ℕ) (a : Attributes) → IsWhole xs → 0 < n → a.wrapped ≡ ends_wrapped (visible_cells (xs ++ replicate n (blank a)))
 blank_wrapped xs n a w h =
     let blanks = replicate n (blank a) in

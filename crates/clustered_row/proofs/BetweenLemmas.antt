@@ -8,9 +8,9 @@ use Rattle.text_clusters.specs.Plain.{is_printable}
 use Rattle.cell_base.specs.Attributes.{Attributes}
 use Rattle.cell_base.specs.Row.{Column, Row}
 use Rattle.clustered_row.specs.declared.cell_size.CellSize.{CellSize}
-use Rattle.clustered_row.specs.declared.place.Place.{Place}
+use Rattle.clustered_row.specs.declared.position.Position.{Position}
 use Rattle.clustered_row.specs.Faces.{Face, column, plain_faces, row_of, starts_right}
-use Rattle.clustered_row.specs.Place.{IsPlace, IsSplit, IsBefore}
+use Rattle.clustered_row.specs.Position.{IsPosition, IsSplit, IsBefore}
 use Rattle.clustered_row.specs.Sizes.{bytes_of, columns_of, faces_of, is_cut}
 use Rattle.clustered_row.specs.VisibleColumns.{starts_split, is_split}
 use Rattle.clustered_row.proofs.AskedLemmas.{lent_none, halved_before}
@@ -19,9 +19,9 @@ use Rattle.clustered_row.proofs.SizeLemmas.{bytes_split, cut_more}
 use Rattle.clustered_row.proofs.TextLemmas.{Placed, IsAfter, take_front, drop_front, cut_parts, after_front, after_parted, after_taken}
 use Rattle.clustered_row.proofs.StepLemmas.{IsSized, fits, a_size, lent_right, sized_columns_within}
 
--- ---- places before cells
+-- ---- positions before cells
 
-pub before_sized : (t : List ℕ) (s : List CellSize) (sb sc : ℕ) (p : Place) → IsSized t s sb sc → IsPlace s p → IsBefore t s p
+pub before_sized : (t : List ℕ) (s : List CellSize) (sb sc : ℕ) (p : Position) → IsSized t s sb sc → IsPosition s p → IsBefore t s p
 before_sized t s sb sc p h q =
     let bytes = q.bytes in
     let columns = q.columns in
@@ -35,14 +35,14 @@ before_sized t s sb sc p h q =
       columns = omega (arith, bytes, columns);
     }
 
-pub place_of_before : (t : List ℕ) (s : List CellSize) (sb sc : ℕ) (p : Place) → IsSized t s sb sc → IsBefore t s p → p.columns < sc → IsPlace s p
+pub place_of_before : (t : List ℕ) (s : List CellSize) (sb sc : ℕ) (p : Position) → IsSized t s sb sc → IsBefore t s p → p.columns < sc → IsPosition s p
 place_of_before t s sb sc p h q less = elim (cases_lt p.index (length s)) [
   | inl in_front ↦ (
       let bytes = q.sized in_front in
       let columns = q.columns in
       record { within = q.index; bytes = bytes; columns = omega (arith, bytes, columns) })
-  | inr behind ↦ (
-      let all : take p.index s ≡ s = take_all p.index s behind in
+  | inr after ↦ (
+      let all : take p.index s ≡ s = take_all p.index s after in
       let bytes = ap bytes_of all in
       let columns = ap columns_of all in
       let most = q.bytes in
@@ -52,15 +52,15 @@ place_of_before t s sb sc p h q less = elim (cases_lt p.index (length s)) [
       absurd (omega (arith, bytes, columns, most, sum, one, two, less)))
 ]
 
-pub bytes_before : (t : List ℕ) (s : List CellSize) (sb sc : ℕ) (p : Place) (m at : ℕ) → IsSized t s sb sc → IsBefore t s p → p.columns ≤ at → sb ≤ m → m + sc ≡ sb + at → p.bytes ≤ m
+pub bytes_before : (t : List ℕ) (s : List CellSize) (sb sc : ℕ) (p : Position) (m at : ℕ) → IsSized t s sb sc → IsBefore t s p → p.columns ≤ at → sb ≤ m → m + sc ≡ sb + at → p.bytes ≤ m
 bytes_before t s sb sc p m at h q order b e = elim (cases_lt p.index (length s)) [
   | inl in_front ↦ (
       let bytes = q.sized in_front in
       let sum = bytes_split p.index s in
       let one = h.bytes_are in
       omega (arith, bytes, sum, one, b))
-  | inr behind ↦ (
-      let all : take p.index s ≡ s = take_all p.index s behind in
+  | inr after ↦ (
+      let all : take p.index s ≡ s = take_all p.index s after in
       let bytes = ap bytes_of all in
       let columns = ap columns_of all in
       let sum = q.columns in
@@ -70,7 +70,7 @@ bytes_before t s sb sc p m at h q order b e = elim (cases_lt p.index (length s))
 ]
 
 -- where no cell is cut the cell that was found begins
-pub found_whole : (t : List ℕ) (s : List CellSize) (sb sc : ℕ) (p : Place) (at : ℕ) → IsSized t s sb sc → IsPlace s p → p.columns ≤ at → at < sc
+pub found_whole : (t : List ℕ) (s : List CellSize) (sb sc : ℕ) (p : Position) (at : ℕ) → IsSized t s sb sc → IsPosition s p → p.columns ≤ at → at < sc
     → ((d : CellSize) → p.columns < at → IsSplit s p at d) → starts_right (drop at (faces_of t s)) ≡ false → p.columns ≡ at
 found_whole t s sb sc p at h q order less half whole = elim (cases_lt p.columns at) [
   | inl cut ↦ (
@@ -79,19 +79,19 @@ found_whole t s sb sc p at h q order less half whole = elim (cases_lt p.columns 
   | inr there ↦ omega (arith, order, there)
 ]
 
--- ---- cells in front of a place, and behind it
+-- ---- cells before a position, and after it
 
 pub record IsText (t : List ℕ) (s : List CellSize) : Type 0 where
   pub bytes : bytes_of s ≤ length t
   pub parts : is_cut t s ≡ true
 
-pub record IsParted (t : List ℕ) (s : List CellSize) (p : Place) : Type 0 where
-  pub front : take p.columns (faces_of t s) ≡ faces_of (take p.bytes t) (take p.index s)
+pub record IsParted (t : List ℕ) (s : List CellSize) (p : Position) : Type 0 where
+  pub prefix : take p.columns (faces_of t s) ≡ faces_of (take p.bytes t) (take p.index s)
   pub rest : drop p.columns (faces_of t s) ≡ faces_of (drop p.bytes t) (drop p.index s)
   pub front_text : IsText (take p.bytes t) (take p.index s)
   pub rest_text : IsText (drop p.bytes t) (drop p.index s)
 
-parted_in : (t : List ℕ) (s : List CellSize) (p : Place) → IsText t s → IsBefore t s p → p.index < length s → IsParted t s p
+parted_in : (t : List ℕ) (s : List CellSize) (p : Position) → IsText t s → IsBefore t s p → p.index < length s → IsParted t s p
 parted_in t s p h q less =
     let bytes = q.sized less in
     let columns = q.columns in
@@ -102,13 +102,13 @@ parted_in t s p h q less =
     let m = length-drop p.bytes t in
     let all = bytes_split p.index s in
     record {
-      front = take_front t s p.index p.bytes p.columns at;
+      prefix = take_front t s p.index p.bytes p.columns at;
       rest = drop_front t s p.index p.bytes p.columns at;
       front_text = record { bytes = omega (arith, n, bytes); parts = cuts.0 };
       rest_text = record { bytes = omega (arith, m, all, bytes, most); parts = cuts.1 };
     }
 
-parted_after : (t : List ℕ) (s : List CellSize) (p : Place) → IsText t s → IsBefore t s p → length s ≤ p.index → IsParted t s p
+parted_after : (t : List ℕ) (s : List CellSize) (p : Position) → IsText t s → IsBefore t s p → length s ≤ p.index → IsParted t s p
 parted_after t s p h q past =
     let all : take p.index s ≡ s = take_all p.index s past in
     let none : drop p.index s ≡ [] = drop_all p.index s past in
@@ -122,7 +122,7 @@ parted_after t s p h q past =
     let both = and_parts (is_cut (take p.bytes t) s) (list_all is_printable (drop p.bytes t))
     (sym (ap (λ (text : List ℕ). is_cut text s) (sym (take-append-drop p.bytes t)) ∙ cut_more (take p.bytes t) (drop p.bytes t) s (omega (arith, n, sized))) ∙ h.parts) in
     record {
-      front = after_taken t s p.bytes p.columns at ∙ ap (faces_of (take p.bytes t)) (sym all);
+      prefix = after_taken t s p.bytes p.columns at ∙ ap (faces_of (take p.bytes t)) (sym all);
       rest = ap (drop p.columns) (after_parted t s p.bytes p.columns at)
           ∙ drop_at (faces_of (take p.bytes t) s) (plain_faces (drop p.bytes t)) p.columns (after_front t s p.bytes p.columns at)
           ∙ ap (faces_of (drop p.bytes t)) (sym none);
@@ -130,11 +130,11 @@ parted_after t s p h q past =
       rest_text = record { bytes = (let no_bytes = ap bytes_of none in omega (arith, no_bytes)); parts = ap (is_cut (drop p.bytes t)) none ∙ both.1 };
     }
 
-pub parted_before : (t : List ℕ) (s : List CellSize) (p : Place) → IsText t s → IsBefore t s p → IsParted t s p
+pub parted_before : (t : List ℕ) (s : List CellSize) (p : Position) → IsText t s → IsBefore t s p → IsParted t s p
 parted_before t s p h q = elim (cases_lt p.index (length s)) [ inl less ↦ parted_in t s p h q less | inr past ↦ parted_after t s p h q past ]
 
--- a place in front of another
-before_in_front : (t : List ℕ) (s : List CellSize) (p q : Place) → IsBefore t s p → IsBefore t s q → p.index ≤ q.index → p.bytes ≤ q.bytes → IsBefore (take q.bytes t) (take q.index s) p
+-- a position before another
+before_in_front : (t : List ℕ) (s : List CellSize) (p q : Position) → IsBefore t s p → IsBefore t s q → p.index ≤ q.index → p.bytes ≤ q.bytes → IsBefore (take q.bytes t) (take q.index s) p
 before_in_front t s p q a b i k =
     let same : take p.index (take q.index s) ≡ take p.index s = take-take p.index q.index s i in
     let n = length-take-le q.index s b.index in
@@ -157,13 +157,13 @@ part_is {X} xs i j h =
     let on : j ≡ i + (j - i) = omega arith in
     ap (λ n. drop i (take n xs)) on ∙ drop-take i (j - i) xs
 
--- the cells between two places, in lists that are those of the text
+-- the cells between two positions, in lists that are those of the text
 pub record AreBetween (t u : List ℕ) (s v : List CellSize) (from to : ℕ) : Type 0 where
   pub bytes : bytes_of v ≤ length u
   pub parts : is_cut u v ≡ true
   pub shown : faces_of u v ≡ drop from (take to (faces_of t s))
 
-pub between_places : (t x : List ℕ) (s v : List CellSize) (sb sc : ℕ) (p q : Place) (from to : ℕ) → IsSized t s sb sc → x ≡ t → v ≡ s → IsBefore t s p → IsBefore t s q
+pub between_places : (t x : List ℕ) (s v : List CellSize) (sb sc : ℕ) (p q : Position) (from to : ℕ) → IsSized t s sb sc → x ≡ t → v ≡ s → IsBefore t s p → IsBefore t s q
     → p.index ≤ q.index → p.bytes ≤ q.bytes → p.columns ≡ from → q.columns ≡ to
     → AreBetween t (take (q.bytes - p.bytes) (drop p.bytes x)) s (take (q.index - p.index) (drop p.index v)) from to
 between_places t x s v sb sc p q from to h e f a b i k c d =
@@ -175,7 +175,7 @@ between_places t x s v sb sc p q from to h e f a b i k c d =
     record {
       bytes = is.bytes;
       parts = is.parts;
-      shown = sym ((λ n. drop (sym c n) (take (sym d n) (faces_of t s))) ∙ ap (drop p.columns) first.front ∙ then.rest ∙ (λ n. faces_of (text n) (sizes n)));
+      shown = sym ((λ n. drop (sym c n) (take (sym d n) (faces_of t s))) ∙ ap (drop p.columns) first.prefix ∙ then.rest ∙ (λ n. faces_of (text n) (sizes n)));
     }
 
 -- ---- columns between two columns
@@ -186,7 +186,7 @@ row_of-short (suc n) [] ats = refl
 row_of-short (suc n) (f ∷ fs) [] = refl
 row_of-short (suc n) (f ∷ fs) (a ∷ ats) = ap (λ (r : Row). column f a ∷ r) (row_of-short n fs ats)
 
--- attributes behind the last face are seen no more
+-- attributes after the last face are seen no more
 pub row_between : (fs gs : List Face) (ats bs : List Attributes) (from to : ℕ) → gs ≡ drop from (take to fs) → bs ≡ drop from ats → row_of gs bs ≡ drop from (take to (row_of fs ats))
 row_between fs gs ats bs from to e f =
     (λ i. row_of (e i) (f i)) ∙ sym (row_of-drop from (take to fs) ats) ∙ ap (drop from) (row_of-short to fs ats ∙ sym (row_of-take to fs ats))
@@ -238,14 +238,14 @@ module _ (xs : Row) (n start stop from to k : ℕ) (b : Column) (o : start ≤ s
       ∙ sym (ap (drop start) (written_front xs n stop b past w) ∙ drop-append-le start xs (replicate (stop - length xs) b) (omega (arith, less)))
 
   in_blanks : length xs ≤ stop → length xs ≤ start → drop from (take to xs) ++ replicate k b ≡ drop start (take stop (xs ++ replicate n b))
-  in_blanks past behind =
-      let count : k ≡ (stop - length xs) - (start - length xs) = omega (arith, e, f, g, behind, past) in
-      (λ i. all_before xs from to (omega (arith, f, past)) (omega (arith, e, behind)) i ++ replicate (count i) b)
-      ∙ sym (ap (drop start) (written_front xs n stop b past w) ∙ written_after xs (stop - length xs) start b behind)
+  in_blanks past after =
+      let count : k ≡ (stop - length xs) - (start - length xs) = omega (arith, e, f, g, after, past) in
+      (λ i. all_before xs from to (omega (arith, f, past)) (omega (arith, e, after)) i ++ replicate (count i) b)
+      ∙ sym (ap (drop start) (written_front xs n stop b past w) ∙ written_after xs (stop - length xs) start b after)
 
-  -- columns that were written, and blanks behind them
+  -- columns that were written, and blanks after them
   pub blanks_between : drop from (take to xs) ++ replicate k b ≡ drop start (take stop (xs ++ replicate n b))
   blanks_between = elim (cases_lt stop (length xs)) [
     | inl less ↦ within_written less
-    | inr past ↦ elim (cases_lt start (length xs)) [ inl less ↦ over_end past less | inr behind ↦ in_blanks past behind ]
+    | inr past ↦ elim (cases_lt start (length xs)) [ inl less ↦ over_end past less | inr after ↦ in_blanks past after ]
   ]

@@ -1,4 +1,4 @@
--- Blanks behind the columns that were written.
+-- Blanks after the columns that were written.
 use Rattle.std.proofs.Common.{◌≡◌, ℕ, zero, suc, ◌+◌, ◌-◌, ◌≤◌, List, [], ◌∷◌, ◌++◌, length, take, drop, replicate, refl, sym, ap, ◌∙◌, append_assoc, length-append, arith}
 use Rattle.std.proofs.lemmas.List.{length-replicate, replicate-append-replicate}
 use Rattle.std.proofs.Math.Seq.{drop-append-add}
@@ -32,24 +32,24 @@ drop-replicate (suc m) (suc n) x = let less : n - m ≡ suc n - suc m = omega ar
 pub set_before : (row columns : Row) (at n : ℕ) (a : Attributes) → at + length columns ≤ length row
     → set_columns (row ++ replicate n (blank a)) at columns ≡ set_columns row at columns ++ replicate n (blank a)
 set_before row columns at n a h =
-    let front : take at (row ++ replicate n (blank a)) ≡ take at row = take_within row (replicate n (blank a)) at (omega (arith, h)) in
+    let prefix : take at (row ++ replicate n (blank a)) ≡ take at row = take_within row (replicate n (blank a)) at (omega (arith, h)) in
     let rest : drop (at + length columns) (row ++ replicate n (blank a)) ≡ drop (at + length columns) row ++ replicate n (blank a) = drop_within row (replicate n (blank a)) (at + length columns) h in
-    (λ i. closed_end (front i) ++ columns ++ (ap closed_start rest ∙ closed_start-append (drop (at + length columns) row) n a) i)
+    (λ i. closed_end (prefix i) ++ columns ++ (ap closed_start rest ∙ closed_start-append (drop (at + length columns) row) n a) i)
     ∙ sym (append_assoc (closed_end (take at row) ++ columns) (closed_start (drop (at + length columns) row)) (replicate n (blank a)))
 
 -- columns set over the end of what stands before the blanks
 pub set_over : (row columns : Row) (at n : ℕ) (a : Attributes) → at ≤ length row → length row ≤ at + length columns → at + length columns ≤ length row + n
     → set_columns (row ++ replicate n (blank a)) at columns ≡ closed_end (take at row) ++ columns ++ replicate (length row + n - (at + length columns)) (blank a)
 set_over row columns at n a o h w =
-    let front : take at (row ++ replicate n (blank a)) ≡ take at row = take_within row (replicate n (blank a)) at o in
+    let prefix : take at (row ++ replicate n (blank a)) ≡ take at row = take_within row (replicate n (blank a)) at o in
     let past = at + length columns - length row in
     let on : at + length columns ≡ length row + past = omega (arith, h) in
     let left : n - past ≡ length row + n - (at + length columns) = omega (arith, h, w) in
     let rest : drop (at + length columns) (row ++ replicate n (blank a)) ≡ replicate (length row + n - (at + length columns)) (blank a)
     = ap (λ m. drop m (row ++ replicate n (blank a))) on ∙ drop-append-add row (replicate n (blank a)) past ∙ drop-replicate past n (blank a) ∙ ap (λ m. replicate m (blank a)) left in
-    λ i. closed_end (front i) ++ columns ++ (ap closed_start rest ∙ starts_blank (length row + n - (at + length columns)) a) i
+    λ i. closed_end (prefix i) ++ columns ++ (ap closed_start rest ∙ starts_blank (length row + n - (at + length columns)) a) i
 
--- blanks that are stored, and those behind them, are as before
+-- blanks that are stored, and those after them, are as before
 pub blanks_stored : (row : Row) (to width : ℕ) (a : Attributes) → length row ≤ to → to ≤ width
     → (row ++ replicate (to - length row) (blank a)) ++ replicate (width - length (row ++ replicate (to - length row) (blank a))) (blank a) ≡ row ++ replicate (width - length row) (blank a)
 blanks_stored row to width a h w =

@@ -88,12 +88,12 @@ module _ (cells : List CellContent) (at : ℕ) (d : CellContent) (inside : at < 
       let m = length-drop at cells in
       omega (arith, n, m, inside, ap length next_cells, length-append columns (row_of_cells (drop (at + length columns) cells)))
 
--- a row on which the cells in front of a place were put leads to the row of all; it is as wide, and whole
-pub record LeadsTo (cells : List CellContent) (row : Row) (place : ℕ) : Type 0 where
+-- a row on which the cells before a position were put leads to the row of all; it is as wide, and whole
+pub record LeadsTo (cells : List CellContent) (row : Row) (position : ℕ) : Type 0 where
   pub len : length row ≡ length cells
-  pub order : place ≤ length cells
+  pub order : position ≤ length cells
   pub whole : IsWhole row
-  pub leads : set_columns row place (row_of_cells (drop place cells)) ≡ row_of_cells cells
+  pub leads : set_columns row position (row_of_cells (drop position cells)) ≡ row_of_cells cells
 
 pub put_first : (cells : List CellContent) → LeadsTo cells (plain_row (length cells)) 0
 put_first cells =
@@ -107,23 +107,23 @@ put_first cells =
       leads = ap (λ (r : Row). row_of_cells cells ++ closed_start r) none ∙ append-nil (row_of_cells cells);
     }
 
-pub put_next : (cells : List CellContent) (row next : Row) (at place : ℕ) (d : CellContent) → LeadsTo cells row at → at < length cells → next ≡ set_columns row at (first_columns (get_or cells at d) (length row - at))
-    → place ≡ at + length (first_columns (get_or cells at d) (length row - at)) → LeadsTo cells next place
-put_next cells row next at place d l h e p =
+pub put_next : (cells : List CellContent) (row next : Row) (at position : ℕ) (d : CellContent) → LeadsTo cells row at → at < length cells → next ≡ set_columns row at (first_columns (get_or cells at d) (length row - at))
+    → position ≡ at + length (first_columns (get_or cells at d) (length row - at)) → LeadsTo cells next position
+put_next cells row next at position d l h e p =
     let len = l.len in
     let there = columns cells at d h in
     let room : length row - at ≡ length cells - at = omega (arith, len) in
     let same : first_columns (get_or cells at d) (length row - at) ≡ there = ap (first_columns (get_or cells at d)) room in
     let is : next ≡ set_columns row at there = e ∙ ap (set_columns row at) same in
-    let behind : place ≡ at + length there = p ∙ ap (λ (r : Row). at + length r) same in
+    let after : position ≡ at + length there = p ∙ ap (λ (r : Row). at + length r) same in
     let fits = next_fits cells at d h in
     let long = ap length is ∙ length-set_columns row at there (omega (arith, len, fits)) in
     let whole_one = first_is_whole (get_or cells at d) (length cells - at) in
     record {
       len = long ∙ len;
-      order = omega (arith, behind, fits);
+      order = omega (arith, after, fits);
       whole = subst IsWhole (sym is) (whole-set_columns row at there l.whole whole_one);
-      leads = (λ i. set_columns (is i) (behind i) (row_of_cells (drop (behind i) cells)))
+      leads = (λ i. set_columns (is i) (after i) (row_of_cells (drop (after i) cells)))
           ∙ set_columns-again row at there (row_of_cells (drop (at + length there) cells)) (omega (arith, len, fits)) whole_one
           ∙ ap (set_columns row at) (sym (next_cells cells at d h)) ∙ l.leads;
     }

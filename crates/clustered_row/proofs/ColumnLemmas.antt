@@ -7,7 +7,7 @@ use Rattle.cell_base.specs.Attributes.{Attributes}
 use Rattle.cell_base.specs.Row.{Row, space, blank, set_columns}
 use Rattle.cell_base.specs.Row as rows
 use Rattle.cell_base.specs.WholeRow.{IsWhole}
-use Rattle.cell_base.proofs.RowLemmas.{whole_ends, whole-append, whole-blanks, whole-front, whole-set_columns}
+use Rattle.cell_base.proofs.RowLemmas.{whole_ends, whole-append, whole-blanks, whole-prefix, whole-set_columns}
 use Rattle.clustered_row.specs.declared.cell_size.CellSize.{CellSize}
 use Rattle.clustered_row.specs.Ends.{EndsAt}
 use Rattle.clustered_row.specs.Faces.{Face, Own, Left, Right, cell_faces, plain_faces, row_of, closed_end, padded, set_faces}
@@ -56,9 +56,9 @@ module _ (fs now : List Face) (ats bs : List Attributes) (even : length ats ≡ 
       let ended = length-closed_end (take at fs) in
       made now bs (rows.closed_end (take at (row_of fs ats))) (omega (arith, even, ended, ap length e, ap length f, length-take at fs, length-take at ats))
       ((λ i. row_of (e i) (f i)) ∙ sym (row_of-closed_end (take at fs) (take at ats) (omega (arith, even, length-take at fs, length-take at ats))) ∙ ap rows.closed_end (sym (row_of-take at fs ats)))
-      (whole-front at (row_of fs ats) whole)
+      (whole-prefix at (row_of fs ats) whole)
 
-  -- others behind
+  -- others after
   pub push_makes : (gs : List Face) (n : ℕ) (a : Attributes) → now ≡ fs ++ gs → bs ≡ ats ++ replicate n a → n ≡ length gs → IsWhole (row_of gs (replicate n a)) → Makes now bs (row_of fs ats ++ row_of gs (replicate n a))
   push_makes gs n a e f count w =
       made now bs (row_of fs ats ++ row_of gs (replicate n a)) (omega (arith, even, count, ap length e, ap length f, length-append fs gs, length-append ats (replicate n a), length-replicate n a))
@@ -81,7 +81,7 @@ module _ (fs now : List Face) (ats bs : List Attributes) (even : length ats ≡ 
       let blanks = length-replicate n a in
       let row : row_of now bs ≡ set_columns (row_of fs ats) at (row_of gs (replicate n a))
       = (λ i. row_of (e i) (f i)) ∙ ap (λ k. row_of (set_faces fs at gs) (take at ats ++ replicate n a ++ drop (at + k) ats)) (sym blanks) ∙ sym (row_of-set fs gs ats (replicate n a) at (omega (arith, even)) (omega (arith, count, blanks))) in
-      let front = length-append (closed_end (take at fs) ++ gs) (Rattle.clustered_row.specs.Faces.closed_start (drop (at + length gs) fs)) in
+      let prefix = length-append (closed_end (take at fs) ++ gs) (Rattle.clustered_row.specs.Faces.closed_start (drop (at + length gs) fs)) in
       made now bs (set_columns (row_of fs ats) at (row_of gs (replicate n a)))
       (omega (
         arith,
@@ -95,7 +95,7 @@ module _ (fs now : List Face) (ats bs : List Attributes) (even : length ats ≡ 
         blanks,
         length-take at ats,
         length-drop (at + n) ats,
-        front,
+        prefix,
         length-append (closed_end (take at fs)) gs,
         length-closed_end (take at fs),
         length-closed_start (drop (at + length gs) fs),

@@ -3,10 +3,10 @@ use Rattle.std.proofs.Common.{◌≡◌, ℕ, ◌+◌, ◌-◌, ◌<◌, ◌≤�
 use Rattle.std.proofs.lemmas.List.{drop-drop, drop_all, drop_more, take_all}
 use Rattle.cell_base.specs.Attributes.{Attributes}
 use Rattle.clustered_row.specs.declared.cell_size.CellSize.{CellSize}
-use Rattle.clustered_row.specs.declared.place.Place.{Place}
+use Rattle.clustered_row.specs.declared.position.Position.{Position}
 use Rattle.clustered_row.specs.declared.run.Run.{Run}
 use Rattle.clustered_row.specs.Faces.{Face, plain_faces, row_of, starts_right}
-use Rattle.clustered_row.specs.Place.{IsBefore}
+use Rattle.clustered_row.specs.Position.{IsBefore}
 use Rattle.clustered_row.specs.Runs.{spread}
 use Rattle.clustered_row.specs.Sizes.{bytes_of, columns_of, faces_of}
 use Rattle.clustered_row.proofs.BetweenLemmas.{parted_before}
@@ -22,7 +22,7 @@ fewer_after xs ys n m h p q e =
     let two : length ys - n ≡ length ys - m + (m - n) = omega (arith, h, q) in
     ap (λ k. drop k xs) one ∙ sym (drop-drop (m - n) (length xs - m) xs) ∙ ap (drop (m - n)) e ∙ drop-drop (m - n) (length ys - m) ys ∙ ap (λ k. drop k ys) (sym two)
 
--- the items behind one that is found from the end, and that one
+-- the items after one that is found from the end, and that one
 from_next : {X : Type 0} (xs : List X) (n : ℕ) (x : X) → n < length xs → x ≡ slice_index_or xs (length xs - 1 - n) x → drop (length xs - (n + 1)) xs ≡ x ∷ drop (length xs - n) xs
 from_next xs n x h e =
     let here : length xs - (n + 1) ≡ length xs - 1 - n = omega arith in
@@ -118,7 +118,7 @@ plain_after t s sb sc n h k =
     let one = h.bytes_are in
     let two = h.columns_are in
     let within = h.within in
-    let p : Place = record { index = length s; bytes = length t - n; columns = length (faces_of t s) - n } in
+    let p : Position = record { index = length s; bytes = length t - n; columns = length (faces_of t s) - n } in
     let before : IsBefore t s p = record {
       index = omega arith;
       sized = λ less. absurd (omega (arith, less));

@@ -8,11 +8,11 @@ use Rattle.cell_base.specs.WholeRow.{IsWhole}
 use Rattle.cell_base.proofs.RowLemmas.{whole-append, whole-blanks, whole_starts}
 use Rattle.clustered_row.specs.declared.cell_size.CellSize.{CellSize}
 use Rattle.clustered_row.specs.declared.cut_text.CutText.{CutText}
-use Rattle.clustered_row.specs.declared.place.Place.{Place}
+use Rattle.clustered_row.specs.declared.position.Position.{Position}
 use Rattle.clustered_row.specs.declared.run.Run.{Run}
 use Rattle.clustered_row.specs.EqualColumns.{AreEqualAround, IsWholeAt}
 use Rattle.clustered_row.specs.Faces.{Face, cell_faces, plain_faces, row_of, starts_right}
-use Rattle.clustered_row.specs.Place.{IsPlace, IsBefore}
+use Rattle.clustered_row.specs.Position.{IsPosition, IsBefore}
 use Rattle.clustered_row.specs.Runs.{spread}
 use Rattle.clustered_row.specs.RunSteps.{counted}
 use Rattle.clustered_row.specs.Sizes.{bytes_of, columns_of, faces_of}
@@ -25,7 +25,7 @@ use Rattle.clustered_row.proofs.RunLists.{around, cut_prefix, length_next, lengt
 use Rattle.clustered_row.proofs.ShownLemmas.{shown}
 use Rattle.clustered_row.proofs.StepLemmas.{fits, sized_of}
 
--- fewer at the front are the same too
+-- fewer at the start are the same too
 pub fewer : {X : Type 0} (xs ys : List X) (i n : ℕ) → i ≤ n → take n xs ≡ take n ys → take i xs ≡ take i ys
 fewer xs ys i n h e = sym (take-take i n xs h) ∙ ap (take i) e ∙ take-take i n ys h
 
@@ -65,13 +65,13 @@ same_runs_front xs ys i n s c =
     let d = c ∙ ap (λ (zs : List Run). length (spread zs)) s in
     ap (λ m. take m (spread xs)) c ∙ whole_front xs i ∙ ap spread s ∙ sym (whole_front ys i) ∙ ap (λ m. take m (spread ys)) (sym d)
 
--- ---- places
+-- ---- positions
 
-pub same_place : (s v : List CellSize) (p : Place) → IsPlace s p → p.index ≤ length v → take p.index s ≡ take p.index v → IsPlace v p
+pub same_place : (s v : List CellSize) (p : Position) → IsPosition s p → p.index ≤ length v → take p.index s ≡ take p.index v → IsPosition v p
 same_place s v p k h e = record { within = h; bytes = k.bytes ∙ ap bytes_of e; columns = k.columns ∙ ap columns_of e }
 
--- so many plain cells behind a place that stands behind all sizes
-pub plain_place : (t : List ℕ) (s : List CellSize) (p q : Place) (n : ℕ) → IsPlace s p → length s ≤ p.index → q.index ≡ p.index → q.bytes ≡ p.bytes + n → q.columns ≡ p.columns + n → q.bytes ≤ length t → IsBefore t s q
+-- so many plain cells after a position that follows all sizes
+pub plain_place : (t : List ℕ) (s : List CellSize) (p q : Position) (n : ℕ) → IsPosition s p → length s ≤ p.index → q.index ≡ p.index → q.bytes ≡ p.bytes + n → q.columns ≡ p.columns + n → q.bytes ≤ length t → IsBefore t s q
 plain_place t s p q n k past i b c w =
     let same : take q.index s ≡ take p.index s = ap (λ m. take m s) i in
     let bytes : p.bytes ≡ bytes_of (take q.index s) = k.bytes ∙ ap bytes_of (sym same) in
@@ -99,14 +99,14 @@ starts_faces : (t : List ℕ) (s : List CellSize) → starts_right (faces_of t s
 starts_faces t [] = starts_plain t
 starts_faces t (z ∷ s) = starts_cell z.is_wide (take z.len t) (faces_of (drop z.len t) s)
 
--- no cell is cut at a place
-pub whole_place : (t : List ℕ) (s : List CellSize) (p : Place) → IsText t s → IsBefore t s p → starts_right (drop p.columns (faces_of t s)) ≡ false
+-- no cell is cut at a position
+pub whole_place : (t : List ℕ) (s : List CellSize) (p : Position) → IsText t s → IsBefore t s p → starts_right (drop p.columns (faces_of t s)) ≡ false
 whole_place t s p h k = ap starts_right (parted_before t s p h k).rest ∙ starts_faces (drop p.bytes t) (drop p.index s)
 
--- texts that are the same up to a place show the same before it
-pub same_faces : (t u : List ℕ) (s v : List CellSize) (p : Place) → IsText t s → IsText u v → IsBefore t s p → IsBefore u v p → take p.bytes t ≡ take p.bytes u → take p.index s ≡ take p.index v
+-- texts that are the same up to a position show the same before it
+pub same_faces : (t u : List ℕ) (s v : List CellSize) (p : Position) → IsText t s → IsText u v → IsBefore t s p → IsBefore u v p → take p.bytes t ≡ take p.bytes u → take p.index s ≡ take p.index v
     → take p.columns (faces_of t s) ≡ take p.columns (faces_of u v)
-same_faces t u s v p h g a b e f = (parted_before t s p h a).front ∙ (λ i. faces_of (e i) (f i)) ∙ sym (parted_before u v p g b).front
+same_faces t u s v p h g a b e f = (parted_before t s p h a).prefix ∙ (λ i. faces_of (e i) (f i)) ∙ sym (parted_before u v p g b).prefix
 
 -- ---- rows
 
@@ -114,7 +114,7 @@ pub same_columns : (fs gs : List Face) (ats bs : List Attributes) (n most : ℕ)
 same_columns fs gs ats bs n most h e f =
     row_of-take n fs ats ∙ (λ i. row_of (e i) (fewer ats bs n most h f i)) ∙ sym (row_of-take n gs bs)
 
--- no cell is cut behind columns where none is cut in the columns that were written
+-- no cell is cut after columns where none is cut in the columns that were written
 halved_front : (c : Row) (n k : ℕ) (a : Attributes) → is_split n c ≡ false → is_split n (c ++ replicate k (blank a)) ≡ false
 halved_front c n k a h = elim (cases_lt n (length c)) [
   | inl less ↦ halved_before c (replicate k (blank a)) n less ∙ h
@@ -125,7 +125,7 @@ halved_front c n k a h = elim (cases_lt n (length c)) [
 whole_at : (n : ℕ) (row : Row) → IsWhole row → is_split n row ≡ false → IsWholeAt n row
 whole_at n row w h = record { ending = end_closed n row w h; beginning = start_closed n row h }
 
--- columns that were written, and blanks behind them
+-- columns that were written, and blanks after them
 module _ (c d : Row) (n m w v : ℕ) (a b : Attributes) (whole : IsWhole c) (other_whole : IsWhole d) where
   all_whole : IsWhole (shown c w a)
   all_whole = whole-append c (replicate (w - length c) (blank a)) whole (whole-blanks (w - length c) a)
@@ -138,7 +138,7 @@ module _ (c d : Row) (n m w v : ℕ) (a b : Attributes) (whole : IsWhole c) (oth
   around_columns i j e h k p q back =
       record {
         order = omega (arith, i, p);
-        front = take-append-le n c (replicate (w - length c) (blank a)) i ∙ e ∙ sym (take-append-le n d (replicate (v - length d) (blank b)) j);
+        prefix = take-append-le n c (replicate (w - length c) (blank a)) i ∙ e ∙ sym (take-append-le n d (replicate (v - length d) (blank b)) j);
         back = back;
         first = whole_at n (shown c w a) all_whole (halved_front c n (w - length c) a h);
         other_first = whole_at n (shown d v b) other_all_whole (halved_front d n (v - length d) b k);
@@ -146,13 +146,13 @@ module _ (c d : Row) (n m w v : ℕ) (a b : Attributes) (whole : IsWhole c) (oth
         other_last = whole_at m (shown d v b) other_all_whole (halved_after d (v - length d) m b q);
       }
 
-  -- the last columns that were written are the same, and so are the blanks behind them
+  -- the last columns that were written are the same, and so are the blanks after them
   pub around_parts : n ≤ m → n ≤ length d → take n c ≡ take n d → is_split n c ≡ false → is_split n d ≡ false → m ≤ length c → length c ≡ length d → drop m c ≡ drop m d
       → is_split m c ≡ false → is_split m d ≡ false → w ≡ v → a ≡ b → AreEqualAround n m (shown c w a) (shown d v b)
   around_parts i j e h k p q back f g x y =
       record {
         order = i;
-        front = take-append-le n c (replicate (w - length c) (blank a)) (omega (arith, i, p)) ∙ e ∙ sym (take-append-le n d (replicate (v - length d) (blank b)) j);
+        prefix = take-append-le n c (replicate (w - length c) (blank a)) (omega (arith, i, p)) ∙ e ∙ sym (take-append-le n d (replicate (v - length d) (blank b)) j);
         back = drop-append-le m c (replicate (w - length c) (blank a)) p ∙ (λ i. back i ++ replicate (x i - q i) (blank (y i))) ∙ sym (drop-append-le m d (replicate (v - length d) (blank b)) (omega (arith, p, q)));
         first = whole_at n (shown c w a) all_whole (halved_front c n (w - length c) a h);
         other_first = whole_at n (shown d v b) other_all_whole (halved_front d n (v - length d) b k);
@@ -160,13 +160,13 @@ module _ (c d : Row) (n m w v : ℕ) (a b : Attributes) (whole : IsWhole c) (oth
         other_last = whole_at m (shown d v b) other_all_whole (halved_front d m (v - length d) b g);
       }
 
--- blanks alone are left behind all columns that were written
+-- blanks alone are left all columns that were written
 pub same_after : (c d : Row) (m w v : ℕ) (a b : Attributes) → length c ≤ m → length d ≤ m → w ≡ v → a ≡ b → drop m (shown c w a) ≡ drop m (shown d v b)
 same_after c d m w v a b p q e f =
     let count : w - length c - (m - length c) ≡ v - length d - (m - length d) = omega (arith, p, q, e) in
     written_after c (w - length c) m (blank a) p ∙ (λ i. replicate (count i) (blank (f i))) ∙ sym (written_after d (v - length d) m (blank b) q)
 
--- nothing is left behind both rows
+-- nothing is left after both rows
 pub none_after : (c d : Row) (m w v : ℕ) (a b : Attributes) → length c ≤ w → length d ≤ v → w ≤ m → v ≤ m → drop m (shown c w a) ≡ drop m (shown d v b)
 none_after c d m w v a b p q h k =
     let one = length-append c (replicate (w - length c) (blank a)) in
@@ -187,7 +187,7 @@ pub all_unequal : (row other : Row) (m : ℕ) → IsWhole row → IsWhole other 
 all_unequal row other m w v h k =
     record {
       order = omega arith;
-      front = refl;
+      prefix = refl;
       back = drop_all m row h ∙ sym (drop_all m other k);
       first = record { ending = refl; beginning = whole_starts row w };
       other_first = record { ending = refl; beginning = whole_starts other v };

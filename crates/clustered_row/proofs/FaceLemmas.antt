@@ -97,10 +97,10 @@ take-opened_after a b fs l h =
 
 drop-opened_before : (a j : ℕ) (fs : List Face) → a ≤ length fs → drop (a + suc j) (opened a fs) ≡ drop (a + suc j) fs
 drop-opened_before a j fs h =
-    let front = closed_end (take a fs) in
-    let behind = closed_start (drop a fs) in
-    let n : length front ≡ a = length-closed_end (take a fs) ∙ length-take-le a fs h in
-    ap (λ m. drop (m + suc j) (front ++ behind)) (sym n) ∙ drop-append-add front behind (suc j) ∙ drop-closed_start j (drop a fs) ∙ drop-drop (suc j) a fs
+    let prefix = closed_end (take a fs) in
+    let after = closed_start (drop a fs) in
+    let n : length prefix ≡ a = length-closed_end (take a fs) ∙ length-take-le a fs h in
+    ap (λ m. drop (m + suc j) (prefix ++ after)) (sym n) ∙ drop-append-add prefix after (suc j) ∙ drop-closed_start j (drop a fs) ∙ drop-drop (suc j) a fs
 
 -- ---- others in between
 
@@ -109,11 +109,11 @@ spliced_there : (fs new : List Face) (a : ℕ) → a ≤ length fs
 spliced_there fs new a h =
     let once = opened a fs in
     let n = length-opened a fs h in
-    let front : take a (opened a once) ≡ closed_end (take a fs) =
+    let prefix : take a (opened a once) ≡ closed_end (take a fs) =
     take-opened a once (omega arith) ∙ ap closed_end (take-opened a fs h) ∙ closed_end_twice (take a fs) in
-    let behind : drop a (opened a once) ≡ closed_start (drop a fs) =
+    let after : drop a (opened a once) ≡ closed_start (drop a fs) =
     drop-opened a once (omega arith) ∙ ap closed_start (drop-opened a fs h) ∙ closed_start_twice (drop a fs) in
-    (λ i. front i ++ (new ++ behind i)) ∙ sym (append_assoc (closed_end (take a fs)) new (closed_start (drop a fs)))
+    (λ i. prefix i ++ (new ++ after i)) ∙ sym (append_assoc (closed_end (take a fs)) new (closed_start (drop a fs)))
 
 spliced_after : (fs new : List Face) (a j : ℕ) → a + suc j ≤ length fs
     → take a (opened (a + suc j) (opened a fs)) ++ (new ++ drop (a + suc j) (opened (a + suc j) (opened a fs)))
@@ -123,11 +123,11 @@ spliced_after fs new a j h =
     let once = opened a fs in
     let within : a ≤ length fs = omega arith in
     let n = length-opened a fs within in
-    let front : take a (opened b once) ≡ closed_end (take a fs) =
+    let prefix : take a (opened b once) ≡ closed_end (take a fs) =
     take-opened_after a b once (omega arith) (omega arith) ∙ take-opened a fs within in
-    let behind : drop b (opened b once) ≡ closed_start (drop b fs) =
+    let after : drop b (opened b once) ≡ closed_start (drop b fs) =
     drop-opened b once (omega arith) ∙ ap closed_start (drop-opened_before a j fs within) in
-    (λ i. front i ++ (new ++ behind i)) ∙ sym (append_assoc (closed_end (take a fs)) new (closed_start (drop b fs)))
+    (λ i. prefix i ++ (new ++ after i)) ∙ sym (append_assoc (closed_end (take a fs)) new (closed_start (drop b fs)))
 
 spliced_by : (fs new : List Face) (a b : ℕ) → a + length new ≡ b → b ≤ length fs → (a ≡ b) ⊎ ((a < b) ⊎ (b < a))
     → take a (opened b (opened a fs)) ++ (new ++ drop b (opened b (opened a fs))) ≡ set_faces fs a new
@@ -150,21 +150,21 @@ spliced fs new a b e h = spliced_by fs new a b e h (cases_order a b)
 
 -- ---- a wide text that is cut
 
-take-half : (front behind : List Face) (f : Face) (at : ℕ) → length front ≡ at → take (at + 1) (front ++ (f ∷ behind)) ≡ front ++ f ∷ []
-take-half front behind f at n =
-    ap (take (at + 1)) (sym (append_assoc front (f ∷ []) behind)) ∙ take_at (front ++ f ∷ []) behind (at + 1) (omega (arith, length_push front f))
+take-half : (prefix after : List Face) (f : Face) (at : ℕ) → length prefix ≡ at → take (at + 1) (prefix ++ (f ∷ after)) ≡ prefix ++ f ∷ []
+take-half prefix after f at n =
+    ap (take (at + 1)) (sym (append_assoc prefix (f ∷ []) after)) ∙ take_at (prefix ++ f ∷ []) after (at + 1) (omega (arith, length_push prefix f))
 
-drop-half : (front behind : List Face) (f : Face) (at : ℕ) → length front ≡ at → drop (at + 1) (front ++ (f ∷ behind)) ≡ behind
-drop-half front behind f at n =
-    ap (drop (at + 1)) (sym (append_assoc front (f ∷ []) behind)) ∙ drop_at (front ++ f ∷ []) behind (at + 1) (omega (arith, length_push front f))
+drop-half : (prefix after : List Face) (f : Face) (at : ℕ) → length prefix ≡ at → drop (at + 1) (prefix ++ (f ∷ after)) ≡ after
+drop-half prefix after f at n =
+    ap (drop (at + 1)) (sym (append_assoc prefix (f ∷ []) after)) ∙ drop_at (prefix ++ f ∷ []) after (at + 1) (omega (arith, length_push prefix f))
 
-pub halved_end : (front behind : List Face) (text : List ℕ) (at : ℕ) → length front ≡ at
-    → closed_end (take (at + 1) (front ++ (Left text ∷ Right ∷ behind))) ≡ front ++ Own space ∷ []
-halved_end front behind text at n = ap closed_end (take-half front (Right ∷ behind) (Left text) at n) ∙ closed_end-push front (Left text)
+pub halved_end : (prefix after : List Face) (text : List ℕ) (at : ℕ) → length prefix ≡ at
+    → closed_end (take (at + 1) (prefix ++ (Left text ∷ Right ∷ after))) ≡ prefix ++ Own space ∷ []
+halved_end prefix after text at n = ap closed_end (take-half prefix (Right ∷ after) (Left text) at n) ∙ closed_end-push prefix (Left text)
 
-pub halved : (front behind : List Face) (text : List ℕ) (at : ℕ) → length front ≡ at
-    → opened (at + 1) (front ++ (Left text ∷ Right ∷ behind)) ≡ front ++ (Own space ∷ Own space ∷ behind)
-halved front behind text at n =
-    let p = halved_end front behind text at n in
-    let q = ap closed_start (drop-half front (Right ∷ behind) (Left text) at n) in
-    (λ i. p i ++ q i) ∙ append_assoc front (Own space ∷ []) (Own space ∷ behind)
+pub halved : (prefix after : List Face) (text : List ℕ) (at : ℕ) → length prefix ≡ at
+    → opened (at + 1) (prefix ++ (Left text ∷ Right ∷ after)) ≡ prefix ++ (Own space ∷ Own space ∷ after)
+halved prefix after text at n =
+    let p = halved_end prefix after text at n in
+    let q = ap closed_start (drop-half prefix (Right ∷ after) (Left text) at n) in
+    (λ i. p i ++ q i) ∙ append_assoc prefix (Own space ∷ []) (Own space ∷ after)

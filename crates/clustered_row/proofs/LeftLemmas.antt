@@ -1,4 +1,4 @@
--- What is left of runs and of texts behind columns that were lent.
+-- What is left of runs and of texts after columns that were lent.
 use Rattle.std.proofs.Common.{◌≡◌, ℕ, zero, suc, ◌+◌, ◌-◌, ◌<◌, true, List, [], ◌∷◌, length, take, drop, get_or, refl, sym, ap, subst, ◌∙◌, arith, IsUtf8}
 use Rattle.std.specs.Prelude.{nat_lt}
 use Rattle.std.specs.List.{list_all}
@@ -7,9 +7,9 @@ use Rattle.std.proofs.lemmas.List.{take_all, length-drop}
 use Rattle.text_clusters.specs.Plain.{is_printable}
 use Rattle.clustered_row.specs.declared.cell_size.CellSize.{CellSize}
 use Rattle.clustered_row.specs.declared.run.Run.{Run}
-use Rattle.clustered_row.specs.declared.run.Place.{Place}
+use Rattle.clustered_row.specs.declared.run.Position.{Position}
 use Rattle.clustered_row.specs.Runs.{spread, AreMaximal, is_begun}
-use Rattle.clustered_row.specs.RunSteps.{column_at, IsPlace}
+use Rattle.clustered_row.specs.RunSteps.{column_at, IsPosition}
 use Rattle.clustered_row.specs.Sizes.{is_text, is_cut}
 use Rattle.clustered_row.proofs.SizeLemmas.{IsUtf8-cell, IsUtf8-cut}
 use Rattle.clustered_row.proofs.RunLists.{drop_maximal, after_front}
@@ -30,17 +30,17 @@ pub all_begun : (runs : List Run) → AreMaximal runs → is_begun 0 runs ≡ tr
 all_begun [] h = refl
 all_begun (r ∷ runs) h = and_from (nat_lt 0 r.count) (is_begun 0 runs) (lt-ltb 0 r.count h.0) (all_begun runs h.2)
 
--- runs from a place within the first one
+-- runs from a position within the first one
 pub begun_at : (used : ℕ) (runs : List Run) → AreMaximal runs → ((run : Run) → 0 < length runs → run ≡ get_or runs 0 run → used < run.count) → is_begun used runs ≡ true
 begun_at used [] h k = refl
 begun_at used (r ∷ runs) h k = and_from (nat_lt used r.count) (is_begun 0 runs) (lt-ltb used r.count (k r (omega arith) refl)) (all_begun runs h.2)
 
--- the runs from a place on
-begun_from : (xs : List Run) (place : Place) → IsPlace xs place → AreMaximal xs → is_begun place.offset (drop place.index xs) ≡ true
-begun_from xs place p h = begun_at place.offset (drop place.index xs) (drop_maximal place.index xs h)
+-- the runs from a position on
+begun_from : (xs : List Run) (position : Position) → IsPosition xs position → AreMaximal xs → is_begun position.offset (drop position.index xs) ≡ true
+begun_from xs position p h = begun_at position.offset (drop position.index xs) (drop_maximal position.index xs h)
     (λ run some e.
-    let within : place.index < length xs = let n = length-drop place.index xs in omega (arith, n, some) in
-    p.inside run within (e ∙ first_left xs place.index run))
+    let within : position.index < length xs = let n = length-drop position.index xs in omega (arith, n, some) in
+    p.inside run within (e ∙ first_left xs position.index run))
   where
     first_left : (xs : List Run) (i : ℕ) (run : Run) → get_or (drop i xs) 0 run ≡ get_or xs i run
     first_left xs zero run = refl
@@ -51,16 +51,16 @@ begun_from xs place p h = begun_at place.offset (drop place.index xs) (drop_maxi
 pub rest_of : {X : Type 0} (i : ℕ) (xs : List X) → take (length xs - i) (drop i xs) ≡ drop i xs
 rest_of i xs = take_all (length xs - i) (drop i xs) (let n = length-drop i xs in omega (arith, n))
 
-pub begun_there : (bs cs xs : List Run) (place : Place) → bs ≡ xs → cs ≡ xs → IsPlace cs place → AreMaximal xs
-    → is_begun place.offset (take (length bs - place.index) (drop place.index bs)) ≡ true
-begun_there bs cs xs place p q here h =
-    ap (is_begun place.offset) (rest_of place.index bs ∙ ap (drop place.index) p) ∙ begun_from xs place (subst (λ (ys : List Run). IsPlace ys place) q here) h
+pub begun_there : (bs cs xs : List Run) (position : Position) → bs ≡ xs → cs ≡ xs → IsPosition cs position → AreMaximal xs
+    → is_begun position.offset (take (length bs - position.index) (drop position.index bs)) ≡ true
+begun_there bs cs xs position p q here h =
+    ap (is_begun position.offset) (rest_of position.index bs ∙ ap (drop position.index) p) ∙ begun_from xs position (subst (λ (ys : List Run). IsPosition ys position) q here) h
 
-pub left_there : (bs cs xs : List Run) (place : Place) (column : ℕ) → bs ≡ xs → cs ≡ xs → column_at cs place ≡ 0 + column
-    → drop place.offset (spread (take (length bs - place.index) (drop place.index bs))) ≡ drop column (spread xs)
-left_there bs cs xs place column p q e =
-    let at : column_at xs place ≡ column = ap (λ (ys : List Run). column_at ys place) (sym q) ∙ e ∙ omega arith in
-    ap (λ (ys : List Run). drop place.offset (spread ys)) (rest_of place.index bs ∙ ap (drop place.index) p) ∙ sym (after_front xs place.index place.offset) ∙ ap (λ n. drop n (spread xs)) at
+pub left_there : (bs cs xs : List Run) (position : Position) (column : ℕ) → bs ≡ xs → cs ≡ xs → column_at cs position ≡ 0 + column
+    → drop position.offset (spread (take (length bs - position.index) (drop position.index bs))) ≡ drop column (spread xs)
+left_there bs cs xs position column p q e =
+    let at : column_at xs position ≡ column = ap (λ (ys : List Run). column_at ys position) (sym q) ∙ e ∙ omega arith in
+    ap (λ (ys : List Run). drop position.offset (spread ys)) (rest_of position.index bs ∙ ap (drop position.index) p) ∙ sym (after_front xs position.index position.offset) ∙ ap (λ n. drop n (spread xs)) at
 
 -- ---- texts
 
@@ -73,7 +73,7 @@ one_utf8 : (text : List ℕ) → list_all is_printable text ≡ true → IsUtf8 
 one_utf8 [] h = IsUtf8-cut [] [] refl
 one_utf8 (b ∷ text) h = IsUtf8-cut (b ∷ []) [] (and_from (is_printable b) true (and_parts (is_printable b) (list_all is_printable text) h).0 refl)
 
--- the first byte, behind all sizes
+-- the first byte, after all sizes
 pub byte_utf8 : (text : List ℕ) (sizes : List CellSize) → length sizes ≡ 0 → is_cut text sizes ≡ true → IsUtf8 (take 1 text)
 byte_utf8 text [] e h = one_utf8 text h
 byte_utf8 text (s ∷ sizes) e h = absurd (omega arith)

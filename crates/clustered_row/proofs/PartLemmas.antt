@@ -5,7 +5,7 @@ use Rattle.std.proofs.lemmas.List.{drop-drop, length-replicate}
 use Rattle.cell_base.specs.Attributes.{Attributes}
 use Rattle.cell_base.specs.Row.{Column, Narrow, LeftHalf, RightHalf, Row, blank, closed_end, closed_start}
 use Rattle.cell_base.specs.WholeRow.{IsWhole}
-use Rattle.cell_base.proofs.RowLemmas.{whole-behind}
+use Rattle.cell_base.proofs.RowLemmas.{whole-after}
 use Rattle.cell_edits.specs.RowEdits.{cut, cut_prefix}
 use Rattle.clustered_row.specs.declared.visible.ClusteredCells.{ClusteredCells}
 use Rattle.clustered_row.specs.Faces.{Face, row_of}
@@ -43,10 +43,10 @@ start_closed n row h = closed_start-same (drop n row) h
 -- a part between two columns at which no wide text is cut
 pub part_closed : (row : Row) (start stop : ℕ) → IsWhole row → start ≤ stop → is_split start row ≡ false → is_split stop row ≡ false → cut (stop - start) (cut_prefix start row) ≡ drop start (take stop row)
 part_closed row start stop w o h k =
-    let front = start_closed start row h in
-    let whole : IsWhole (drop start row) = subst IsWhole front (whole-behind start row w) in
+    let prefix = start_closed start row h in
+    let whole : IsWhole (drop start row) = subst IsWhole prefix (whole-after start row w) in
     let there : is_split (stop - start) (drop start row) ≡ false = ap starts_split (drop-drop (stop - start) start row) ∙ ap (λ n. is_split n row) (omega (arith, o)) ∙ k in
-    ap (cut (stop - start)) front ∙ end_closed (stop - start) (drop start row) whole there ∙ sym (part_is row start stop o)
+    ap (cut (stop - start)) prefix ∙ end_closed (stop - start) (drop start row) whole there ∙ sym (part_is row start stop o)
 
 half_starts : (row : Row) (d : Column) → starts_split row ≡ true → closed_start row ≡ blank (column_attributes (get_or row 0 d)) ∷ drop 1 row
 half_starts [] d h = absurd (false≢true h)
@@ -99,7 +99,7 @@ length-short [] ats h = refl
 length-short (f ∷ fs) [] h = absurd (omega arith)
 length-short (f ∷ fs) (a ∷ ats) h = ap suc (length-short fs ats (omega arith))
 
--- the column behind the last one has a number
+-- the column after the last one has a number
 pub columns_fit : (cells : ClusteredCells) → next_column cells + length (row_left cells) < 2 ^ 64
 columns_fit cells =
     let fs = faces_left cells.texts in

@@ -34,7 +34,7 @@ first_plain s sizes e = ap (λ t. cond t (1 + prefix_len is_plain sizes) 0) e �
 first_other : (s : CellSize) (sizes : List CellSize) → is_plain s ≡ false → prefix_len is_plain (s ∷ sizes) ≡ 0
 first_other s sizes e = ap (λ t. cond t (1 + prefix_len is_plain sizes) 0) e
 
--- the sizes at the front up to one that isn't plain
+-- the sizes at the start up to one that isn't plain
 pub plain_front : (n : ℕ) (sizes : List CellSize) → list_all is_plain (take (prefix_len is_plain (take n sizes)) sizes) ≡ true
 plain_front zero sizes = refl
 plain_front (suc n) [] = refl
@@ -62,11 +62,11 @@ plain_all m most n sizes e h k = within m most n sizes e (all_of (take m sizes) 
         and_from (is_plain s) (list_all is_plain (take n sizes)) parts.0 (within m (most - 1) n sizes (omega (arith, e, k)) parts.1 (omega (arith, k)))
 
 -- a text and sizes of which some cells were passed: the text of these, and what is left
-pub record Passes (text : List ℕ) (sizes : List CellSize) (front left : List ℕ) (rest : List CellSize) : Type 0 where
-  pub faces : faces_of text sizes ≡ plain_faces front ++ faces_of left rest
+pub record Passes (text : List ℕ) (sizes : List CellSize) (prefix left : List ℕ) (rest : List CellSize) : Type 0 where
+  pub faces : faces_of text sizes ≡ plain_faces prefix ++ faces_of left rest
   pub bytes : bytes_of rest ≤ length left
   pub parts : is_cut left rest ≡ true
-  pub printable : list_all is_printable front ≡ true
+  pub printable : list_all is_printable prefix ≡ true
 
 passes_bytes : (n : ℕ) (text : List ℕ) → list_all is_printable text ≡ true → Passes text [] (take n text) (drop n text) (drop n [])
 passes_bytes n text c =
@@ -105,9 +105,9 @@ sizes_left (suc n) m [] e = drop-nil m
 sizes_left (suc n) zero (s ∷ sizes) e = absurd (omega (arith, e))
 sizes_left (suc n) (suc m) (s ∷ sizes) e = sizes_left n m sizes (omega (arith, e))
 
-pub plain_passed : (l : TextsLeft) (n m : ℕ) (front : List ℕ) → front ≡ take n l.text.now → m ≡ min n (length l.sizes.now) → n ≤ length l.text.now → list_all is_plain (take n l.sizes.now) ≡ true
-    → Passes l.text.now l.sizes.now front (take (length l.text.now - n) (drop n l.text.now)) (take (length l.sizes.now - m) (drop m l.sizes.now))
-plain_passed l n m front f e w p =
+pub plain_passed : (l : TextsLeft) (n m : ℕ) (prefix : List ℕ) → prefix ≡ take n l.text.now → m ≡ min n (length l.sizes.now) → n ≤ length l.text.now → list_all is_plain (take n l.sizes.now) ≡ true
+    → Passes l.text.now l.sizes.now prefix (take (length l.text.now - n) (drop n l.text.now)) (take (length l.sizes.now - m) (drop m l.sizes.now))
+plain_passed l n m prefix f e w p =
     let text = l.text.now in
     let sizes = l.sizes.now in
     let left : drop n text ≡ take (length text - n) (drop n text) = sym (rest_of n text) in
@@ -141,20 +141,20 @@ run_is used (r ∷ runs) d h = omega arith
 
 pub columns_passed : (used n : ℕ) (runs : List Run) (d : Run) → 0 < n → n ≤ first_left used runs → drop used (spread runs) ≡ replicate n (get_or runs 0 d).attributes ++ drop (used + n) (spread runs)
 columns_passed used n [] d some h = absurd (omega arith)
-columns_passed used n (r ∷ runs) d some h = behind r.count used n (used + n) refl (omega arith)
+columns_passed used n (r ∷ runs) d some h = after r.count used n (used + n) refl (omega arith)
   where
-    front : (count n m : ℕ) → m ≡ n → m ≤ count → replicate count r.attributes ++ spread runs ≡ replicate n r.attributes ++ drop m (replicate count r.attributes ++ spread runs)
-    front count zero zero e h = refl
-    front count zero (suc m) e h = absurd (omega (arith, e))
-    front count (suc n) zero e h = absurd (omega (arith, e))
-    front zero (suc n) (suc m) e h = absurd (omega (arith, h))
-    front (suc count) (suc n) (suc m) e h = ap (λ (xs : List Attributes). r.attributes ∷ xs) (front count n m (omega (arith, e)) (omega (arith, h)))
+    prefix : (count n m : ℕ) → m ≡ n → m ≤ count → replicate count r.attributes ++ spread runs ≡ replicate n r.attributes ++ drop m (replicate count r.attributes ++ spread runs)
+    prefix count zero zero e h = refl
+    prefix count zero (suc m) e h = absurd (omega (arith, e))
+    prefix count (suc n) zero e h = absurd (omega (arith, e))
+    prefix zero (suc n) (suc m) e h = absurd (omega (arith, h))
+    prefix (suc count) (suc n) (suc m) e h = ap (λ (xs : List Attributes). r.attributes ∷ xs) (prefix count n m (omega (arith, e)) (omega (arith, h)))
 
-    behind : (count used n m : ℕ) → m ≡ used + n → m ≤ count → drop used (replicate count r.attributes ++ spread runs) ≡ replicate n r.attributes ++ drop m (replicate count r.attributes ++ spread runs)
-    behind count zero n m e h = front count n m (omega (arith, e)) h
-    behind count (suc used) n zero e h = absurd (omega (arith, e))
-    behind zero (suc used) n (suc m) e h = absurd (omega (arith, h))
-    behind (suc count) (suc used) n (suc m) e h = behind count used n m (omega (arith, e)) (omega (arith, h))
+    after : (count used n m : ℕ) → m ≡ used + n → m ≤ count → drop used (replicate count r.attributes ++ spread runs) ≡ replicate n r.attributes ++ drop m (replicate count r.attributes ++ spread runs)
+    after count zero n m e h = prefix count n m (omega (arith, e)) h
+    after count (suc used) n zero e h = absurd (omega (arith, e))
+    after zero (suc used) n (suc m) e h = absurd (omega (arith, h))
+    after (suc count) (suc used) n (suc m) e h = after count used n m (omega (arith, e)) (omega (arith, h))
 
 pub run_passed : (used n : ℕ) (runs : List Run) (d : Run) → 0 < n → n ≤ first_left used runs → (get_or runs 0 d).count ≤ used + n → drop used (spread runs) ≡ replicate n (get_or runs 0 d).attributes ++ spread (take (length runs - 1) (drop 1 runs))
 run_passed used n [] d some h k = absurd (omega arith)

@@ -63,8 +63,8 @@ pub row_of-cut : (fs : List Face) (attrs : List Attributes) (at : ℕ) → lengt
 row_of-cut fs attrs at h =
     ap rows.closed_end (row_of-take at fs attrs) ∙ row_of-closed_end (take at fs) (take at attrs) (omega (arith, length-take at fs, length-take at attrs))
 
-pub row_of-front : (fs : List Face) (attrs : List Attributes) (at : ℕ) → rows.closed_start (drop at (row_of fs attrs)) ≡ row_of (closed_start (drop at fs)) (drop at attrs)
-row_of-front fs attrs at = ap rows.closed_start (row_of-drop at fs attrs) ∙ row_of-closed_start (drop at fs) (drop at attrs)
+pub row_of-prefix : (fs : List Face) (attrs : List Attributes) (at : ℕ) → rows.closed_start (drop at (row_of fs attrs)) ≡ row_of (closed_start (drop at fs)) (drop at attrs)
+row_of-prefix fs attrs at = ap rows.closed_start (row_of-drop at fs attrs) ∙ row_of-closed_start (drop at fs) (drop at attrs)
 
 -- the columns of faces and attributes set side by side
 pub row_of-set : (fs gs : List Face) (attrs bs : List Attributes) (at : ℕ) → length fs ≡ length attrs → length gs ≡ length bs
@@ -73,12 +73,12 @@ row_of-set fs gs attrs bs at h k =
     let count : length (row_of gs bs) ≡ length gs = length-row_of gs bs k in
     let one : length (closed_end (take at fs)) ≡ length (take at attrs) =
     omega (arith, length-closed_end (take at fs), length-take at fs, length-take at attrs) in
-    let front = row_of-cut fs attrs at h in
-    let behind : rows.closed_start (drop (at + length (row_of gs bs)) (row_of fs attrs)) ≡ row_of (closed_start (drop (at + length gs) fs)) (drop (at + length bs) attrs) =
+    let prefix = row_of-cut fs attrs at h in
+    let after : rows.closed_start (drop (at + length (row_of gs bs)) (row_of fs attrs)) ≡ row_of (closed_start (drop (at + length gs) fs)) (drop (at + length bs) attrs) =
     ap (λ n. rows.closed_start (drop (at + n) (row_of fs attrs))) count
-    ∙ row_of-front fs attrs (at + length gs)
+    ∙ row_of-prefix fs attrs (at + length gs)
     ∙ ap (λ n. row_of (closed_start (drop (at + length gs) fs)) (drop (at + n) attrs)) k in
-    (λ i. front i ++ row_of gs bs ++ behind i)
+    (λ i. prefix i ++ row_of gs bs ++ after i)
     ∙ ap (λ row. row ++ row_of (closed_start (drop (at + length gs) fs)) (drop (at + length bs) attrs)) (sym (row_of-append (closed_end (take at fs)) gs (take at attrs) bs one))
     ∙ sym (row_of-append (closed_end (take at fs) ++ gs) (closed_start (drop (at + length gs) fs)) (take at attrs ++ bs) (drop (at + length bs) attrs)
     (omega (arith, one, k, length-append (closed_end (take at fs)) gs, length-append (take at attrs) bs)))

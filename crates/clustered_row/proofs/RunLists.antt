@@ -43,7 +43,7 @@ length_next xs i run within is =
 pub whole_front : (xs : List Run) (i : ℕ) → take (length (spread (take i xs))) (spread xs) ≡ spread (take i xs)
 whole_front xs i = ap (λ ys. take (length (spread (take i xs))) ys) (spread_parts xs i) ∙ take_at (spread (take i xs)) (spread (drop i xs)) (length (spread (take i xs))) refl
 
--- the columns so many behind whole runs
+-- the columns so many after whole runs
 pub after_front : (xs : List Run) (i k : ℕ) → drop (length (spread (take i xs)) + k) (spread xs) ≡ drop k (spread (drop i xs))
 after_front xs i k =
     ap (λ ys. drop (length (spread (take i xs)) + k) ys) (spread_parts xs i) ∙ drop-append-add (spread (take i xs)) (spread (drop i xs)) k
@@ -54,15 +54,15 @@ within_run k run fits =
     omega arith
 
 -- whole runs and so many columns of the next one
-pub cut_prefix : (before : List Run) (run : Run) (behind : List Run) (k : ℕ) → k ≤ run.count → take (length (spread before) + k) (spread (before ++ run ∷ behind)) ≡ spread (before ++ counted run k ∷ [])
-cut_prefix before run behind k fits =
-    ap (λ xs. take (length (spread before) + k) xs) (spread-append before (run ∷ behind)) ∙ take-append-add (spread before) (columns_of run ++ spread behind) k ∙
-    ap (λ xs. spread before ++ xs) (take-append-le k (columns_of run) (spread behind) (within_run k run fits) ∙ take-replicate k run.count run.attributes fits) ∙ sym (spread_last before (counted run k))
+pub cut_prefix : (before : List Run) (run : Run) (after : List Run) (k : ℕ) → k ≤ run.count → take (length (spread before) + k) (spread (before ++ run ∷ after)) ≡ spread (before ++ counted run k ∷ [])
+cut_prefix before run after k fits =
+    ap (λ xs. take (length (spread before) + k) xs) (spread-append before (run ∷ after)) ∙ take-append-add (spread before) (columns_of run ++ spread after) k ∙
+    ap (λ xs. spread before ++ xs) (take-append-le k (columns_of run) (spread after) (within_run k run fits) ∙ take-replicate k run.count run.attributes fits) ∙ sym (spread_last before (counted run k))
 
--- what is left of a run, and the runs behind it
-pub cut_run : (run : Run) (behind : List Run) (k : ℕ) → k ≤ run.count → drop k (spread (run ∷ behind)) ≡ spread (counted run (run.count - k) ∷ behind)
-cut_run run behind k fits =
-    drop-append-le k (columns_of run) (spread behind) (within_run k run fits) ∙ ap (λ xs. xs ++ spread behind) (drop-replicate k run.count run.attributes)
+-- what is left of a run, and the runs after it
+pub cut_run : (run : Run) (after : List Run) (k : ℕ) → k ≤ run.count → drop k (spread (run ∷ after)) ≡ spread (counted run (run.count - k) ∷ after)
+cut_run run after k fits =
+    drop-append-le k (columns_of run) (spread after) (within_run k run fits) ∙ ap (λ xs. xs ++ spread after) (drop-replicate k run.count run.attributes)
 
 -- Maximal runs
 
@@ -81,39 +81,39 @@ drop_maximal zero xs h = h
 drop_maximal (suc i) [] h = tt
 drop_maximal (suc i) (x ∷ xs) h = drop_maximal i xs h.2
 
-other_head : (x : Run) (front : List Run) (r s : Run) → r.attributes ≡ s.attributes → IsApart x (front ++ r ∷ []) → IsApart x (front ++ s ∷ [])
+other_head : (x : Run) (prefix : List Run) (r s : Run) → r.attributes ≡ s.attributes → IsApart x (prefix ++ r ∷ []) → IsApart x (prefix ++ s ∷ [])
 other_head x [] r s same h = λ e. h (e ∙ sym same)
-other_head x (y ∷ front) r s same h = h
+other_head x (y ∷ prefix) r s same h = h
 
 -- the last run with another count
-pub other_last : (front : List Run) (r s : Run) → r.attributes ≡ s.attributes → 0 < s.count → AreMaximal (front ++ r ∷ []) → AreMaximal (front ++ s ∷ [])
+pub other_last : (prefix : List Run) (r s : Run) → r.attributes ≡ s.attributes → 0 < s.count → AreMaximal (prefix ++ r ∷ []) → AreMaximal (prefix ++ s ∷ [])
 other_last [] r s same some h = (some, tt, tt)
-other_last (x ∷ front) r s same some h = (h.0, other_head x front r s same h.1, other_last front r s same some h.2)
+other_last (x ∷ prefix) r s same some h = (h.0, other_head x prefix r s same h.1, other_last prefix r s same some h.2)
 
-joined_head : (x : Run) (front : List Run) (r : Run) (behind : List Run) → IsApart x (front ++ r ∷ []) → IsApart x (front ++ r ∷ behind)
-joined_head x [] r behind h = h
-joined_head x (y ∷ front) r behind h = h
+joined_head : (x : Run) (prefix : List Run) (r : Run) (after : List Run) → IsApart x (prefix ++ r ∷ []) → IsApart x (prefix ++ r ∷ after)
+joined_head x [] r after h = h
+joined_head x (y ∷ prefix) r after h = h
 
 -- lists that end and begin with one run
-pub joined : (front : List Run) (r : Run) (behind : List Run) → AreMaximal (front ++ r ∷ []) → AreMaximal (r ∷ behind) → AreMaximal (front ++ r ∷ behind)
-joined [] r behind h k = k
-joined (x ∷ front) r behind h k = (h.0, joined_head x front r behind h.1, joined front r behind h.2 k)
+pub joined : (prefix : List Run) (r : Run) (after : List Run) → AreMaximal (prefix ++ r ∷ []) → AreMaximal (r ∷ after) → AreMaximal (prefix ++ r ∷ after)
+joined [] r after h k = k
+joined (x ∷ prefix) r after h k = (h.0, joined_head x prefix r after h.1, joined prefix r after h.2 k)
 
-pub some_last : (front : List Run) (last : Run) → AreMaximal (front ++ last ∷ []) → 0 < last.count
+pub some_last : (prefix : List Run) (last : Run) → AreMaximal (prefix ++ last ∷ []) → 0 < last.count
 some_last [] last h = h.0
-some_last (x ∷ front) last h = some_last front last h.2
+some_last (x ∷ prefix) last h = some_last prefix last h.2
 
 -- one run more
-pub one_more : (front : List Run) (last r : Run) → AreMaximal (front ++ last ∷ []) → (last.attributes ≡ r.attributes → last.count ≡ 4294967295) → 0 < r.count → AreMaximal (front ++ last ∷ (r ∷ []))
-one_more front last r h apart some = joined front last (r ∷ []) h (some_last front last h, apart, (some, tt, tt))
+pub one_more : (prefix : List Run) (last r : Run) → AreMaximal (prefix ++ last ∷ []) → (last.attributes ≡ r.attributes → last.count ≡ 4294967295) → 0 < r.count → AreMaximal (prefix ++ last ∷ (r ∷ []))
+one_more prefix last r h apart some = joined prefix last (r ∷ []) h (some_last prefix last h, apart, (some, tt, tt))
 
-no_room : (run y : Run) (behind : List Run) → run.count ≡ 4294967295 → 0 < y.count → run.count + length (spread (y ∷ behind)) ≤ 4294967295 → ⊥
-no_room run y behind full some fits =
-    let e : length (spread (y ∷ behind)) ≡ length (columns_of y) + length (spread behind) = length-append (columns_of y) (spread behind) in
+no_room : (run y : Run) (after : List Run) → run.count ≡ 4294967295 → 0 < y.count → run.count + length (spread (y ∷ after)) ≤ 4294967295 → ⊥
+no_room run y after full some fits =
+    let e : length (spread (y ∷ after)) ≡ length (columns_of y) + length (spread after) = length-append (columns_of y) (spread after) in
     let f : length (columns_of y) ≡ y.count = length_columns y in
     omega arith
 
 -- the first run with another count, where one run could count all columns
-pub other_first : (r s : Run) (behind : List Run) → r.attributes ≡ s.attributes → 0 < s.count → r.count + length (spread behind) ≤ 4294967295 → AreMaximal (r ∷ behind) → AreMaximal (s ∷ behind)
+pub other_first : (r s : Run) (after : List Run) → r.attributes ≡ s.attributes → 0 < s.count → r.count + length (spread after) ≤ 4294967295 → AreMaximal (r ∷ after) → AreMaximal (s ∷ after)
 other_first r s [] same some fits h = (some, tt, tt)
-other_first r s (y ∷ behind) same some fits h = (some, (λ e. absurd (no_room r y behind (h.1 (same ∙ e)) h.2.0 fits)), h.2)
+other_first r s (y ∷ after) same some fits h = (some, (λ e. absurd (no_room r y after (h.1 (same ∙ e)) h.2.0 fits)), h.2)

@@ -8,28 +8,28 @@ use Rattle.std.proofs.lemmas.List.Edits.{swap_is}
 use Rattle.std.proofs.lemmas.Grind.{drop_more_same}
 use Rattle.cell_base.specs.Attributes.{Attributes}
 use Rattle.clustered_row.specs.declared.run.Run.{Run}
-use Rattle.clustered_row.specs.declared.run.Place.{Place}
+use Rattle.clustered_row.specs.declared.run.Position.{Position}
 use Rattle.clustered_row.specs.Runs.{columns_of, spread, AreMaximal}
-use Rattle.clustered_row.specs.RunSteps.{counted, column_at, IsPlace, IsParted}
+use Rattle.clustered_row.specs.RunSteps.{counted, column_at, IsPosition, IsParted}
 use Rattle.clustered_row.proofs.RunLists.{around, take_next, drop_next, spread-append, spread_last, length_parts, length_columns, length_next, whole_front, after_front, cut_prefix, cut_run, take_maximal, drop_maximal, other_last, some_last, one_more, other_first}
 
 -- a number is below another that isn't at most it
 pub below : (m n : ℕ) → (n ≤ m → ⊥) → m < n
 below m n never = elim (cases_lt m n) [ inl less ↦ less | inr more ↦ absurd (never more) ]
 
--- The attributes at a place
+-- The attributes at a position
 
-pub found : (runs : List Run) (place : Place) (run : Run) (d : Attributes) → IsPlace runs place → place.index < length runs → run ≡ slice_index_or runs place.index run → slice_index_or (spread runs) (column_at runs place) d ≡ run.attributes
-found runs place run d at within is =
-    let inside : place.offset < run.count = at.inside run within is in
+pub found : (runs : List Run) (position : Position) (run : Run) (d : Attributes) → IsPosition runs position → position.index < length runs → run ≡ slice_index_or runs position.index run → slice_index_or (spread runs) (column_at runs position) d ≡ run.attributes
+found runs position run d at within is =
+    let inside : position.offset < run.count = at.inside run within is in
     let long : length (columns_of run) ≡ run.count = length_columns run in
-    let fits : place.offset < length (columns_of run) = omega arith in
-    let P : Run → Type 0 = λ r. place.offset < length (columns_of r) in
-    get_or-flat_map columns_of runs place.index place.offset run d within (subst P is fits) ∙ ap (λ (r : Run). slice_index_or (columns_of r) place.offset d) (sym is) ∙ get_or-replicate run.count place.offset run.attributes d inside
+    let fits : position.offset < length (columns_of run) = omega arith in
+    let P : Run → Type 0 = λ r. position.offset < length (columns_of r) in
+    get_or-flat_map columns_of runs position.index position.offset run d within (subst P is fits) ∙ ap (λ (r : Run). slice_index_or (columns_of r) position.offset d) (sym is) ∙ get_or-replicate run.count position.offset run.attributes d inside
 
-pub place_within : (runs : List Run) (place : Place) → IsPlace runs place → column_at runs place < length (spread runs) → place.index < length runs
-place_within runs place at less =
-    below place.index (length runs) (λ past. let all : length (spread (take place.index runs)) ≡ length (spread runs) = ap (λ ys. length (spread ys)) (take_all place.index runs past) in omega arith)
+pub place_within : (runs : List Run) (position : Position) → IsPosition runs position → column_at runs position < length (spread runs) → position.index < length runs
+place_within runs position at less =
+    below position.index (length runs) (λ past. let all : length (spread (take position.index runs)) ≡ length (spread runs) = ap (λ ys. length (spread ys)) (take_all position.index runs past) in omega arith)
 
 -- The last run
 
@@ -54,7 +54,7 @@ pub recounted_maximal : (xs : List Run) (n : ℕ) (last s : Run) → length xs �
 recounted_maximal xs n last s long is same some h =
     subst AreMaximal (sym (set_last xs n s long)) (other_last (take n xs) last s same some (subst AreMaximal (last_of xs n last long is) h))
 
--- one run more behind a last one that is full, or has other attributes
+-- one run more after a last one that is full, or has other attributes
 pub more_maximal : (xs : List Run) (n : ℕ) (last s r : Run) → length xs ≡ n + 1 → last ≡ slice_index_or xs n last → last.attributes ≡ s.attributes → (s.attributes ≡ r.attributes → s.count ≡ 4294967295) → 0 < s.count → 0 < r.count → AreMaximal xs → AreMaximal (slice_set xs n s ++ r ∷ [])
 more_maximal xs n last s r long is same apart some more h =
     subst AreMaximal (sym (append_assoc (take n xs) (s ∷ []) (r ∷ [])) ∙ ap (λ ys. ys ++ r ∷ []) (sym (set_last xs n s long)))
@@ -81,7 +81,7 @@ pushed_maximal (x ∷ ys) r some apart h =
     subst AreMaximal (sym (append_assoc (take n xs) (last ∷ []) (r ∷ [])) ∙ ap (λ zs. zs ++ r ∷ []) (sym e))
     (one_more (take n xs) last r (subst AreMaximal e h) (apart last (omega arith) (is ∙ ap (λ m. slice_index_or xs m last) here)) some)
 
--- the last run is filled, and one more behind it
+-- the last run is filled, and one more after it
 pub filled_columns : (xs : List Run) (n by : ℕ) (last r : Run) → length xs ≡ n + 1 → last ≡ slice_index_or xs n last → last.attributes ≡ r.attributes → spread (slice_set (xs ++ r ∷ []) n (counted last (last.count + by))) ≡ spread xs ++ replicate (by + r.count) r.attributes
 filled_columns xs n by last r long is same =
     let s = counted last (last.count + by) in
@@ -106,22 +106,22 @@ shorter_columns xs n by last long is less =
     let counts : length (spread (take n xs)) + k ≡ length (spread xs) - by = omega arith in
     ap spread (set_last xs n (counted last k) long) ∙ sym (cut_prefix (take n xs) last [] k (omega arith)) ∙ ap (λ ys. take (length (spread (take n xs)) + k) (spread ys)) (sym (last_of xs n last long is)) ∙ ap (λ m. take m (spread xs)) counts
 
--- Between two places
+-- Between two positions
 
--- one run holds so many columns behind so many of its own
+-- one run holds so many columns after so many of its own
 pub held : (xs : List Run) (i l n : ℕ) (run : Run) → i < length xs → run ≡ slice_index_or xs i run → l + n ≤ run.count → spread xs ≡ take (length (spread (take i xs)) + l) (spread xs) ++ replicate n run.attributes ++ drop (length (spread (take i xs)) + (l + n)) (spread xs)
 held xs i l n run within is fits =
     let at = length (spread (take i xs)) in
-    let front = take i xs in
-    let behind = drop (i + 1) xs in
-    let whole : spread xs ≡ spread (front ++ run ∷ behind) = ap spread (around xs i run within is) in
-    let some : take (at + l) (spread xs) ≡ spread front ++ replicate l run.attributes = ap (λ ys. take (at + l) ys) whole ∙ cut_prefix front run behind l (omega arith) ∙ spread_last front (counted run l) in
-    let more : take (at + (l + n)) (spread xs) ≡ spread front ++ replicate (l + n) run.attributes = ap (λ ys. take (at + (l + n)) ys) whole ∙ cut_prefix front run behind (l + n) fits ∙ spread_last front (counted run (l + n)) in
+    let prefix = take i xs in
+    let after = drop (i + 1) xs in
+    let whole : spread xs ≡ spread (prefix ++ run ∷ after) = ap spread (around xs i run within is) in
+    let some : take (at + l) (spread xs) ≡ spread prefix ++ replicate l run.attributes = ap (λ ys. take (at + l) ys) whole ∙ cut_prefix prefix run after l (omega arith) ∙ spread_last prefix (counted run l) in
+    let more : take (at + (l + n)) (spread xs) ≡ spread prefix ++ replicate (l + n) run.attributes = ap (λ ys. take (at + (l + n)) ys) whole ∙ cut_prefix prefix run after (l + n) fits ∙ spread_last prefix (counted run (l + n)) in
     sym (take-append-drop (at + (l + n)) (spread xs)) ∙ ap (λ ys. ys ++ drop (at + (l + n)) (spread xs))
-    (more ∙ ap (λ ys. spread front ++ ys) (sym (replicate-append-replicate l n run.attributes)) ∙ sym (append_assoc (spread front) (replicate l run.attributes) (replicate n run.attributes)) ∙ ap (λ ys. ys ++ replicate n run.attributes) (sym some))
+    (more ∙ ap (λ ys. spread prefix ++ ys) (sym (replicate-append-replicate l n run.attributes)) ∙ sym (append_assoc (spread prefix) (replicate l run.attributes) (replicate n run.attributes)) ∙ ap (λ ys. ys ++ replicate n run.attributes) (sym some))
 
--- the columns from a place on, before `b`, within its run, have the attributes already
-pub set_already : (xs : List Run) (from : Place) (run : Run) (b : ℕ) (a : Attributes) → from.index < length xs → run ≡ slice_index_or xs from.index run → run.attributes ≡ a → column_at xs from < b → b ≤ length (spread (take (from.index + 1) xs)) → spread xs ≡ take (column_at xs from) (spread xs) ++ replicate (b - column_at xs from) a ++ drop b (spread xs)
+-- the columns from a position on, before `b`, within its run, have the attributes already
+pub set_already : (xs : List Run) (from : Position) (run : Run) (b : ℕ) (a : Attributes) → from.index < length xs → run ≡ slice_index_or xs from.index run → run.attributes ≡ a → column_at xs from < b → b ≤ length (spread (take (from.index + 1) xs)) → spread xs ≡ take (column_at xs from) (spread xs) ++ replicate (b - column_at xs from) a ++ drop b (spread xs)
 set_already xs from run b a within is same less most =
     let at = length (spread (take from.index xs)) in
     let n = b - column_at xs from in
@@ -133,14 +133,14 @@ set_already xs from run b a within is same less most =
 pub count_fits : (xs : List Run) (i : ℕ) (run : Run) → i < length xs → run ≡ slice_index_or xs i run → run.count ≤ length (spread xs)
 count_fits xs i run within is = omega (arith, length_parts xs (i + 1), length_next xs i run within is)
 
--- the columns before a place at which a run begins
-pub parted_whole : (xs : List Run) (from to : Place) → IsPlace xs to → from.index ≤ to.index → from.offset ≡ 0 → AreMaximal xs → IsParted (column_at xs from) (column_at xs to) xs xs from.index to
+-- the columns before a position at which a run begins
+pub parted_whole : (xs : List Run) (from to : Position) → IsPosition xs to → from.index ≤ to.index → from.offset ≡ 0 → AreMaximal xs → IsParted (column_at xs from) (column_at xs to) xs xs from.index to
 parted_whole xs from to at order none h =
     let here : length (spread (take from.index xs)) ≡ column_at xs from = omega arith in
     let long = length_parts xs to.index in
     record {
-      front = sym (whole_front xs from.index) ∙ ap (λ n. take n (spread xs)) here;
-      behind = sym (after_front xs to.index to.offset);
+      prefix = sym (whole_front xs from.index) ∙ ap (λ n. take n (spread xs)) here;
+      after = sym (after_front xs to.index to.offset);
       order = order;
       at = at;
       fewer = omega (arith, long);
@@ -148,18 +148,18 @@ parted_whole xs from to at order none h =
       after_maximal = drop_maximal to.index xs h;
     }
 
--- a place behind a run that has another count
-pub place_after : (xs : List Run) (i : ℕ) (s : Run) (place : Place) → i < place.index → IsPlace xs place → IsPlace (slice_set xs i s) place
-place_after xs i s place less at =
+-- a position after a run that has another count
+pub place_after : (xs : List Run) (i : ℕ) (s : Run) (position : Position) → i < position.index → IsPosition xs position → IsPosition (slice_set xs i s) position
+place_after xs i s position less at =
     let long = length-set xs i s in
     record {
       within = omega (arith, long, at.within);
-      inside = λ run within is. at.inside run (omega (arith, long)) (is ∙ get_or-set_other xs i place.index s run (λ e. absurd (omega (arith, e))));
-      behind = λ e. at.behind (omega (arith, long));
+      inside = λ run within is. at.inside run (omega (arith, long)) (is ∙ get_or-set_other xs i position.index s run (λ e. absurd (omega (arith, e))));
+      after = λ e. at.after (omega (arith, long));
     }
 
--- the columns before a place within a run in front of the other place
-pub parted_run : (xs : List Run) (from to : Place) (run : Run) → IsPlace xs from → IsPlace xs to → from.index < to.index → 0 < from.offset → from.index < length xs → run ≡ slice_index_or xs from.index run → AreMaximal xs → IsParted (column_at xs from) (column_at xs to) xs (slice_set xs from.index (counted run from.offset)) (from.index + 1) to
+-- the columns before a position within a run before the other position
+pub parted_run : (xs : List Run) (from to : Position) (run : Run) → IsPosition xs from → IsPosition xs to → from.index < to.index → 0 < from.offset → from.index < length xs → run ≡ slice_index_or xs from.index run → AreMaximal xs → IsParted (column_at xs from) (column_at xs to) xs (slice_set xs from.index (counted run from.offset)) (from.index + 1) to
 parted_run xs from to run here there less some within is h =
     let i = from.index in
     let s = counted run from.offset in
@@ -170,8 +170,8 @@ parted_run xs from to run here there less some within is h =
     let long = length_parts xs to.index in
     let same : length (spread (drop to.index new)) ≡ length (spread (drop to.index xs)) = ap (λ ys. length (spread ys)) last in
     record {
-      front = ap spread first ∙ sym (cut_prefix (take i xs) run (drop (i + 1) xs) from.offset (omega arith)) ∙ ap (λ ys. take (column_at xs from) (spread ys)) (sym (around xs i run within is));
-      behind = ap (λ ys. drop to.offset (spread ys)) last ∙ sym (after_front xs to.index to.offset);
+      prefix = ap spread first ∙ sym (cut_prefix (take i xs) run (drop (i + 1) xs) from.offset (omega arith)) ∙ ap (λ ys. take (column_at xs from) (spread ys)) (sym (around xs i run within is));
+      after = ap (λ ys. drop to.offset (spread ys)) last ∙ sym (after_front xs to.index to.offset);
       order = omega arith;
       at = place_after xs i s to less there;
       fewer = omega (arith, long, same);
@@ -179,19 +179,19 @@ parted_run xs from to run here there less some within is h =
       after_maximal = subst AreMaximal (sym last) (drop_maximal to.index xs h);
     }
 
-pub length_first : (run : Run) (behind : List Run) → length (spread (run ∷ behind)) ≡ run.count + length (spread behind)
-length_first run behind = length-append (columns_of run) (spread behind) ∙ ap (λ n. n + length (spread behind)) (length_columns run)
+pub length_first : (run : Run) (after : List Run) → length (spread (run ∷ after)) ≡ run.count + length (spread after)
+length_first run after = length-append (columns_of run) (spread after) ∙ ap (λ n. n + length (spread after)) (length_columns run)
 
--- what is left of a run, behind so many of its columns
+-- what is left of a run, after so many of its columns
 pub rest_columns : (xs : List Run) (i k : ℕ) (run : Run) → i < length xs → run ≡ slice_index_or xs i run → k ≤ run.count → spread (counted run (run.count - k) ∷ drop (i + 1) xs) ≡ drop k (spread (drop i xs))
 rest_columns xs i k run within is fits =
     sym (cut_run run (drop (i + 1) xs) k fits) ∙ ap (λ ys. drop k (spread ys)) (sym (drop_next xs i run within is))
 
 pub rest_maximal : (xs : List Run) (i k : ℕ) (run : Run) → i < length xs → run ≡ slice_index_or xs i run → k < run.count → length (spread (drop i xs)) ≤ 4294967295 → AreMaximal (drop i xs) → AreMaximal (counted run (run.count - k) ∷ drop (i + 1) xs)
 rest_maximal xs i k run within is less fits h =
-    let behind = drop (i + 1) xs in
-    let long : length (spread (drop i xs)) ≡ run.count + length (spread behind) = ap (λ ys. length (spread ys)) (drop_next xs i run within is) ∙ length_first run behind in
-    other_first run (counted run (run.count - k)) behind refl (omega arith) (omega arith) (subst AreMaximal (drop_next xs i run within is) h)
+    let after = drop (i + 1) xs in
+    let long : length (spread (drop i xs)) ≡ run.count + length (spread after) = ap (λ ys. length (spread ys)) (drop_next xs i run within is) ∙ length_first run after in
+    other_first run (counted run (run.count - k)) after refl (omega arith) (omega arith) (subst AreMaximal (drop_next xs i run within is) h)
 
 -- a run in two parts
 abbrev pub in_two : List Run → ℕ → Run → ℕ → List Run
@@ -199,11 +199,11 @@ in_two xs i run k = slice_set (take (i + 1) xs ++ counted run (run.count - k) �
 
 two_front : (xs : List Run) (i k : ℕ) (run : Run) → i < length xs → take (i + 1) (in_two xs i run k) ≡ take i xs ++ counted run k ∷ []
 two_front xs i k run within =
-    let front = take (i + 1) xs in
-    let all = front ++ counted run (run.count - k) ∷ drop (i + 1) xs in
-    let few : length front ≡ i + 1 = length-take-le (i + 1) xs (omega arith) in
-    let long = length-append front (counted run (run.count - k) ∷ drop (i + 1) xs) in
-    take_more_set all i (counted run k) (omega arith) ∙ ap (λ ys. ys ++ counted run k ∷ []) (take-append-le i front (counted run (run.count - k) ∷ drop (i + 1) xs) (omega arith) ∙ take-take i (i + 1) xs (omega arith))
+    let prefix = take (i + 1) xs in
+    let all = prefix ++ counted run (run.count - k) ∷ drop (i + 1) xs in
+    let few : length prefix ≡ i + 1 = length-take-le (i + 1) xs (omega arith) in
+    let long = length-append prefix (counted run (run.count - k) ∷ drop (i + 1) xs) in
+    take_more_set all i (counted run k) (omega arith) ∙ ap (λ ys. ys ++ counted run k ∷ []) (take-append-le i prefix (counted run (run.count - k) ∷ drop (i + 1) xs) (omega arith) ∙ take-take i (i + 1) xs (omega arith))
 
 two_after : (xs : List Run) (i k : ℕ) (run : Run) → i < length xs → drop (i + 1) (in_two xs i run k) ≡ counted run (run.count - k) ∷ drop (i + 1) xs
 two_after xs i k run within =
@@ -230,29 +230,29 @@ two_first xs i rest d within =
     let few : length (take (i + 1) xs) ≡ i + 1 = length-take-le (i + 1) xs (omega arith) in
     get_or_append_left (take (i + 1) xs) (rest ∷ drop (i + 1) xs) d i (omega arith) ∙ get_or-take (i + 1) xs i d (omega arith)
 
--- the columns before a place within the run that holds the other place too
+-- the columns before a position within the run that holds the other position too
 pub parted_two : (xs : List Run) (i k m : ℕ) (run : Run) → i < length xs → run ≡ slice_index_or xs i run → 0 < k → k < m → m < run.count → length (spread xs) ≤ 4294967295 → AreMaximal xs → IsParted (column_at xs (record { index = i; offset = k })) (column_at xs (record { index = i; offset = m })) xs (in_two xs i run k) (i + 1) (record { index = i + 1; offset = m - k })
 parted_two xs i k m run within is some less inside fits h =
     let s = counted run k in
     let rest = counted run (run.count - k) in
-    let behind = drop (i + 1) xs in
+    let after = drop (i + 1) xs in
     let new = in_two xs i run k in
     let at = length (spread (take i xs)) in
     let first = two_front xs i k run within in
     let second = two_after xs i k run within in
     let grown = two_length xs i k run within in
     let long = length_parts xs i in
-    let part : length (spread (drop (i + 1) new)) ≡ run.count - k + length (spread behind) = ap (λ ys. length (spread ys)) second ∙ length_first rest behind in
-    let whole : length (spread (drop i xs)) ≡ run.count + length (spread behind) = ap (λ ys. length (spread ys)) (drop_next xs i run within is) ∙ length_first run behind in
+    let part : length (spread (drop (i + 1) new)) ≡ run.count - k + length (spread after) = ap (λ ys. length (spread ys)) second ∙ length_first rest after in
+    let whole : length (spread (drop i xs)) ≡ run.count + length (spread after) = ap (λ ys. length (spread ys)) (drop_next xs i run within is) ∙ length_first run after in
     let left : run.count - k - (m - k) ≡ run.count - m = omega arith in
     record {
-      front = ap spread first ∙ sym (cut_prefix (take i xs) run behind k (omega arith)) ∙ ap (λ ys. take (at + k) (spread ys)) (sym (around xs i run within is));
-      behind = ap (λ ys. drop (m - k) (spread ys)) second ∙ cut_run rest behind (m - k) (omega arith) ∙ ap (λ n. spread (counted run n ∷ behind)) left ∙ rest_columns xs i m run within is (omega arith) ∙ sym (after_front xs i m);
+      prefix = ap spread first ∙ sym (cut_prefix (take i xs) run after k (omega arith)) ∙ ap (λ ys. take (at + k) (spread ys)) (sym (around xs i run within is));
+      after = ap (λ ys. drop (m - k) (spread ys)) second ∙ cut_run rest after (m - k) (omega arith) ∙ ap (λ n. spread (counted run n ∷ after)) left ∙ rest_columns xs i m run within is (omega arith) ∙ sym (after_front xs i m);
       order = omega arith;
       at = record {
         within = omega (arith, grown);
         inside = λ r there e. subst (λ (x : Run). m - k < x.count) (sym (e ∙ two_second xs i k run r within)) (omega arith);
-        behind = λ e. absurd (omega (arith, grown));
+        after = λ e. absurd (omega (arith, grown));
       };
       fewer = omega (arith, long, part, whole);
       front_maximal = subst AreMaximal (sym first) (other_last (take i xs) run s refl some (subst AreMaximal (take_next xs i run within is) (take_maximal (i + 1) xs h)));
@@ -289,7 +289,7 @@ pub put_columns : (xs : List Run) (kept from at to : ℕ) (run first second : Ru
 put_columns xs kept from at to run first second p q =
     spread-append (take from xs) (second ∷ drop to xs) ∙ ap (λ ys. spread (take from xs) ++ ys) q ∙ sym (append_assoc (spread (take from xs)) (columns_of first) (spread (drop at xs))) ∙ ap (λ ys. ys ++ spread (drop at xs)) p
 
--- a run is counted to the one behind it
+-- a run is counted to the one after it
 pub joined_columns : (xs : List Run) (n : ℕ) (last run : Run) → n < length xs → last ≡ slice_index_or xs n last → last.attributes ≡ run.attributes → spread (take n xs) ++ columns_of (counted run (run.count + last.count)) ≡ spread (take (n + 1) xs) ++ columns_of run
 joined_columns xs n last run within is same =
     let sums : run.count + last.count ≡ last.count + run.count = omega arith in
@@ -305,7 +305,7 @@ apart_front xs n last s within is differ some h =
     let e = take_next xs n last within is in
     subst AreMaximal (sym (append_assoc (take n xs) (last ∷ []) (s ∷ [])) ∙ ap (λ ys. ys ++ s ∷ []) (sym e)) (one_more (take n xs) last s (subst AreMaximal e h) (λ same. absurd (differ same)) some)
 
--- a run is counted to the one in front of it
+-- a run is counted to the one before it
 pub joined_after_columns : (xs : List Run) (n : ℕ) (next run : Run) → n < length xs → next ≡ slice_index_or xs n next → next.attributes ≡ run.attributes → columns_of (counted run (run.count + next.count)) ++ spread (drop (n + 1) xs) ≡ columns_of run ++ spread (drop n xs)
 joined_after_columns xs n next run within is same =
     ap (λ ys. ys ++ spread (drop (n + 1) xs)) (sym (replicate-append-replicate run.count next.count run.attributes)) ∙ append_assoc (columns_of run) (replicate next.count run.attributes) (spread (drop (n + 1) xs)) ∙
@@ -330,18 +330,18 @@ take_some zero n part a e = ap (λ m. replicate m a) (let f : 0 ≡ part = omega
 take_some (suc count) zero part a e = ap (λ m. replicate m a) (let f : 0 ≡ part = omega (arith, e) in f)
 take_some (suc count) (suc n) part a e = ap (λ ys. a ∷ ys) (take_some count n (part - 1) a (omega (arith, e))) ∙ ap (λ m. replicate m a) (let f : suc (part - 1) ≡ part = omega (arith, e) in f)
 
--- so many columns of a run and of those behind it, less those that are skipped
-pub next_part : (run : Run) (behind : List Run) (skip count skipped part : ℕ) → skipped ≡ min skip run.count → part ≡ min count (run.count - skipped) → take count (drop skip (spread (run ∷ behind))) ≡ replicate part run.attributes ++ take (count - part) (drop (skip - skipped) (spread behind))
-next_part run behind skip count skipped part e f =
+-- so many columns of a run and of those after it, less those that are skipped
+pub next_part : (run : Run) (after : List Run) (skip count skipped part : ℕ) → skipped ≡ min skip run.count → part ≡ min count (run.count - skipped) → take count (drop skip (spread (run ∷ after))) ≡ replicate part run.attributes ++ take (count - part) (drop (skip - skipped) (spread after))
+next_part run after skip count skipped part e f =
     let c = run.count in
     let a = run.attributes in
     let gone : skip - length (columns_of run) ≡ skip - skipped = let g = length_columns run in omega (arith, e, g) in
     let left : c - skip ≡ c - skipped = omega (arith, e) in
-    let rest = drop (skip - skipped) (spread behind) in
-    let front : take count (replicate (c - skipped) a) ≡ replicate part a = take_some count (c - skipped) part a f in
+    let rest = drop (skip - skipped) (spread after) in
+    let prefix : take count (replicate (c - skipped) a) ≡ replicate part a = take_some count (c - skipped) part a f in
     let more : count - length (replicate (c - skipped) a) ≡ count - part = let g = length-replicate (c - skipped) a in omega (arith, f, g) in
-    ap (λ ys. take count ys) (drop_over skip (columns_of run) (spread behind) ∙ ap (λ n. drop skip (columns_of run) ++ drop n (spread behind)) gone ∙ ap (λ ys. ys ++ rest) (drop-replicate skip c a ∙ ap (λ n. replicate n a) left)) ∙
-    take_over count (replicate (c - skipped) a) rest ∙ ap (λ ys. ys ++ take (count - length (replicate (c - skipped) a)) rest) front ∙ ap (λ n. replicate part a ++ take n rest) more
+    ap (λ ys. take count ys) (drop_over skip (columns_of run) (spread after) ∙ ap (λ n. drop skip (columns_of run) ++ drop n (spread after)) gone ∙ ap (λ ys. ys ++ rest) (drop-replicate skip c a ∙ ap (λ n. replicate n a) left)) ∙
+    take_over count (replicate (c - skipped) a) rest ∙ ap (λ ys. ys ++ take (count - length (replicate (c - skipped) a)) rest) prefix ∙ ap (λ n. replicate part a ++ take n rest) more
 
 -- lists that begin alike
 pub same_front : (xs ys : List Run) (k n : ℕ) → k ≤ n → take n xs ≡ take n ys → take k xs ≡ take k ys

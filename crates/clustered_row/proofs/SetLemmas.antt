@@ -6,7 +6,7 @@ use Rattle.std.specs.List.{flat_map, list_all}
 use Rattle.std.specs.Str.{encode_utf8_all, is_utf8}
 use Rattle.std.proofs.lemmas.Bool.{and_from, and_parts, eqb-true}
 use Rattle.std.proofs.lemmas.Bool.Decides.{eqb_tells, leb_tells, nat_tests}
-use Rattle.std.proofs.lemmas.List.{length-replicate, nil_from_length, replicate-append-replicate, take_at}
+use Rattle.std.proofs.lemmas.List.{length-replicate, replicate-append-replicate, take_at}
 use Rattle.std.proofs.lemmas.Str.{IsCharBoundary-from_ascii, IsCharBoundary-from_take, is_utf8-from_IsUtf8}
 use Rattle.std.proofs.lemmas.Str.Ascii.{IsAscii-nil, IsAscii-cons}
 use Rattle.text_clusters.specs.Plain.{is_printable}
@@ -27,7 +27,7 @@ use Rattle.clustered_row.specs.Sizes.{bytes_of, columns_of, faces_of, is_cut, is
 use Rattle.clustered_row.specs.Walk.{cells_of, IsWalked}
 use Rattle.clustered_row.proofs.ColumnLemmas.{plain_are}
 use Rattle.clustered_row.proofs.RowLemmas.{length-row_of}
-use Rattle.clustered_row.proofs.SizeLemmas.{columns_many, IsUtf8-cut, plain_narrow as plain_narrow_size}
+use Rattle.clustered_row.proofs.SizeLemmas.{IsUtf8-cut, plain_narrow as plain_narrow_size}
 use Rattle.clustered_row.proofs.StepLemmas.{length-cells}
 use Rattle.clustered_row.proofs.WalkLemmas.{following_bytes, one_cut, take_all}
 
@@ -39,26 +39,26 @@ first_row true text faces n a = let two : suc (suc n) ≡ 2 + n = omega arith in
 first_row false text faces n a = let one : suc n ≡ 1 + n = omega arith in ap (λ k. row_of (cell_faces false text ++ faces) (replicate k a)) one
 
 -- their columns are their faces with the attributes
-pub cells_row : (front : List ℕ) (sizes : List CellSize) (a : Attributes) → bytes_of sizes ≡ length front
-    → flat_map cell_columns (cells_of front sizes a) ≡ row_of (faces_of front sizes) (replicate (columns_of sizes) a)
+pub cells_row : (prefix : List ℕ) (sizes : List CellSize) (a : Attributes) → bytes_of sizes ≡ length prefix
+    → flat_map cell_columns (cells_of prefix sizes a) ≡ row_of (faces_of prefix sizes) (replicate (columns_of sizes) a)
 cells_row [] [] a e = refl
-cells_row (b ∷ front) [] a e = absurd (omega (arith, e))
-cells_row front (size ∷ rest) a e =
-    ap (λ (r : Row). cell_columns (record { text = take size.len front; width = width_of size.is_wide; attributes = a }) ++ r) (cells_row (drop size.len front) rest a (following_bytes size rest front e))
-    ∙ first_row size.is_wide (take size.len front) (faces_of (drop size.len front) rest) (columns_of rest) a
+cells_row (b ∷ prefix) [] a e = absurd (omega (arith, e))
+cells_row prefix (size ∷ rest) a e =
+    ap (λ (r : Row). cell_columns (record { text = take size.len prefix; width = width_of size.is_wide; attributes = a }) ++ r) (cells_row (drop size.len prefix) rest a (following_bytes size rest prefix e))
+    ∙ first_row size.is_wide (take size.len prefix) (faces_of (drop size.len prefix) rest) (columns_of rest) a
 
-some_cells : (front : List ℕ) (sizes : List CellSize) (a : Attributes) → 0 < columns_of sizes → 0 < length (cells_of front sizes a)
-some_cells front [] a h = absurd (omega (arith, h))
-some_cells front (size ∷ rest) a h = omega arith
+some_cells : (prefix : List ℕ) (sizes : List CellSize) (a : Attributes) → 0 < columns_of sizes → 0 < length (cells_of prefix sizes a)
+some_cells prefix [] a h = absurd (omega (arith, h))
+some_cells prefix (size ∷ rest) a h = omega arith
 
 -- so they are set at once
-pub cells_set : (row : Row) (at : ℕ) (front : List ℕ) (sizes : List CellSize) (n : ℕ) (a : Attributes) → bytes_of sizes ≡ length front → columns_of sizes ≡ n → 0 < n → length (row_of (faces_of front sizes) (replicate n a)) ≡ n
-    → at + n ≤ length row → overlaid row at (cells_of front sizes a) ≡ set_columns row at (row_of (faces_of front sizes) (replicate n a))
-cells_set row at front sizes n a e f some count h =
-    let columns : flat_map cell_columns (cells_of front sizes a) ≡ row_of (faces_of front sizes) (replicate n a)
-    = cells_row front sizes a e ∙ ap (λ k. row_of (faces_of front sizes) (replicate k a)) f in
-    let long : length (flat_map cell_columns (cells_of front sizes a)) ≡ n = ap length columns ∙ count in
-    overlaid_within row at (cells_of front sizes a) (some_cells front sizes a (omega (arith, f, some))) (omega (arith, long, h)) ∙ ap (set_columns row at) columns
+pub cells_set : (row : Row) (at : ℕ) (prefix : List ℕ) (sizes : List CellSize) (n : ℕ) (a : Attributes) → bytes_of sizes ≡ length prefix → columns_of sizes ≡ n → 0 < n → length (row_of (faces_of prefix sizes) (replicate n a)) ≡ n
+    → at + n ≤ length row → overlaid row at (cells_of prefix sizes a) ≡ set_columns row at (row_of (faces_of prefix sizes) (replicate n a))
+cells_set row at prefix sizes n a e f some count h =
+    let columns : flat_map cell_columns (cells_of prefix sizes a) ≡ row_of (faces_of prefix sizes) (replicate n a)
+    = cells_row prefix sizes a e ∙ ap (λ k. row_of (faces_of prefix sizes) (replicate k a)) f in
+    let long : length (flat_map cell_columns (cells_of prefix sizes a)) ≡ n = ap length columns ∙ count in
+    overlaid_within row at (cells_of prefix sizes a) (some_cells prefix sizes a (omega (arith, f, some))) (omega (arith, long, h)) ∙ ap (set_columns row at) columns
 
 -- ---- printable characters
 
@@ -204,7 +204,7 @@ spaces_set row at n text a e =
     ∙ ap (λ k. set_columns row at (row_of (plain_faces (replicate n 32)) (replicate k a))) (length-replicate n 32)
     ∙ ap (set_columns row at) (spaces_row n a)
 
--- blanks behind blanks
+-- blanks after blanks
 pub blanks_on : (row now : Row) (at n m : ℕ) (a : Attributes) → now ≡ set_columns row at (replicate n (blank a)) → at + n ≤ length row → set_columns now (at + n) (replicate m (blank a)) ≡ set_columns row at (replicate (n + m) (blank a))
 blanks_on row now at n m a e h =
     let count = length-replicate n (blank a) in
@@ -228,42 +228,35 @@ two_or_space text = by_cases (shows_as_space text)
     by_cases true = refl
     by_cases false = refl
 
--- ---- the front of a walk
+-- ---- the start of a walk
 
 module _ (f : List ℕ → ℕ) (room : ℕ) (text : List ℕ) (sizes : List CellSize) (n : ℕ) (rest : List ℕ) (w : IsWalked f room text sizes n rest) where
   -- what the cells are cut from
-  pub walk_front : take (length text - length rest) text ≡ w.front
+  pub walk_front : take (length text - length rest) text ≡ w.prefix
   walk_front =
       let whole = w.whole in
-      let long = length-append w.front rest in
-      let count : length w.front ≡ length text - length rest = omega (arith, ap length whole, long) in
-      ap (take (length text - length rest)) whole ∙ take_at w.front rest (length text - length rest) count
+      let long = length-append w.prefix rest in
+      let count : length w.prefix ≡ length text - length rest = omega (arith, ap length whole, long) in
+      ap (take (length text - length rest)) whole ∙ take_at w.prefix rest (length text - length rest) count
 
   pub walk_boundary : IsUtf8 text → IsCharBoundary text (length text - length rest)
-  walk_boundary u = IsCharBoundary-from_take text (length text - length rest) u (omega arith) (subst IsUtf8 (sym walk_front) (IsUtf8-cut w.front sizes w.cut))
+  walk_boundary u = IsCharBoundary-from_take text (length text - length rest) u (omega arith) (subst IsUtf8 (sym walk_front) (IsUtf8-cut w.prefix sizes w.cut))
 
   module _ (row : Row) (at end : ℕ) (a : Attributes) (order : at ≤ end) (within : end ≤ length row) (rooms : room ≡ end - at) where
-    leads_to : (next : Row) → next ≡ overlaid row at (cells_of w.front sizes a) → Leads f end a row at text next (at + n) rest
+    leads_to : (next : Row) → next ≡ overlaid row at (cells_of w.prefix sizes a) → Leads f end a row at text next (at + n) rest
     leads_to next e =
         let on : at + room ≡ end = omega (arith, order, rooms) in
         subst (λ (r : Row). Leads f end a row at text r (at + n) rest) (sym e)
-        (subst (λ k. Leads f k a row at text (overlaid row at (cells_of w.front sizes a)) (at + n) rest) on (w.leads a row at (omega (arith, on, within))))
-
-    -- where no cell was walked over nothing changes
-    pub walk_kept : n ≤ 0 → Leads f end a row at text row (at + n) rest
-    walk_kept h =
-        let columns = w.columns in
-        let none : sizes ≡ [] = nil_from_length sizes (omega (arith, h, columns, columns_many sizes)) in
-        leads_to row (ap (λ (s : List CellSize). overlaid row at (cells_of w.front s a)) (sym none))
+        (subst (λ k. Leads f k a row at text (overlaid row at (cells_of w.prefix sizes a)) (at + n) rest) on (w.leads a row at (omega (arith, on, within))))
 
     -- the cells are set
-    pub walk_set : (front : List ℕ) (next : Row) → front ≡ take (length text - length rest) text → 0 < n → next ≡ set_columns row at (row_of (faces_of front sizes) (replicate n a))
+    pub walk_set : (prefix : List ℕ) (next : Row) → prefix ≡ take (length text - length rest) text → 0 < n → next ≡ set_columns row at (row_of (faces_of prefix sizes) (replicate n a))
         → Leads f end a row at text next (at + n) rest
-    walk_set front next e some is =
+    walk_set prefix next e some is =
         let bytes = w.bytes in
         let columns = w.columns in
         let fits = w.within in
-        let faced : length (faces_of w.front sizes) ≡ n = length-cells w.front sizes bytes ∙ columns in
-        let count : length (row_of (faces_of w.front sizes) (replicate n a)) ≡ n = length-row_of (faces_of w.front sizes) (replicate n a) (faced ∙ sym (length-replicate n a)) ∙ faced in
+        let faced : length (faces_of w.prefix sizes) ≡ n = length-cells w.prefix sizes bytes ∙ columns in
+        let count : length (row_of (faces_of w.prefix sizes) (replicate n a)) ≡ n = length-row_of (faces_of w.prefix sizes) (replicate n a) (faced ∙ sym (length-replicate n a)) ∙ faced in
         leads_to next (is ∙ ap (λ t. set_columns row at (row_of (faces_of t sizes) (replicate n a))) (e ∙ walk_front)
-        ∙ sym (cells_set row at w.front sizes n a bytes columns some count (omega (arith, order, within, rooms, fits))))
+        ∙ sym (cells_set row at w.prefix sizes n a bytes columns some count (omega (arith, order, within, rooms, fits))))

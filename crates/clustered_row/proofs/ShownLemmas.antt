@@ -1,4 +1,4 @@
--- What a row shows of the columns that were written, and of the blanks behind them.
+-- What a row shows of the columns that were written, and of the blanks after them.
 use Rattle.std.proofs.Common.{◌≡◌, ℕ, suc, ◌+◌, ◌-◌, ◌≤◌, ◌<◌, List, [], ◌++◌, length, take, replicate, refl, sym, ap, subst, ◌∙◌, append_assoc, append-nil, length-append, arith, inl, inr}
 use Rattle.std.specs.Prelude.{if◌then◌else◌}
 use Rattle.std.proofs.lemmas.Bool.Decides.{leb_tells}
@@ -42,26 +42,26 @@ module _ (columns : Row) (width : ℕ) (rest : Attributes) (most : length column
   pub set_over_shows : (first new g : Row) (at : ℕ) → first ≡ closed_end (take at columns) → new ≡ first ++ g → at ≤ length columns → length columns ≤ at + length g → at + length g ≤ width
       → Shows new width rest (set_columns (shown columns width rest) at g)
   set_over_shows first new g at e f o h w =
-      let front = ap length e ∙ length-closed_end (take at columns) ∙ length-take-le at columns o in
+      let prefix = ap length e ∙ length-closed_end (take at columns) ∙ length-take-le at columns o in
       let all = ap length f ∙ length-append first g in
-      let left : width - length new ≡ length columns + (width - length columns) - (at + length g) = omega (arith, front, all, h, w, most) in
+      let left : width - length new ≡ length columns + (width - length columns) - (at + length g) = omega (arith, prefix, all, h, w, most) in
       record {
-        within = omega (arith, front, all, w);
+        within = omega (arith, prefix, all, w);
         is = (λ i. (f ∙ ap (λ (r : Row). r ++ g) e) i ++ replicate (left i) (blank rest)) ∙ sym (set_over columns g at (width - length columns) rest o h (omega (arith, w, most)));
       }
 
   module _ (whole : IsWhole columns) where
-    -- columns are set behind what was written, and behind blanks that are written before them
+    -- columns are set after what was written, and after blanks that are written before them
     pub set_after_shows : (first new g : Row) (at : ℕ) → first ≡ columns ++ replicate (at - length columns) (blank rest) → new ≡ first ++ g → length columns ≤ at → at + length g ≤ width
         → Shows new width rest (set_columns (shown columns width rest) at g)
     set_after_shows first new g at e f o w =
         let count = ap length e ∙ length-append columns (replicate (at - length columns) (blank rest)) in
         let blanks = length-replicate (at - length columns) (blank rest) in
-        let front : length first ≡ at = omega (arith, count, blanks, o) in
+        let prefix : length first ≡ at = omega (arith, count, blanks, o) in
         let closed : closed_end (take at first) ≡ first
-        = ap closed_end (take_first first at front)
+        = ap closed_end (take_first first at prefix)
         ∙ whole_ends first (subst IsWhole (sym e) (whole-append columns (replicate (at - length columns) (blank rest)) whole (whole-blanks (at - length columns) rest))) in
-        let s = over first new g at (sym closed) f front w in
+        let s = over first new g at (sym closed) f prefix w in
         record {
           within = s.within;
           is = s.is ∙ ap (λ (r : Row). set_columns r at g) ((λ i. e i ++ replicate (width - length (e i)) (blank rest)) ∙ blanks_stored columns at width rest o (omega (arith, w)));
@@ -71,12 +71,12 @@ module _ (columns : Row) (width : ℕ) (rest : Attributes) (most : length column
         take_first r n e = ap (take n) (sym (append-nil r)) ∙ take_at r [] n e
 
         over : (first new g : Row) (at : ℕ) → first ≡ closed_end (take at first) → new ≡ first ++ g → length first ≡ at → at + length g ≤ width → Shows new width rest (set_columns (shown first width rest) at g)
-        over first new g at c f front w =
+        over first new g at c f prefix w =
             let all = ap length f ∙ length-append first g in
-            let left : width - length new ≡ length first + (width - length first) - (at + length g) = omega (arith, front, all, w) in
+            let left : width - length new ≡ length first + (width - length first) - (at + length g) = omega (arith, prefix, all, w) in
             record {
-              within = omega (arith, front, all, w);
-              is = (λ i. (f ∙ ap (λ (r : Row). r ++ g) c) i ++ replicate (left i) (blank rest)) ∙ sym (set_over first g at (width - length first) rest (omega (arith, front)) (omega (arith, front)) (omega (arith, front, w)));
+              within = omega (arith, prefix, all, w);
+              is = (λ i. (f ∙ ap (λ (r : Row). r ++ g) c) i ++ replicate (left i) (blank rest)) ∙ sym (set_over first g at (width - length first) rest (omega (arith, prefix)) (omega (arith, prefix)) (omega (arith, prefix, w)));
             }
 
 -- columns that are set where those that were written were made to end
@@ -95,17 +95,17 @@ length-ended columns first at rest ends = elim (leb_tells at (length columns)) [
 
 -- ---- blanks to the end
 
--- the columns that were written end at a column, and blanks with other attributes stand behind it
+-- the columns that were written end at a column, and blanks with other attributes follow it
 pub blanks_show : (columns first : Row) (at width : ℕ) (rest a : Attributes) → IsWhole columns → length columns ≤ width → EndsAt columns first at rest → at ≤ width → Shows first width a (set_columns (shown columns width rest) at (replicate (width - at) (blank a)))
 blanks_show columns first at width rest a whole most ends h =
     let g = replicate (width - at) (blank a) in
     let count = length-replicate (width - at) (blank a) in
-    let front = length-ended columns first at rest ends in
+    let prefix = length-ended columns first at rest ends in
     let k = set_end_shows columns first (first ++ g) g at width rest whole most ends refl (omega (arith, count, h, most)) (omega (arith, count, h)) in
-    let none : width - length (first ++ g) ≡ 0 = omega (arith, front, h, length-append first g, count) in
+    let none : width - length (first ++ g) ≡ 0 = omega (arith, prefix, h, length-append first g, count) in
     record {
-      within = omega (arith, front, h);
-      is = (λ i. first ++ replicate (width - front i) (blank a)) ∙ sym (append-nil (first ++ g)) ∙ ap (λ n. (first ++ g) ++ replicate n (blank rest)) (sym none) ∙ k.is;
+      within = omega (arith, prefix, h);
+      is = (λ i. first ++ replicate (width - prefix i) (blank a)) ∙ sym (append-nil (first ++ g)) ∙ ap (λ n. (first ++ g) ++ replicate n (blank rest)) (sym none) ∙ k.is;
     }
 
 -- ---- another width
@@ -130,7 +130,7 @@ module _ (columns : Row) (width : ℕ) (rest : Attributes) (most : length column
       (λ less. ap (λ n. new ++ replicate n (blank rest)) none ∙ append-nil new ∙ e ∙ ap closed_end (sym (take_within columns (replicate (width - length columns) (blank rest)) to (omega (arith, h)))))
       (λ more. absurd (omega (arith, more, long, h, most)))
 
-  -- blanks behind what was written go
+  -- blanks after what was written go
   pub resize_less : (to : ℕ) → IsWhole columns → length columns ≤ to → to ≤ width → shown columns to rest ≡ resized to (shown columns width rest)
   resize_less to whole h w =
       let long = length-shown columns width rest most in
@@ -147,7 +147,7 @@ module _ (columns : Row) (width : ℕ) (rest : Attributes) (most : length column
       let none : to - length (shown columns width rest) ≡ 0 = omega (arith, long, w) in
       ap (λ n. shown columns n rest) same ∙ sym (append-nil (shown columns width rest)) ∙ ap (λ n. shown columns width rest ++ plain_row n) (sym none))
 
-  -- plain blanks come behind
+  -- plain blanks follow
   pub resize_more : (new : Row) (to : ℕ) → new ≡ columns ++ replicate (width - length columns) (blank rest) → width < to → shown new to plain ≡ resized to (shown columns width rest)
   resize_more new to e h =
       let long = length-shown columns width rest most in

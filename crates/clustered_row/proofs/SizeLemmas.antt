@@ -101,7 +101,7 @@ cut_join text more (s ∷ xs) ys h =
     ∙ ap (λ b. is_text s (take s.len text) && b) (cut_join (drop s.len text) more xs ys rest)
     ∙ sym (and_assoc (is_text s (take s.len text)) (is_cut (drop s.len text) xs) (is_cut more ys))
 
--- bytes behind all cells
+-- bytes after all cells
 pub faces_more : (text more : List ℕ) (sizes : List CellSize) → bytes_of sizes ≤ length text → faces_of (text ++ more) sizes ≡ faces_of text sizes ++ plain_faces more
 faces_more text more [] h = map-append (λ byte. Own (byte ∷ [])) text more
 faces_more text more (s ∷ sizes) h =

@@ -11,9 +11,9 @@ use Rattle.text_clusters.specs.Plain.{is_printable}
 use Rattle.cell_base.specs.CellContent.{shows_as_space}
 use Rattle.clustered_row.specs.declared.cell_size.CellSize.{CellSize}
 use Rattle.clustered_row.specs.declared.cut_text.CutText.{CutText}
-use Rattle.clustered_row.specs.declared.place.Place.{Place}
+use Rattle.clustered_row.specs.declared.position.Position.{Position}
 use Rattle.clustered_row.specs.Faces.{Own, Right, first_face, plain_faces, closed_end, opened, set_faces, padded}
-use Rattle.clustered_row.specs.Place.{IsPlace, IsSplit}
+use Rattle.clustered_row.specs.Position.{IsPosition, IsSplit}
 use Rattle.clustered_row.specs.Sizes.{width_of, bytes_of, columns_of, is_plain, ends_plain, faces_of, is_cut}
 use Rattle.clustered_row.proofs.SizeLemmas.{bytes_of-append, columns_of-append, bytes_split, columns_split, bytes_next, columns_next, columns_few, columns_many, join, cut_join, width_bounds, IsUtf8-cut, length-faces, faces_more, cut_more, plain_sizes, plain_sums, plain_copies, ends_plain-push, second_column}
 use Rattle.clustered_row.proofs.TextLemmas.{Placed, IsAfter, replaced, replaced_cut, replaced_bytes, replaced_columns, halved_at, closed_at_place, closed_in_wide, cut_in_wide, cut_parts, opened_at_place, after_cut, after_stays_cut, after_set, after_set_cut, face_at_place, face_in_wide, cell_kept, cell_utf8}
@@ -28,7 +28,7 @@ pub record IsSized (t : List ℕ) (s : List CellSize) (bytes columns : ℕ) : Ty
 pub fits : (t : List ℕ) (s : List CellSize) (sb sc : ℕ) → IsSized t s sb sc → bytes_of s ≤ length t
 fits t s sb sc h = omega arith
 
-placed : (t : List ℕ) (s : List CellSize) (sb sc : ℕ) (p : Place) → IsSized t s sb sc → IsPlace s p → Placed t s p.index p.bytes p.columns
+placed : (t : List ℕ) (s : List CellSize) (sb sc : ℕ) (p : Position) → IsSized t s sb sc → IsPosition s p → Placed t s p.index p.bytes p.columns
 placed t s sb sc p h q = record { bytes = q.bytes; columns = q.columns; within = fits t s sb sc h }
 
 -- how many columns there are
@@ -42,7 +42,7 @@ columns_fit t s sb sc n h e = let k = columns_few s in omega (arith, k)
 pub sized_same : (t u : List ℕ) (s v : List CellSize) (sb sc : ℕ) → u ≡ t → v ≡ s → IsSized t s sb sc → IsSized u v sb sc
 sized_same t u s v sb sc p q h = subst (λ x. IsSized x v sb sc) (sym p) (subst (λ x. IsSized t x sb sc) (sym q) h)
 
--- ---- behind the sizes
+-- ---- after the sizes
 
 pub pushed : (t u now : List ℕ) (s : List CellSize) (sb sc : ℕ) → now ≡ t ++ u → list_all is_printable u ≡ true → IsSized t s sb sc → IsSized now s sb sc
 pushed t u now s sb sc e k h =
@@ -72,8 +72,8 @@ pub padded_faces : (t now : List ℕ) (s : List CellSize) (sb sc to n : ℕ) →
 padded_faces t now s sb sc to n e k h =
     pushed_faces t (replicate n 32) now s sb sc e h ∙ ap (λ fs. faces_of t s ++ fs) (plain_spaces n) ∙ ap (λ m. faces_of t s ++ replicate m (Own space)) k
 
-pub behind : (t : List ℕ) (s : List CellSize) (sb sc m at : ℕ) → IsSized t s sb sc → sb ≤ m → m ≤ length t → m + sc ≡ sb + at → IsAfter t s m at
-behind t s sb sc m at h k l e = record { sized = omega arith; within = l; column = omega arith }
+pub after : (t : List ℕ) (s : List CellSize) (sb sc m at : ℕ) → IsSized t s sb sc → sb ≤ m → m ≤ length t → m + sc ≡ sb + at → IsAfter t s m at
+after t s sb sc m at h k l e = record { sized = omega arith; within = l; column = omega arith }
 
 pub set_sized : (t u now : List ℕ) (s : List CellSize) (sb sc m at : ℕ) → now ≡ take m t ++ (u ++ drop (m + length u) t) → IsSized t s sb sc → IsAfter t s m at
     → m + length u ≤ length t → list_all is_printable u ≡ true → IsSized now s sb sc
@@ -109,12 +109,12 @@ cut_sized t now s sb sc m at e h p =
 pub cut_shown : (t now : List ℕ) (s : List CellSize) (m at : ℕ) → now ≡ take m t → IsAfter t s m at → faces_of now s ≡ closed_end (take at (faces_of t s))
 cut_shown t now s m at e p = ap (λ x. faces_of x s) e ∙ after_cut t s m at p
 
--- ---- a cut at a place
+-- ---- a cut at a position
 
-place_bytes : (s : List CellSize) (p : Place) → IsPlace s p → p.bytes ≤ bytes_of s
+place_bytes : (s : List CellSize) (p : Position) → IsPosition s p → p.bytes ≤ bytes_of s
 place_bytes s p q = let k = bytes_split p.index s in omega (arith, k)
 
-pub cut_at_place_sized : (t now : List ℕ) (s sizes : List CellSize) (sb sc : ℕ) (p : Place) → now ≡ take p.bytes t → sizes ≡ take p.index s → IsSized t s sb sc → IsPlace s p
+pub cut_at_place_sized : (t now : List ℕ) (s sizes : List CellSize) (sb sc : ℕ) (p : Position) → now ≡ take p.bytes t → sizes ≡ take p.index s → IsSized t s sb sc → IsPosition s p
     → IsSized now sizes p.bytes p.columns
 cut_at_place_sized t now s sizes sb sc p e k h q =
     let at = placed t s sb sc p h q in
@@ -127,12 +127,12 @@ cut_at_place_sized t now s sizes sb sc p e k h q =
       parts = (cut_parts t s p.index p.bytes p.columns at h.parts).0;
     }))
 
-pub cut_at_place_shown : (t now : List ℕ) (s sizes : List CellSize) (sb sc : ℕ) (p : Place) (at : ℕ) → now ≡ take p.bytes t → sizes ≡ take p.index s → IsSized t s sb sc → IsPlace s p
+pub cut_at_place_shown : (t now : List ℕ) (s sizes : List CellSize) (sb sc : ℕ) (p : Position) (at : ℕ) → now ≡ take p.bytes t → sizes ≡ take p.index s → IsSized t s sb sc → IsPosition s p
     → p.columns ≡ at → faces_of now sizes ≡ closed_end (take at (faces_of t s))
 cut_at_place_shown t now s sizes sb sc p at e k h q same =
     (λ i. faces_of (e i) (k i)) ∙ closed_at_place t s p.index p.bytes p.columns (placed t s sb sc p h q) ∙ ap (λ n. closed_end (take n (faces_of t s))) same
 
-pub cut_in_wide_sized : (t now : List ℕ) (s sizes : List CellSize) (sb sc : ℕ) (p : Place) → now ≡ take p.bytes t ++ 32 ∷ [] → sizes ≡ take p.index s → IsSized t s sb sc → IsPlace s p
+pub cut_in_wide_sized : (t now : List ℕ) (s sizes : List CellSize) (sb sc : ℕ) (p : Position) → now ≡ take p.bytes t ++ 32 ∷ [] → sizes ≡ take p.index s → IsSized t s sb sc → IsPosition s p
     → IsSized now sizes p.bytes p.columns
 cut_in_wide_sized t now s sizes sb sc p e k h q =
     let at = placed t s sb sc p h q in
@@ -146,8 +146,8 @@ cut_in_wide_sized t now s sizes sb sc p e k h q =
       parts = cut_in_wide t s p.index p.bytes p.columns at h.parts;
     }))
 
-pub cut_in_wide_shown : (t now : List ℕ) (s sizes : List CellSize) (sb sc : ℕ) (p : Place) (at : ℕ) (d : CellSize) → now ≡ take p.bytes t ++ 32 ∷ [] → sizes ≡ take p.index s
-    → IsSized t s sb sc → IsPlace s p → IsSplit s p at d → faces_of now sizes ≡ closed_end (take at (faces_of t s))
+pub cut_in_wide_shown : (t now : List ℕ) (s sizes : List CellSize) (sb sc : ℕ) (p : Position) (at : ℕ) (d : CellSize) → now ≡ take p.bytes t ++ 32 ∷ [] → sizes ≡ take p.index s
+    → IsSized t s sb sc → IsPosition s p → IsSplit s p at d → faces_of now sizes ≡ closed_end (take at (faces_of t s))
 cut_in_wide_shown t now s sizes sb sc p at d e k h q w =
     (λ i. faces_of (e i) (k i))
     ∙ closed_in_wide t s p.index p.bytes p.columns d (placed t s sb sc p h q) w.within w.wide
@@ -208,10 +208,10 @@ dropped_shown t s now sb sc p e k h =
     let sum_bytes = ap bytes_of e ∙ bytes_of-append now (p ∷ []) in
     sym (plain_sizes t now (p ∷ []) (and_from (is_plain p) true plain refl) (omega (arith, sum_bytes, one_byte))).0 ∙ ap (faces_of t) (sym e)
 
--- ---- cells replaced between two places
+-- ---- cells replaced between two positions
 
-pub replaced_sized : (t u now : List ℕ) (s v sizes : List CellSize) (sb sc : ℕ) (p q : Place)
-    → now ≡ take p.bytes t ++ (u ++ drop q.bytes t) → sizes ≡ take p.index s ++ (v ++ drop q.index s) → IsSized t s sb sc → IsPlace s p → IsPlace s q
+pub replaced_sized : (t u now : List ℕ) (s v sizes : List CellSize) (sb sc : ℕ) (p q : Position)
+    → now ≡ take p.bytes t ++ (u ++ drop q.bytes t) → sizes ≡ take p.index s ++ (v ++ drop q.index s) → IsSized t s sb sc → IsPosition s p → IsPosition s q
     → bytes_of v ≡ length u → p.columns + columns_of v ≡ q.columns → is_cut u v ≡ true → IsSized now sizes (p.bytes + length u + (sb - q.bytes)) sc
 replaced_sized t u now s v sizes sb sc p q e k h a b bytes columns cut =
     let from = placed t s sb sc p h a in
@@ -232,18 +232,18 @@ replaced_sized t u now s v sizes sb sc p q e k h a b bytes columns cut =
       parts = replaced_cut t u s v p.index p.bytes p.columns q.index q.bytes q.columns from to bytes h.parts cut;
     }))
 
-pub replaced_shown : (t u now : List ℕ) (s v sizes : List CellSize) (sb sc : ℕ) (p q : Place)
-    → now ≡ take p.bytes t ++ (u ++ drop q.bytes t) → sizes ≡ take p.index s ++ (v ++ drop q.index s) → IsSized t s sb sc → IsPlace s p → IsPlace s q
+pub replaced_shown : (t u now : List ℕ) (s v sizes : List CellSize) (sb sc : ℕ) (p q : Position)
+    → now ≡ take p.bytes t ++ (u ++ drop q.bytes t) → sizes ≡ take p.index s ++ (v ++ drop q.index s) → IsSized t s sb sc → IsPosition s p → IsPosition s q
     → bytes_of v ≡ length u → faces_of now sizes ≡ take p.columns (faces_of t s) ++ (faces_of u v ++ drop q.columns (faces_of t s))
 replaced_shown t u now s v sizes sb sc p q e k h a b bytes =
     (λ i. faces_of (e i) (k i))
     ∙ replaced t u s v p.index p.bytes p.columns q.index q.bytes q.columns (placed t s sb sc p h a) (placed t s sb sc q h b) bytes
 
--- ---- places
+-- ---- positions
 
--- the place behind the cell that stands there
-pub next_place : (s : List CellSize) (p q : Place) (d : CellSize) → IsPlace s p → p.index < length s
-    → q.index ≡ p.index + 1 → q.bytes ≡ p.bytes + (get_or s p.index d).len → q.columns ≡ p.columns + width_of (get_or s p.index d).is_wide → IsPlace s q
+-- the position after the cell that stands there
+pub next_place : (s : List CellSize) (p q : Position) (d : CellSize) → IsPosition s p → p.index < length s
+    → q.index ≡ p.index + 1 → q.bytes ≡ p.bytes + (get_or s p.index d).len → q.columns ≡ p.columns + width_of (get_or s p.index d).is_wide → IsPosition s q
 next_place s p q d a l i b c =
     let bytes = bytes_next s p.index d l in
     let columns = columns_next s p.index d l in
@@ -254,7 +254,7 @@ next_place s p q d a l i b c =
     }
 
 -- its bytes and columns are some of all
-pub next_fits : (s : List CellSize) (p : Place) (d : CellSize) → IsPlace s p → p.index < length s
+pub next_fits : (s : List CellSize) (p : Position) (d : CellSize) → IsPosition s p → p.index < length s
     → (p.bytes + (get_or s p.index d).len ≤ bytes_of s) × (p.columns + width_of (get_or s p.index d).is_wide ≤ columns_of s)
 next_fits s p d a l =
     let bytes = bytes_next s p.index d l in
@@ -263,23 +263,23 @@ next_fits s p d a l =
     let two = columns_split (p.index + 1) s in
     (omega (arith, bytes, one), omega (arith, columns, two))
 
--- a column that is not behind the cell is its first one, or the second one of a wide cell
-pub found_halved : (s : List CellSize) (p : Place) (at : ℕ) (d : CellSize) → p.index < length s → p.columns < at → at < p.columns + width_of (get_or s p.index d).is_wide → IsSplit s p at d
+-- a column that is not after the cell is its first one, or the second one of a wide cell
+pub found_halved : (s : List CellSize) (p : Position) (at : ℕ) (d : CellSize) → p.index < length s → p.columns < at → at < p.columns + width_of (get_or s p.index d).is_wide → IsSplit s p at d
 found_halved s p at d l less more =
     let w = second_column (get_or s p.index d).is_wide p.columns at less more in
     record { within = l; wide = w.0; column = w.1 }
 
-pub place_past : (s : List CellSize) (p : Place) → IsPlace s p → length s ≤ p.index → p.columns ≡ columns_of s
+pub place_past : (s : List CellSize) (p : Position) → IsPosition s p → length s ≤ p.index → p.columns ≡ columns_of s
 place_past s p a l = a.columns ∙ ap columns_of (take_all p.index s l)
 
 -- ---- a wide cell that becomes two spaces
 
-pub halved_shown : (t : List ℕ) (s : List CellSize) (sb sc : ℕ) (p : Place) (at : ℕ) (d : CellSize) → IsSized t s sb sc → IsPlace s p → IsSplit s p at d
+pub halved_shown : (t : List ℕ) (s : List CellSize) (sb sc : ℕ) (p : Position) (at : ℕ) (d : CellSize) → IsSized t s sb sc → IsPosition s p → IsSplit s p at d
     → take p.columns (faces_of t s) ++ (Own space ∷ Own space ∷ drop (p.columns + 2) (faces_of t s)) ≡ opened at (faces_of t s)
 halved_shown t s sb sc p at d h a w =
     halved_at t s p.index p.bytes p.columns d (placed t s sb sc p h a) w.within w.wide ∙ ap (λ n. opened n (faces_of t s)) (sym w.column)
 
-pub opened_here : (t : List ℕ) (s : List CellSize) (sb sc : ℕ) (p : Place) (at : ℕ) → IsSized t s sb sc → IsPlace s p → p.columns ≡ at → faces_of t s ≡ opened at (faces_of t s)
+pub opened_here : (t : List ℕ) (s : List CellSize) (sb sc : ℕ) (p : Position) (at : ℕ) → IsSized t s sb sc → IsPosition s p → p.columns ≡ at → faces_of t s ≡ opened at (faces_of t s)
 opened_here t s sb sc p at h a e =
     opened_at_place t s p.index p.bytes p.columns (placed t s sb sc p h a) ∙ ap (λ n. opened n (faces_of t s)) e
 
@@ -292,8 +292,8 @@ halved_count s now i plain l e =
     let same = ap length e in
     omega (arith, n, m, k, same)
 
-pub halved_place : (s now : List CellSize) (p q : Place) (plain : CellSize) → is_plain plain ≡ true → p.index < length s → take (p.index + 1) now ≡ take p.index s ++ plain ∷ [] → IsPlace s p
-    → q.index ≡ p.index + 1 → q.bytes ≡ p.bytes + 1 → q.columns ≡ p.columns + 1 → IsPlace now q
+pub halved_place : (s now : List CellSize) (p q : Position) (plain : CellSize) → is_plain plain ≡ true → p.index < length s → take (p.index + 1) now ≡ take p.index s ++ plain ∷ [] → IsPosition s p
+    → q.index ≡ p.index + 1 → q.bytes ≡ p.bytes + 1 → q.columns ≡ p.columns + 1 → IsPosition now q
 halved_place s now p q plain k l e a i b c =
     let count = halved_count s now p.index plain l e in
     let one = plain_sums (plain ∷ []) (and_from (is_plain plain) true k refl) in
@@ -353,33 +353,33 @@ padded_if false t now s sb sc n len e l m h = sized_same t now s s sb sc e refl 
 pub a_size : CellSize
 a_size = record { len = 1; is_wide = false; some = omega arith }
 
-pub place_order : (s : List CellSize) (p q : Place) → IsPlace s p → IsPlace s q → p.index ≤ q.index → p.bytes ≤ q.bytes
+pub place_order : (s : List CellSize) (p q : Position) → IsPosition s p → IsPosition s q → p.index ≤ q.index → p.bytes ≤ q.bytes
 place_order s p q a b le =
     let k = bytes_split p.index (take q.index s) in
     let same = ap bytes_of (take-take p.index q.index s le) in
     omega (arith, k, same)
 
-pub place_within : (t : List ℕ) (s : List CellSize) (sb sc : ℕ) (p : Place) → IsSized t s sb sc → IsPlace s p → p.bytes ≤ sb
+pub place_within : (t : List ℕ) (s : List CellSize) (sb sc : ℕ) (p : Position) → IsSized t s sb sc → IsPosition s p → p.bytes ≤ sb
 place_within t s sb sc p h a = let k = place_bytes s p a in omega (arith, k)
 
-pub half_bytes : (s : List CellSize) (p : Place) (at : ℕ) (d : CellSize) → IsPlace s p → IsSplit s p at d → p.bytes + 1 ≤ bytes_of s
+pub half_bytes : (s : List CellSize) (p : Position) (at : ℕ) (d : CellSize) → IsPosition s p → IsSplit s p at d → p.bytes + 1 ≤ bytes_of s
 half_bytes s p at d a w =
     let k = (next_fits s p d a w.within).0 in
     let some = (get_or s p.index d).some in
     omega (arith, k, some)
 
-pub next_read : (s : List CellSize) (p : Place) (x : CellSize) → IsPlace s p → p.index < length s → x ≡ get_or s p.index x
+pub next_read : (s : List CellSize) (p : Position) (x : CellSize) → IsPosition s p → p.index < length s → x ≡ get_or s p.index x
     → (p.bytes + x.len ≤ bytes_of s) × (p.columns + width_of x.is_wide ≤ columns_of s)
 next_read s p x a l e =
     let k = next_fits s p x a l in
     subst (λ (y : CellSize). (p.bytes + y.len ≤ bytes_of s) × (p.columns + width_of y.is_wide ≤ columns_of s)) (sym e) k
 
-pub next_place_read : (s : List CellSize) (p q : Place) (x : CellSize) → IsPlace s p → p.index < length s → x ≡ get_or s p.index x
-    → q.index ≡ p.index + 1 → q.bytes ≡ p.bytes + x.len → q.columns ≡ p.columns + width_of x.is_wide → IsPlace s q
+pub next_place_read : (s : List CellSize) (p q : Position) (x : CellSize) → IsPosition s p → p.index < length s → x ≡ get_or s p.index x
+    → q.index ≡ p.index + 1 → q.bytes ≡ p.bytes + x.len → q.columns ≡ p.columns + width_of x.is_wide → IsPosition s q
 next_place_read s p q x a l e i b c =
     next_place s p q x a l i (b ∙ ap (λ (y : CellSize). p.bytes + y.len) e) (c ∙ ap (λ (y : CellSize). p.columns + width_of y.is_wide) e)
 
-pub found_halved_read : (s : List CellSize) (p : Place) (at : ℕ) (x d : CellSize) → p.index < length s → p.columns < at → at < p.columns + width_of x.is_wide → x ≡ get_or s p.index x → IsSplit s p at d
+pub found_halved_read : (s : List CellSize) (p : Position) (at : ℕ) (x d : CellSize) → p.index < length s → p.columns < at → at < p.columns + width_of x.is_wide → x ≡ get_or s p.index x → IsSplit s p at d
 found_halved_read s p at x d l less more e =
     let same : x ≡ get_or s p.index d = e ∙ get_or_default s p.index x d l in
     found_halved s p at d l less (subst (λ (y : CellSize). at < p.columns + width_of y.is_wide) same more)
@@ -396,10 +396,10 @@ take_first {X} xs i j x y l =
 pub length-cells : (t : List ℕ) (s : List CellSize) → bytes_of s ≡ length t → length (faces_of t s) ≡ columns_of s
 length-cells t s e = let k = length-faces t s (omega arith) in omega (arith, k)
 
--- ---- places, from the end
+-- ---- positions, from the end
 
 -- more cells take more columns
-pub columns_order : (s : List CellSize) (p q : Place) → IsPlace s p → IsPlace s q → p.index ≤ q.index → p.columns + (q.index - p.index) ≤ q.columns
+pub columns_order : (s : List CellSize) (p q : Position) → IsPosition s p → IsPosition s q → p.index ≤ q.index → p.columns + (q.index - p.index) ≤ q.columns
 columns_order s p q a b le =
     let k = columns_split p.index (take q.index s) in
     let same = ap columns_of (take-take p.index q.index s le) in
@@ -408,22 +408,22 @@ columns_order s p q a b le =
     let m = length-take-le q.index s b.within in
     omega (arith, k, same, many, n, m)
 
-index_order_by : (s : List CellSize) (p q : Place) → IsPlace s p → IsPlace s q → p.columns < q.columns → (p.index < q.index) ⊎ (q.index ≤ p.index) → p.index < q.index
+index_order_by : (s : List CellSize) (p q : Position) → IsPosition s p → IsPosition s q → p.columns < q.columns → (p.index < q.index) ⊎ (q.index ≤ p.index) → p.index < q.index
 index_order_by s p q a b less (inl h) = h
 index_order_by s p q a b less (inr h) = let k = columns_order s q p b a h in absurd (omega (arith, k, less))
 
-pub index_order : (s : List CellSize) (p q : Place) → IsPlace s p → IsPlace s q → p.columns < q.columns → p.index < q.index
+pub index_order : (s : List CellSize) (p q : Position) → IsPosition s p → IsPosition s q → p.columns < q.columns → p.index < q.index
 index_order s p q a b less = index_order_by s p q a b less (cases_lt p.index q.index)
 
-index_within_by : (s : List CellSize) (p q : Place) → IsPlace s p → IsPlace s q → p.columns ≤ q.columns → (q.index < p.index) ⊎ (p.index ≤ q.index) → p.index ≤ q.index
+index_within_by : (s : List CellSize) (p q : Position) → IsPosition s p → IsPosition s q → p.columns ≤ q.columns → (q.index < p.index) ⊎ (p.index ≤ q.index) → p.index ≤ q.index
 index_within_by s p q a b le (inl h) = let k = columns_order s q p b a (omega arith) in absurd (omega (arith, k, le, h))
 index_within_by s p q a b le (inr h) = h
 
-pub index_within : (s : List CellSize) (p q : Place) → IsPlace s p → IsPlace s q → p.columns ≤ q.columns → p.index ≤ q.index
+pub index_within : (s : List CellSize) (p q : Position) → IsPosition s p → IsPosition s q → p.columns ≤ q.columns → p.index ≤ q.index
 index_within s p q a b le = index_within_by s p q a b le (cases_lt q.index p.index)
 
--- the cell before a place
-pub last_sums : (s : List CellSize) (p : Place) (x : CellSize) → IsPlace s p → 1 ≤ p.index → x ≡ get_or s (p.index - 1) x
+-- the cell before a position
+pub last_sums : (s : List CellSize) (p : Position) (x : CellSize) → IsPosition s p → 1 ≤ p.index → x ≡ get_or s (p.index - 1) x
     → (p.bytes ≡ bytes_of (take (p.index - 1) s) + x.len) × (p.columns ≡ columns_of (take (p.index - 1) s) + width_of x.is_wide)
 last_sums s p x a some e =
     let l : p.index - 1 < length s = let within = a.within in omega arith in
@@ -432,8 +432,8 @@ last_sums s p x a some e =
       a.columns ∙ ap (λ n. columns_of (take n s)) on ∙ columns_next s (p.index - 1) x l ∙ ap (λ (y : CellSize). columns_of (take (p.index - 1) s) + width_of y.is_wide) (sym e),
     )
 
-pub place_before : (s : List CellSize) (p q : Place) (x : CellSize) → IsPlace s p → 1 ≤ p.index → x ≡ get_or s (p.index - 1) x
-    → q.index + 1 ≡ p.index → q.bytes + x.len ≡ p.bytes → q.columns + width_of x.is_wide ≡ p.columns → IsPlace s q
+pub place_before : (s : List CellSize) (p q : Position) (x : CellSize) → IsPosition s p → 1 ≤ p.index → x ≡ get_or s (p.index - 1) x
+    → q.index + 1 ≡ p.index → q.bytes + x.len ≡ p.bytes → q.columns + width_of x.is_wide ≡ p.columns → IsPosition s q
 place_before s p q x a some e i b c =
     let sums = last_sums s p x a some e in
     let bytes = sums.0 in
@@ -452,12 +452,12 @@ some_index : (s : List CellSize) (i : ℕ) → 0 < columns_of (take i s) → 1 �
 some_index s zero h = absurd (omega arith)
 some_index s (suc i) h = omega arith
 
--- a place with a column before another one is behind a cell
-pub some_before : (s : List CellSize) (p : Place) (at : ℕ) → IsPlace s p → at < p.columns → 1 ≤ p.index
+-- a position with a column before another one is after a cell
+pub some_before : (s : List CellSize) (p : Position) (at : ℕ) → IsPosition s p → at < p.columns → 1 ≤ p.index
 some_before s p at a less = some_index s p.index (let columns = a.columns in omega arith)
 
--- the column is not behind the cell that stands at the place
-pub before_next : (s : List CellSize) (p q : Place) (x d : CellSize) (at : ℕ) → IsPlace s p → 1 ≤ p.index → x ≡ get_or s (p.index - 1) x → at < p.columns
+-- the column is not after the cell that stands at the position
+pub before_next : (s : List CellSize) (p q : Position) (x d : CellSize) (at : ℕ) → IsPosition s p → 1 ≤ p.index → x ≡ get_or s (p.index - 1) x → at < p.columns
     → q.index + 1 ≡ p.index → q.columns + width_of x.is_wide ≡ p.columns → at < q.columns + width_of (get_or s q.index d).is_wide
 before_next s p q x d at a some e less i c =
     let within = a.within in
@@ -469,32 +469,32 @@ before_next s p q x d at a some e less i c =
 pub wide_or_narrow : (s : List CellSize) (i : ℕ) (d : CellSize) → 1 ≤ width_of (get_or s i d).is_wide
 wide_or_narrow s i d = (width_bounds (get_or s i d).is_wide).0
 
--- where no column of the last place is before it, a place before a column is no last one
-pub place_inside : (s : List CellSize) (p last : Place) (at : ℕ) → IsPlace s p → IsPlace s last → at ≤ last.columns → p.columns < at → p.index < length s
+-- where no column of the last position is before it, a position before a column is no last one
+pub place_inside : (s : List CellSize) (p last : Position) (at : ℕ) → IsPosition s p → IsPosition s last → at ≤ last.columns → p.columns < at → p.index < length s
 place_inside s p last at a b le less =
     let k = index_order s p last a b (omega arith) in
     let within = b.within in
     omega (arith, k, within)
 
--- a place may be where the text is split
-pub split_point : (t : List ℕ) (s : List CellSize) (sb sc : ℕ) (p : Place) → IsSized t s sb sc → IsPlace s p → IsSplitPoint t p.bytes
+-- a position may be where the text is split
+pub split_point : (t : List ℕ) (s : List CellSize) (sb sc : ℕ) (p : Position) → IsSized t s sb sc → IsPosition s p → IsSplitPoint t p.bytes
 split_point t s sb sc p h a =
     let at = placed t s sb sc p h a in
     let le : p.bytes ≤ length t = let k = place_bytes s p a in let f = fits t s sb sc h in omega (arith, k, f) in
-    let behind = IsUtf8-cut (drop p.bytes t) (drop p.index s) (cut_parts t s p.index p.bytes p.columns at h.parts).1 in
-    let boundary = IsCharBoundary-from_drop t p.bytes le behind in
+    let after = IsUtf8-cut (drop p.bytes t) (drop p.index s) (cut_parts t s p.index p.bytes p.columns at h.parts).1 in
+    let boundary = IsCharBoundary-from_drop t p.bytes le after in
     (le, λ _ l. boundary.1 l)
 
 -- ---- cells that are lent
 
-index_inside_by : (s : List CellSize) (p : Place) → IsPlace s p → p.columns < columns_of s → (p.index < length s) ⊎ (length s ≤ p.index) → p.index < length s
+index_inside_by : (s : List CellSize) (p : Position) → IsPosition s p → p.columns < columns_of s → (p.index < length s) ⊎ (length s ≤ p.index) → p.index < length s
 index_inside_by s p a less (inl h) = h
 index_inside_by s p a less (inr h) = let k = place_past s p a h in absurd (omega (arith, k, less))
 
-pub index_inside : (s : List CellSize) (p : Place) → IsPlace s p → p.columns < columns_of s → p.index < length s
+pub index_inside : (s : List CellSize) (p : Position) → IsPosition s p → p.columns < columns_of s → p.index < length s
 index_inside s p a less = index_inside_by s p a less (cases_lt p.index (length s))
 
-pub lent_cell : (t : List ℕ) (s : List CellSize) (sb sc : ℕ) (p : Place) (x : CellSize) (at : ℕ) → IsSized t s sb sc → IsPlace s p → p.index < length s → x ≡ get_or s p.index x → p.columns ≡ at
+pub lent_cell : (t : List ℕ) (s : List CellSize) (sb sc : ℕ) (p : Position) (x : CellSize) (at : ℕ) → IsSized t s sb sc → IsPosition s p → p.index < length s → x ≡ get_or s p.index x → p.columns ≡ at
     → get_or (faces_of t s) at Right ≡ first_face x.is_wide (take (p.bytes + x.len - p.bytes) (drop p.bytes t))
 lent_cell t s sb sc p x at h a l e same =
     let len : x.len ≡ p.bytes + x.len - p.bytes = omega arith in
@@ -503,25 +503,25 @@ lent_cell t s sb sc p x at h a l e same =
     ∙ ap (λ (y : CellSize). first_face y.is_wide (take y.len (drop p.bytes t))) (sym e)
     ∙ ap (λ n. first_face x.is_wide (take n (drop p.bytes t))) len
 
-pub lent_utf8 : (t : List ℕ) (s : List CellSize) (sb sc : ℕ) (p : Place) (x : CellSize) → IsSized t s sb sc → IsPlace s p → p.index < length s → x ≡ get_or s p.index x
+pub lent_utf8 : (t : List ℕ) (s : List CellSize) (sb sc : ℕ) (p : Position) (x : CellSize) → IsSized t s sb sc → IsPosition s p → p.index < length s → x ≡ get_or s p.index x
     → IsUtf8 (take (p.bytes + x.len - p.bytes) (drop p.bytes t))
 lent_utf8 t s sb sc p x h a l e =
     let len : x.len ≡ p.bytes + x.len - p.bytes = omega arith in
     subst (λ n. IsUtf8 (take n (drop p.bytes t))) len
     (subst (λ (y : CellSize). IsUtf8 (take y.len (drop p.bytes t))) (sym e) (cell_utf8 t s p.index p.bytes p.columns x (placed t s sb sc p h a) l h.parts))
 
-pub lent_kept : (t : List ℕ) (s : List CellSize) (sb sc : ℕ) (p : Place) (x : CellSize) → IsSized t s sb sc → IsPlace s p → p.index < length s → x ≡ get_or s p.index x
+pub lent_kept : (t : List ℕ) (s : List CellSize) (sb sc : ℕ) (p : Position) (x : CellSize) → IsSized t s sb sc → IsPosition s p → p.index < length s → x ≡ get_or s p.index x
     → shows_as_space (take (p.bytes + x.len - p.bytes) (drop p.bytes t)) ≡ false
 lent_kept t s sb sc p x h a l e =
     let len : x.len ≡ p.bytes + x.len - p.bytes = omega arith in
     subst (λ n. shows_as_space (take n (drop p.bytes t)) ≡ false) len
     (subst (λ (y : CellSize). shows_as_space (take y.len (drop p.bytes t)) ≡ false) (sym e) (cell_kept t s p.index p.bytes p.columns x (placed t s sb sc p h a) l h.parts))
 
-pub lent_right : (t : List ℕ) (s : List CellSize) (sb sc : ℕ) (p : Place) (at : ℕ) (d : CellSize) → IsSized t s sb sc → IsPlace s p → IsSplit s p at d → get_or (faces_of t s) at Right ≡ Right
+pub lent_right : (t : List ℕ) (s : List CellSize) (sb sc : ℕ) (p : Position) (at : ℕ) (d : CellSize) → IsSized t s sb sc → IsPosition s p → IsSplit s p at d → get_or (faces_of t s) at Right ≡ Right
 lent_right t s sb sc p at d h a w =
     ap (λ n. get_or (faces_of t s) n Right) w.column ∙ face_in_wide t s p.index p.bytes p.columns d (placed t s sb sc p h a) w.within w.wide
 
--- ---- cells that come behind
+-- ---- cells that follow
 
 -- all sizes are kept
 pub all_sized : (t : List ℕ) (s : List CellSize) (sb sc : ℕ) → IsSized t s sb sc → length (faces_of t s) ≤ sc → bytes_of s ≡ length t

@@ -1,4 +1,4 @@
--- Texts that are cut by sizes, changed between two places.
+-- Texts that are cut by sizes, changed between two positions.
 use Rattle.std.proofs.Common.{◌≡◌, ℕ, zero, suc, ◌+◌, ◌-◌, ◌<◌, ◌≤◌, Bool, true, false, ◌&&◌, List, [], ◌∷◌, ◌++◌, length, take, drop, get_or, refl, sym, ap, ◌∙◌, arith, append_assoc, length-append, IsUtf8}
 use Rattle.std.specs.List.{list_all}
 use Rattle.std.proofs.lemmas.Bool.{and_parts, and_from}
@@ -14,9 +14,9 @@ use Rattle.clustered_row.specs.Sizes.{bytes_of, columns_of, faces_of, is_text, i
 use Rattle.clustered_row.proofs.FaceLemmas.{closed_start-plain, halved, halved_end, opened_whole}
 use Rattle.clustered_row.proofs.SizeLemmas.{bytes_of-append, columns_of-append, bytes_split, columns_split, length-faces, join, cut_join, faces_more, cut_more, closed_end-faces, closed_start-faces, IsUtf8-cell, IsUtf8-cut, kept_first, kept_plain}
 
--- ---- a place between cells: so many cells before it, with so many bytes and columns
+-- ---- a position between cells: so many cells before it, with so many bytes and columns
 
--- a text, the sizes of its cells, and a place between them
+-- a text, the sizes of its cells, and a position between them
 pub record Placed (t : List ℕ) (s : List CellSize) (i b c : ℕ) : Type 0 where
   pub bytes : b ≡ bytes_of (take i s)
   pub columns : c ≡ columns_of (take i s)
@@ -52,28 +52,28 @@ cut_parts t s i b c p h =
     (λ k. is_cut (sym (take-append-drop b t) k) (sym (take-append-drop i s) k))
     ∙ cut_join (take b t) (drop b t) (take i s) (drop i s) (whole t s i b c p)) ∙ h)
 
--- at a place nothing is halved
+-- at a position nothing is halved
 pub opened_at_place : (t : List ℕ) (s : List CellSize) (i b c : ℕ) → Placed t s i b c → faces_of t s ≡ opened c (faces_of t s)
 opened_at_place t s i b c p =
-    let front = take_front t s i b c p in
-    let behind = drop_front t s i b c p in
+    let prefix = take_front t s i b c p in
+    let after = drop_front t s i b c p in
     sym (opened_whole c (faces_of t s)
-    (ap closed_end front ∙ closed_end-faces (take b t) (take i s) ∙ sym front)
-    (ap closed_start behind ∙ closed_start-faces (drop b t) (drop i s) ∙ sym behind))
+    (ap closed_end prefix ∙ closed_end-faces (take b t) (take i s) ∙ sym prefix)
+    (ap closed_start after ∙ closed_start-faces (drop b t) (drop i s) ∙ sym after))
 
 pub closed_at_place : (t : List ℕ) (s : List CellSize) (i b c : ℕ) → Placed t s i b c → faces_of (take b t) (take i s) ≡ closed_end (take c (faces_of t s))
 closed_at_place t s i b c p = sym (ap closed_end (take_front t s i b c p) ∙ closed_end-faces (take b t) (take i s))
 
--- ---- cells replaced between two places
+-- ---- cells replaced between two positions
 
 pub replaced : (t u : List ℕ) (s v : List CellSize) (i b c j d e : ℕ) → Placed t s i b c → Placed t s j d e → bytes_of v ≡ length u
     → faces_of (take b t ++ (u ++ drop d t)) (take i s ++ (v ++ drop j s)) ≡ take c (faces_of t s) ++ (faces_of u v ++ drop e (faces_of t s))
 replaced t u s v i b c j d e p q h =
-    let front = sym (take_front t s i b c p) in
-    let behind = sym (drop_front t s j d e q) in
+    let prefix = sym (take_front t s i b c p) in
+    let after = sym (drop_front t s j d e q) in
     join (take b t) (u ++ drop d t) (take i s) (v ++ drop j s) (whole t s i b c p)
     ∙ ap (λ fs. faces_of (take b t) (take i s) ++ fs) (join u (drop d t) v (drop j s) h)
-    ∙ (λ k. front k ++ (faces_of u v ++ behind k))
+    ∙ (λ k. prefix k ++ (faces_of u v ++ after k))
 
 pub replaced_cut : (t u : List ℕ) (s v : List CellSize) (i b c j d e : ℕ) → Placed t s i b c → Placed t s j d e → bytes_of v ≡ length u
     → is_cut t s ≡ true → is_cut u v ≡ true → is_cut (take b t ++ (u ++ drop d t)) (take i s ++ (v ++ drop j s)) ≡ true
@@ -109,27 +109,27 @@ pub halved_at : (t : List ℕ) (s : List CellSize) (i b c : ℕ) (d : CellSize) 
 halved_at t s i b c d p l w =
     let size = get_or s i d in
     let fs = faces_of t s in
-    let front = faces_of (take b t) (take i s) in
+    let prefix = faces_of (take b t) (take i s) in
     let text = take size.len (drop b t) in
-    let behind = faces_of (drop size.len (drop b t)) (drop (i + 1) s) in
+    let after = faces_of (drop size.len (drop b t)) (drop (i + 1) s) in
     let n = front_columns t s i b c p in
     let is = at_wide t s i b c d p l w in
-    let two : front ++ (Left text ∷ Right ∷ behind) ≡ (front ++ Left text ∷ Right ∷ []) ++ behind = sym (append_assoc front (Left text ∷ Right ∷ []) behind) in
-    let m = length-append front (Left text ∷ Right ∷ []) in
-    let last : drop (c + 2) fs ≡ behind = ap (drop (c + 2)) (is ∙ two) ∙ drop_at (front ++ Left text ∷ Right ∷ []) behind (c + 2) (omega (arith, m, n)) in
-    let first : take c fs ≡ front = take_front t s i b c p in
-    (λ k. first k ++ (Own space ∷ Own space ∷ last k)) ∙ sym (halved front behind text c n) ∙ ap (opened (c + 1)) (sym is)
+    let two : prefix ++ (Left text ∷ Right ∷ after) ≡ (prefix ++ Left text ∷ Right ∷ []) ++ after = sym (append_assoc prefix (Left text ∷ Right ∷ []) after) in
+    let m = length-append prefix (Left text ∷ Right ∷ []) in
+    let last : drop (c + 2) fs ≡ after = ap (drop (c + 2)) (is ∙ two) ∙ drop_at (prefix ++ Left text ∷ Right ∷ []) after (c + 2) (omega (arith, m, n)) in
+    let first : take c fs ≡ prefix = take_front t s i b c p in
+    (λ k. first k ++ (Own space ∷ Own space ∷ last k)) ∙ sym (halved prefix after text c n) ∙ ap (opened (c + 1)) (sym is)
 
 pub closed_in_wide : (t : List ℕ) (s : List CellSize) (i b c : ℕ) (d : CellSize) → Placed t s i b c → i < length s → (get_or s i d).is_wide ≡ true
     → faces_of (take b t ++ 32 ∷ []) (take i s) ≡ closed_end (take (c + 1) (faces_of t s))
 closed_in_wide t s i b c d p l w =
     let size = get_or s i d in
-    let front = faces_of (take b t) (take i s) in
+    let prefix = faces_of (take b t) (take i s) in
     let text = take size.len (drop b t) in
-    let behind = faces_of (drop size.len (drop b t)) (drop (i + 1) s) in
+    let after = faces_of (drop size.len (drop b t)) (drop (i + 1) s) in
     let fit = whole t s i b c p in
     faces_more (take b t) (32 ∷ []) (take i s) (omega (arith, fit))
-    ∙ sym (halved_end front behind text c (front_columns t s i b c p))
+    ∙ sym (halved_end prefix after text c (front_columns t s i b c p))
     ∙ ap (λ fs. closed_end (take (c + 1) fs)) (sym (at_wide t s i b c d p l w))
 
 pub cut_in_wide : (t : List ℕ) (s : List CellSize) (i b c : ℕ) → Placed t s i b c → is_cut t s ≡ true → is_cut (take b t ++ 32 ∷ []) (take i s) ≡ true
@@ -137,7 +137,7 @@ cut_in_wide t s i b c p h =
     let fit = whole t s i b c p in
     cut_more (take b t) (32 ∷ []) (take i s) (omega (arith, fit)) ∙ and_from (is_cut (take b t) (take i s)) (list_all is_printable (32 ∷ [])) (cut_parts t s i b c p h).0 refl
 
--- ---- among the plain cells behind the sizes
+-- ---- among the plain cells after the sizes
 
 all-drop : (n : ℕ) (bytes : List ℕ) → list_all is_printable bytes ≡ true → list_all is_printable (drop n bytes) ≡ true
 all-drop zero bytes h = h
@@ -190,22 +190,22 @@ after_set t u s m at p =
     let sized = p.sized in
     let n = length-take-le m t p.within in
     let fs = faces_of t s in
-    let front = faces_of (take m t) s in
+    let prefix = faces_of (take m t) s in
     let rest = plain_faces (drop (m + length u) t) in
     let k = after_front t s m at p in
     let count : length (plain_faces u) ≡ length u = length-map u (λ byte. Own (byte ∷ [])) in
     let dropped : drop (at + length (plain_faces u)) fs ≡ rest =
     ap (λ x. drop (at + x) fs) count
     ∙ ap (drop (at + length u)) (after_parted t s m at p)
-    ∙ ap (λ x. drop (x + length u) (front ++ plain_faces (drop m t))) (sym k)
-    ∙ drop-append-add front (plain_faces (drop m t)) (length u)
+    ∙ ap (λ x. drop (x + length u) (prefix ++ plain_faces (drop m t))) (sym k)
+    ∙ drop-append-add prefix (plain_faces (drop m t)) (length u)
     ∙ drop-map (λ byte. Own (byte ∷ [])) (length u) (drop m t)
     ∙ ap plain_faces (drop-drop (length u) m t) in
     let first = sym (after_cut t s m at p) in
     let last : closed_start (drop (at + length (plain_faces u)) fs) ≡ rest = ap closed_start dropped ∙ closed_start-plain (drop (m + length u) t) in
     faces_more (take m t) (u ++ drop (m + length u) t) s (omega (arith, n, sized))
-    ∙ ap (λ x. front ++ x) (map-append (λ byte. Own (byte ∷ [])) u (drop (m + length u) t))
-    ∙ sym ((λ i. first i ++ plain_faces u ++ last i) ∙ append_assoc front (plain_faces u) rest)
+    ∙ ap (λ x. prefix ++ x) (map-append (λ byte. Own (byte ∷ [])) u (drop (m + length u) t))
+    ∙ sym ((λ i. first i ++ plain_faces u ++ last i) ∙ append_assoc prefix (plain_faces u) rest)
 
 pub after_set_cut : (t u : List ℕ) (s : List CellSize) (m at : ℕ) → IsAfter t s m at → m + length u ≤ length t → list_all is_printable u ≡ true → is_cut t s ≡ true
     → is_cut (take m t ++ (u ++ drop (m + length u) t)) s ≡ true
@@ -222,35 +222,35 @@ after_set_cut t u s m at p l h k =
 
 -- ---- the face of a column
 
-first_at : (wide : Bool) (front behind : List Face) (text : List ℕ) (at : ℕ) → length front ≡ at → get_or (front ++ (cell_faces wide text ++ behind)) at Right ≡ first_face wide text
-first_at true front behind text at n = get_or_at front (Left text) (Right ∷ behind) Right at n
-first_at false front behind text at n = get_or_at front (Own text) behind Right at n
+first_at : (wide : Bool) (prefix after : List Face) (text : List ℕ) (at : ℕ) → length prefix ≡ at → get_or (prefix ++ (cell_faces wide text ++ after)) at Right ≡ first_face wide text
+first_at true prefix after text at n = get_or_at prefix (Left text) (Right ∷ after) Right at n
+first_at false prefix after text at n = get_or_at prefix (Own text) after Right at n
 
 -- a cell at its first column
 pub face_at_place : (t : List ℕ) (s : List CellSize) (i b c : ℕ) (d : CellSize) → Placed t s i b c → i < length s
     → get_or (faces_of t s) c Right ≡ first_face (get_or s i d).is_wide (take (get_or s i d).len (drop b t))
 face_at_place t s i b c d p l =
     let size = get_or s i d in
-    let front = faces_of (take b t) (take i s) in
-    ap (λ fs. get_or fs c Right) (parted t s i b c p ∙ ap (λ sizes. front ++ faces_of (drop b t) sizes) (drop_more s i d l))
-    ∙ first_at size.is_wide front (faces_of (drop size.len (drop b t)) (drop (i + 1) s)) (take size.len (drop b t)) c (front_columns t s i b c p)
+    let prefix = faces_of (take b t) (take i s) in
+    ap (λ fs. get_or fs c Right) (parted t s i b c p ∙ ap (λ sizes. prefix ++ faces_of (drop b t) sizes) (drop_more s i d l))
+    ∙ first_at size.is_wide prefix (faces_of (drop size.len (drop b t)) (drop (i + 1) s)) (take size.len (drop b t)) c (front_columns t s i b c p)
 
 -- a wide one at its second column
 pub face_in_wide : (t : List ℕ) (s : List CellSize) (i b c : ℕ) (d : CellSize) → Placed t s i b c → i < length s → (get_or s i d).is_wide ≡ true → get_or (faces_of t s) (c + 1) Right ≡ Right
 face_in_wide t s i b c d p l w =
     let size = get_or s i d in
-    let front = faces_of (take b t) (take i s) in
+    let prefix = faces_of (take b t) (take i s) in
     let text = take size.len (drop b t) in
-    let behind = faces_of (drop size.len (drop b t)) (drop (i + 1) s) in
+    let after = faces_of (drop size.len (drop b t)) (drop (i + 1) s) in
     let n = front_columns t s i b c p in
-    ap (λ fs. get_or fs (c + 1) Right) (at_wide t s i b c d p l w ∙ sym (append_assoc front (Left text ∷ []) (Right ∷ behind)))
-    ∙ get_or_at (front ++ Left text ∷ []) Right behind Right (c + 1) (omega (arith, n, length_push front (Left text)))
+    ap (λ fs. get_or fs (c + 1) Right) (at_wide t s i b c d p l w ∙ sym (append_assoc prefix (Left text ∷ []) (Right ∷ after)))
+    ∙ get_or_at (prefix ++ Left text ∷ []) Right after Right (c + 1) (omega (arith, n, length_push prefix (Left text)))
 
 pub cell_utf8 : (t : List ℕ) (s : List CellSize) (i b c : ℕ) (d : CellSize) → Placed t s i b c → i < length s → is_cut t s ≡ true → IsUtf8 (take (get_or s i d).len (drop b t))
 cell_utf8 t s i b c d p l h =
     let size = get_or s i d in
-    let behind = sym (ap (is_cut (drop b t)) (drop_more s i d l)) ∙ (cut_parts t s i b c p h).1 in
-    IsUtf8-cell size (take size.len (drop b t)) (and_parts (is_text size (take size.len (drop b t))) (is_cut (drop size.len (drop b t)) (drop (i + 1) s)) behind).0
+    let after = sym (ap (is_cut (drop b t)) (drop_more s i d l)) ∙ (cut_parts t s i b c p h).1 in
+    IsUtf8-cell size (take size.len (drop b t)) (and_parts (is_text size (take size.len (drop b t))) (is_cut (drop size.len (drop b t)) (drop (i + 1) s)) after).0
 
 pub cell_kept : (t : List ℕ) (s : List CellSize) (i b c : ℕ) (d : CellSize) → Placed t s i b c → i < length s → is_cut t s ≡ true → shows_as_space (take (get_or s i d).len (drop b t)) ≡ false
 cell_kept t s i b c d p l h =

@@ -1,4 +1,4 @@
--- A walk over the cells at the front of a text.
+-- A walk over the cells at the start of a text.
 use Rattle.std.proofs.Common.{◌≡◌, ℕ, zero, suc, ◌+◌, ◌≤◌, ◌≢◌, ◌⊎◌, Bool, true, false, List, [], ◌∷◌, ◌++◌, IsUtf8, length, take, drop, refl, sym, ap, subst, ◌∙◌, append_assoc, length-append, arith, inl, inr}
 use Rattle.std.specs.Prelude.{◌&&◌, ◌==◌, max, not, nat_lt, if◌then◌else◌}
 use Rattle.std.specs.Char.{encode_utf8}
@@ -29,15 +29,15 @@ use Rattle.clustered_row.specs.Walk.{cells_of, IsWalked}
 use Rattle.clustered_row.proofs.SizeLemmas.{bytes_of-append, columns_of-append, cut_join}
 
 -- one leads to another, which leads on
-pub leads_on : (f : List ℕ → ℕ) (end : ℕ) (a : Attributes) (row middle last : Row) (at between behind : ℕ) (text left rest : List ℕ)
-    → Leads f end a row at text middle between left → Leads f end a middle between left last behind rest → Leads f end a row at text last behind rest
-leads_on f end a row middle last at between behind text left rest p q =
+pub leads_on : (f : List ℕ → ℕ) (end : ℕ) (a : Attributes) (row middle last : Row) (at between after : ℕ) (text left rest : List ℕ)
+    → Leads f end a row at text middle between left → Leads f end a middle between left last after rest → Leads f end a row at text last after rest
+leads_on f end a row middle last at between after text left rest p q =
     let first = p.order in
     let second = q.order in
     record {
       columns = q.columns ∙ p.columns;
       left = q.left ∙ p.left;
-      behind = q.behind ∙ p.behind;
+      after = q.after ∙ p.after;
       order = omega (arith, first, second);
       within = q.within;
       whole = q.whole;
@@ -45,31 +45,31 @@ leads_on f end a row middle last at between behind text left rest p q =
 
 -- ---- one size more
 
--- the front of a text with a front of its own
-front_of : (n : ℕ) (front more : List ℕ) → n ≤ length front → take n (front ++ more) ≡ take n front
-front_of zero front more h = refl
+-- the start of a text with a prefix of its own
+front_of : (n : ℕ) (prefix more : List ℕ) → n ≤ length prefix → take n (prefix ++ more) ≡ take n prefix
+front_of zero prefix more h = refl
 front_of (suc n) [] more h = absurd (omega (arith, h))
-front_of (suc n) (b ∷ front) more h = ap (λ (bs : List ℕ). b ∷ bs) (front_of n front more (omega (arith, h)))
+front_of (suc n) (b ∷ prefix) more h = ap (λ (bs : List ℕ). b ∷ bs) (front_of n prefix more (omega (arith, h)))
 
-after_of : (n : ℕ) (front more : List ℕ) → n ≤ length front → drop n (front ++ more) ≡ drop n front ++ more
-after_of zero front more h = refl
+after_of : (n : ℕ) (prefix more : List ℕ) → n ≤ length prefix → drop n (prefix ++ more) ≡ drop n prefix ++ more
+after_of zero prefix more h = refl
 after_of (suc n) [] more h = absurd (omega (arith, h))
-after_of (suc n) (b ∷ front) more h = after_of n front more (omega (arith, h))
+after_of (suc n) (b ∷ prefix) more h = after_of n prefix more (omega (arith, h))
 
-pub following_bytes : (size : CellSize) (sizes : List CellSize) (front : List ℕ) → bytes_of (size ∷ sizes) ≡ length front → bytes_of sizes ≡ length (drop size.len front)
-following_bytes size sizes front e = omega (arith, e, length-drop size.len front)
+pub following_bytes : (size : CellSize) (sizes : List CellSize) (prefix : List ℕ) → bytes_of (size ∷ sizes) ≡ length prefix → bytes_of sizes ≡ length (drop size.len prefix)
+following_bytes size sizes prefix e = omega (arith, e, length-drop size.len prefix)
 
 pub take_all : (bs : List ℕ) → take (length bs) bs ≡ bs
 take_all [] = refl
 take_all (b ∷ bs) = ap (λ (cs : List ℕ). b ∷ cs) (take_all bs)
 
-cells-more : (front more : List ℕ) (sizes : List CellSize) (size : CellSize) (a : Attributes) → bytes_of sizes ≡ length front → size.len ≡ length more
-    → cells_of (front ++ more) (sizes ++ size ∷ []) a ≡ cells_of front sizes a ++ record { text = more; width = width_of size.is_wide; attributes = a } ∷ []
+cells-more : (prefix more : List ℕ) (sizes : List CellSize) (size : CellSize) (a : Attributes) → bytes_of sizes ≡ length prefix → size.len ≡ length more
+    → cells_of (prefix ++ more) (sizes ++ size ∷ []) a ≡ cells_of prefix sizes a ++ record { text = more; width = width_of size.is_wide; attributes = a } ∷ []
 cells-more [] more [] size a e l = ap (λ (t : List ℕ). record { text = t; width = width_of size.is_wide; attributes = a } ∷ []) (ap (λ n. take n more) l ∙ take_all more)
-cells-more (b ∷ front) more [] size a e l = absurd (omega (arith, e))
-cells-more front more (first ∷ sizes) size a e l =
-    (λ i. record { text = front_of first.len front more (omega (arith, e)) i; width = width_of first.is_wide; attributes = a }
-    ∷ (ap (λ t. cells_of t (sizes ++ size ∷ []) a) (after_of first.len front more (omega (arith, e))) ∙ cells-more (drop first.len front) more sizes size a (following_bytes first sizes front e) l) i)
+cells-more (b ∷ prefix) more [] size a e l = absurd (omega (arith, e))
+cells-more prefix more (first ∷ sizes) size a e l =
+    (λ i. record { text = front_of first.len prefix more (omega (arith, e)) i; width = width_of first.is_wide; attributes = a }
+    ∷ (ap (λ t. cells_of t (sizes ++ size ∷ []) a) (after_of first.len prefix more (omega (arith, e))) ∙ cells-more (drop first.len prefix) more sizes size a (following_bytes first sizes prefix e) l) i)
 
 -- one cell
 pub one_cut : (more : List ℕ) (size : CellSize) → size.len ≡ length more → is_text size more ≡ true → is_cut more (size ∷ []) ≡ true
@@ -93,32 +93,32 @@ pub record IsSizeOf (n width : ℕ) (size : CellSize) : Type 0 where
   len : size.len ≡ n
   wide : size.is_wide ≡ (width == 2)
 
-module _ (f : List ℕ → ℕ) (text : List ℕ) (n width : ℕ) (lone : BeginsSingle f text n width) (u : IsUtf8 text) (size : CellSize) (is : IsSizeOf n width size) where
+module _ (f : List ℕ → ℕ) (text : List ℕ) (n width : ℕ) (single : BeginsSingle f text n width) (u : IsUtf8 text) (size : CellSize) (is : IsSizeOf n width size) where
   single_text : is_text size (take n text) ≡ true
   single_text = by_plain (is_plain size) refl
     where
       by_plain : (b : Bool) → is_plain size ≡ b → (if b then list_all is_printable (take n text) else is_utf8 (take n text) && not (shows_as_space (take n text))) ≡ true
       by_plain false e =
-          and_from (is_utf8 (take n text)) (not (shows_as_space (take n text))) (is_utf8-from_IsUtf8 (take n text) (first_utf8 text lone.character n lone.first u))
-          (ap not (first_kept text lone.character n lone.first))
+          and_from (is_utf8 (take n text)) (not (shows_as_space (take n text))) (is_utf8-from_IsUtf8 (take n text) (first_utf8 text single.character n single.first u))
+          (ap not (first_kept text single.character n single.first))
       by_plain true e =
           let one = eqb-true size.len 1 (and_parts (not size.is_wide) (size.len == 1) e).1 in
           let long : size.len ≡ n = is.len in
-          let bytes = lone.first.bytes in
-          ap (list_all is_printable) (first_bytes text lone.character n lone.first) ∙ one_byte lone.character (omega (arith, one, long, bytes)) lone.first.stands
+          let bytes = single.first.bytes in
+          ap (list_all is_printable) (first_bytes text single.character n single.first) ∙ one_byte single.character (omega (arith, one, long, bytes)) single.first.stands
 
   module _ (a : Attributes) where
     single_is : record { text = take n text; width = width_of size.is_wide; attributes = a } ≡ cell_of (take n text) width a
     single_is =
-        let kept : shows_as_space (take n text) ≡ false = first_kept text lone.character n lone.first in
-        let some = lone.some in
-        let most = lone.most in
+        let kept : shows_as_space (take n text) ≡ false = first_kept text single.character n single.first in
+        let some = single.some in
+        let most = single.most in
         let columns : width_of size.is_wide ≡ max 1 width = ap width_of is.wide ∙ by_two (eqb_tells width 2) in
         λ i. record { text = (if sym kept i then 32 ∷ [] else take n text); width = (if sym kept i then 1 else columns i); attributes = a }
       where
         by_two : (((width == 2) ≡ true) × (width ≡ 2)) ⊎ (((width == 2) ≡ false) × (width ≢ 2)) → width_of (width == 2) ≡ max 1 width
-        by_two (inl p) = let most = lone.most in ap width_of p.0 ∙ omega (arith, p.1, most)
-        by_two (inr p) = let some = lone.some in let most = lone.most in ap width_of p.0 ∙ omega (arith, p.1, some, most)
+        by_two (inl p) = let most = single.most in ap width_of p.0 ∙ omega (arith, p.1, most)
+        by_two (inr p) = let some = single.some in let most = single.most in ap width_of p.0 ∙ omega (arith, p.1, some, most)
 
     -- it is set where it fits
     single_leads : (row : Row) (at end : ℕ) → at + width ≤ end → end ≤ length row → begins_independent (drop n text) ≡ true
@@ -127,12 +127,12 @@ module _ (f : List ℕ → ℕ) (text : List ℕ) (n width : ℕ) (lone : Begins
         let cluster = take n text in
         let rest = drop n text in
         let cell = cell_of cluster width a in
-        let is = first_bytes text lone.character n lone.first in
-        let columns : width ≡ max 1 (f cluster) = lone.columns ∙ ap (λ k. max 1 (f k)) (sym is) in
+        let is = first_bytes text single.character n single.first in
+        let columns : width ≡ max 1 (f cluster) = single.columns ∙ ap (λ k. max 1 (f k)) (sym is) in
         let made : cell ≡ cell_of cluster (f cluster) a = ap (λ k. cell_of cluster k a) columns ∙ single_cell cluster (f cluster) a in
-        let kept : shows_as_space cluster ≡ false = first_kept text lone.character n lone.first in
-        let count = single_count cluster width a kept lone.some lone.most in
-        let cut = cut_before text cluster rest lone.character n u lone.first refl refl apart in
+        let kept : shows_as_space cluster ≡ false = first_kept text single.character n single.first in
+        let count = single_count cluster width a kept single.some single.most in
+        let cut = cut_before text cluster rest single.character n u single.first refl refl apart in
         subst (λ k. Leads f end a row at text (overlaid row at (cell ∷ [])) (at + k) rest) count
         (leads_first f a row (overlaid row at (cell ∷ [])) at end text cluster rest cell (omega arith) within (omega (arith, count))
         cut (first_alone text cluster _ u cut) made (set_within row at cell (omega (arith, count)))
@@ -142,7 +142,7 @@ module _ (f : List ℕ → ℕ) (text : List ℕ) (n width : ℕ) (lone : Begins
 
 pub walk_none : (f : List ℕ → ℕ) (room : ℕ) (text : List ℕ) → IsUtf8 text → IsWalked f room text [] 0 text
 walk_none f room text u = record {
-  front = [];
+  prefix = [];
   whole = refl;
   cut = refl;
   bytes = refl;
@@ -154,51 +154,51 @@ walk_none f room text u = record {
 -- one character more
 pub walk_more : (f : List ℕ → ℕ) (room : ℕ) (text : List ℕ) (sizes : List CellSize) (count : ℕ) (left : List ℕ) (n width : ℕ) (size : CellSize) → IsWalked f room text sizes count left → BeginsSingle f left n width → IsUtf8 left
     → size.len ≡ n → size.is_wide ≡ (width == 2) → begins_independent (drop n left) ≡ true → count + width ≤ room → IsWalked f room text (sizes ++ size ∷ []) (count + width) (drop n left)
-walk_more f room text sizes count left n width size w lone u len wide apart fits =
+walk_more f room text sizes count left n width size w single u len wide apart fits =
     let is : IsSizeOf n width size = record { len = len; wide = wide } in
     let bytes = w.bytes in
     let columns = w.columns in
-    let inside = first_inside left lone.character n lone.first in
+    let inside = first_inside left single.character n single.first in
     let long : size.len ≡ length (take n left) = len ∙ sym (length-take-le n left inside) in
-    let two : width_of size.is_wide ≡ width = ap (λ (c : CellContent). c.width) (single_is f left n width lone u size is plain) ∙ width_kept in
+    let two : width_of size.is_wide ≡ width = ap (λ (c : CellContent). c.width) (single_is f left n width single u size is plain) ∙ width_kept in
     record {
-      front = w.front ++ take n left;
-      whole = w.whole ∙ ap (λ l. w.front ++ l) (sym (take-append-drop n left)) ∙ sym (append_assoc w.front (take n left) (drop n left));
-      cut = cut_join w.front (take n left) sizes (size ∷ []) bytes ∙ (λ i. w.cut i && one_cut (take n left) size long (single_text f left n width lone u size is) i);
-      bytes = bytes_of-append sizes (size ∷ []) ∙ omega (arith, bytes, long, length-append w.front (take n left));
+      prefix = w.prefix ++ take n left;
+      whole = w.whole ∙ ap (λ l. w.prefix ++ l) (sym (take-append-drop n left)) ∙ sym (append_assoc w.prefix (take n left) (drop n left));
+      cut = cut_join w.prefix (take n left) sizes (size ∷ []) bytes ∙ (λ i. w.cut i && one_cut (take n left) size long (single_text f left n width single u size is) i);
+      bytes = bytes_of-append sizes (size ∷ []) ∙ omega (arith, bytes, long, length-append w.prefix (take n left));
       columns = columns_of-append sizes (size ∷ []) ∙ omega (arith, columns, two);
       within = fits;
       leads = λ a row at h.
-          let cells = cells_of w.front sizes a in
+          let cells = cells_of w.prefix sizes a in
           let middle = overlaid row at cells in
-          let count_of : length (flat_map cell_columns cells) ≡ count = count_cells w.front sizes a ∙ columns in
+          let count_of : length (flat_map cell_columns cells) ≡ count = count_cells w.prefix sizes a ∙ columns in
           let wide_as : length middle ≡ length row = length-overlaid row at cells (omega (arith, count_of, fits, h)) in
-          let all : overlaid row at (cells_of (w.front ++ take n left) (sizes ++ size ∷ []) a) ≡ overlaid middle (at + count) (cell_of (take n left) width a ∷ [])
-          = ap (overlaid row at) (cells-more w.front (take n left) sizes size a bytes long ∙ ap (λ c. cells ++ c ∷ []) (single_is f left n width lone u size is a))
+          let all : overlaid row at (cells_of (w.prefix ++ take n left) (sizes ++ size ∷ []) a) ≡ overlaid middle (at + count) (cell_of (take n left) width a ∷ [])
+          = ap (overlaid row at) (cells-more w.prefix (take n left) sizes size a bytes long ∙ ap (λ c. cells ++ c ∷ []) (single_is f left n width single u size is a))
           ∙ overlaid-append row at cells (cell_of (take n left) width a ∷ []) ∙ ap (λ k. overlaid middle (at + k) (cell_of (take n left) width a ∷ [])) count_of in
           let on : at + count + width ≡ at + (count + width) = omega arith in
           subst (λ (r : Row). Leads f (at + room) a row at text r (at + (count + width)) (drop n left)) (sym all)
           (subst (λ k. Leads f (at + room) a row at text (overlaid middle (at + count) (cell_of (take n left) width a ∷ [])) k (drop n left)) on
           (leads_on f (at + room) a row middle (overlaid middle (at + count) (cell_of (take n left) width a ∷ [])) at (at + count) (at + count + width) text left (drop n left) (w.leads a row at h)
-          (single_leads f left n width lone u size is a middle (at + count) (at + room) (omega (arith, fits)) (omega (arith, wide_as, h)) apart)));
+          (single_leads f left n width single u size is a middle (at + count) (at + room) (omega (arith, fits)) (omega (arith, wide_as, h)) apart)));
     }
   where
     width_kept : (cell_of (take n left) width plain).width ≡ width
     width_kept =
-        let kept : shows_as_space (take n left) ≡ false = first_kept left lone.character n lone.first in
-        let some = lone.some in
+        let kept : shows_as_space (take n left) ≡ false = first_kept left single.character n single.first in
+        let some = single.some in
         ap (λ b. if b then 1 else max 1 width) kept ∙ omega (arith, some)
 
     count_one : (wide : Bool) (text : List ℕ) (a : Attributes) → length (cell_columns (record { text = text; width = width_of wide; attributes = a })) ≡ width_of wide
     count_one true text a = refl
     count_one false text a = refl
 
-    count_cells : (front : List ℕ) (sizes : List CellSize) (a : Attributes) → length (flat_map cell_columns (cells_of front sizes a)) ≡ columns_of sizes
-    count_cells front [] a = refl
-    count_cells front (size ∷ sizes) a =
-        let rest = count_cells (drop size.len front) sizes a in
-        let first = count_one size.is_wide (take size.len front) a in
-        length-append (cell_columns (record { text = take size.len front; width = width_of size.is_wide; attributes = a })) (flat_map cell_columns (cells_of (drop size.len front) sizes a)) ∙ omega (arith, rest, first)
+    count_cells : (prefix : List ℕ) (sizes : List CellSize) (a : Attributes) → length (flat_map cell_columns (cells_of prefix sizes a)) ≡ columns_of sizes
+    count_cells prefix [] a = refl
+    count_cells prefix (size ∷ sizes) a =
+        let rest = count_cells (drop size.len prefix) sizes a in
+        let first = count_one size.is_wide (take size.len prefix) a in
+        length-append (cell_columns (record { text = take size.len prefix; width = width_of size.is_wide; attributes = a })) (flat_map cell_columns (cells_of (drop size.len prefix) sizes a)) ∙ omega (arith, rest, first)
 
 pub single_some : (f : List ℕ → ℕ) (text : List ℕ) (n width : ℕ) → BeginsSingle f text n width → 1 ≤ n
-single_some f text n width lone = let bytes = lone.first.bytes in let some = some_bytes lone.character in omega (arith, bytes, some)
+single_some f text n width single = let bytes = single.first.bytes in let some = some_bytes single.character in omega (arith, bytes, some)

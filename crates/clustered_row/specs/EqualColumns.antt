@@ -11,7 +11,7 @@ pub record IsWholeAt (at : ℕ) (row : Row) : Type 0 where
 -- two rows show the same before a column and from another one on, and no cell is cut at either of these columns
 pub record AreEqualAround (start stop : ℕ) (row other : Row) : Type 0 where
   pub order : start ≤ stop
-  pub front : take start row ≡ take start other
+  pub prefix : take start row ≡ take start other
   pub back : drop stop row ≡ drop stop other
   pub first : IsWholeAt start row
   pub other_first : IsWholeAt start other

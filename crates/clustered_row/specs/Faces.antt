@@ -46,7 +46,7 @@ right_alone Right = Own space
 right_alone (Own text) = Own text
 right_alone (Left text) = Left text
 
--- faces that were cut off from what stood behind them, and from what stood before them
+-- faces that were cut off from what followed them, and from what stood before them
 abbrev pub closed_end : List Face → List Face
 closed_end [] = []
 closed_end (face ∷ []) = left_alone face ∷ []
@@ -66,7 +66,8 @@ padded columns faces = faces ++ replicate (columns - length faces) (Own space)
 
 -- the faces with others from a column on; halves left alone on either side become spaces
 abbrev pub set_faces : List Face → ℕ → List Face → List Face
-set_faces faces at others = closed_end (take at faces) ++ others ++ closed_start (drop (at + length others) faces)
+set_faces faces at remaining =
+    closed_end (take at faces) ++ remaining ++ closed_start (drop (at + length remaining) faces)
 
 -- whether the first face is the right half of a wide text
 abbrev pub starts_right : List Face → Bool

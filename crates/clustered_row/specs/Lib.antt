@@ -6,7 +6,7 @@ pub mod Faces
 pub mod FirstCells
 pub mod LentTexts
 pub mod SingleText
-pub mod Place
+pub mod Position
 pub mod RowView
 pub mod RunSteps
 pub mod Runs

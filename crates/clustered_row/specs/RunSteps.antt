@@ -2,7 +2,7 @@
 use Rattle.std.specs.Prelude.{◌≡◌, ℕ, ◌+◌, ◌-◌, ◌<◌, ◌≤◌, List, length, take, drop, slice_index_or}
 use Rattle.cell_base.specs.Attributes.{Attributes}
 use Rattle.clustered_row.specs.declared.run.Run.{Run}
-use Rattle.clustered_row.specs.declared.run.Place.{Place}
+use Rattle.clustered_row.specs.declared.run.Position.{Position}
 use Rattle.clustered_row.specs.Runs.{spread, AreMaximal}
 
 -- a run of so many columns with the attributes of another
@@ -24,23 +24,23 @@ pub record IsRoom (runs : List Run) (attributes : Attributes) (room : ℕ) : Typ
   pub joins : (last : Run) → IsLast runs last → 0 < room → last.attributes ≡ attributes
   pub full : (last : Run) → IsLast runs last → last.attributes ≡ attributes → last.count + room ≡ 4294967295
 
--- the column that a place is at
-abbrev pub column_at : List Run → Place → ℕ
-column_at runs place = length (spread (take place.index runs)) + place.offset
+-- the column that a position is at
+abbrev pub column_at : List Run → Position → ℕ
+column_at runs position = length (spread (take position.index runs)) + position.offset
 
--- a place within a run, or behind all
-pub record IsPlace (runs : List Run) (place : Place) : Type 0 where
-  pub within : place.index ≤ length runs
-  pub inside : (run : Run) → place.index < length runs → IsAt runs place.index run → place.offset < run.count
-  pub behind : length runs ≤ place.index → place.offset ≡ 0
+-- a position within a run, or after all
+pub record IsPosition (runs : List Run) (position : Position) : Type 0 where
+  pub within : position.index ≤ length runs
+  pub inside : (run : Run) → position.index < length runs → IsAt runs position.index run → position.offset < run.count
+  pub after : length runs ≤ position.index → position.offset ≡ 0
 
--- the first runs hold the columns before `a`, and those from a place on the columns from `b` on, all of them at most
+-- the first runs hold the columns before `a`, and those from a position on the columns from `b` on, all of them at most
 -- the columns of before
-pub record IsParted (a b : ℕ) (old new : List Run) (kept : ℕ) (place : Place) : Type 0 where
-  pub front : spread (take kept new) ≡ take a (spread old)
-  pub behind : drop place.offset (spread (drop place.index new)) ≡ drop b (spread old)
-  pub order : kept ≤ place.index
-  pub at : IsPlace new place
-  pub fewer : length (spread (drop place.index new)) ≤ length (spread old)
+pub record IsParted (a b : ℕ) (old new : List Run) (kept : ℕ) (position : Position) : Type 0 where
+  pub prefix : spread (take kept new) ≡ take a (spread old)
+  pub after : drop position.offset (spread (drop position.index new)) ≡ drop b (spread old)
+  pub order : kept ≤ position.index
+  pub at : IsPosition new position
+  pub fewer : length (spread (drop position.index new)) ≤ length (spread old)
   pub front_maximal : AreMaximal (take kept new)
-  pub after_maximal : AreMaximal (drop place.index new)
+  pub after_maximal : AreMaximal (drop position.index new)

@@ -12,7 +12,7 @@ columns_of run = replicate run.count run.attributes
 abbrev pub spread : List Run → List Attributes
 spread runs = flat_map columns_of runs
 
--- the columns behind a run have other attributes, or the run is full: it can count no more
+-- the columns after a run have other attributes, or the run is full: it can count no more
 abbrev pub IsApart : Run → List Run → Type 0
 IsApart run [] = Unit {0}
 IsApart run (next ∷ runs) = run.attributes ≡ next.attributes → run.count ≡ 4294967295
@@ -31,7 +31,7 @@ abbrev pub is_begun : ℕ → List Run → Bool
 is_begun used [] = true
 is_begun used (run ∷ runs) = nat_lt used run.count && is_begun 0 runs
 
--- how many columns of the first run are left behind so many of them
+-- how many columns of the first run are left so many of them
 abbrev pub first_left : ℕ → List Run → ℕ
 first_left used [] = 0
 first_left used (run ∷ runs) = run.count - used

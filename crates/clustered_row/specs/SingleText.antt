@@ -1,4 +1,4 @@
--- A character at the front of a text that stands apart, with its columns.
+-- A character at the start of a text that stands apart, with its columns.
 use Rattle.std.specs.Prelude.{◌≡◌, ℕ, ◌≤◌, max, List, encode_utf8}
 use Rattle.text_clusters.specs.Independent.{BeginsWith}
 

@@ -1,4 +1,4 @@
--- A text with the sizes of its first cells; behind these each byte is a plain cell.
+-- A text with the sizes of its first cells; after these each byte is a plain cell.
 use Rattle.std.specs.Prelude.{ℕ, ◌+◌, Bool, true, false, ◌&&◌, not, ◌==◌, List, [], ◌∷◌, ◌++◌, take, drop}
 use Rattle.std.specs.Prelude.{if◌then◌else◌}
 use Rattle.std.specs.List.{list_all}
@@ -41,7 +41,7 @@ faces_of text (size ∷ sizes) = cell_faces size.is_wide (take size.len text) ++
 abbrev pub is_text : CellSize → List ℕ → Bool
 is_text size text = if is_plain size then list_all is_printable text else is_utf8 text && not (shows_as_space text)
 
--- the text can be cut so: each cell's part is such a text, and all that is behind them is printable ASCII
+-- the text can be cut so: each cell's part is such a text, and all that is after them is printable ASCII
 abbrev pub is_cut : List ℕ → List CellSize → Bool
 is_cut text [] = list_all is_printable text
 is_cut text (size ∷ sizes) = is_text size (take size.len text) && is_cut (drop size.len text) sizes

@@ -34,7 +34,7 @@ abbrev pub HasRoomFor : Texts → ℕ → List ℕ → List CellSize → Type 0
 HasRoomFor texts to text sizes =
     (length text + 3 ≤ room texts) × ((to - plain_from texts) + (length sizes + 3) ≤ room_sizes texts)
 
--- room for other cells behind all, and for the size of each column that isn't kept
+-- room for other cells after all, and for the size of each column that isn't kept
 abbrev pub HasRoomAfter : Texts → List ℕ → List CellSize → Type 0
 HasRoomAfter texts text sizes =
     (length text ≤ room texts) × ((length (faces texts) - plain_from texts) + length sizes ≤ room_sizes texts)

@@ -13,7 +13,7 @@ use Rattle.clustered_row.specs.VisibleTexts.{faces_left}
 abbrev pub shown_by : ClusteredCell → VisibleCell
 shown_by cell = visible_at cell.column cell.text.now (width_of cell.is_wide) cell.attributes.now
 
--- the row of the columns that are left: of those that were written, and the blanks behind them
+-- the row of the columns that are left: of those that were written, and the blanks after them
 abbrev pub row_left : ClusteredCells → Row
 row_left cells =
     row_of (faces_left cells.texts) (attributes_left cells.runs) ++ replicate cells.blanks (blank cells.rest.now)

@@ -4,7 +4,7 @@ use Rattle.cell_base.specs.Attributes.{Attributes}
 use Rattle.clustered_row.specs.declared.runs_left.RunsLeft.{RunsLeft}
 use Rattle.clustered_row.specs.Runs.{spread, first_left}
 
--- those of the runs that are left, behind the columns of the first one that were lent already
+-- those of the runs that are left, after the columns of the first one that were lent already
 abbrev pub attributes_left : RunsLeft → List Attributes
 attributes_left left = drop left.used (spread left.runs.now)
 

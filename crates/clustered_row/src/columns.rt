@@ -73,7 +73,7 @@ impl Columns {
         self.runs.cut(at);
     }
 
-    // Blanks come behind, up to so many columns.
+    // Blanks follow, up to so many columns.
     pub(crate) fn pad(&mut self, to: usize, attrs: &CellAttributes) -> Result<(), AllocError>
         requires { length self.old ≤ to }
         ensures done { OnOk result (self.new ≡ self.old ++ replicate (to - length self.old) (blank attrs.now)) }
@@ -86,7 +86,7 @@ impl Columns {
         Ok(())
     }
 
-    // So many columns are there: others go from the end, or blanks come behind.
+    // So many columns are there: others go from the end, or blanks follow.
     #[inline(always)]
     pub(crate) fn end_at(&mut self, at: usize, attrs: &CellAttributes) -> Result<(), AllocError>
         ensures done { OnOk result (EndsAt self.old self.new at attrs.now) }
@@ -105,7 +105,7 @@ impl Columns {
         Ok(())
     }
 
-    // A column for each byte of printable ASCII comes behind.
+    // A column for each byte of printable ASCII follows.
     #[inline(never)]
     pub(crate) fn push_plain(
         &mut self,
@@ -124,7 +124,7 @@ impl Columns {
         Ok(())
     }
 
-    // Cells come behind, given by their text, their sizes and how many columns they take.
+    // Cells follow, given by their text, their sizes and how many columns they take.
     pub(crate) fn push(
         &mut self,
         text: &str,

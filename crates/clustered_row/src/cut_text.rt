@@ -8,17 +8,17 @@ ghost use Rattle.text_clusters.specs.Plain.{is_printable};
 ghost use Rattle.clustered_row.specs.declared.cell_size.CellSize.{CellSize};
 ghost use Rattle.clustered_row.specs.Faces.{plain_faces, padded, opened, closed_end, set_faces};
 ghost use Rattle.clustered_row.specs.LentTexts.{IsLentAt};
-ghost use Rattle.clustered_row.specs.Place.{IsPlace, IsSplit, KeepsPlaces, HasPlainCell};
+ghost use Rattle.clustered_row.specs.Position.{IsPosition, IsSplit, KeepsPlaces, HasPlainCell};
 ghost use Rattle.clustered_row.specs.Sizes.{bytes_of, columns_of, faces_of, is_cut, ends_plain};
 
 use crate::cell_size::{CellSize, PLAIN};
 use crate::items::{push_all, push_bytes, put, replace_items, replace_text};
 use crate::lent_text::LentText;
-use crate::place::{Place, START, find, find_back};
+use crate::position::{Position, START, find, find_back};
 use std::alloc::{AllocError, Global};
 use std::str;
 
-// The texts of cells side by side, and the sizes of the first cells; behind these each byte is a plain cell.
+// The texts of cells side by side, and the sizes of the first cells; after these each byte is a plain cell.
 #[derive(Debug, Drop)]
 pub(crate) struct CutText {
     pub(crate) text: Vec<u8>,
@@ -58,22 +58,22 @@ impl CutText {
     // The byte at which the plain cell of a column stands.
     #[inline(always)]
     pub(crate) fn plain_byte(&self, column: usize) -> usize
-        requires behind { self.now.sized_columns ≤ column }
+        requires after { self.now.sized_columns ≤ column }
         requires within { column ≤ length (shown self.now) }
-        ensures behind { self.now.sized_bytes ≤ result }
+        ensures after { self.now.sized_bytes ≤ result }
         ensures column { result + self.now.sized_columns ≡ self.now.sized_bytes + column }
         ensures within { result ≤ length self.now.text.items }
     {
         self.sized_bytes + (column - self.sized_columns)
     }
 
-    // The place behind the cells whose sizes are kept.
+    // The position after the cells whose sizes are kept.
     #[inline(always)]
-    pub(crate) fn place_after(&self) -> Place
-        ensures place { IsPlace self.now.sizes.items result }
+    pub(crate) fn place_after(&self) -> Position
+        ensures position { IsPosition self.now.sizes.items result }
         ensures columns { result.columns ≡ self.now.sized_columns }
     {
-        Place {
+        Position {
             index: self.sizes.len(),
             bytes: self.sized_bytes,
             columns: self.sized_columns,
@@ -120,23 +120,23 @@ impl CutText {
         requires { column < self.now.sized_columns }
         ensures { IsLentAt (shown self.now) column result }
     {
-        let place = self.place(START, column);
-        if place.columns < column {
+        let position = self.position(START, column);
+        if position.columns < column {
             return None;
         }
-        let size = self.sizes[place.index];
+        let size = self.sizes[position.index];
         Some(LentText {
-            text: self.part(place.bytes, place.bytes + size.len),
+            text: self.part(position.bytes, position.bytes + size.len),
             is_wide: size.is_wide,
         })
     }
 
     // The cell that takes a column begins there, looked for from another place on or from the end, whichever is nearer.
-    pub(crate) fn place(&self, from: Place, at: usize) -> Place
-        requires place { IsPlace self.now.sizes.items from }
+    pub(crate) fn position(&self, from: Position, at: usize) -> Position
+        requires position { IsPosition self.now.sizes.items from }
         requires order { from.columns ≤ at }
         requires within { at ≤ self.now.sized_columns }
-        ensures place { IsPlace self.now.sizes.items result }
+        ensures position { IsPosition self.now.sizes.items result }
         ensures order { from.index ≤ result.index }
         ensures columns { result.columns ≤ at }
         ensures cell { (d : CellSize) → result.columns < at → IsSplit self.now.sizes.items result at d }
@@ -177,7 +177,7 @@ impl CutText {
         Ok(())
     }
 
-    // A plain cell for each byte comes behind.
+    // A plain cell for each byte follows.
     #[inline(always)]
     pub(crate) fn push_plain(&mut self, text: &str) -> Result<(), AllocError>
         requires { list_all is_printable text.now ≡ true }
@@ -193,7 +193,7 @@ impl CutText {
         Ok(())
     }
 
-    // Spaces come behind, up to so many columns.
+    // Spaces follow, up to so many columns.
     #[inline(always)]
     pub(crate) fn pad(&mut self, to: usize) -> Result<(), AllocError>
         ensures done { OnOk result (shown self.new ≡ padded to (shown self.old)) }
@@ -217,7 +217,7 @@ impl CutText {
     #[inline(always)]
     pub(crate) fn set_plain(&mut self, at: usize, text: &str)
         requires text { list_all is_printable text.now ≡ true }
-        requires behind { self.old.sized_columns ≤ at }
+        requires after { self.old.sized_columns ≤ at }
         requires within { at + length text.now ≤ length (shown self.old) }
         ensures faces { shown self.new ≡ set_faces (shown self.old) at (plain_faces text.now) }
         ensures sizes { self.new.sizes.items ≡ self.old.sizes.items }
@@ -253,12 +253,12 @@ impl CutText {
         ensures sizes_left { sizes_left self.old ≤ sizes_left self.new }
         ensures columns { self.new.sized_columns ≤ self.old.sized_columns }
     {
-        let place = self.place(START, at);
-        self.text.truncate(place.bytes);
-        self.sizes.truncate(place.index);
-        self.sized_bytes = place.bytes;
-        self.sized_columns = place.columns;
-        if place.columns < at {
+        let position = self.position(START, at);
+        self.text.truncate(position.bytes);
+        self.sizes.truncate(position.index);
+        self.sized_bytes = position.bytes;
+        self.sized_columns = position.columns;
+        if position.columns < at {
             self.text.push_reserved(b' ');
         }
     }
@@ -295,7 +295,7 @@ impl CutText {
         self.sized_columns += count;
     }
 
-    // Cells that take so many columns come behind, for which there is room.
+    // Cells that take so many columns follow, for which there is room.
     pub(crate) fn push_cells(&mut self, text: &str, sizes: &[CellSize], columns: usize)
         requires parts { is_cut text.now sizes.now ≡ true }
         requires bytes { bytes_of sizes.now ≡ length text.now }
@@ -312,10 +312,10 @@ impl CutText {
         self.sized_columns += columns;
     }
 
-    // The cells between two places are replaced by others that take as many columns, for which there is room.
-    fn replace(&mut self, from: Place, to: Place, text: &str, sizes: &[CellSize])
-        requires from { IsPlace self.old.sizes.items from }
-        requires to { IsPlace self.old.sizes.items to }
+    // The cells between two positions are replaced by others that take as many columns, for which there is room.
+    fn replace(&mut self, from: Position, to: Position, text: &str, sizes: &[CellSize])
+        requires from { IsPosition self.old.sizes.items from }
+        requires to { IsPosition self.old.sizes.items to }
         requires order { from.index ≤ to.index }
         requires parts { is_cut text.now sizes.now ≡ true }
         requires bytes { bytes_of sizes.now ≡ length text.now }
@@ -333,51 +333,51 @@ impl CutText {
         self.sized_bytes = from.bytes + text.len() + (self.sized_bytes - to.bytes);
     }
 
-    // The wide cell at a place becomes two spaces.
+    // The wide cell at a position becomes two spaces.
     #[cold]
     #[inline(never)]
-    fn split_wide_cell(&mut self, place: Place)
-        requires place { IsPlace self.old.sizes.items place }
-        requires wide { (d : CellSize) → IsSplit self.old.sizes.items place (place.columns + 1) d }
+    fn split_wide_cell(&mut self, position: Position)
+        requires position { IsPosition self.old.sizes.items position }
+        requires wide { (d : CellSize) → IsSplit self.old.sizes.items position (position.columns + 1) d }
         requires room { 2 ≤ bytes_left self.old }
         requires room_sizes { 2 ≤ sizes_left self.old }
-        ensures faces { shown self.new ≡ opened (place.columns + 1) (shown self.old) }
+        ensures faces { shown self.new ≡ opened (position.columns + 1) (shown self.old) }
         ensures columns { self.new.sized_columns ≡ self.old.sized_columns }
-        ensures before { KeepsPlaces place.index self.old.sizes.items self.new.sizes.items }
-        ensures place { HasPlainCell self.new.sizes.items place }
+        ensures before { KeepsPlaces position.index self.old.sizes.items self.new.sizes.items }
+        ensures position { HasPlainCell self.new.sizes.items position }
         ensures bytes_left { bytes_left self.old ≤ bytes_left self.new + 1 }
         ensures sizes_left { sizes_left self.old ≤ sizes_left self.new + 1 }
     {
-        let next = place.behind(self.sizes[place.index]);
-        self.replace(place, next, "  ", &[PLAIN, PLAIN]);
+        let next = position.after(self.sizes[position.index]);
+        self.replace(position, next, "  ", &[PLAIN, PLAIN]);
     }
 
     // A wide cell whose columns stand on both sides of a column becomes two spaces. Answers the place of that
-    // column, looked for from another one on, which stays a place.
+    // column, looked for from another one on, which stays a position.
     #[inline(always)]
-    fn open(&mut self, from: Place, at: usize) -> Place
-        requires place { IsPlace self.old.sizes.items from }
+    fn open(&mut self, from: Position, at: usize) -> Position
+        requires position { IsPosition self.old.sizes.items from }
         requires order { from.columns ≤ at }
         requires within { at ≤ self.old.sized_columns }
         requires room { 2 ≤ bytes_left self.old }
         requires room_sizes { 2 ≤ sizes_left self.old }
         ensures faces { shown self.new ≡ opened at (shown self.old) }
         ensures columns { self.new.sized_columns ≡ self.old.sized_columns }
-        ensures from { IsPlace self.new.sizes.items from }
-        ensures place { IsPlace self.new.sizes.items result }
+        ensures from { IsPosition self.new.sizes.items from }
+        ensures position { IsPosition self.new.sizes.items result }
         ensures order { from.index ≤ result.index }
         ensures at { result.columns ≡ at }
         ensures bytes_left { bytes_left self.old ≤ bytes_left self.new + 1 }
         ensures sizes_left { sizes_left self.old ≤ sizes_left self.new + 1 }
     {
-        let place = self.place(from, at);
-        if place.columns == at {
-            return place;
+        let position = self.position(from, at);
+        if position.columns == at {
+            return position;
         }
-        self.split_wide_cell(place);
-        Place {
-            index: place.index + 1,
-            bytes: place.bytes + 1,
+        self.split_wide_cell(position);
+        Position {
+            index: position.index + 1,
+            bytes: position.bytes + 1,
             columns: at,
         }
     }

@@ -2,7 +2,7 @@
 ghost use Rattle.std.specs.Prelude.{◌≡◌, ◌+◌, ◌<◌, ◌≤◌, ◌^◌, false, length, take, drop, IsTrue};
 ghost use Rattle.cell_base.specs.Attributes.{Attributes};
 ghost use Rattle.clustered_row.specs.Faces.{starts_right};
-ghost use Rattle.clustered_row.specs.Place.{IsPlace, IsBefore};
+ghost use Rattle.clustered_row.specs.Position.{IsPosition, IsBefore};
 ghost use Rattle.clustered_row.specs.Runs.{spread};
 ghost use Rattle.clustered_row.specs.Sizes.{width_of};
 ghost use Rattle.clustered_row.specs.TextsShown.{faces};
@@ -11,7 +11,7 @@ ghost use Rattle.clustered_row.specs.VisibleColumns.{is_split};
 use crate::cell_size::CellSize;
 use crate::columns::Columns;
 use crate::cut_text::CutText;
-use crate::place::{Place, START};
+use crate::position::{Position, START};
 use crate::row::ClusteredRow;
 use crate::run::Run;
 use crate::runs::Runs;
@@ -19,10 +19,10 @@ use crate::texts::Texts;
 use cell_base::CellAttributes;
 
 // Whether bytes are the same.
-fn same_bytes(bytes: &[u8], others: &[u8]) -> bool
-    ensures { IsTrue result → bytes.now ≡ others.now }
+fn same_bytes(bytes: &[u8], remaining: &[u8]) -> bool
+    ensures { IsTrue result → bytes.now ≡ remaining.now }
 {
-    bytes == others
+    bytes == remaining
 }
 
 // Whether two sizes are the same.
@@ -41,33 +41,33 @@ pub(crate) fn same_run(run: &Run, other: &Run) -> bool
     run.count == other.count && run.attributes == other.attributes
 }
 
-// How many bytes at the front of both are the same.
-fn equal_bytes(bytes: &[u8], others: &[u8]) -> usize
+// How many bytes at the start of both are the same.
+fn equal_bytes(bytes: &[u8], remaining: &[u8]) -> usize
     ensures within { result ≤ length bytes.now }
-    ensures other_within { result ≤ length others.now }
-    ensures equal { take result bytes.now ≡ take result others.now }
+    ensures other_within { result ≤ length remaining.now }
+    ensures equal { take result bytes.now ≡ take result remaining.now }
 {
-    if same_bytes(bytes, others) {
+    if same_bytes(bytes, remaining) {
         return bytes.len();
     }
-    let most = bytes.len().min(others.len());
+    let most = bytes.len().min(remaining.len());
     for at in 0..most {
-        if bytes[at] != others[at] {
+        if bytes[at] != remaining[at] {
             return at;
         }
     }
     most
 }
 
-// How many sizes at the front of both are the same.
-fn equal_sizes(sizes: &[CellSize], others: &[CellSize]) -> usize
+// How many sizes at the start of both are the same.
+fn equal_sizes(sizes: &[CellSize], remaining: &[CellSize]) -> usize
     ensures within { result ≤ length sizes.now }
-    ensures other_within { result ≤ length others.now }
-    ensures equal { take result sizes.now ≡ take result others.now }
+    ensures other_within { result ≤ length remaining.now }
+    ensures equal { take result sizes.now ≡ take result remaining.now }
 {
-    let most = sizes.len().min(others.len());
+    let most = sizes.len().min(remaining.len());
     for at in 0..most {
-        if !same_size(&sizes[at], &others[at]) {
+        if !same_size(&sizes[at], &remaining[at]) {
             return at;
         }
     }
@@ -86,17 +86,17 @@ pub(crate) fn equal_part(run: &Run, other: &Run) -> usize
     0
 }
 
-// How many columns at the front of both have the same attributes.
-fn equal_runs(runs: &[Run], others: &[Run]) -> usize
+// How many columns at the start of both have the same attributes.
+fn equal_runs(runs: &[Run], remaining: &[Run]) -> usize
     requires small { length (spread runs.now) < 2 ^ 64 }
     ensures within { result ≤ length (spread runs.now) }
-    ensures other_within { result ≤ length (spread others.now) }
-    ensures equal { take result (spread runs.now) ≡ take result (spread others.now) }
+    ensures other_within { result ≤ length (spread remaining.now) }
+    ensures equal { take result (spread runs.now) ≡ take result (spread remaining.now) }
 {
     let mut columns = 0;
-    for at in 0..runs.len().min(others.len()) {
+    for at in 0..runs.len().min(remaining.len()) {
         let run = &runs[at];
-        let other = &others[at];
+        let other = &remaining[at];
         if !same_run(run, other) {
             return columns + equal_part(run, other);
         }
@@ -113,27 +113,27 @@ fn fits(size: CellSize, bytes: usize, columns: usize) -> bool
     size.len <= bytes && size.columns() <= columns
 }
 
-// The place behind the first cells, of so many as many as have at most so many bytes and columns.
-fn place_within(sizes: &[CellSize], count: usize, bytes: usize, columns: usize) -> Place
+// The position after the first cells, of so many as many as have at most so many bytes and columns.
+fn place_within(sizes: &[CellSize], count: usize, bytes: usize, columns: usize) -> Position
     requires { count ≤ length sizes.now }
-    ensures place { IsPlace sizes.now result }
+    ensures position { IsPosition sizes.now result }
     ensures index { result.index ≤ count }
     ensures bytes { result.bytes ≤ bytes }
     ensures columns { result.columns ≤ columns }
 {
-    let mut place = START;
-    while place.index < count {
-        let size = sizes[place.index];
-        if !fits(size, bytes - place.bytes, columns - place.columns) {
+    let mut position = START;
+    while position.index < count {
+        let size = sizes[position.index];
+        if !fits(size, bytes - position.bytes, columns - position.columns) {
             break;
         }
-        place = place.behind(size);
+        position = position.after(size);
     }
-    place
+    position
 }
 
 impl Runs {
-    // How many columns at the front of both have the same attributes.
+    // How many columns at the start of both have the same attributes.
     fn equal_columns(&self, other: &Runs) -> usize
         ensures within { result ≤ length self.now }
         ensures other_within { result ≤ length other.now }
@@ -145,10 +145,10 @@ impl Runs {
 }
 
 impl CutText {
-    // The place behind the first cells, of so many as many as have at most so many bytes and columns.
-    fn place_within(&self, count: usize, bytes: usize, columns: usize) -> Place
+    // The position after the first cells, of so many as many as have at most so many bytes and columns.
+    fn place_within(&self, count: usize, bytes: usize, columns: usize) -> Position
         requires { count ≤ length self.now.sizes.items }
-        ensures place { IsPlace self.now.sizes.items result }
+        ensures position { IsPosition self.now.sizes.items result }
         ensures index { result.index ≤ count }
         ensures bytes { result.bytes ≤ bytes }
         ensures columns { result.columns ≤ columns }
@@ -160,9 +160,9 @@ impl CutText {
         place_within(&self.sizes, count, bytes, columns)
     }
 
-    // The place behind the cells at the front that are the same in both texts, in at most so many columns.
-    fn equal_place(&self, other: &CutText, most: usize) -> Place
-        ensures place { IsBefore self.now.text.items self.now.sizes.items result }
+    // The position after the cells at the start that are the same in both texts, in at most so many columns.
+    fn equal_place(&self, other: &CutText, most: usize) -> Position
+        ensures position { IsBefore self.now.text.items self.now.sizes.items result }
         ensures other_place { IsBefore other.now.text.items other.now.sizes.items result }
         ensures text { take result.bytes self.now.text.items ≡ take result.bytes other.now.text.items }
         ensures sizes { take result.index self.now.sizes.items ≡ take result.index other.now.sizes.items }
@@ -170,21 +170,21 @@ impl CutText {
     {
         let bytes = equal_bytes(&self.text, &other.text);
         let count = equal_sizes(&self.sizes, &other.sizes);
-        let place = self.place_within(count, bytes, most);
-        if place.index < self.sizes.len().max(other.sizes.len()) {
-            return place;
+        let position = self.place_within(count, bytes, most);
+        if position.index < self.sizes.len().max(other.sizes.len()) {
+            return position;
         }
-        let plain = (bytes - place.bytes).min(most - place.columns);
-        Place {
-            index: place.index,
-            bytes: place.bytes + plain,
-            columns: place.columns + plain,
+        let plain = (bytes - position.bytes).min(most - position.columns);
+        Position {
+            index: position.index,
+            bytes: position.bytes + plain,
+            columns: position.columns + plain,
         }
     }
 }
 
 impl Texts {
-    // How many columns at the front of both show the same texts, at most so many; no cell is cut behind them.
+    // How many columns at the start of both show the same texts, at most so many; no cell is cut after them.
     fn equal_columns(&self, other: &Texts, most: usize) -> usize
         ensures most { result ≤ most }
         ensures equal { take result (faces self.now) ≡ take result (faces other.now) }
@@ -196,7 +196,7 @@ impl Texts {
 }
 
 impl Columns {
-    // How many columns at the front of both are the same; no cell is cut behind them.
+    // How many columns at the start of both are the same; no cell is cut after them.
     fn equal_columns(&self, other: &Columns) -> usize
         ensures within { result ≤ length self.now }
         ensures other_within { result ≤ length other.now }
@@ -209,7 +209,7 @@ impl Columns {
     }
 }
 
-// Whether blanks behind columns have the same attributes and end at the same column.
+// Whether blanks after columns have the same attributes and end at the same column.
 fn same_blanks(
     width: usize,
     rest: &CellAttributes,
@@ -239,9 +239,9 @@ impl ClusteredRow {
         if start == len || len != other_len {
             return (start, len.max(other_len));
         }
-        let behind = self
+        let after = self
             .columns
             .equal_columns_at_end(&other.columns, len - start);
-        (start, len - behind)
+        (start, len - after)
     }
 }

@@ -14,14 +14,14 @@ use crate::runs::Runs;
 use crate::texts::Texts;
 
 // How many bytes at the end of both are the same, at most so many.
-fn equal_bytes_at_end(bytes: &[u8], others: &[u8], most: usize) -> usize
+fn equal_bytes_at_end(bytes: &[u8], remaining: &[u8], most: usize) -> usize
     requires within { most ≤ length bytes.now }
-    requires other_within { most ≤ length others.now }
+    requires other_within { most ≤ length remaining.now }
     ensures most { result ≤ most }
-    ensures equal { drop (length bytes.now - result) bytes.now ≡ drop (length others.now - result) others.now }
+    ensures equal { drop (length bytes.now - result) bytes.now ≡ drop (length remaining.now - result) remaining.now }
 {
     for count in 0..most {
-        if bytes[bytes.len() - 1 - count] != others[others.len() - 1 - count] {
+        if bytes[bytes.len() - 1 - count] != remaining[remaining.len() - 1 - count] {
             return count;
         }
     }
@@ -29,19 +29,19 @@ fn equal_bytes_at_end(bytes: &[u8], others: &[u8], most: usize) -> usize
 }
 
 // How many columns at the end of both have the same attributes.
-fn equal_runs_at_end(runs: &[Run], others: &[Run]) -> usize
+fn equal_runs_at_end(runs: &[Run], remaining: &[Run]) -> usize
     requires small { length (spread runs.now) < 2 ^ 64 }
     ensures within { result ≤ length (spread runs.now) }
-    ensures other_within { result ≤ length (spread others.now) }
+    ensures other_within { result ≤ length (spread remaining.now) }
     ensures equal { drop (length (spread runs.now) - result) (spread runs.now)
-        ≡ drop (length (spread others.now) - result) (spread others.now) }
+        ≡ drop (length (spread remaining.now) - result) (spread remaining.now) }
 {
     let mut columns = 0;
-    for count in 0..runs.len().min(others.len()) {
+    for count in 0..runs.len().min(remaining.len()) {
         let at = runs.len() - 1 - count;
-        let other_at = others.len() - 1 - count;
+        let other_at = remaining.len() - 1 - count;
         let run = &runs[at];
-        let other = &others[other_at];
+        let other = &remaining[other_at];
         if !same_run(run, other) {
             return columns + equal_part(run, other);
         }

@@ -19,7 +19,7 @@ pub(crate) fn put<T: Copy>(items: &mut Vec<T>, at: usize, with: &[T])
     items[at..at + with.len()].copy_from_slice(with);
 }
 
-// The items come behind, for which there is room.
+// The items follow, for which there is room.
 #[inline(always)]
 pub(crate) fn push_all<T: Copy>(items: &mut Vec<T>, with: &[T])
     requires { vec_len items.old + length with.now ≤ vec_capacity items.old }
@@ -30,7 +30,7 @@ pub(crate) fn push_all<T: Copy>(items: &mut Vec<T>, with: &[T])
     let _pushed = items.extend_from_slice(with);
 }
 
-// The bytes come behind. One alone is stored, in place of a block copy.
+// The bytes follow. One alone is stored, in place of a block copy.
 #[inline(always)]
 pub(crate) fn push_bytes(items: &mut Vec<u8>, bytes: &[u8]) -> Result<(), AllocError>
     ensures items { items.new.items ≡ (if is_ok result then items.old.items ++ bytes.now else items.old.items) }
@@ -47,13 +47,13 @@ pub(crate) fn push_bytes(items: &mut Vec<u8>, bytes: &[u8]) -> Result<(), AllocE
     Ok(())
 }
 
-// What stands from `from` on stands from `to` on, further behind, where there is room for it.
+// What stands from `from` on stands from `to` on, further after, where there is room for it.
 fn move_up<T: Copy>(items: &mut Vec<T>, from: usize, to: usize, filler: T)
     requires order { from ≤ to }
     requires within { from ≤ vec_len items.old }
     requires room { vec_len items.old + to ≤ vec_capacity items.old + from }
     ensures before { take from items.new.items ≡ take from items.old.items }
-    ensures behind { drop to items.new.items ≡ drop from items.old.items }
+    ensures after { drop to items.new.items ≡ drop from items.old.items }
     ensures len { vec_len items.new + from ≡ vec_len items.old + to }
     ensures capacity { vec_capacity items.old ≤ vec_capacity items.new }
 {
@@ -73,7 +73,7 @@ fn move_down<T: Copy>(items: &mut Vec<T>, from: usize, to: usize)
     requires order { to ≤ from }
     requires within { from ≤ vec_len items.old }
     ensures before { take to items.new.items ≡ take to items.old.items }
-    ensures behind { drop to items.new.items ≡ drop from items.old.items }
+    ensures after { drop to items.new.items ≡ drop from items.old.items }
     ensures len { vec_len items.new + from ≡ vec_len items.old + to }
     ensures capacity { vec_capacity items.new ≡ vec_capacity items.old }
 {
@@ -92,7 +92,7 @@ fn move_rest<T: Copy>(items: &mut Vec<T>, from: usize, to: usize, filler: T)
     requires within { from ≤ vec_len items.old }
     requires room { vec_len items.old + to ≤ vec_capacity items.old + from }
     ensures before { (k : ℕ) → k ≤ from → k ≤ to → take k items.new.items ≡ take k items.old.items }
-    ensures behind { drop to items.new.items ≡ drop from items.old.items }
+    ensures after { drop to items.new.items ≡ drop from items.old.items }
     ensures len { vec_len items.new + from ≡ vec_len items.old + to }
     ensures capacity { vec_capacity items.old ≤ vec_capacity items.new }
 {
@@ -106,7 +106,7 @@ fn move_rest<T: Copy>(items: &mut Vec<T>, from: usize, to: usize, filler: T)
     move_down(items, from, to);
 }
 
-// The items from `from` on and before `to` are replaced by others, for which there is room: what stands behind them is
+// The items from `from` on and before `to` are replaced by others, for which there is room: what follows them is
 // moved once.
 #[inline(always)]
 pub(crate) fn replace_items<T: Copy>(
@@ -127,7 +127,7 @@ pub(crate) fn replace_items<T: Copy>(
     put(items, from, with);
 }
 
-// The bytes from `from` on and before `to` are replaced by others, for which there is room: what stands behind them is
+// The bytes from `from` on and before `to` are replaced by others, for which there is room: what follows them is
 // moved as one block.
 pub(crate) fn replace_text(text: &mut Vec<u8>, from: usize, to: usize, with: &str)
     requires utf8 { IsUtf8 text.old.items }

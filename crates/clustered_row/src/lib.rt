@@ -6,9 +6,10 @@ mod columns;
 mod cut_text;
 mod equal_columns;
 mod equal_columns_at_end;
+mod fast;
 mod items;
 mod lent_text;
-mod place;
+mod position;
 mod row;
 mod row_cells;
 #[cfg(test)]

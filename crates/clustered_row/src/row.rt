@@ -13,7 +13,7 @@ use cell_base::CellAttributes;
 use std::alloc::{AllocError, Global};
 use std::marker::Model;
 
-/// A row of columns, kept as one text, the lengths and widths of its cells, and runs of equal attributes. Behind the
+/// A row of columns, kept as one text, the lengths and widths of its cells, and runs of equal attributes. After the
 /// last column that was written stand blanks with the same attributes. Columns count from 0.
 ///
 /// A call that is refused memory leaves the count of columns as it was; of what they show nothing is said.
@@ -103,7 +103,7 @@ impl ClusteredRow {
         Ok(())
     }
 
-    // They take their columns from any one on, not alone behind the last that was written.
+    // They take their columns from any one on, not alone after the last that was written.
     #[inline(never)]
     fn set_plain_elsewhere(
         &mut self,
@@ -171,7 +171,7 @@ impl ClusteredRow {
         Ok(())
     }
 
-    // Plain blanks come behind, up to so many columns.
+    // Plain blanks follow, up to so many columns.
     fn widen(&mut self, width: usize) -> Result<(), AllocError>
         requires { length self.old < width }
         ensures { OnOk result (self.new ≡ resized width self.old) }

@@ -69,12 +69,12 @@ fn shows_right_half(row: &ClusteredRow, column: usize, attributes: &CellAttribut
     column < texts.columns() && texts.cell_at(column).is_none() && has(row, column, attributes)
 }
 
-// Whether a cell, behind which so many others are stored, is shown from a column on.
-fn shows_cell(row: &ClusteredRow, column: usize, cell: &Cell, behind: usize) -> bool {
+// Whether a cell, after which so many others are stored, is shown from a column on.
+fn shows_cell(row: &ClusteredRow, column: usize, cell: &Cell, after: usize) -> bool {
     if cell.width() < 2 {
         return shows_text(row, column, cell.str(), false, cell.attrs());
     }
-    if behind == 0 {
+    if after == 0 {
         return shows_text(row, column, " ", false, cell.attrs());
     }
     shows_text(row, column, cell.str(), true, cell.attrs())
@@ -88,8 +88,8 @@ fn shows(row: &ClusteredRow, cells: &[Cell]) -> bool {
         if is_right {
             is_right = false;
         } else {
-            let behind = cells.len().saturating_sub(column).saturating_sub(1);
-            if !shows_cell(row, column, cell, behind) {
+            let after = cells.len().saturating_sub(column).saturating_sub(1);
+            if !shows_cell(row, column, cell, after) {
                 return false;
             }
             is_right = cell.width() == 2;
@@ -187,12 +187,12 @@ fn is_byte(cell: &ClusteredCell<'_>, byte: u8, attributes: &CellAttributes) -> b
 
 // Whether runs of plain cells, and the cells between them, are what the row shows cell by cell.
 fn passes_what_it_shows(row: &ClusteredRow, most: usize) -> bool {
-    let mut others = row.visible_cells();
+    let mut remaining = row.visible_cells();
     let mut run: &[u8] = &[];
     let mut attributes = &row.rest;
     for cell in row.visible_cells() {
         if run.is_empty() {
-            if let Some((text, of_text)) = others.pass_plain(most) {
+            if let Some((text, of_text)) = remaining.pass_plain(most) {
                 run = text.as_bytes();
                 attributes = of_text;
             }
@@ -203,13 +203,13 @@ fn passes_what_it_shows(row: &ClusteredRow, most: usize) -> bool {
             }
             run = rest;
         } else {
-            match others.next() {
+            match remaining.next() {
                 Some(other) if are_same(&cell, &other) => {}
                 _ => return false,
             }
         }
     }
-    run.is_empty() && others.next().is_none()
+    run.is_empty() && remaining.next().is_none()
 }
 
 #[test]

@@ -10,11 +10,10 @@ ghost use Rattle.cell_edits.specs.RowEdits.{overlaid};
 ghost use Rattle.cell_edits.specs.TextRuns.{place_after, plain_cells, text_on, text_left, Leads, Stops};
 
 use crate::row::ClusteredRow;
-use crate::text_cells::{single_cells, size_of};
+use crate::text_cells::size_of;
 use cell_base::{Cell, CellAttributes, Widths};
 use std::alloc::AllocError;
-use std::mem;
-use text_clusters::{begins_printable, split_first_cluster, split_printable};
+use text_clusters::split_first_cluster;
 
 // So many spaces are set at once.
 const SPACES: &str = "                                                                ";
@@ -33,8 +32,8 @@ pub(crate) fn spaces(count: usize) -> &'static str
     requires { count ≤ 64 }
     ensures { result.now ≡ replicate count 32 }
 {
-    let (front, _) = SPACES.split_at(count);
-    front
+    let (prefix, _) = SPACES.split_at(count);
+    prefix
 }
 
 impl ClusteredRow {
@@ -59,7 +58,7 @@ impl ClusteredRow {
     }
 
     /// The cell of a cluster of `width` columns, of which none count as one, takes its columns from one on. The empty
-    /// text, a lone C0 control or DEL, and CR LF stand as a space of one column.
+    /// text, a single C0 control or DEL, and CR LF stand as a space of one column.
     pub fn set_cell(
         &mut self,
         at: usize,
@@ -143,59 +142,7 @@ impl ClusteredRow {
         Ok(())
     }
 
-    // Sets the printable front of a text as far as it fits before `end`; answers the next column and the rest.
-    fn set_plain_prefix<'a, W: Widths>(
-        &mut self,
-        at: usize,
-        end: usize,
-        text: &'a str,
-        attrs: &CellAttributes,
-        w: &W,
-    ) -> Result<(usize, &'a str), AllocError>
-        requires order { at ≤ end }
-        requires within { end ≤ length self.old }
-        ensures len { length self.new ≡ length self.old }
-        ensures leads { IfOk result
-            (λ next. Leads (W.width_of w.now) end attrs.now self.old at text.now self.new next.0 next.1.now) }
-    {
-        if !begins_printable(text) {
-            return Ok((at, text));
-        }
-        if !w.has_narrow_ascii() {
-            return Ok((at, text));
-        }
-        let (front, rest) = split_printable(text, end - at);
-        self.set_ascii_text(at, front, attrs)?;
-        Ok((at + front.len(), rest))
-    }
-
-    // Sets the characters at the front of a text that are clusters by themselves, as far as they fit before `end`;
-    // answers the next column and the rest.
-    fn set_single_prefix<'a, W: Widths>(
-        &mut self,
-        at: usize,
-        end: usize,
-        text: &'a str,
-        attrs: &CellAttributes,
-        w: &W,
-    ) -> Result<(usize, &'a str), AllocError>
-        requires order { at ≤ end }
-        requires within { end ≤ length self.old }
-        ensures len { length self.new ≡ length self.old }
-        ensures leads { IfOk result
-            (λ next. Leads (W.width_of w.now) end attrs.now self.old at text.now self.new next.0 next.1.now) }
-    {
-        let mut sizes = mem::try_take(&mut self.sizes)?;
-        let (count, rest) = single_cells(&mut sizes, end - at, text, w)?;
-        if count > 0 {
-            let (front, _) = text.split_at(text.len() - rest.len());
-            self.set(at, front, &sizes, count, attrs)?;
-        }
-        self.sizes = sizes;
-        Ok((at + count, rest))
-    }
-
-    // Sets the first cluster of a text if it fits before `end`; answers the next column and the rest.
+    // Sets the first cluster of a text if it fits before `end`; returns the next column and the rest.
     fn set_first_cluster<'a, W: Widths>(
         &mut self,
         at: usize,
@@ -229,8 +176,34 @@ impl ClusteredRow {
         Ok(Some((at + count, rest)))
     }
 
+    // Sets one cluster or several from the start of a text, if any fits before `end`; returns the next column and the
+    // rest.
+    fn set_clusters<'a, W: Widths>(
+        &mut self,
+        at: usize,
+        end: usize,
+        text: &'a str,
+        attrs: &CellAttributes,
+        w: &W,
+    ) -> Result<Option<(usize, &'a str)>, AllocError>
+        requires order { at ≤ end }
+        requires within { end ≤ length self.old }
+        ensures len { length self.new ≡ length self.old }
+        ensures leads { IfOk result (λ next. MatchOption next
+            ((self.new ≡ self.old) × Stops (W.width_of w.now) end attrs.now self.old at text.now)
+            (λ n. (at < n.0) × Leads (W.width_of w.now) end attrs.now self.old at text.now self.new n.0 n.1.now)) }
+    {
+        if let Some(next) = self.set_plain_prefix(at, end, text, attrs, w)? {
+            return Ok(Some(next));
+        }
+        if let Some(next) = self.set_single_prefix(at, end, text, attrs, w)? {
+            return Ok(Some(next));
+        }
+        self.set_first_cluster(at, end, text, attrs, w)
+    }
+
     /// Sets each cluster of a text side by side from `start` on, as far as they fit before `end`; answers the column
-    /// behind them and the text that is left.
+    /// after them and the text that is left.
     pub fn set_text<'a, W: Widths>(
         &mut self,
         start: usize,
@@ -244,19 +217,17 @@ impl ClusteredRow {
         ensures len { length self.new ≡ length self.old }
         ensures row { OnOk result
             (self.new ≡ text_on (W.width_of w.now) end attrs.now self.old start text.now) }
-        ensures behind { IfOk result (λ r. r.0 ≡ place_after (W.width_of w.now) end attrs.now start text.now) }
+        ensures after { IfOk result (λ r. r.0 ≡ place_after (W.width_of w.now) end attrs.now start text.now) }
         ensures left { IfOk result (λ r. r.1.now ≡ text_left (W.width_of w.now) end attrs.now start text.now) }
     {
         let mut at = start;
         let mut left = text;
         while at < end {
-            let (place, rest) = self.set_plain_prefix(at, end, left, attrs, w)?;
-            let (place, rest) = self.set_single_prefix(place, end, rest, attrs, w)?;
-            match self.set_first_cluster(place, end, rest, attrs, w)? {
-                None => return Ok((place, rest)),
-                Some((next, behind)) => {
+            match self.set_clusters(at, end, left, attrs, w)? {
+                None => return Ok((at, left)),
+                Some((next, rest)) => {
                     at = next;
-                    left = behind;
+                    left = rest;
                 }
             }
         }

@@ -1,4 +1,4 @@
-//! Columns with equal attributes, and places among them.
+//! Columns with equal attributes, and positions among them.
 use cell_base::CellAttributes;
 
 /// Columns side by side with equal attributes.
@@ -10,9 +10,9 @@ pub struct Run {
     pub attributes: CellAttributes,
 }
 
-/// Where a column is: behind so many whole runs, and so many columns of the next one.
+/// Where a column is: after so many whole runs, and so many columns of the next one.
 #[derive(Clone, Copy)]
-pub(crate) struct Place {
+pub(crate) struct Position {
     pub(crate) index: usize,
     pub(crate) offset: usize,
 }

@@ -3,11 +3,11 @@ ghost use Rattle.std.specs.Prelude.{◌≡◌, [], ◌∷◌, ◌++◌, ◌+◌,
 ghost use Rattle.std.specs.Prelude.{slice_index_or, slice_set, vec_len, vec_capacity, IfOk, OnOk, OnErr, IsTrue};
 ghost use Rattle.std.specs.List.{insert};
 ghost use Rattle.clustered_row.specs.Runs.{columns_of, spread, AreMaximal, attributes_set};
-ghost use Rattle.clustered_row.specs.RunSteps.{counted, column_at, IsAt, IsLast, IsRoom, IsPlace, IsParted};
+ghost use Rattle.clustered_row.specs.RunSteps.{counted, column_at, IsAt, IsLast, IsRoom, IsPosition, IsParted};
 ghost use Rattle.clustered_row.specs.declared.run.Run.{Run};
-ghost use Rattle.clustered_row.specs.declared.run.Place.{Place};
+ghost use Rattle.clustered_row.specs.declared.run.Position.{Position};
 
-use crate::run::{Place, Run};
+use crate::run::{Position, Run};
 use cell_base::CellAttributes;
 use std::alloc::{AllocError, Global};
 
@@ -42,11 +42,11 @@ fn grow(runs: &mut Vec<Run>, at: usize, by: u32)
     run.count += by;
 }
 
-// The place so many columns behind the first column of a run.
-pub(crate) fn place_from(runs: &[Run], index: usize, offset: usize) -> Place
+// The position so many columns after the first column of a run.
+pub(crate) fn place_from(runs: &[Run], index: usize, offset: usize) -> Position
     requires within { index ≤ length runs.now }
     requires column { length (spread (take index runs.now)) + offset ≤ length (spread runs.now) }
-    ensures place { IsPlace runs.now result }
+    ensures position { IsPosition runs.now result }
     ensures column { column_at runs.now result ≡ length (spread (take index runs.now)) + offset }
     ensures order { index ≤ result.index }
 {
@@ -60,23 +60,23 @@ pub(crate) fn place_from(runs: &[Run], index: usize, offset: usize) -> Place
         left -= count;
         at += 1;
     }
-    Place {
+    Position {
         index: at,
         offset: left,
     }
 }
 
 // The place of a column: in the last run, which most are asked for, or looked for from the first on.
-fn place_of(runs: &[Run], columns: usize, column: usize) -> Place
+fn place_of(runs: &[Run], columns: usize, column: usize) -> Position
     requires columns { columns ≡ length (spread runs.now) }
     requires within { column < columns }
-    ensures place { IsPlace runs.now result }
+    ensures position { IsPosition runs.now result }
     ensures column { column_at runs.now result ≡ column }
 {
     let last = runs.len() - 1;
     let start = columns - runs[last].count as usize;
     if start <= column {
-        return Place {
+        return Position {
             index: last,
             offset: column - start,
         };
@@ -90,8 +90,8 @@ pub(crate) fn at(runs: &[Run], columns: usize, column: usize) -> &CellAttributes
     requires within { column < columns }
     ensures { result.now ≡ slice_index_or (spread runs.now) column result.now }
 {
-    let place = place_of(runs, columns, column);
-    &runs[place.index].attributes
+    let position = place_of(runs, columns, column);
+    &runs[position.index].attributes
 }
 
 // How many columns with these attributes the last run can count more.
@@ -111,7 +111,7 @@ fn room_after(runs: &[Run], attributes: &CellAttributes) -> u32
     0
 }
 
-/// Adds columns with these attributes behind the last.
+/// Adds columns with these attributes after the last.
 #[inline(always)]
 pub(crate) fn push(
     runs: &mut Vec<Run>,
@@ -209,10 +209,10 @@ pub(crate) fn cut(runs: &mut Vec<Run>, columns: usize, at: usize)
     }
 }
 
-// Whether one run holds the columns between two places and has these attributes.
-fn is_set(runs: &[Run], from: Place, to: Place, attributes: &CellAttributes) -> bool
-    requires from { IsPlace runs.now from }
-    requires to { IsPlace runs.now to }
+// Whether one run holds the columns between two positions and has these attributes.
+fn is_set(runs: &[Run], from: Position, to: Position, attributes: &CellAttributes) -> bool
+    requires from { IsPosition runs.now from }
+    requires to { IsPosition runs.now to }
     requires order { from.index ≤ to.index }
     requires columns { column_at runs.now from < column_at runs.now to }
     ensures { IsTrue result → spread runs.now
@@ -225,10 +225,14 @@ fn is_set(runs: &[Run], from: Place, to: Place, attributes: &CellAttributes) -> 
 }
 
 // Ends the columns before a place with a run of their own, where the place is within one. Answers how many runs they
-// are, and where the second place is then.
-fn end_at(runs: &mut Vec<Run>, from: Place, to: Place) -> Result<(usize, Place), AllocError>
-    requires from { IsPlace runs.old.items from }
-    requires to { IsPlace runs.old.items to }
+// are, and where the second position is then.
+fn end_at(
+    runs: &mut Vec<Run>,
+    from: Position,
+    to: Position,
+) -> Result<(usize, Position), AllocError>
+    requires from { IsPosition runs.old.items from }
+    requires to { IsPosition runs.old.items to }
     requires order { from.index ≤ to.index }
     requires columns { column_at runs.old.items from < column_at runs.old.items to }
     requires fits { length (spread runs.old.items) ≤ 4294967295 }
@@ -243,65 +247,65 @@ fn end_at(runs: &mut Vec<Run>, from: Place, to: Place) -> Result<(usize, Place),
         return Ok((from.index, to));
     }
     if from.index == to.index {
-        let place = split(runs, from, to)?;
-        return Ok((place.index, place));
+        let position = split(runs, from, to)?;
+        return Ok((position.index, position));
     }
     set_count(runs, from.index, from.offset as u32);
     Ok((from.index + 1, to))
 }
 
-// Makes two runs of one that holds both places. Answers where the second place is then.
-fn split(runs: &mut Vec<Run>, from: Place, to: Place) -> Result<Place, AllocError>
-    requires from { IsPlace runs.old.items from }
-    requires to { IsPlace runs.old.items to }
+// Makes two runs of one that holds both positions. Answers where the second position is then.
+fn split(runs: &mut Vec<Run>, from: Position, to: Position) -> Result<Position, AllocError>
+    requires from { IsPosition runs.old.items from }
+    requires to { IsPosition runs.old.items to }
     requires one { from.index ≡ to.index }
     requires order { (0 < from.offset) × (from.offset < to.offset) }
     requires fits { length (spread runs.old.items) ≤ 4294967295 }
     requires maximal { AreMaximal runs.old.items }
     requires room { vec_len runs.old + 2 ≤ vec_capacity runs.old }
-    ensures parted { IfOk result (λ place. IsParted (column_at runs.old.items from) (column_at runs.old.items to)
-        runs.old.items runs.new.items place.index place) }
+    ensures parted { IfOk result (λ position. IsParted (column_at runs.old.items from) (column_at runs.old.items to)
+        runs.old.items runs.new.items position.index position) }
     ensures room { OnOk result (vec_len runs.new < vec_capacity runs.new) }
     ensures refused { OnErr result (runs.new.items ≡ runs.old.items) }
 {
     let run = &runs[from.index];
     let count = run.count;
     let attributes = run.attributes.try_clone()?;
-    let behind = from.index + 1;
+    let after = from.index + 1;
     runs.insert(
-        behind,
+        after,
         Run {
             count: count - from.offset as u32,
             attributes,
         },
     )?;
     set_count(runs, from.index, from.offset as u32);
-    Ok(Place {
-        index: behind,
+    Ok(Position {
+        index: after,
         offset: to.offset - from.offset,
     })
 }
 
-// Begins the columns from a place on with a run of their own.
-fn begin_at(runs: &mut Vec<Run>, place: Place)
-    requires place { IsPlace runs.old.items place }
-    requires fits { length (spread (drop place.index runs.old.items)) ≤ 4294967295 }
-    requires maximal { AreMaximal (drop place.index runs.old.items) }
-    ensures front { take place.index runs.new.items ≡ take place.index runs.old.items }
-    ensures columns { spread (drop place.index runs.new.items)
-        ≡ drop place.offset (spread (drop place.index runs.old.items)) }
-    ensures maximal { AreMaximal (drop place.index runs.new.items) }
+// Begins the columns from a position on with a run of their own.
+fn begin_at(runs: &mut Vec<Run>, position: Position)
+    requires position { IsPosition runs.old.items position }
+    requires fits { length (spread (drop position.index runs.old.items)) ≤ 4294967295 }
+    requires maximal { AreMaximal (drop position.index runs.old.items) }
+    ensures prefix { take position.index runs.new.items ≡ take position.index runs.old.items }
+    ensures columns { spread (drop position.index runs.new.items)
+        ≡ drop position.offset (spread (drop position.index runs.old.items)) }
+    ensures maximal { AreMaximal (drop position.index runs.new.items) }
     ensures len { length runs.new.items ≡ length runs.old.items }
     ensures capacity { vec_capacity runs.new ≡ vec_capacity runs.old }
 {
-    if place.offset == 0 {
+    if position.offset == 0 {
         return;
     }
-    let count = runs[place.index].count;
-    set_count(runs, place.index, count - place.offset as u32);
+    let count = runs[position.index].count;
+    set_count(runs, position.index, count - position.offset as u32);
 }
 
-// Counts the run in front to a run that has its attributes. Answers how many runs are left in front.
+// Counts the run before to a run that has its attributes. Answers how many runs are left before.
 fn join_before(runs: &[Run], kept: usize, run: &mut Run) -> usize
     requires within { kept ≤ length runs.now }
     requires some { 0 < run.old.count }
@@ -316,15 +320,15 @@ fn join_before(runs: &[Run], kept: usize, run: &mut Run) -> usize
     if kept == 0 {
         return kept;
     }
-    let front = &runs[kept - 1];
-    if !has(front, &run.attributes) {
+    let prefix = &runs[kept - 1];
+    if !has(prefix, &run.attributes) {
         return kept;
     }
-    run.count += front.count;
+    run.count += prefix.count;
     kept - 1
 }
 
-// Counts the run behind to a run that has its attributes. Answers where the runs begin that are left behind.
+// Counts the run after to a run that has its attributes. Answers where the runs begin that are left.
 fn join_after(runs: &[Run], from: usize, run: &mut Run) -> usize
     requires within { from ≤ length runs.now }
     requires some { 0 < run.old.count }
@@ -341,11 +345,11 @@ fn join_after(runs: &[Run], from: usize, run: &mut Run) -> usize
     if from == runs.len() {
         return from;
     }
-    let behind = &runs[from];
-    if !has(behind, &run.attributes) {
+    let after = &runs[from];
+    if !has(after, &run.attributes) {
         return from;
     }
-    run.count += behind.count;
+    run.count += after.count;
     from + 1
 }
 
@@ -375,11 +379,11 @@ fn remove(runs: &mut Vec<Run>, from: usize, to: usize)
     if from == to {
         return;
     }
-    let behind = runs.len() - to;
-    for k in 0..behind {
+    let after = runs.len() - to;
+    for k in 0..after {
         runs.swap(from + k, to + k);
     }
-    runs.truncate(from + behind);
+    runs.truncate(from + after);
 }
 
 // The run stands in the place of those from one on, before another.
@@ -397,25 +401,25 @@ fn replace(runs: &mut Vec<Run>, from: usize, to: usize, run: Run)
     remove(runs, from + 1, to);
 }
 
-// The run comes between the first runs and a place, joined with what has its attributes on either side.
-fn put_between(runs: &mut Vec<Run>, kept: usize, place: Place, run: Run)
-    requires order { kept ≤ place.index }
-    requires place { IsPlace runs.old.items place }
+// The run comes between the first runs and a position, joined with what has its attributes on either side.
+fn put_between(runs: &mut Vec<Run>, kept: usize, position: Position, run: Run)
+    requires order { kept ≤ position.index }
+    requires position { IsPosition runs.old.items position }
     requires some { 0 < run.count }
-    requires part { length (spread (drop place.index runs.old.items)) ≤ 4294967295 }
+    requires part { length (spread (drop position.index runs.old.items)) ≤ 4294967295 }
     requires fits { length (spread (take kept runs.old.items)) + run.count
-        + length (drop place.offset (spread (drop place.index runs.old.items))) ≤ 4294967295 }
-    requires front { AreMaximal (take kept runs.old.items) }
-    requires behind { AreMaximal (drop place.index runs.old.items) }
+        + length (drop position.offset (spread (drop position.index runs.old.items))) ≤ 4294967295 }
+    requires prefix { AreMaximal (take kept runs.old.items) }
+    requires after { AreMaximal (drop position.index runs.old.items) }
     requires room { vec_len runs.old < vec_capacity runs.old }
     ensures columns { spread runs.new.items ≡ spread (take kept runs.old.items) ++ columns_of run
-        ++ drop place.offset (spread (drop place.index runs.old.items)) }
+        ++ drop position.offset (spread (drop position.index runs.old.items)) }
     ensures maximal { AreMaximal runs.new.items }
 {
     let mut run = run;
-    begin_at(runs, place);
+    begin_at(runs, position);
     let from = join_before(runs, kept, &mut run);
-    let to = join_after(runs, place.index, &mut run);
+    let to = join_after(runs, position.index, &mut run);
     replace(runs, from, to, run);
 }
 
@@ -447,8 +451,8 @@ pub(crate) fn set(
         count: (b - a) as u32,
         attributes: attributes.try_clone()?,
     };
-    let (kept, place) = end_at(runs, from, to)?;
-    put_between(runs, kept, place, run);
+    let (kept, position) = end_at(runs, from, to)?;
+    put_between(runs, kept, position, run);
     Ok(())
 }
 

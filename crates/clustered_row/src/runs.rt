@@ -60,7 +60,7 @@ impl Runs {
         run_steps::at(&self.runs, self.columns, column)
     }
 
-    /// Adds columns with these attributes behind the last. They are counted to the last run where it has them.
+    /// Adds columns with these attributes after the last. They are counted to the last run where it has them.
     #[inline(always)]
     pub fn push(&mut self, count: usize, attributes: &CellAttributes) -> Result<(), AllocError>
         requires { length self.old + count < 2 ^ 64 }
@@ -163,7 +163,7 @@ impl Runs {
         Ok(())
     }
 
-    // Adds so many of the columns of these runs, behind those that are skipped.
+    // Adds so many of the columns of these runs, after those that are skipped.
     fn push_columns(&mut self, runs: &[Run], skip: usize, count: usize) -> Result<(), AllocError>
         requires { length self.old + count < 2 ^ 64 }
         ensures { OnOk result (self.new ≡ self.old ++ take count (drop skip (spread runs.now))) }

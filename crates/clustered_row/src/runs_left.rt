@@ -91,10 +91,10 @@ impl Runs {
         requires { column ≤ length self.now }
         ensures { attributes_left result ≡ drop column self.now }
     {
-        let place = run_steps::place_from(&self.runs, 0, column);
+        let position = run_steps::place_from(&self.runs, 0, column);
         RunsLeft {
-            runs: &self.runs[place.index..],
-            used: place.offset,
+            runs: &self.runs[position.index..],
+            used: position.offset,
         }
     }
 }

@@ -12,17 +12,17 @@ use crate::runs::Runs;
 use crate::texts::Texts;
 use cell_base::CellAttributes;
 
-/// What a row keeps of its columns: one text, the sizes of its cells, runs of equal attributes, and blanks behind them.
+/// What a row keeps of its columns: one text, the sizes of its cells, runs of equal attributes, and blanks after them.
 #[derive(Debug, Clone, Copy)]
 pub struct StoredRow<'a> {
     /// The texts of the cells that were written, side by side.
     pub text: &'a str,
-    /// The sizes of the first cells, up to the last one that isn't plain. Each byte behind these cells is a plain one:
+    /// The sizes of the first cells, up to the last one that isn't plain. Each byte after these cells is a plain one:
     /// a printable ASCII character in one column.
     pub sizes: &'a [CellSize],
     /// The attributes of these columns.
     pub runs: &'a [Run],
-    /// How many blanks stand behind them.
+    /// How many blanks follow them.
     pub blanks: usize,
     /// The attributes of the blanks.
     pub rest: &'a CellAttributes,

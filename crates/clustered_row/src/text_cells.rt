@@ -1,4 +1,4 @@
-//! The cells at the front of a text.
+//! The cells at the start of a text.
 ghost use Rattle.std.specs.Prelude.{◌≡◌, ◌≤◌, ◌==◌, true, drop, length, IfOk, IfSome, OnOk};
 ghost use Rattle.std.specs.List.{list_all};
 ghost use Rattle.std.specs.Str.{IsCharBoundary};
@@ -29,7 +29,7 @@ pub(crate) fn size_of(len: usize, columns: usize) -> CellSize
 // itself, of which none count as one.
 #[inline(always)]
 fn first_single<W: Widths>(text: &str, w: &W) -> Option<(usize, usize)>
-    ensures lone { IfSome result (λ first. BeginsSingle (W.width_of w.now) text.now first.0 first.1) }
+    ensures single { IfSome result (λ first. BeginsSingle (W.width_of w.now) text.now first.0 first.1) }
     ensures cut { IfSome result (λ first. IsCharBoundary text.now first.0) }
     ensures apart { IfSome result (λ first. begins_independent text.now ≡ true) }
 {
@@ -46,9 +46,9 @@ fn first_single<W: Widths>(text: &str, w: &W) -> Option<(usize, usize)>
     None
 }
 
-// What stands behind so many bytes.
+// What follows so many bytes.
 #[inline(always)]
-fn behind(text: &str, len: usize) -> &str
+fn after(text: &str, len: usize) -> &str
     requires { IsCharBoundary text.now len }
     ensures { result.now ≡ drop len text.now }
 {
@@ -56,7 +56,7 @@ fn behind(text: &str, len: usize) -> &str
     rest
 }
 
-// The sizes of the cells at the front of a text, of which each is one character that is a cluster by itself, as far as
+// The sizes of the cells at the start of a text, of which each is one character that is a cluster by itself, as far as
 // they fit in so many columns. Answers how many columns they take, and the text that is left. Each character is decoded
 // once.
 pub(crate) fn single_cells<'a, W: Widths>(
@@ -74,7 +74,7 @@ pub(crate) fn single_cells<'a, W: Widths>(
     let mut columns = 0;
     let mut left = text;
     let mut first = one;
-    let mut rest = behind(left, first.0);
+    let mut rest = after(left, first.0);
     while let Some(next) = first_single(rest, w) {
         if room - columns < first.1 {
             return Ok((columns, left));
@@ -83,7 +83,7 @@ pub(crate) fn single_cells<'a, W: Widths>(
         columns += first.1;
         left = rest;
         first = next;
-        rest = behind(left, first.0);
+        rest = after(left, first.0);
     }
     if !begins_independent(rest) {
         return Ok((columns, left));

@@ -100,7 +100,7 @@ impl Texts {
         Ok(())
     }
 
-    /// A cell for each byte of printable ASCII comes behind.
+    /// A cell for each byte of printable ASCII follows.
     #[inline(always)]
     pub fn push_plain(&mut self, text: &str) -> Result<(), AllocError>
         requires { list_all is_printable text.now ≡ true }
@@ -115,7 +115,7 @@ impl Texts {
         Ok(())
     }
 
-    /// Other cells, which take so many columns, come behind, given by their text and sizes. Nothing is refused where
+    /// Other cells, which take so many columns, follow, given by their text and sizes. Nothing is refused where
     /// room was made for these, and for the size of each column that isn't kept.
     pub fn push_cells(
         &mut self,
@@ -137,7 +137,7 @@ impl Texts {
         Ok(())
     }
 
-    /// Spaces come behind, up to so many columns.
+    /// Spaces follow, up to so many columns.
     #[inline(always)]
     pub fn pad(&mut self, columns: usize) -> Result<(), AllocError>
         ensures done { OnOk result (faces self.new ≡ padded columns (faces self.old)) }
@@ -155,7 +155,7 @@ impl Texts {
     #[inline(always)]
     pub fn set_plain(&mut self, at: usize, text: &str)
         requires text { list_all is_printable text.now ≡ true }
-        requires behind { plain_from self.old ≤ at }
+        requires after { plain_from self.old ≤ at }
         requires within { at + length text.now ≤ length (faces self.old) }
         ensures faces { faces self.new ≡ set_faces (faces self.old) at (plain_faces text.now) }
         ensures plain_from { plain_from self.new ≡ plain_from self.old }

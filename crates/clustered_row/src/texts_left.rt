@@ -3,17 +3,17 @@ ghost use Rattle.std.specs.Prelude.{◌≡◌, ◌≤◌, ◌++◌, ◌↔◌, t
 ghost use Rattle.std.specs.List.{list_all, prefix_len};
 ghost use Rattle.text_clusters.specs.Plain.{is_printable};
 ghost use Rattle.clustered_row.specs.Faces.{cell_faces, plain_faces, starts_right};
-ghost use Rattle.clustered_row.specs.Place.{IsBefore};
+ghost use Rattle.clustered_row.specs.Position.{IsBefore};
 ghost use Rattle.clustered_row.specs.Sizes.{bytes_of, is_cut, is_plain};
 
 use crate::cell_size::CellSize;
 use crate::cut_text::CutText;
 use crate::lent_text::LentText;
-use crate::place::{Place, START};
+use crate::position::{Position, START};
 use crate::texts::Texts;
 use std::str;
 
-// Cells with these sizes at the front of a text, and one for each byte behind them.
+// Cells with these sizes at the start of a text, and one for each byte after them.
 #[derive(Drop)]
 pub(crate) struct TextsLeft<'a> {
     pub(crate) text: &'a [u8],
@@ -109,25 +109,25 @@ impl CutText {
         }
     }
 
-    // The place of a column at which no cell is cut, looked for from another such place on.
-    fn place_before(&self, from: Place, at: usize) -> Place
+    // The place of a column at which no cell is cut, looked for from another such position on.
+    fn place_before(&self, from: Position, at: usize) -> Position
         requires from { IsBefore self.now.text.items self.now.sizes.items from }
         requires order { from.columns ≤ at }
         requires within { at ≤ length (shown self.now) }
         requires whole { starts_right (drop at (shown self.now)) ≡ false }
-        ensures place { IsBefore self.now.text.items self.now.sizes.items result }
+        ensures position { IsBefore self.now.text.items self.now.sizes.items result }
         ensures column { result.columns ≡ at }
         ensures index { from.index ≤ result.index }
         ensures bytes { from.bytes ≤ result.bytes }
     {
         if self.sized_columns <= at {
-            return Place {
+            return Position {
                 index: self.sizes.len(),
                 bytes: self.plain_byte(at),
                 columns: at,
             };
         }
-        self.place(from, at)
+        self.position(from, at)
     }
 
     // The cells from a column on and before another, at which no cell is cut.

@@ -1,8 +1,5 @@
 //! The visible cells of a row.
-ghost use Rattle.std.specs.Prelude.{◌≡◌, ◌+◌, ◌<◌, ◌≤◌, ◌^◌, ◌++◌, true, false, length, take, drop, IfSome};
-ghost use Rattle.std.specs.Prelude.{MatchOption};
-ghost use Rattle.std.specs.List.{list_all};
-ghost use Rattle.text_clusters.specs.Plain.{is_printable};
+ghost use Rattle.std.specs.Prelude.{◌≡◌, ◌+◌, ◌<◌, ◌≤◌, ◌^◌, ◌++◌, false, length, take, drop};
 ghost use Rattle.cell_base.specs.CellContent.{shows_as_space};
 ghost use Rattle.clustered_row.specs.Faces.{row_of};
 ghost use Rattle.clustered_row.specs.Sizes.{width_of};
@@ -12,7 +9,6 @@ ghost use Rattle.clustered_row.specs.VisibleTexts.{faces_left};
 
 use crate::columns::Columns;
 use crate::row::ClusteredRow;
-use crate::row_texts::spaces;
 use crate::runs_left::RunsLeft;
 use crate::texts_left::TextsLeft;
 use cell_base::CellAttributes;
@@ -52,13 +48,13 @@ fn width(is_wide: bool) -> usize
 /// The visible cells of a row that are left, in the order of their columns. They are lent as they are stored.
 #[derive(Drop)]
 pub struct ClusteredCells<'a> {
-    texts: TextsLeft<'a>,
-    runs: RunsLeft<'a>,
-    // So many blanks stand behind these, with the same attributes.
-    blanks: usize,
-    rest: &'a CellAttributes,
+    pub(crate) texts: TextsLeft<'a>,
+    pub(crate) runs: RunsLeft<'a>,
+    // So many blanks follow these, with the same attributes.
+    pub(crate) blanks: usize,
+    pub(crate) rest: &'a CellAttributes,
     // The first one of the next cell.
-    column: usize,
+    pub(crate) column: usize,
     ghost covered: { length (faces_left texts) ≤ length (attributes_left runs) },
     ghost small: { column + (length (faces_left texts) + blanks) < 2 ^ 64 },
 }
@@ -97,49 +93,6 @@ impl<'a> Iterator for ClusteredCells<'a> {
             is_wide: false,
             attributes: self.rest,
         })
-    }
-}
-
-impl<'a> ClusteredCells<'a> {
-    ghost use Rattle.cell_edits.specs.VisibleCells.{visible_each};
-    ghost use Rattle.clustered_row.specs.VisibleCells.{cells_left, next_column};
-
-    /// The printable ASCII characters (20h to 7Eh) that are left first, at most so many, as far as each is a cell of
-    /// one column and all have the same attributes; a blank counts as a space. They are left no more. `None`: the next
-    /// cell is another one, or none is asked for or left.
-    pub fn pass_plain(&mut self, most: usize) -> Option<(&'a str, &'a CellAttributes)>
-        ensures left { MatchOption result (cells_left self.new ≡ cells_left self.old) (λ run.
-            cells_left self.old ≡ visible_each (next_column self.old) run.0.now run.1.now ++ cells_left self.new) }
-        ensures some { IfSome result (λ run. (0 < length run.0.now) × (length run.0.now ≤ most)) }
-        ensures printable { IfSome result (λ run. list_all is_printable run.0.now ≡ true) }
-    {
-        let alike = most.min(self.runs.run_len());
-        let text = self.texts.pass_plain(alike);
-        if text.is_empty() {
-            return self.pass_blanks(most);
-        }
-        let attributes = self.runs.pass_columns(text.len());
-        self.column += text.len();
-        Some((text, attributes))
-    }
-
-    // As many blanks, where no written cell is left.
-    fn pass_blanks(&mut self, most: usize) -> Option<(&'a str, &'a CellAttributes)>
-        ensures left { MatchOption result (cells_left self.new ≡ cells_left self.old) (λ run.
-            cells_left self.old ≡ visible_each (next_column self.old) run.0.now run.1.now ++ cells_left self.new) }
-        ensures some { IfSome result (λ run. (0 < length run.0.now) × (length run.0.now ≤ most)) }
-        ensures printable { IfSome result (λ run. list_all is_printable run.0.now ≡ true) }
-    {
-        if !self.texts.is_empty() {
-            return None;
-        }
-        let count = self.blanks.min(most).min(64);
-        if count == 0 {
-            return None;
-        }
-        self.blanks -= count;
-        self.column += count;
-        Some((spaces(count), self.rest))
     }
 }
 

@@ -98,7 +98,7 @@ impl ClusteredRow {
         })
     }
 
-    /// Whether the row goes on behind its last cell; not where there is none.
+    /// Whether the row goes on after its last cell; not where there is none.
     pub fn ends_wrapped(&self) -> bool
         ensures { result ≡ ends_wrapped (visible_cells self.now) }
     {

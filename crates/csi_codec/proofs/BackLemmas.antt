@@ -7,7 +7,7 @@ use Rattle.csi_codec.specs.declared.parameters.CsiParam.{CsiParam}
 use Rattle.csi_codec.specs.declared.parameters.CsiParam.TheVariants.{Integer, P}
 use Rattle.csi_codec.specs.declared.cursors.Cursor.{Cursor}
 use Rattle.csi_codec.specs.declared.edits.Edit.{Edit}
-use Rattle.csi_codec.specs.Parameters.{word_max, or_default, place, one_slot, two_slots, count, place_pair, Lines, read_by, number_tokens, count_tokens, pair_tokens}
+use Rattle.csi_codec.specs.Parameters.{word_max, or_default, position, one_slot, two_slots, count, place_pair, Lines, read_by, number_tokens, count_tokens, pair_tokens}
 use Rattle.csi_codec.specs.Slots.{Slots, nothing, counted, placed, paired, named, extent, spaced, slots_tokens, IsPlace}
 use Rattle.csi_codec.specs.Cursors.{cursor_reading}
 use Rattle.csi_codec.specs.Edits.{edit_reading}
@@ -15,7 +15,7 @@ use Rattle.csi_codec.specs.Devices.{device_reading}
 use Rattle.csi_codec.specs.Laws.{begins_with_question}
 use Rattle.csi_codec.specs.Actions.{Action, cursor, edit, device, unspecified, single_reading, standard_reading, other_reading, csi_reading}
 
--- ---- Places and counts
+-- ---- Positions and counts
 
 same_place : (d n : ℕ) → Some d ≡ Some n → IsPlace d → IsPlace n
 same_place d n e h = let q : d ≡ n = cc in subst (λ (k : ℕ). IsPlace k) q h
@@ -32,7 +32,7 @@ chosen_place : (d m n : ℕ) (b : Bool) → leb m word_max ≡ b → option_map 
 chosen_place d m n true p e h = after_default d m n (eqb m 0) refl p e h
 chosen_place d m n false p e h = cc
 
-place_valid : (d : ℕ) (slot : Option ℤ) (n : ℕ) → IsPlace d → place d slot ≡ Some n → IsPlace n
+place_valid : (d : ℕ) (slot : Option ℤ) (n : ℕ) → IsPlace d → position d slot ≡ Some n → IsPlace n
 place_valid d None n h e = same_place d n e h
 place_valid d (Some (negsuc m)) n h e = cc
 place_valid d (Some (pos m)) n h e = chosen_place d m n (leb m word_max) refl e h
@@ -40,15 +40,15 @@ place_valid d (Some (pos m)) n h e = chosen_place d m n (leb m word_max) refl e 
 pub count_valid : (ts : List CsiParam) (n : ℕ) → count ts ≡ Some n → IsPlace n
 count_valid ts n e = by (one_slot ts) e
   where
-    by : (slot : Option (Option ℤ)) → option_and_then (place 1) slot ≡ Some n → IsPlace n
+    by : (slot : Option (Option ℤ)) → option_and_then (position 1) slot ≡ Some n → IsPlace n
     by None q = cc
     by (Some s) q = place_valid 1 s n (omega arith, omega arith) q
 
-pub place_number : (d n : ℕ) → IsPlace n → place d (Some (pos n)) ≡ Some n
+pub place_number : (d n : ℕ) → IsPlace n → position d (Some (pos n)) ≡ Some n
 place_number d zero h = absurd (omega (arith, h.0))
 place_number d (suc n) h = rw (le-leb (suc n) word_max h.1, eqb-suc-zero n) refl
 
--- ---- Lists that no `?` begins, under finals of lone spellings
+-- ---- Lists that no `?` begins, under finals of single spellings
 
 pub standard_is : (truncated : Bool) (final : ℕ) (ts : List CsiParam) → begins_with_question ts ≡ false → other_reading truncated final ts ≡ standard_reading truncated final ts
 standard_is truncated final [] h = refl
@@ -112,9 +112,9 @@ pub edit_found : (final : ℕ) (ts : List CsiParam) (e : Edit) → cursor_readin
 edit_found final ts e p q = ap (λ found. option_or (option_map cursor found) (option_or (option_map edit (edit_reading final ts)) (option_map device (device_reading final ts)))) p
     ∙ ap (λ found. option_or (option_map edit found) (option_map device (device_reading final ts))) q
 
--- two places
+-- two positions
 pub pair_back : (d a b : ℕ) → IsPlace a → IsPlace b → place_pair d (pair_tokens a b) ≡ Some (a, b)
-pair_back d a b h k = ap (λ x. option_zip x (place d (Some (pos b)))) (place_number 1 a h) ∙ ap (λ y. option_zip (Some a) y) (place_number d b k)
+pair_back d a b h k = ap (λ x. option_zip x (position d (Some (pos b)))) (place_number 1 a h) ∙ ap (λ y. option_zip (Some a) y) (place_number d b k)
 
 pub pair_valid : (d : ℕ) (ts : List CsiParam) (m : ℕ × ℕ) → IsPlace d → place_pair d ts ≡ Some m → IsPlace m.0 × IsPlace m.1
 pair_valid d ts m h e = by (two_slots ts) e
@@ -124,6 +124,6 @@ pair_valid d ts m h e = by (two_slots ts) e
     both (Some a) None p q r = cc
     both (Some a) (Some b) p q r = let s : (a, b) ≡ m = cc in (subst (λ (k : ℕ × ℕ). IsPlace k.0) s (p a refl), subst (λ (k : ℕ × ℕ). IsPlace k.1) s (q b refl))
 
-    by : (slots : Option (Option ℤ × Option ℤ)) → option_and_then (λ s. option_zip (place 1 s.0) (place d s.1)) slots ≡ Some m → IsPlace m.0 × IsPlace m.1
+    by : (slots : Option (Option ℤ × Option ℤ)) → option_and_then (λ s. option_zip (position 1 s.0) (position d s.1)) slots ≡ Some m → IsPlace m.0 × IsPlace m.1
     by None q = cc
-    by (Some s) q = both (place 1 s.0) (place d s.1) (λ n. place_valid 1 s.0 n (omega arith, omega arith)) (λ n. place_valid d s.1 n h) q
+    by (Some s) q = both (position 1 s.0) (position d s.1) (λ n. place_valid 1 s.0 n (omega arith, omega arith)) (λ n. place_valid d s.1 n h) q

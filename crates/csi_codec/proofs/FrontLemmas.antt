@@ -1,4 +1,4 @@
--- The sequence at the front of some bytes.
+-- The sequence at the start of some bytes.
 use Rattle.std.proofs.Common.{◌≡◌, ℕ, suc, ◌+◌, ◌-◌, ◌≤◌, ltb, Bool, true, false, cond, List, [], ◌∷◌, ◌++◌, length, take, drop, arith, refl, ap, sym, subst, ◌∙◌}
 use Rattle.std.proofs.lemmas.List.{take-append-drop, take_rest}
 use Rattle.std.proofs.Math.Seq.{take-append_seam, drop-append_seam}
@@ -12,7 +12,7 @@ use Rattle.csi_codec.proofs.TokenLemmas.{Keeps, keeps_tokens}
 use Rattle.csi_codec.specs.Texts.{tokens_of, all_parameter_bytes}
 use Rattle.csi_codec.specs.Fronts.{most_tokens, Front, IsSequence, HasFront, HasNoFront, OneFront}
 
--- how many parameter bytes stand at the front
+-- how many parameter bytes stand at the start
 abbrev parameter_len : List ℕ → ℕ
 parameter_len bytes = prefix_len (is_between 32 63) bytes
 
@@ -21,7 +21,7 @@ not_parameter b h = grind (arith, nat_tests)
 
 -- ---- Fronts
 
--- one byte more at the front
+-- one byte more at the start
 parameter_len-cons : (b : ℕ) (bytes : List ℕ) → parameter_len (b ∷ bytes) ≡ cond (is_between 32 63 b) (suc (parameter_len bytes)) 0
 parameter_len-cons b bytes = elim (is_between 32 63 b) as (λ v. cond v (1 + parameter_len bytes) 0 ≡ cond v (suc (parameter_len bytes)) 0) [
   | true ↦ omega arith
@@ -30,14 +30,14 @@ parameter_len-cons b bytes = elim (is_between 32 63 b) as (λ v. cond v (1 + par
 
 front_byte : (b : ℕ) (bytes : List ℕ) (v : Bool) → is_between 32 63 b ≡ v → all_parameter_bytes (take (parameter_len bytes) bytes) ≡ true
     → all_parameter_bytes (take (cond v (suc (parameter_len bytes)) 0) (b ∷ bytes)) ≡ true
-front_byte b bytes true h others = and_from (is_between 32 63 b) (all_parameter_bytes (take (parameter_len bytes) bytes)) h others
-front_byte b bytes false h others = refl
+front_byte b bytes true h remaining = and_from (is_between 32 63 b) (all_parameter_bytes (take (parameter_len bytes) bytes)) h remaining
+front_byte b bytes false h remaining = refl
 
--- the bytes at the front are parameter bytes
-parameters-front : (bytes : List ℕ) → all_parameter_bytes (take (parameter_len bytes) bytes) ≡ true
-parameters-front [] = refl
-parameters-front (b ∷ bytes) =
-    subst (λ n. all_parameter_bytes (take n (b ∷ bytes)) ≡ true) (sym (parameter_len-cons b bytes)) (front_byte b bytes (is_between 32 63 b) refl (parameters-front bytes))
+-- the bytes at the start are parameter bytes
+parameters-prefix : (bytes : List ℕ) → all_parameter_bytes (take (parameter_len bytes) bytes) ≡ true
+parameters-prefix [] = refl
+parameters-prefix (b ∷ bytes) =
+    subst (λ n. all_parameter_bytes (take n (b ∷ bytes)) ≡ true) (sym (parameter_len-cons b bytes)) (front_byte b bytes (is_between 32 63 b) refl (parameters-prefix bytes))
 
 -- the parameter bytes of a sequence end where its final byte stands
 parameter_len-sequence : (body : List ℕ) (control : ℕ) (rest : List ℕ) → all_parameter_bytes body ≡ true → 64 ≤ control → parameter_len (body ++ control ∷ rest) ≡ length body
@@ -47,45 +47,45 @@ parameter_len-sequence (b ∷ body) control rest h low =
     ∙ ap (λ v. cond v (suc (parameter_len (body ++ control ∷ rest))) 0) (and_parts (is_between 32 63 b) (all_parameter_bytes body) h).0
     ∙ ap suc (parameter_len-sequence body control rest (and_parts (is_between 32 63 b) (all_parameter_bytes body) h).1 low)
 
--- behind the parameter bytes the final byte stands
-others-sequence : (bytes behind body : List ℕ) (control : ℕ) (rest : List ℕ) → bytes ≡ 27 ∷ 91 ∷ behind → IsSequence bytes body control rest → drop (parameter_len behind) behind ≡ control ∷ rest
-others-sequence bytes behind body control rest e s =
-    let b : behind ≡ body ++ control ∷ rest = cc s.text in
+-- after the parameter bytes the final byte stands
+remaining-sequence : (bytes after body : List ℕ) (control : ℕ) (rest : List ℕ) → bytes ≡ 27 ∷ 91 ∷ after → IsSequence bytes body control rest → drop (parameter_len after) after ≡ control ∷ rest
+remaining-sequence bytes after body control rest e s =
+    let b : after ≡ body ++ control ∷ rest = cc s.text in
     ap (λ (x : List ℕ). drop (parameter_len x) x) b
     ∙ ap (λ n. drop n (body ++ control ∷ rest)) (parameter_len-sequence body control rest s.parameters s.low)
     ∙ drop-append_seam body (control ∷ rest)
 
--- what stands behind the parameter bytes that are read
-after_parameters : (len : ℕ) (behind : List ℕ) → len ≡ prefix_len is_parameter behind → take (length behind - len) (drop len behind) ≡ drop (parameter_len behind) behind
+-- what follows the parameter bytes that are read
+after_parameters : (len : ℕ) (after : List ℕ) → len ≡ prefix_len is_parameter after → take (length after - len) (drop len after) ≡ drop (parameter_len after) after
 unfolding is_parameter
-after_parameters len behind e = take_rest behind len ∙ ap (λ n. drop n behind) e
+after_parameters len after e = take_rest after len ∙ ap (λ n. drop n after) e
 
-module _ (bytes behind : List ℕ) (len : ℕ) (text : bytes ≡ 27 ∷ 91 ∷ behind) (count : len ≡ prefix_len is_parameter behind) where
-  abbrev others : List ℕ
-  others = take (length behind - len) (drop len behind)
+module _ (bytes after : List ℕ) (len : ℕ) (text : bytes ≡ 27 ∷ 91 ∷ after) (count : len ≡ prefix_len is_parameter after) where
+  abbrev remaining : List ℕ
+  remaining = take (length after - len) (drop len after)
 
-  pub no_final : length others ≡ 0 → HasNoFront bytes
+  pub no_final : length remaining ≡ 0 → HasNoFront bytes
   no_final z body control rest s =
-      let q : others ≡ control ∷ rest = after_parameters len behind count ∙ others-sequence bytes behind body control rest text s in
+      let q : remaining ≡ control ∷ rest = after_parameters len after count ∙ remaining-sequence bytes after body control rest text s in
       absurd (omega (arith, ap length q))
 
-  pub other_final : (b : ℕ) (bs : List ℕ) → others ≡ b ∷ bs → (64 ≤ b → b ≤ 126 → ⊥) → HasNoFront bytes
+  pub other_final : (b : ℕ) (bs : List ℕ) → remaining ≡ b ∷ bs → (64 ≤ b → b ≤ 126 → ⊥) → HasNoFront bytes
   other_final b bs q none body control rest s =
-      let q' : control ∷ rest ≡ b ∷ bs = sym (others-sequence bytes behind body control rest text s) ∙ sym (after_parameters len behind count) ∙ q in
+      let q' : control ∷ rest ≡ b ∷ bs = sym (remaining-sequence bytes after body control rest text s) ∙ sym (after_parameters len after count) ∙ q in
       let c : control ≡ b = cc in
       none (omega (arith, s.low, c)) (omega (arith, s.high, c))
 
-  pub read_front : (p start : Parameters) (b : ℕ) (bs : List ℕ) → others ≡ b ∷ bs → (64 ≤ b) × (b ≤ 126) → start ≡ no_parameters → p ≡ fold with_byte start (take len behind)
+  pub read_front : (p start : Parameters) (b : ℕ) (bs : List ℕ) → remaining ≡ b ∷ bs → (64 ≤ b) × (b ≤ 126) → start ≡ no_parameters → p ≡ fold with_byte start (take len after)
       → HasFront bytes (record { params = p.tokens; truncated = p.truncated; control = b; rest = bs })
   unfolding is_parameter
   read_front p start b bs q final none read =
-      let P : Parameters → Type 0 = λ q. Keeps q (tokens_of (take len behind)) in
-      let keeps : Keeps p (tokens_of (take len behind)) = subst P (sym (read ∙ ap (λ (q : Parameters). fold with_byte q (take len behind)) none)) (keeps_tokens (take len behind)) in
+      let P : Parameters → Type 0 = λ q. Keeps q (tokens_of (take len after)) in
+      let keeps : Keeps p (tokens_of (take len after)) = subst P (sym (read ∙ ap (λ (q : Parameters). fold with_byte q (take len after)) none)) (keeps_tokens (take len after)) in
       record {
-        body = take len behind;
+        body = take len after;
         sequence = record {
-          text = text ∙ ap (λ (x : List ℕ). 27 ∷ 91 ∷ x) (sym (take-append-drop len behind) ∙ ap (λ (x : List ℕ). take len behind ++ x) (ap (λ n. drop n behind) count ∙ sym (after_parameters len behind count) ∙ q));
-          parameters = ap (λ n. all_parameter_bytes (take n behind)) count ∙ parameters-front behind;
+          text = text ∙ ap (λ (x : List ℕ). 27 ∷ 91 ∷ x) (sym (take-append-drop len after) ∙ ap (λ (x : List ℕ). take len after ++ x) (ap (λ n. drop n after) count ∙ sym (after_parameters len after count) ∙ q));
+          parameters = ap (λ n. all_parameter_bytes (take n after)) count ∙ parameters-prefix after;
           low = final.0;
           high = final.1;
         };
@@ -95,9 +95,9 @@ module _ (bytes behind : List ℕ) (len : ℕ) (text : bytes ≡ 27 ∷ 91 ∷ b
 
 -- ---- At most one
 
-body-sequence : (bytes behind body : List ℕ) (control : ℕ) (rest : List ℕ) → bytes ≡ 27 ∷ 91 ∷ behind → IsSequence bytes body control rest → take (parameter_len behind) behind ≡ body
-body-sequence bytes behind body control rest e s =
-    let b : behind ≡ body ++ control ∷ rest = cc s.text in
+body-sequence : (bytes after body : List ℕ) (control : ℕ) (rest : List ℕ) → bytes ≡ 27 ∷ 91 ∷ after → IsSequence bytes body control rest → take (parameter_len after) after ≡ body
+body-sequence bytes after body control rest e s =
+    let b : after ≡ body ++ control ∷ rest = cc s.text in
     ap (λ (x : List ℕ). take (parameter_len x) x) b
     ∙ ap (λ n. take n (body ++ control ∷ rest)) (parameter_len-sequence body control rest s.parameters s.low)
     ∙ take-append_seam body (control ∷ rest)
@@ -109,11 +109,11 @@ same_front a b p t c r =
 
 pub one_front-lem : OneFront
 one_front-lem bytes a b f g =
-    let behind = f.body ++ a.control ∷ a.rest in
-    let bodies : f.body ≡ g.body = sym (body-sequence bytes behind f.body a.control a.rest f.sequence.text f.sequence) ∙ body-sequence bytes behind g.body b.control b.rest f.sequence.text g.sequence in
-    let others : a.control ∷ a.rest ≡ b.control ∷ b.rest = sym (others-sequence bytes behind f.body a.control a.rest f.sequence.text f.sequence) ∙ others-sequence bytes behind g.body b.control b.rest f.sequence.text g.sequence in
+    let after = f.body ++ a.control ∷ a.rest in
+    let bodies : f.body ≡ g.body = sym (body-sequence bytes after f.body a.control a.rest f.sequence.text f.sequence) ∙ body-sequence bytes after g.body b.control b.rest f.sequence.text g.sequence in
+    let remaining : a.control ∷ a.rest ≡ b.control ∷ b.rest = sym (remaining-sequence bytes after f.body a.control a.rest f.sequence.text f.sequence) ∙ remaining-sequence bytes after g.body b.control b.rest f.sequence.text g.sequence in
     let params : a.params ≡ b.params = f.kept ∙ ap (λ (x : List ℕ). take most_tokens (tokens_of x)) bodies ∙ sym g.kept in
     let truncated : a.truncated ≡ b.truncated = f.dropped ∙ ap (λ (x : List ℕ). ltb most_tokens (length (tokens_of x))) bodies ∙ sym g.dropped in
-    let control : a.control ≡ b.control = cc others in
-    let rest : a.rest ≡ b.rest = cc others in
+    let control : a.control ≡ b.control = cc remaining in
+    let rest : a.rest ≡ b.rest = cc remaining in
     same_front a b params truncated control rest

@@ -84,6 +84,6 @@ texts_are_fronts-lem ts truncated final h few low high = by (csi_reading ts trun
 
     by : (actions : List Action) → Each ts truncated final actions → AllByRecursion IsFront actions
     by [] e = tt
-    by (a ∷ others) (inl e) = (writable_texts_are_fronts-lem a e.0, by others e.1)
-    by (a ∷ others) (inr r) =
+    by (a ∷ remaining) (inl e) = (writable_texts_are_fronts-lem a e.0, by remaining e.1)
+    by (a ∷ remaining) (inr r) =
         (subst IsFront (sym (r.1 ∙ ap (λ us. unspecified us truncated final) r.3.suffix.1)) (rest r.3.suffix.0), subst (AllByRecursion IsFront) (sym r.2) tt)

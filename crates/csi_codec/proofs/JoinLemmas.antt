@@ -22,7 +22,7 @@ use Rattle.csi_codec.proofs.ShapeLemmas.{first_form-each, numbered_shape-by}
 use Rattle.csi_codec.proofs.SgrLemmas.{stands-length, sgr_shape_takes, Takes}
 use Rattle.csi_codec.proofs.PieceLemmas.{semicolon_count-le}
 
--- ---- Shapes at the front of a longer list
+-- ---- Shapes at the start of a longer list
 
 slice_get-append : (ts x : List CsiParam) (i : ℕ) → i < length ts → slice_get (ts ++ x) i ≡ slice_get ts i
 slice_get-append [] x i h = absurd (omega arith)
@@ -46,7 +46,7 @@ no_semicolon (byte_part b ∷ parts) = not (eqb 59 b) && no_semicolon parts
 no_semicolon (number_part n ∷ parts) = no_semicolon parts
 no_semicolon (any_number ∷ parts) = no_semicolon parts
 
--- so it stands in front of a `;` only where it stands without
+-- so it stands before a `;` only where it stands without
 stands_open : (parts : List Part) (ts x : List CsiParam) → no_semicolon parts ≡ true → stands parts (ts ++ P 59 ∷ x) ≡ stands parts ts
 stands_open [] ts x n = refl
 stands_open (byte_part b ∷ parts) [] x n = rw (not-true (eqb 59 b) (and_parts (not (eqb 59 b)) (no_semicolon parts) n).0) refl
@@ -102,7 +102,7 @@ second_conflict ps qs (t ∷ u ∷ ts) x h =
     let r : (is_part (number_part 5) u && stands ps ts) ≡ true = (and_parts (is_part (byte_part 59) t) (is_part (number_part 5) u && stands ps ts) h).1 in
     and_right (is_part (byte_part 59) t) (is_part (number_part 2) u && stands qs (ts ++ x)) (rw (code_conflict u (and_parts (is_part (number_part 5) u) (stands ps ts) r).0) refl)
 
--- what a list of forms finds is found again where the list goes on behind a `;`
+-- what a list of forms finds is found again where the list goes on after a `;`
 record IsStable (forms : List Form) : Type 0 where
   again : (ts x : List CsiParam) → is_some (first_form forms ts) ≡ true → first_form forms (ts ++ P 59 ∷ x) ≡ first_form forms ts
 
@@ -184,7 +184,7 @@ numbered_shape-stable z ts x =
     (λ p h. ap (λ y. numbered_shape y (ts ++ P 59 ∷ x)) p ∙ colour_shape-stable value.UnderlineColor ts x h)
     (λ p h. ap (λ y. numbered_shape y (ts ++ P 59 ∷ x)) p ∙ underline_shape-stable ts x) (λ p q r s h. rw (p, q, r, s) refl)
 
--- what stands at the front stands there where the list goes on behind a `;`
+-- what stands at the start stands there where the list goes on after a `;`
 pub sgr_shape-stable : (ts x : List CsiParam) → is_some (sgr_shape ts) ≡ true → sgr_shape (ts ++ P 59 ∷ x) ≡ sgr_shape ts
 unfolding sgr_shape
 sgr_shape-stable [] x h = cc
@@ -201,16 +201,16 @@ last-tail : (t : CsiParam) (ts : List CsiParam) → 0 < length ts → last_semic
 last-tail t [] h e = absurd (omega arith)
 last-tail t (u ∷ ts) h e =
     let here : length (u ∷ ts) - 1 ≡ length ts = omega arith in
-    let behind : length (t ∷ u ∷ ts) - 1 ≡ suc (length ts) = omega arith in
-    ap (semicolon_at (u ∷ ts)) here ∙ sym (ap (semicolon_at (t ∷ u ∷ ts)) behind) ∙ e
+    let after : length (t ∷ u ∷ ts) - 1 ≡ suc (length ts) = omega arith in
+    ap (semicolon_at (u ∷ ts)) here ∙ sym (ap (semicolon_at (t ∷ u ∷ ts)) after) ∙ e
 
 abbrev all_known : List Action → Bool
 all_known actions = list_all is_known actions
 
 -- a list's actions are used up with its tokens
-from-behind : (group : List CsiParam → Option (Action × ℕ)) (unread : List CsiParam → Action) (ts b : List CsiParam) → groups_from group unread (suc (length ts)) (ts ++ P 59 ∷ b) ≡ groups_from group unread 0 b
-from-behind group unread [] b = refl
-from-behind group unread (t ∷ ts) b = from-behind group unread ts b
+from-after : (group : List CsiParam → Option (Action × ℕ)) (unread : List CsiParam → Action) (ts b : List CsiParam) → groups_from group unread (suc (length ts)) (ts ++ P 59 ∷ b) ≡ groups_from group unread 0 b
+from-after group unread [] b = refl
+from-after group unread (t ∷ ts) b = from-after group unread ts b
 
 from-all : (group : List CsiParam → Option (Action × ℕ)) (unread : List CsiParam → Action) (ts : List CsiParam) → groups_from group unread (length ts) ts ≡ []
 from-all group unread [] = refl
@@ -225,9 +225,9 @@ shorter ts n h e = elim (eqb_tells (n + 1) (length ts)) [
   | inr p ↦ let s : semicolon_count (slice_get ts n) ≤ 1 = semicolon_count-le (slice_get ts n) in omega (arith, p.1)
 ]
 
-slice_get-behind : (ts b : List CsiParam) (t : CsiParam) → slice_get (ts ++ t ∷ b) (length ts) ≡ Some t
-slice_get-behind [] b t = refl
-slice_get-behind (u ∷ ts) b t = slice_get-behind ts b t
+slice_get-after : (ts b : List CsiParam) (t : CsiParam) → slice_get (ts ++ t ∷ b) (length ts) ≡ Some t
+slice_get-after [] b t = refl
+slice_get-after (u ∷ ts) b t = slice_get-after ts b t
 
 abbrev as_actions : Option (Sgr × ℕ) → Option (Action × ℕ)
 as_actions found = option_map (λ f. (sgr f.0, f.1)) found
@@ -266,19 +266,19 @@ module _ (truncated : Bool) where
       let short : f.1 + semicolon_at (t ∷ ts) f.1 < length (t ∷ ts) = shorter (t ∷ ts) f.1 h e in
       let positive : 0 < length ts = omega (arith, some, short) in
       ap (λ s. sgr f.0 ∷ from (f.1 + s - 1) (ts ++ P 59 ∷ b)) same
-      ∙ ap (λ others. sgr f.0 ∷ others) (ih (f.1 + semicolon_at (t ∷ ts) f.1 - 1) (omega arith) (last-tail t ts positive e) known)
+      ∙ ap (λ remaining. sgr f.0 ∷ remaining) (ih (f.1 + semicolon_at (t ∷ ts) f.1 - 1) (omega arith) (last-tail t ts positive e) known)
 
   -- a shape that ends with the list
   ends_with : (t : CsiParam) (ts b : List CsiParam) (f : Sgr × ℕ) → f.1 ≡ suc (length ts)
       → step (Some f) ((t ∷ ts) ++ P 59 ∷ b) (ts ++ P 59 ∷ b) ≡ step (Some f) (t ∷ ts) ts ++ from 0 b
   ends_with t ts b f e =
-      let there : semicolon_at ((t ∷ ts) ++ P 59 ∷ b) f.1 ≡ 1 = ap (semicolon_at ((t ∷ ts) ++ P 59 ∷ b)) e ∙ ap semicolon_count (slice_get-behind ts b (P 59)) in
+      let there : semicolon_at ((t ∷ ts) ++ P 59 ∷ b) f.1 ≡ 1 = ap (semicolon_at ((t ∷ ts) ++ P 59 ∷ b)) e ∙ ap semicolon_count (slice_get-after ts b (P 59)) in
       let here : semicolon_at (t ∷ ts) f.1 ≡ 0 = ap semicolon_count (slice_get_past (t ∷ ts) f.1 (omega arith)) in
       let long : f.1 + semicolon_at ((t ∷ ts) ++ P 59 ∷ b) f.1 - 1 ≡ suc (length ts) = omega arith in
       let whole : f.1 + semicolon_at (t ∷ ts) f.1 - 1 ≡ length ts = omega arith in
       ap (λ k. sgr f.0 ∷ from k (ts ++ P 59 ∷ b)) long
-      ∙ ap (λ others. sgr f.0 ∷ others) (from-behind rendition_group rest_action ts b)
-      ∙ sym (ap (λ others. sgr f.0 ∷ others ++ from 0 b) (ap (λ k. from k ts) whole ∙ from-all rendition_group rest_action ts))
+      ∙ ap (λ remaining. sgr f.0 ∷ remaining) (from-after rendition_group rest_action ts b)
+      ∙ sym (ap (λ remaining. sgr f.0 ∷ remaining ++ from 0 b) (ap (λ k. from k ts) whole ∙ from-all rendition_group rest_action ts))
 
   join-step : (t : CsiParam) (ts b : List CsiParam) (found : Option (Sgr × ℕ)) → sgr_shape (t ∷ ts) ≡ found → last_semicolon (t ∷ ts) ≡ 0 → Joins ts b
       → all_known (step found (t ∷ ts) ts) ≡ true

@@ -13,13 +13,13 @@ mod TableBack
 mod SgrForms
 mod SgrBack
 mod ModeBack
-mod RoundTrip
+pub mod RoundTrip
 mod TextLemmas
 mod Written
 mod TextTrip
 pub mod TokenLemmas
 mod FrontLemmas
-mod FrontTrip
+pub mod FrontTrip
 mod SizeLemmas
 mod LongestLemmas
 mod ColourLemmas

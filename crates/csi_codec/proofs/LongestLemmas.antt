@@ -36,10 +36,10 @@ longer-both : (a b : List (List Part)) (ts : List CsiParam) (n : ℕ) → NoneIs
 longer-both [] b ts n h k = k
 longer-both (shape ∷ a) b ts n h k = (h.0, longer-both a b ts n h.1 k)
 
-one-front : (a b : List (List Part)) (ts : List CsiParam) (n : ℕ) → OneStands a ts n → OneStands (a ++ b) ts n
-one-front [] b ts n h = absurd h
-one-front (shape ∷ a) b ts n (inl h) = inl h
-one-front (shape ∷ a) b ts n (inr h) = inr (one-front a b ts n h)
+one-prefix : (a b : List (List Part)) (ts : List CsiParam) (n : ℕ) → OneStands a ts n → OneStands (a ++ b) ts n
+one-prefix [] b ts n h = absurd h
+one-prefix (shape ∷ a) b ts n (inl h) = inl h
+one-prefix (shape ∷ a) b ts n (inr h) = inr (one-prefix a b ts n h)
 
 one-back : (a b : List (List Part)) (ts : List CsiParam) (n : ℕ) → OneStands b ts n → OneStands (a ++ b) ts n
 one-back [] b ts n h = h
@@ -47,12 +47,12 @@ one-back (shape ∷ a) b ts n h = inr (one-back a b ts n h)
 
 -- the longest stands in one of two lists, and nothing in the other
 in_front : (a b : List (List Part)) (ts : List CsiParam) (n : ℕ) → Longest a ts n → NoneStands b ts → Longest (a ++ b) ts n
-in_front a b ts n h k = (one-front a b ts n h.0, longer-both a b ts n h.1 (no_longer b ts n k))
+in_front a b ts n h k = (one-prefix a b ts n h.0, longer-both a b ts n h.1 (no_longer b ts n k))
 
 in_back : (a b : List (List Part)) (ts : List CsiParam) (n : ℕ) → NoneStands a ts → Longest b ts n → Longest (a ++ b) ts n
 in_back a b ts n h k = (one-back a b ts n k.0, longer-both a b ts n (no_longer a ts n h) k.1)
 
--- shapes with one part more in front
+-- shapes with one part more before
 abbrev led : Part → List (List Part) → List (List Part)
 led part shapes = map (λ parts. part ∷ parts) shapes
 
@@ -133,8 +133,8 @@ all_below test first zero m h l u = absurd (omega arith)
 all_below test first (suc n) m h l u = by (eqb first m) refl (all_below test (first + 1) n m (and_parts (test first) (list_all test (counted (first + 1) n)) h).1)
   where
     by : (b : Bool) → eqb first m ≡ b → (first + 1 ≤ m → m < first + 1 + n → test m ≡ true) → test m ≡ true
-    by true e others = let same : first ≡ m = grind (arith, nat_tests) in subst (λ k. test k ≡ true) same (and_parts (test first) (list_all test (counted (first + 1) n)) h).0
-    by false e others = others (grind (arith, nat_tests)) (omega arith)
+    by true e remaining = let same : first ≡ m = grind (arith, nat_tests) in subst (λ k. test k ≡ true) same (and_parts (test first) (list_all test (counted (first + 1) n)) h).0
+    by false e remaining = remaining (grind (arith, nat_tests)) (omega arith)
 
 abbrev is_listed : ℕ → Bool
 is_listed n = not (is_some (single_code n)) || list_any (λ k. is_number k (pos n)) single_numbers
@@ -183,7 +183,7 @@ Decided forms ts (Some f) = Longest (shapes_of forms) ts f.1
 first_decides : (forms : List Form) (ts : List CsiParam) → longest_first forms ≡ true → Decided forms ts (first_form forms ts)
 first_decides [] ts h = inl tt
 first_decides (form ∷ forms) ts h =
-    cond_both (stands form.0 ts) _ _ (Decided (form ∷ forms) ts) (λ p. here p (form.1 ts) refl) (λ p. behind p (first_form forms ts) (first_decides forms ts order.1))
+    cond_both (stands form.0 ts) _ _ (Decided (form ∷ forms) ts) (λ p. here p (form.1 ts) refl) (λ p. after p (first_form forms ts) (first_decides forms ts order.1))
   where
     order : (list_all (λ other. leb (length other.0) (length form.0)) forms ≡ true) × (longest_first forms ≡ true)
     order = and_parts (list_all (λ other. leb (length other.0) (length form.0)) forms) (longest_first forms) h
@@ -198,10 +198,10 @@ first_decides (form ∷ forms) ts h =
     past : stands form.0 ts ≡ false → (n : ℕ) → Longest (shapes_of forms) ts n → Longest (shapes_of (form ∷ forms)) ts n
     past p n l = (inr l.0, (λ s. absurd (false≢true (sym p ∙ s)), l.1))
 
-    behind : stands form.0 ts ≡ false → (found : Option (ColorSpec × ℕ)) → Decided forms ts found → Decided (form ∷ forms) ts found
-    behind p None (inl none) = inl (p, none)
-    behind p None (inr r) = inr (r.0, record { names_none = inr r.1.names_none; longest = past p r.0 r.1.longest })
-    behind p (Some f) l = past p f.1 l
+    after : stands form.0 ts ≡ false → (found : Option (ColorSpec × ℕ)) → Decided forms ts found → Decided (form ∷ forms) ts found
+    after p None (inl none) = inl (p, none)
+    after p None (inr r) = inr (r.0, record { names_none = inr r.1.names_none; longest = past p r.0 r.1.longest })
+    after p (Some f) l = past p f.1 l
 
 -- what is chosen is the longest; where nothing is, nothing stands, or the longest names no colour
 abbrev Decides : List CsiParam → Option (Sgr × ℕ) → Type 0
@@ -245,7 +245,7 @@ module _ (z : ℤ) (ts : List CsiParam) where
   no_colours p q r = none-both (colour_shapes 38) (colour_shapes 48 ++ colour_shapes 58) whole (no_colour 38 p) (none-both (colour_shapes 48) (colour_shapes 58) whole (no_colour 48 q) (no_colour 58 r))
 
   nothing : NoneStands (ones single_numbers) whole → NoneStands underline_shapes whole → NoneStands all_colours whole → NoneStands sgr_shapes whole
-  nothing lone lines colours = (refl, none-both (ones single_numbers) (underline_shapes ++ all_colours) whole lone (none-both underline_shapes all_colours whole lines colours))
+  nothing single lines colours = (refl, none-both (ones single_numbers) (underline_shapes ++ all_colours) whole single (none-both underline_shapes all_colours whole lines colours))
 
   numbered : (n : ℕ) → Longest all_numbered whole n → Longest sgr_shapes whole n
   numbered n l = (inr l.0, (λ s. cc, l.1))
@@ -289,11 +289,11 @@ module _ (z : ℤ) (ts : List CsiParam) where
       by : (found : Option (ColorSpec × ℕ)) → Decided colour_forms ts found → Decides whole (option_map (λ form. (set_to t form.0, form.1 + 1)) found)
       by None (inl none) = inl (nothing alone lines (colour_none t p (led_nothing (number_part (number_of t)) (Integer z) ts (shapes_of colour_forms) none)))
       by None (inr r) =
-          let l = longest r.0 r.1.longest in inr (record { behind = r.0; longest = record { one = l.0; none_longer = l.1 }; names_none = r.1.names_none })
+          let l = longest r.0 r.1.longest in inr (record { after = r.0; longest = record { one = l.0; none_longer = l.1 }; names_none = r.1.names_none })
       by (Some f) l = longest f.1 l
 
-  lone : is_number 38 z ≡ false → is_number 48 z ≡ false → is_number 58 z ≡ false → is_number 4 z ≡ false → Decides whole (taking 1 (plain_code z))
-  lone p q r s = by (plain_code z) refl
+  one_code : is_number 38 z ≡ false → is_number 48 z ≡ false → is_number 58 z ≡ false → is_number 4 z ≡ false → Decides whole (taking 1 (plain_code z))
+  one_code p q r s = by (plain_code z) refl
     where
       by : (found : Option Sgr) → plain_code z ≡ found → Decides whole (taking 1 found)
       by None e = inl (nothing (no_alone e) (no_line s) (no_colours p q r))
@@ -315,7 +315,7 @@ some_kind w u e = by (is_number 0 w) (is_number 1 w) (is_number 2 w) (is_number 
     by false false false false false true q = refl
     by false false false false false false q = cc
 
--- 4 alone, where no kind stands behind it
+-- 4 alone, where no kind follows it
 single : (ts : List CsiParam) → NoneStands (led colon (ones kinds)) ts → Longest sgr_shapes (Integer (pos 4) ∷ ts) 1
 single ts none =
     let lines : NoneStands underline_shapes (Integer (pos 4) ∷ ts) = led_nothing (number_part 4) (Integer (pos 4)) ts (led colon (ones kinds)) none in
@@ -353,7 +353,7 @@ underlined (P b ∷ Integer w ∷ ts) =
 by_number : (z : ℤ) (ts : List CsiParam) → Decides (Integer z ∷ ts) (numbered_shape z ts)
 by_number z ts =
     numbered_shape-by (Decides (Integer z ∷ ts)) z ts (coloured z ts foreground) (coloured z ts background) (coloured z ts underline_colour)
-    (λ p. subst (λ y. Decides (Integer y ∷ ts) (underline_shape ts)) (sym p) (underlined ts)) (lone z ts)
+    (λ p. subst (λ y. Decides (Integer y ∷ ts) (underline_shape ts)) (sym p) (underlined ts)) (one_code z ts)
 
 shape_decides : (ts : List CsiParam) → Decides ts (sgr_shape ts)
 unfolding sgr_shape

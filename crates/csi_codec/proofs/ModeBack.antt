@@ -98,11 +98,11 @@ module _ (truncated : Bool) where
 
 -- ---- Under h and l a number that names no private mode names none of the standard
 
-steps_some : (n : ℕ) (a b : Bool) (others : Option Mode) → (a || b) ≡ true
-    → cond a (Some (does.SetDecPrivateMode (dec_mode_of n))) (cond b (Some (does.ResetDecPrivateMode (dec_mode_of n))) others) ≡ None → leb n 65535 ≡ false
-steps_some n true b others h e = cc
-steps_some n false true others h e = cc
-steps_some n false false others h e = cc
+steps_some : (n : ℕ) (a b : Bool) (remaining : Option Mode) → (a || b) ≡ true
+    → cond a (Some (does.SetDecPrivateMode (dec_mode_of n))) (cond b (Some (does.ResetDecPrivateMode (dec_mode_of n))) remaining) ≡ None → leb n 65535 ≡ false
+steps_some n true b remaining h e = cc
+steps_some n false true remaining h e = cc
+steps_some n false false remaining h e = cc
 
 neither_within : (final n : ℕ) (b : Bool) → leb n 65535 ≡ b → (eqb final 104 || eqb final 108) ≡ true
     → option_and_then (λ k. private_step final (dec_mode_of k)) (cond b (Some n) None) ≡ None

@@ -93,6 +93,6 @@ unfolding groups
 groups_none k truncated final [] h = refl
 groups_none k truncated final (t ∷ ts) h = absurd (omega arith)
 
--- and so has what stands behind the end of a list
+-- and so has what follows the end of a list
 pub groups_ended : (k : Kind) (truncated : Bool) (final : ℕ) (ts : List CsiParam) (n : ℕ) → length ts ≤ n → groups k truncated final (drop n ts) ≡ []
 groups_ended k truncated final ts n h = groups_none k truncated final (drop n ts) (omega (arith, length-drop n ts))

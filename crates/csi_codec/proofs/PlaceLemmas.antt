@@ -1,4 +1,4 @@
--- Steps from place to place of a list.
+-- Steps from position to place of a list.
 use Rattle.std.proofs.Common.{◌≡◌, ◌≢◌, ℕ, zero, suc, ◌+◌, ◌<◌, ◌≤◌, max, eqb, nat_lt, ◌||◌, Bool, true, false, cond, List, [], ◌∷◌, length, length-drop, drop, drop-drop, Option, Some, None, Result, option_map, zero-add, arith, refl, sym, ap, ◌∙◌, subst}
 use Rattle.std.proofs.lemmas.Bool.{cond_both}
 use Rattle.std.proofs.lemmas.Bool.Decides.{nat_tests}
@@ -35,7 +35,7 @@ reading_by truncated final (t ∷ ts) b h e = ap (λ v. cond v (groups sgr_group
 no_group : (ts : List CsiParam) → sgr_group ts ≡ None → rendition_group ts ≡ None
 no_group ts e = ap (λ found. option_map (λ f. (sgr f.0, f.1)) found) e
 
--- ---- The end, and what is behind some tokens
+-- ---- The end, and what follows some tokens
 
 not_none : (n : ℕ) → 0 < n → eqb n 0 ≡ false
 not_none n h = grind (arith, nat_tests)
@@ -47,7 +47,7 @@ pub after_some : (n : ℕ) (ts : List CsiParam) (truncated : Bool) (final : ℕ)
 unfolding actions_after
 after_some n ts truncated final h = rw (not_none n h) refl
 
--- the group behind some tokens is the first action there
+-- the group after some tokens is the first action there
 group_next : (at n : ℕ) (ts : List CsiParam) (truncated : Bool) (final : ℕ) (a : Action) → group_of (list_kind final ts) final (drop at ts) ≡ Some (a, n)
     → groups (list_kind final ts) truncated final (drop at ts) ≡ a ∷ actions_after (at + n) ts truncated final
 group_next at n ts truncated final a e =
@@ -65,7 +65,7 @@ reset_first zero [] truncated h e = refl
 reset_first (suc read) [] truncated h e = absurd (omega arith)
 reset_first read (t ∷ ts) truncated h e = absurd (omega arith)
 
--- the first, with only tokens of SGR behind it
+-- the first, with only tokens of SGR after it
 pub first_next : (read n : ℕ) (ts us : List CsiParam) (v : Sgr) (truncated : Bool) → read ≤ 0 → 0 < length ts → us ≡ drop read ts → sgr_group us ≡ Some (v, n)
     → all_sgr_tokens (drop (read + n) ts) ≡ true → actions_after read ts truncated 109 ≡ sgr v ∷ actions_after (read + n) ts truncated 109
 unfolding actions_after csi_reading
@@ -81,7 +81,7 @@ pub further_next : (read n : ℕ) (ts us : List CsiParam) (v : Sgr) (truncated :
 further_next read n ts us v truncated h at e =
     after_some read ts truncated 109 h ∙ group_next read n ts truncated 109 (sgr v) (as_group (drop read ts) v n (sym (ap sgr_group at) ∙ e))
 
--- where none stands, or another token behind the first one, the rest is the last action
+-- where none stands, or another token after the first one, the rest is the last action
 pub none_next : (read : ℕ) (ts us : List CsiParam) (truncated : Bool) → read < length ts → us ≡ drop read ts → sgr_group us ≡ None
     → actions_after read ts truncated 109 ≡ unspecified (drop read ts) truncated 109 ∷ []
 unfolding actions_after csi_reading
@@ -107,16 +107,16 @@ first_lost zero n ts us v truncated none h at e tokens =
 pub mode_next : (read at n : ℕ) (k : Kind) (ts us whole : List CsiParam) (truncated : Bool) (final : ℕ) (a : Action) → us ≡ drop at ts → list_kind final ts ≡ k
     → group_of k final us ≡ Some (a, n) → actions_after read ts truncated final ≡ modes_or k truncated final (drop at ts) whole
     → actions_after read ts truncated final ≡ a ∷ actions_after (at + n) ts truncated final
-mode_next read at n k ts us whole truncated final a behind kind e modes =
-    let found : group_of k final (drop at ts) ≡ Some (a, n) = sym (ap (group_of k final) behind) ∙ e in
+mode_next read at n k ts us whole truncated final a after kind e modes =
+    let found : group_of k final (drop at ts) ≡ Some (a, n) = sym (ap (group_of k final) after) ∙ e in
     modes ∙ ap (λ found. cond (is_some found) (groups k truncated final (drop at ts)) (unspecified whole truncated final ∷ [])) found
     ∙ ap (λ k. groups k truncated final (drop at ts)) (sym kind)
     ∙ group_next at n ts truncated final a (ap (λ k. group_of k final (drop at ts)) kind ∙ found)
 
 pub no_mode : (at : ℕ) (k : Kind) (ts us whole : List CsiParam) (truncated : Bool) (final : ℕ) → us ≡ drop at ts → group_of k final us ≡ None
     → modes_or k truncated final (drop at ts) whole ≡ unspecified whole truncated final ∷ []
-no_mode at k ts us whole truncated final behind e =
-    ap (λ found. cond (is_some found) (groups k truncated final (drop at ts)) (unspecified whole truncated final ∷ [])) (sym (ap (group_of k final) behind) ∙ e)
+no_mode at k ts us whole truncated final after e =
+    ap (λ found. cond (is_some found) (groups k truncated final (drop at ts)) (unspecified whole truncated final ∷ [])) (sym (ap (group_of k final) after) ∙ e)
 
 -- groups that are not the first ones are as those of a whole list
 further_modes : (k : Kind) (truncated : Bool) (final : ℕ) (ts : List CsiParam) → 0 < length ts → groups k truncated final ts ≡ modes_or k truncated final ts ts
@@ -145,7 +145,7 @@ private_modes (suc read) at ts truncated final m q h one =
     ∙ further_modes private_mode_groups truncated final (drop (suc read) ts) (omega (arith, length-drop (suc read) ts))
     ∙ ap (λ n. modes_or private_mode_groups truncated final (drop n ts) (drop (suc read) ts)) same
 
--- the modes of any other list: under h and l, or behind the first action
+-- the modes of any other list: under h and l, or after the first action
 pub standard_modes : (read : ℕ) (ts : List CsiParam) (truncated : Bool) (final : ℕ) → ¬ (final ≡ 109) → begins_with_question ts ≡ false → read < max (length ts) 1
     → (nat_lt 0 read || (final == 104 || final == 108)) ≡ true
     → actions_after read ts truncated final ≡ modes_or standard_mode_groups truncated final (drop read ts) (drop read ts)
@@ -157,7 +157,7 @@ standard_modes (suc read) ts truncated final m q h e =
     after_some (suc read) ts truncated final (omega arith) ∙ ap (λ k. groups k truncated final (drop (suc read) ts)) kind
     ∙ further_modes standard_mode_groups truncated final (drop (suc read) ts) (omega (arith, length-drop (suc read) ts))
 
--- ---- A lone action
+-- ---- A single action
 
 pub single_first : (read : ℕ) (ts : List CsiParam) (truncated : Bool) (final : ℕ) → ¬ (final ≡ 109) → begins_with_question ts ≡ false
     → (nat_lt 0 read || (final == 104 || final == 108)) ≡ false → actions_after read ts truncated final ≡ single_or truncated final ts
@@ -171,7 +171,7 @@ single_first (suc read) ts truncated final m q e = let some = some_read (suc rea
 pub none_after : (n : ℕ) (ts : List CsiParam) → 0 < n → length ts ≤ n → (truncated : Bool) (final : ℕ) → actions_after n ts truncated final ≡ []
 none_after n ts some h truncated final = after_some n ts truncated final some ∙ groups_ended (list_kind final ts) truncated final ts n h
 
--- the last action of a list, behind which its end is
+-- the last action of a list, after which its end is
 pub last_step : (n : ℕ) (ts : List CsiParam) (truncated : Bool) (final : ℕ) (before known : List Action) (action : Option (Result CSI AllocError)) → n ≡ max (length ts) 1
     → before ≡ known → HandsOut known action [] → HandsOut before action (actions_after n ts truncated final)
 last_step n ts truncated final before known action e same h =

@@ -233,7 +233,7 @@ shapes-writable = record {
   form = forms-valid;
   colour = λ t z ts f h. set_to-writable t f.0 h;
   line = λ z y ts u. tt;
-  lone = λ z ts v e. subst WritableIfSome e (single-writable (number_within 255 z));
+  single = λ z ts v e. subst WritableIfSome e (single-writable (number_within 255 z));
   reset = λ ts. tt;
 }
 

@@ -37,9 +37,9 @@ pub record IsRest (whole : List CsiParam) (truncated : Bool) (final : ℕ) (rest
 -- each action can be written, but that the last one may be what is left of the list
 abbrev pub Each : List CsiParam → Bool → ℕ → List Action → Type 0
 Each whole truncated final [] = Unit {0}
-Each whole truncated final (a ∷ others) =
-    (IsWritable a × Each whole truncated final others)
-    ⊎ ((rest : List CsiParam) × (a ≡ unspecified rest truncated final) × (others ≡ []) × IsRest whole truncated final rest)
+Each whole truncated final (a ∷ remaining) =
+    (IsWritable a × Each whole truncated final remaining)
+    ⊎ ((rest : List CsiParam) × (a ≡ unspecified rest truncated final) × (remaining ≡ []) × IsRest whole truncated final rest)
 
 suffix_tail : (whole : List CsiParam) (t : CsiParam) (ts : List CsiParam) → IsSuffix (t ∷ ts) whole → IsSuffix ts whole
 suffix_tail whole t ts s = (s.0 + 1, ap (drop 1) s.1 ∙ drop-drop 1 s.0 whole)
@@ -86,11 +86,11 @@ module _ (truncated : Bool) where
     abbrev from : ℕ → List CsiParam → List Action
     from = groups_from (group_of k final) (λ rest. unspecified rest truncated final)
 
-    from_found : (t : CsiParam) (ts : List CsiParam) (others : ℕ → List Action) (found : Option (Action × ℕ)) → group_of k final (t ∷ ts) ≡ found → Keeps (t ∷ ts) → IsSuffix (t ∷ ts) whole
-        → ((j : ℕ) → Each whole truncated final (others j))
-        → Each whole truncated final (option_map_or (λ f. f.0 ∷ others (f.1 - 1)) found (unspecified (t ∷ ts) truncated final ∷ []))
-    from_found t ts others None e h s each = inr (t ∷ ts, refl, refl, record { suffix = s; back = unread t ts h e })
-    from_found t ts others (Some f) e h s each = inl (group-writable k final (t ∷ ts) f.0 f.1 e, each (f.1 - 1))
+    from_found : (t : CsiParam) (ts : List CsiParam) (remaining : ℕ → List Action) (found : Option (Action × ℕ)) → group_of k final (t ∷ ts) ≡ found → Keeps (t ∷ ts) → IsSuffix (t ∷ ts) whole
+        → ((j : ℕ) → Each whole truncated final (remaining j))
+        → Each whole truncated final (option_map_or (λ f. f.0 ∷ remaining (f.1 - 1)) found (unspecified (t ∷ ts) truncated final ∷ []))
+    from_found t ts remaining None e h s each = inr (t ∷ ts, refl, refl, record { suffix = s; back = unread t ts h e })
+    from_found t ts remaining (Some f) e h s each = inl (group-writable k final (t ∷ ts) f.0 f.1 e, each (f.1 - 1))
 
     from-each : (j : ℕ) (ts : List CsiParam) → Keeps ts → IsSuffix ts whole → Each whole truncated final (from j ts)
     from-each zero [] h s = tt
@@ -186,8 +186,8 @@ module _ (truncated : Bool) where
   standing-each k final whole ts (Some f) m o h s e x =
       let takes : (0 < f.1) × (f.1 ≤ length ts) = group_of_takes k final ts f.0 f.1 e in
       let shorter : length (drop f.1 ts) < length whole = omega (arith, length-drop f.1 ts, takes.0, takes.1, ap length s.1, length-drop s.0 whole) in
-      let behind : IsSuffix (drop f.1 ts) whole = (s.0 + f.1, ap (drop f.1) s.1 ∙ drop-drop f.1 s.0 whole) in
-      let both : Each whole truncated final (f.0 ∷ groups k truncated final (drop f.1 ts)) = inl (group-writable k final ts f.0 f.1 e, modes-each k final whole (drop f.1 ts) m o h shorter behind) in
+      let after : IsSuffix (drop f.1 ts) whole = (s.0 + f.1, ap (drop f.1) s.1 ∙ drop-drop f.1 s.0 whole) in
+      let both : Each whole truncated final (f.0 ∷ groups k truncated final (drop f.1 ts)) = inl (group-writable k final ts f.0 f.1 e, modes-each k final whole (drop f.1 ts) m o h shorter after) in
       subst (Each whole truncated final) (sym (groups_found k truncated final ts f.0 f.1 e)) both
 
   finals_of_private : (final : ℕ) (ts : List CsiParam) → is_some (group_of private_mode_groups final ts) ≡ true → ((eqb final 104 || eqb final 108) || (eqb final 115 || eqb final 114)) ≡ true
@@ -271,21 +271,21 @@ actions_read_back-lem ts truncated final = by (csi_reading ts truncated final) (
 
     by : (actions : List Action) → Each ts truncated final actions → AllByRecursion Back actions
     by [] h = tt
-    by (a ∷ others) (inl h) = (λ x. writable_actions_read_back-lem truncated a h.0, by others h.1)
-    by (a ∷ others) (inr r) =
+    by (a ∷ remaining) (inl h) = (λ x. writable_actions_read_back-lem truncated a h.0, by remaining h.1)
+    by (a ∷ remaining) (inr r) =
         (subst Back (sym r.1) r.3.back, subst (AllByRecursion Back) (sym r.2) tt)
 
 -- ---- The rest comes last
 
-known_keeps : (ts : List CsiParam) (truncated : Bool) (final : ℕ) (a : Action) (others : List Action) → IsWritable a → KeepsRests ts truncated final others → KeepsRests ts truncated final (a ∷ others)
-known_keeps ts truncated final (unspecified rest flag control) others w h = absurd w
-known_keeps ts truncated final (sgr v) others w h = h
-known_keeps ts truncated final _ others w h = h
+known_keeps : (ts : List CsiParam) (truncated : Bool) (final : ℕ) (a : Action) (remaining : List Action) → IsWritable a → KeepsRests ts truncated final remaining → KeepsRests ts truncated final (a ∷ remaining)
+known_keeps ts truncated final (unspecified rest flag control) remaining w h = absurd w
+known_keeps ts truncated final (sgr v) remaining w h = h
+known_keeps ts truncated final _ remaining w h = h
 
 pub csi_reading-keeps : (ts : List CsiParam) (truncated : Bool) (final : ℕ) → KeepsRests ts truncated final (csi_reading ts truncated final)
 csi_reading-keeps ts truncated final = by (csi_reading ts truncated final) (reading-each ts truncated final)
   where
     by : (actions : List Action) → Each ts truncated final actions → KeepsRests ts truncated final actions
     by [] h = tt
-    by (a ∷ others) (inl h) = known_keeps ts truncated final a others h.0 (by others h.1)
-    by (a ∷ others) (inr r) = subst (λ (x : Action). KeepsRests ts truncated final (x ∷ others)) (sym r.1) (r.3.suffix, refl, refl, r.2)
+    by (a ∷ remaining) (inl h) = known_keeps ts truncated final a remaining h.0 (by remaining h.1)
+    by (a ∷ remaining) (inr r) = subst (λ (x : Action). KeepsRests ts truncated final (x ∷ remaining)) (sym r.1) (r.3.suffix, refl, refl, r.2)

@@ -56,5 +56,5 @@ module _ (truncated : Bool) where
   pub sgr_back : (v : Sgr) → IsWritableSgr v → ReadsBack truncated (sgr v)
   unfolding sgr_spelling
   sgr_back v h =
-      let each : EachWritten Back = record { lone = single_back; line = λ n u s e. line_back n u e; palette = palette_back; opaque = opaque_back; alpha = alpha_back } in
+      let each : EachWritten Back = record { single = single_back; line = λ n u s e. line_back n u e; palette = palette_back; opaque = opaque_back; alpha = alpha_back } in
       sgr_tokens-each each v h

@@ -20,7 +20,7 @@ use Rattle.csi_codec.specs.Rendition.{colour, single_code, underline_numbered, n
 use Rattle.csi_codec.specs.Writable.{IsColour, IsWritableSgr}
 use Rattle.csi_codec.proofs.ShapeLemmas.{Target, foreground, background, underline_colour, set_to}
 
--- the number in front of a colour
+-- the number before a colour
 abbrev pub number_of : Target → ℕ
 number_of foreground = 38
 number_of background = 48
@@ -29,7 +29,7 @@ number_of underline_colour = 58
 -- Q holds of the tokens of each form and their value: a number that stands alone, an underline of a kind, and a colour by
 -- its index, without an alpha, and with one
 pub record EachWritten (Q : List CsiParam → Sgr → Type 0) : Type 0 where
-  pub lone : (n : ℕ) (v : Sgr) → n ≤ 255 → single_code n ≡ Some v → Q (number_tokens n) v
+  pub single : (n : ℕ) (v : Sgr) → n ≤ 255 → single_code n ≡ Some v → Q (number_tokens n) v
   pub line : (k : ℕ) (u : Underline) → k < 10 → underline_numbered (pos k) ≡ Some u → Q (number 4 ∷ P 58 ∷ number k ∷ []) (value.Underline u)
   pub palette : (t : Target) (n : ℕ) → n ≤ 255 → Q (palette_tokens (number_of t) n) (set_to t (color.PaletteIndex n))
   pub opaque : (t : Target) (r g b : ℕ) → r ≤ 255 → g ≤ 255 → b ≤ 255 → Q (opaque_tokens (number_of t) r g b) (set_to t (colour r g b 255))
@@ -48,7 +48,7 @@ below (suc k) R all (suc n) h = below k (λ m. R (suc m)) all.1 n (omega arith)
 not_below : (n k : ℕ) → ltb n k ≡ false → k ≤ n
 not_below n k p = elim (leb_tells (suc n) k) [ inl t ↦ absurd (false≢true (sym p ∙ t.0)) | inr t ↦ omega (arith, t.1) ]
 
--- the first sixteen colours of the palette have numbers of their own: 0 to 7 behind one number, 8 to 15 behind another
+-- the first sixteen colours of the palette have numbers of their own: 0 to 7 after one number, 8 to 15 after another
 record HasShort (t : Target) (low bright : ℕ) : Type 0 where
   first : (n : ℕ) → n < 8 → single_code (low + n) ≡ Some (set_to t (color.PaletteIndex n))
   second : (n : ℕ) → n < 8 → single_code (bright + (8 + n)) ≡ Some (set_to t (color.PaletteIndex (8 + n)))
@@ -85,22 +85,22 @@ module _ {Q : List CsiParam → Sgr → Type 0} (each : EachWritten Q) where
 
   short : (t : Target) (off low bright : ℕ) (c : ColorSpec) → HasShort t low bright → off ≤ 255 → single_code off ≡ Some (set_to t color.Default) → IsColour c
       → Q (short_colour_tokens (number_of t) off low bright c) (set_to t c)
-  short t off low bright color.Default s o e h = each.lone off (set_to t color.Default) o e
+  short t off low bright color.Default s o e h = each.single off (set_to t color.Default) o e
   short t off low bright (color.TrueColor c) s o e h = exact t c h
   short t off low bright (color.PaletteIndex n) s o e h =
       cond_both (ltb n 8) _ _ (λ ts. Q ts (set_to t (color.PaletteIndex n)))
-      (λ p. let small : n < 8 = leb-true (suc n) 8 p in each.lone (low + n) (set_to t (color.PaletteIndex n)) (omega (arith, s.few)) (s.first n small)) (λ p.
+      (λ p. let small : n < 8 = leb-true (suc n) 8 p in each.single (low + n) (set_to t (color.PaletteIndex n)) (omega (arith, s.few)) (s.first n small)) (λ p.
       cond_both (ltb n 16) _ _ (λ ts. Q ts (set_to t (color.PaletteIndex n)))
       (λ q.
       let above : 8 ≤ n = not_below n 8 p in
       let small : n < 16 = leb-true (suc n) 16 q in
       let whole : 8 + (n - 8) ≡ n = omega arith in
-      each.lone (bright + n) (set_to t (color.PaletteIndex n)) (omega (arith, s.few))
+      each.single (bright + n) (set_to t (color.PaletteIndex n)) (omega (arith, s.few))
       (subst (λ (k : ℕ). single_code (bright + k) ≡ Some (set_to t (color.PaletteIndex k))) whole (s.second (n - 8) (omega arith)))) (λ q. each.palette t n h))
 
   of_line : (c : ColorSpec) → IsColour c → Q (underline_colour_tokens c) (value.UnderlineColor c)
   unfolding single_code
-  of_line color.Default h = each.lone 59 (value.UnderlineColor color.Default) (omega arith) refl
+  of_line color.Default h = each.single 59 (value.UnderlineColor color.Default) (omega arith) refl
   of_line (color.PaletteIndex n) h = each.palette underline_colour n h
   of_line (color.TrueColor c) h = exact underline_colour c h
 
@@ -109,21 +109,21 @@ module _ {Q : List CsiParam → Sgr → Type 0} (each : EachWritten Q) where
   underlined underline.Curly = each.line 3 underline.Curly (omega arith) refl
   underlined underline.Dotted = each.line 4 underline.Dotted (omega arith) refl
   underlined underline.Dashed = each.line 5 underline.Dashed (omega arith) refl
-  underlined _ = each.lone _ _ (omega arith) refl
+  underlined _ = each.single _ _ (omega arith) refl
 
   pub sgr_tokens-each : (v : Sgr) → IsWritableSgr v → Q (sgr_tokens v) v
   unfolding single_code
   sgr_tokens-each (value.Underline u) h = underlined u
-  sgr_tokens-each (value.Font (font.Alternate k)) h = each.lone (10 + k) (value.Font (font.Alternate k)) (omega (arith, h.1)) (font_number k h.0 h.1)
+  sgr_tokens-each (value.Font (font.Alternate k)) h = each.single (10 + k) (value.Font (font.Alternate k)) (omega (arith, h.1)) (font_number k h.0 h.1)
   sgr_tokens-each (value.Foreground c) h = short foreground 39 30 82 c short_foreground (omega arith) refl h
   sgr_tokens-each (value.Background c) h = short background 49 40 92 c short_background (omega arith) refl h
   sgr_tokens-each (value.UnderlineColor c) h = of_line c h
-  sgr_tokens-each (value.Intensity intensity.Bold) h = each.lone _ _ (omega arith) refl
-  sgr_tokens-each (value.Blink blink.Slow) h = each.lone _ _ (omega arith) refl
-  sgr_tokens-each (value.Italic true) h = each.lone _ _ (omega arith) refl
-  sgr_tokens-each (value.Inverse true) h = each.lone _ _ (omega arith) refl
-  sgr_tokens-each (value.Invisible true) h = each.lone _ _ (omega arith) refl
-  sgr_tokens-each (value.StrikeThrough true) h = each.lone _ _ (omega arith) refl
-  sgr_tokens-each (value.Overline true) h = each.lone _ _ (omega arith) refl
-  sgr_tokens-each (value.VerticalAlign align.SuperScript) h = each.lone _ _ (omega arith) refl
-  sgr_tokens-each _ h = each.lone _ _ (omega arith) refl
+  sgr_tokens-each (value.Intensity intensity.Bold) h = each.single _ _ (omega arith) refl
+  sgr_tokens-each (value.Blink blink.Slow) h = each.single _ _ (omega arith) refl
+  sgr_tokens-each (value.Italic true) h = each.single _ _ (omega arith) refl
+  sgr_tokens-each (value.Inverse true) h = each.single _ _ (omega arith) refl
+  sgr_tokens-each (value.Invisible true) h = each.single _ _ (omega arith) refl
+  sgr_tokens-each (value.StrikeThrough true) h = each.single _ _ (omega arith) refl
+  sgr_tokens-each (value.Overline true) h = each.single _ _ (omega arith) refl
+  sgr_tokens-each (value.VerticalAlign align.SuperScript) h = each.single _ _ (omega arith) refl
+  sgr_tokens-each _ h = each.single _ _ (omega arith) refl

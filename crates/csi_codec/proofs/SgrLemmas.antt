@@ -9,7 +9,7 @@ use Rattle.csi_codec.proofs.ShapeLemmas.{EachForm, EachShape, sgr_shape-each}
 abbrev pub Takes : {A : Type 0} → ℕ → Option (A × ℕ) → Type 0
 Takes n found = IfSome found (λ f. (0 < f.1) × (f.1 ≤ n))
 
--- a shape is no longer than the list that it stands at the front of
+-- a shape is no longer than the list that it stands at the start of
 pub stands-length : (parts : List Part) (ts : List CsiParam) → stands parts ts ≡ true → length parts ≤ length ts
 stands-length [] ts h = omega arith
 stands-length (part ∷ parts) [] h = cc
@@ -29,7 +29,7 @@ shapes_take = record {
   form = forms_take colour_forms;
   colour = λ t z ts f h. (omega arith, omega (arith, h));
   line = λ z y ts u. (omega arith, omega arith);
-  lone = λ z ts v e. (omega arith, omega arith);
+  single = λ z ts v e. (omega arith, omega arith);
   reset = λ ts. (omega arith, omega arith);
 }
 

@@ -1,4 +1,4 @@
--- What a group of SGR takes are tokens of SGR, so whether a list has only such is told by what stands behind its first group.
+-- What a group of SGR takes are tokens of SGR, so whether a list has only such is told by what follows its first group.
 use Rattle.std.proofs.Common.{◌≡◌, ℕ, zero, suc, ◌+◌, ℤ, eqb, Bool, true, cond, ◌&&◌, ◌||◌, List, [], ◌∷◌, length, drop, Option, Some, None, IfSome, option_map, arith, refl, sym, ap, ◌∙◌, subst, inl, inr}
 use Rattle.std.proofs.lemmas.Bool.{cases_Bool, eqb-true, and_parts, or_left}
 use Rattle.csi_codec.specs.declared.parameters.CsiParam.{CsiParam}
@@ -26,11 +26,11 @@ part_is_token (byte_part b) (P c) s h = subst (λ k. is_sgr_token (P k) ≡ true
 part_is_token (number_part n) (P c) s h = cc
 part_is_token any_number (P c) s h = cc
 
--- whether all are tokens of SGR is told by those behind the first n
+-- whether all are tokens of SGR is told by those after the first n
 abbrev ToldAfter : List CsiParam → ℕ → Type 0
 ToldAfter ts n = all_sgr_tokens ts ≡ all_sgr_tokens (drop n ts)
 
--- by those behind a shape that stands
+-- by those after a shape that stands
 stands-sgr : (parts : List Part) (ts : List CsiParam) → all_sgr_parts parts ≡ true → stands parts ts ≡ true → ToldAfter ts (length parts)
 stands-sgr [] ts s h = refl
 stands-sgr (part ∷ parts) [] s h = cc
@@ -38,7 +38,7 @@ stands-sgr (part ∷ parts) (t ∷ ts) s h =
     ap (λ b. b && all_sgr_tokens ts) (part_is_token part t (and_parts (is_sgr_part part) (all_sgr_parts parts) s).0 (and_parts (is_part part t) (stands parts ts) h).0)
     ∙ stands-sgr parts ts (and_parts (is_sgr_part part) (all_sgr_parts parts) s).1 (and_parts (is_part part t) (stands parts ts) h).1
 
--- by those behind what was found
+-- by those after what was found
 abbrev Passes : {A : Type 0} → List CsiParam → Option (A × ℕ) → Type 0
 Passes ts found = IfSome found (λ f. ToldAfter ts f.1)
 
@@ -59,11 +59,11 @@ shapes_pass = record {
   form = forms_pass colour_forms refl;
   colour = λ t z ts f h. one_more z ts f.1 h;
   line = λ z y ts u. refl;
-  lone = λ z ts v e. refl;
+  single = λ z ts v e. refl;
   reset = λ ts. refl;
 }
 
--- and behind the `;` that a group takes too
+-- and after the `;` that a group takes too
 after_semicolon : (ts : List CsiParam) (n : ℕ) → all_sgr_tokens (drop n ts) ≡ all_sgr_tokens (drop (n + semicolon_at ts n) ts)
 after_semicolon [] zero = refl
 after_semicolon [] (suc n) = let e : suc n ≡ suc n + semicolon_at [] (suc n) = omega arith in ap (λ k. all_sgr_tokens (drop k [])) e

@@ -32,24 +32,24 @@ first_form-each R (form ∷ forms) each ts =
     cond_both (stands form.0 ts) (taking (length form.0) (form.1 ts)) (first_form forms ts) (λ found. IfSome found (R ts))
     (λ e. taking-each (R ts) (length form.0) (form.1 ts) (λ c q. each.0 ts c e q)) (λ e. first_form-each R forms each.1 ts)
 
--- ---- A number, and what stands behind it
+-- ---- A number, and what follows it
 
--- a colour stands behind 38, 48 and 58, an underline behind 4, and any other number is alone
+-- a colour follows 38, 48 and 58, an underline after 4, and any other number is alone
 pub numbered_shape-by : (Q : Option (Sgr × ℕ) → Type 0) (z : ℤ) (ts : List CsiParam)
     → (z ≡ pos 38 → Q (colour_shape value.Foreground ts)) → (z ≡ pos 48 → Q (colour_shape value.Background ts)) → (z ≡ pos 58 → Q (colour_shape value.UnderlineColor ts))
     → (z ≡ pos 4 → Q (underline_shape ts))
     → (is_number 38 z ≡ false → is_number 48 z ≡ false → is_number 58 z ≡ false → is_number 4 z ≡ false → Q (taking 1 (plain_code z)))
     → Q (numbered_shape z ts)
 unfolding numbered_shape
-numbered_shape-by Q z ts fore back line under lone =
+numbered_shape-by Q z ts fore back line under single =
     cond_both (is_number 38 z) _ _ Q (λ p. fore (number_is 38 z p)) (λ p.
     cond_both (is_number 48 z) _ _ Q (λ q. back (number_is 48 z q)) (λ q.
     cond_both (is_number 58 z) _ _ Q (λ r. line (number_is 58 z r)) (λ r.
-    cond_both (is_number 4 z) _ _ Q (λ s. under (number_is 4 z s)) (λ s. lone p q r s))))
+    cond_both (is_number 4 z) _ _ Q (λ s. under (number_is 4 z s)) (λ s. single p q r s))))
 
 -- ---- Every shape
 
--- what a colour is for: the text, what is behind it, or its underline
+-- what a colour is for: the text, what follows it, or its underline
 pub data Target : Type 0 where
   foreground : Target
   background : Target
@@ -65,7 +65,7 @@ pub record EachShape (R : List CsiParam → ColorSpec × ℕ → Type 0) (Q : Li
   pub form : EachForm R colour_forms
   pub colour : (t : Target) (z : ℤ) (ts : List CsiParam) (f : ColorSpec × ℕ) → R ts f → Q (Integer z ∷ ts) (set_to t f.0, f.1 + 1)
   pub line : (z y : ℤ) (ts : List CsiParam) (u : Underline) → Q (Integer z ∷ P 58 ∷ Integer y ∷ ts) (value.Underline u, 3)
-  pub lone : (z : ℤ) (ts : List CsiParam) (v : Sgr) → plain_code z ≡ Some v → Q (Integer z ∷ ts) (v, 1)
+  pub single : (z : ℤ) (ts : List CsiParam) (v : Sgr) → plain_code z ≡ Some v → Q (Integer z ∷ ts) (v, 1)
   pub reset : (ts : List CsiParam) → Q (P 59 ∷ ts) (value.Reset, 1)
 
 module _ {R : List CsiParam → ColorSpec × ℕ → Type 0} {Q : List CsiParam → Sgr × ℕ → Type 0} (each : EachShape R Q) where
@@ -77,10 +77,10 @@ module _ {R : List CsiParam → ColorSpec × ℕ → Type 0} {Q : List CsiParam 
   unfolding colour_form
   colour_shape-each t z ts = coloured-each t z ts (first_form colour_forms ts) (first_form-each R colour_forms each.form ts)
 
-  -- 4 alone is a lone number
+  -- 4 alone is a single number
   single-each : (z : ℤ) (ts : List CsiParam) → z ≡ pos 4 → Q (Integer z ∷ ts) (value.Underline underline.Single, 1)
   unfolding single_code
-  single-each z ts e = each.lone z ts (value.Underline underline.Single) (ap plain_code e)
+  single-each z ts e = each.single z ts (value.Underline underline.Single) (ap plain_code e)
 
   lined-each : (z y : ℤ) (ts : List CsiParam) (found : Option Underline) → z ≡ pos 4 → IfSome (underline_or_single found) (Q (Integer z ∷ P 58 ∷ Integer y ∷ ts))
   lined-each z y ts None e = single-each z (P 58 ∷ Integer y ∷ ts) e
@@ -100,7 +100,7 @@ module _ {R : List CsiParam → ColorSpec × ℕ → Type 0} {Q : List CsiParam 
   numbered_shape-each z ts =
       numbered_shape-by (λ found. IfSome found (Q (Integer z ∷ ts))) z ts
       (λ p. colour_shape-each foreground z ts) (λ p. colour_shape-each background z ts) (λ p. colour_shape-each underline_colour z ts)
-      (λ p. underline_shape-each z ts p) (λ p q r s. taking-each (Q (Integer z ∷ ts)) 1 (plain_code z) (λ v e. each.lone z ts v e))
+      (λ p. underline_shape-each z ts p) (λ p q r s. taking-each (Q (Integer z ∷ ts)) 1 (plain_code z) (λ v e. each.single z ts v e))
 
   pub sgr_shape-each : (ts : List CsiParam) → IfSome (sgr_shape ts) (Q ts)
   unfolding sgr_shape

@@ -183,7 +183,7 @@ target_few _ = omega arith
 
 forms_short : EachWritten (λ ts v. Short 21 ts)
 forms_short = record {
-  lone = λ n v h e. byte_short n h;
+  single = λ n v h e. byte_short n h;
   line = λ k u h e. wavy_short k h;
   palette = λ t n h. palette_short (number_of t) n (target_few t) h;
   opaque = λ t r g b h k l. opaque_short (number_of t) r g b (target_few t) h k l;

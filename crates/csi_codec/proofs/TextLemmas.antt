@@ -29,17 +29,17 @@ decimal_value n h = search (rules, digits_value-decimal own)
 pub decimal_digits : (n : ℕ) → n < 2 ^ 64 → all_ascii_digits (decimal n) ≡ true
 decimal_digits n h = search (rules, digits_decimal own)
 
-behind-digits : (ds x : List ℕ) (m : ℕ) → all_ascii_digits ds ≡ true → tokens_after (Some m) (ds ++ x) ≡ tokens_after (Some (read_on m ds)) x
-behind-digits [] x m h = refl
-behind-digits (c ∷ cs) x m h =
+after-digits : (ds x : List ℕ) (m : ℕ) → all_ascii_digits ds ≡ true → tokens_after (Some m) (ds ++ x) ≡ tokens_after (Some (read_on m ds)) x
+after-digits [] x m h = refl
+after-digits (c ∷ cs) x m h =
     ap (λ b. cond b (tokens_after (Some (10 * m + (c - 48))) (cs ++ x)) (Integer (pos (min m largest_number)) ∷ P c ∷ tokens_after None (cs ++ x))) (and_parts (is_ascii_digit c) (all_ascii_digits cs) h).0
-    ∙ behind-digits cs x (10 * m + (c - 48)) (and_parts (is_ascii_digit c) (all_ascii_digits cs) h).1
+    ∙ after-digits cs x (10 * m + (c - 48)) (and_parts (is_ascii_digit c) (all_ascii_digits cs) h).1
 
 some-digits : (ds x : List ℕ) → 0 < length ds → all_ascii_digits ds ≡ true → tokens_after None (ds ++ x) ≡ tokens_after (Some (read_on 0 ds)) x
 some-digits [] x l h = absurd (omega arith)
 some-digits (c ∷ cs) x l h =
     ap (λ b. cond b (tokens_after (Some (0 + (c - 48))) (cs ++ x)) (P c ∷ tokens_after None (cs ++ x))) (and_parts (is_ascii_digit c) (all_ascii_digits cs) h).0
-    ∙ behind-digits cs x (0 + (c - 48)) (and_parts (is_ascii_digit c) (all_ascii_digits cs) h).1
+    ∙ after-digits cs x (0 + (c - 48)) (and_parts (is_ascii_digit c) (all_ascii_digits cs) h).1
 
 -- ---- Other bytes
 
@@ -52,8 +52,8 @@ not_digit b h = grind (arith, nat_tests)
 pub sign_text : (b : ℕ) → is_sign b ≡ true → encode_utf8 b ≡ b ∷ []
 sign_text b h = encode_ascii b (sign_small b h)
 
-behind-sign : (begun : Option ℕ) (b : ℕ) (x : List ℕ) → is_sign b ≡ true → tokens_after begun (encode_utf8 b ++ x) ≡ begun_token begun ++ P b ∷ tokens_after None x
-behind-sign begun b x h =
+after-sign : (begun : Option ℕ) (b : ℕ) (x : List ℕ) → is_sign b ≡ true → tokens_after begun (encode_utf8 b ++ x) ≡ begun_token begun ++ P b ∷ tokens_after None x
+after-sign begun b x h =
     ap (λ bytes. tokens_after begun (bytes ++ x)) (sign_text b h)
     ∙ ap (λ v. cond v (tokens_after (Some (10 * unwrap_or begun 0 + (b - 48))) x) (begun_token begun ++ P b ∷ tokens_after None x)) (not_digit b h)
 
@@ -74,22 +74,22 @@ mutual
   pub list_back : (ts : List CsiParam) → is_spellable ts ≡ true → tokens_after None (flat_map token_text ts) ≡ ts
   list_back [] h = refl
   list_back (P b ∷ ts) h =
-      behind-sign None b (flat_map token_text ts) (and_parts (is_sign b) (is_spellable ts) h).0
+      after-sign None b (flat_map token_text ts) (and_parts (is_sign b) (is_spellable ts) h).0
       ∙ ap (λ us. P b ∷ us) (list_back ts (and_parts (is_sign b) (is_spellable ts) h).1)
   list_back (Integer (negsuc n) ∷ ts) h = cc
   list_back (Integer (pos n) ∷ ts) h =
       let small : n ≤ largest_number = leb-true n largest_number (and_parts (leb n largest_number) (not (begins_with_number ts) && is_spellable ts) h).0 in
-      let others : (not (begins_with_number ts) && is_spellable ts) ≡ true = (and_parts (leb n largest_number) (not (begins_with_number ts) && is_spellable ts) h).1 in
+      let remaining : (not (begins_with_number ts) && is_spellable ts) ≡ true = (and_parts (leb n largest_number) (not (begins_with_number ts) && is_spellable ts) h).1 in
       let fits : n < 2 ^ 64 = omega arith in
       some-digits (decimal n) (flat_map token_text ts) (nonempty_decimal n fits) (decimal_digits n fits)
       ∙ ap (λ k. tokens_after (Some k) (flat_map token_text ts)) (decimal_value n fits)
-      ∙ list_after n ts small (not_number ts (and_parts (not (begins_with_number ts)) (is_spellable ts) others).0) (and_parts (not (begins_with_number ts)) (is_spellable ts) others).1
+      ∙ list_after n ts small (not_number ts (and_parts (not (begins_with_number ts)) (is_spellable ts) remaining).0) (and_parts (not (begins_with_number ts)) (is_spellable ts) remaining).1
 
-  -- behind a number
+  -- after a number
   list_after : (n : ℕ) (ts : List CsiParam) → n ≤ largest_number → begins_with_number ts ≡ false → is_spellable ts ≡ true → tokens_after (Some n) (flat_map token_text ts) ≡ Integer (pos n) ∷ ts
   list_after n [] s b h = ap (λ k. Integer (pos k) ∷ []) (min_large n s)
   list_after n (Integer z ∷ ts) s b h = cc
   list_after n (P c ∷ ts) s b h =
-      behind-sign (Some n) c (flat_map token_text ts) (and_parts (is_sign c) (is_spellable ts) h).0
+      after-sign (Some n) c (flat_map token_text ts) (and_parts (is_sign c) (is_spellable ts) h).0
       ∙ ap (λ k. Integer (pos k) ∷ P c ∷ tokens_after None (flat_map token_text ts)) (min_large n s)
       ∙ ap (λ us. Integer (pos n) ∷ P c ∷ us) (list_back ts (and_parts (is_sign c) (is_spellable ts) h).1)

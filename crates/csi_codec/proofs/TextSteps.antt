@@ -15,7 +15,7 @@ use Rattle.csi_codec.specs.Parameters.{token_text, spelled, sequence_text}
 use Rattle.csi_codec.specs.Writing.{are_digits, opened_text}
 use Rattle.csi_codec.specs.declared.text.TheConstants.{NUMBERS}
 
--- ---- Places
+-- ---- Positions
 
 -- where a text has room for so many more bytes, so has its array
 pub has_room : (text bytes : List ℕ) (len more : ℕ) → text ≡ take len bytes → len ≤ length bytes → length text + more ≤ 32 → len + more ≤ 32
@@ -166,24 +166,24 @@ table_digits n h = digits_below 256 n refl h
 pub after_front : (n : ℕ) → 10 ≤ n → n < 2 ^ 64 → length (decimal n) ≡ length (decimal (n / 10)) + 1
 after_front n low high = ap length (decimal_step n low high) ∙ length-append (decimal (n / 10)) ((48 + n % 10) ∷ [])
 
-pub digit_after : (old front new : List ℕ) (n : ℕ) → 10 ≤ n → n < 2 ^ 64 → front ≡ old ++ decimal (n / 10) → new ≡ front ++ (48 + n % 10) ∷ [] → new ≡ old ++ decimal n
-digit_after old front new n low high e f =
+pub digit_after : (old prefix new : List ℕ) (n : ℕ) → 10 ≤ n → n < 2 ^ 64 → prefix ≡ old ++ decimal (n / 10) → new ≡ prefix ++ (48 + n % 10) ∷ [] → new ≡ old ++ decimal n
+digit_after old prefix new n low high e f =
     f ∙ ap (λ it. it ++ (48 + n % 10) ∷ []) e ∙ append_assoc old (decimal (n / 10)) ((48 + n % 10) ∷ []) ∙ ap (λ it. old ++ it) (sym (decimal_step n low high))
 
 -- the room that is asked for is there
 pub has_small_room : (old : List ℕ) (n : ℕ) → 0 < length (decimal n) → length old + length (decimal n) + 2 ≤ 32 → length old + 3 ≤ 32
 has_small_room old n some room = omega arith
 
-pub has_last_room : (old front : List ℕ) (n : ℕ) → 10 ≤ n → n < 2 ^ 64 → front ≡ old ++ decimal (n / 10) → length old + length (decimal n) + 2 ≤ 32 → length front < 32
-has_last_room old front n low high e room = omega (arith, ap length e, length-append old (decimal (n / 10)), after_front n low high)
+pub has_last_room : (old prefix : List ℕ) (n : ℕ) → 10 ≤ n → n < 2 ^ 64 → prefix ≡ old ++ decimal (n / 10) → length old + length (decimal n) + 2 ≤ 32 → length prefix < 32
+has_last_room old prefix n low high e room = omega (arith, ap length e, length-append old (decimal (n / 10)), after_front n low high)
 
 -- ---- Sequences
 
 pub parameters_text : (text parameters : List ℕ) → text ≡ 27 ∷ 91 ∷ parameters → ∥ IsUtf8 text ∥₁ → IsUtf8 parameters
 parameters_text text parameters e is =
     let whole : IsUtf8 (27 ∷ 91 ∷ parameters) = subst IsUtf8 e (IsUtf8-had text is) in
-    let behind : IsUtf8 (91 ∷ parameters) = IsUtf8-past_char (27 ∷ 91 ∷ parameters) (91 ∷ parameters) 27 whole (ap (λ it. it ++ 91 ∷ parameters) (sym (encode_ascii 27 (omega arith)))) in
-    IsUtf8-past_char (91 ∷ parameters) parameters 91 behind (ap (λ it. it ++ parameters) (sym (encode_ascii 91 (omega arith))))
+    let after : IsUtf8 (91 ∷ parameters) = IsUtf8-past_char (27 ∷ 91 ∷ parameters) (91 ∷ parameters) 27 whole (ap (λ it. it ++ 91 ∷ parameters) (sym (encode_ascii 27 (omega arith)))) in
+    IsUtf8-past_char (91 ∷ parameters) parameters 91 after (ap (λ it. it ++ parameters) (sym (encode_ascii 91 (omega arith))))
 
 pub with_token : (tokens : List CsiParam) (token : CsiParam) (old new : List ℕ) → old ≡ opened_text tokens → new ≡ old ++ token_text token → new ≡ opened_text (tokens ++ token ∷ [])
 with_token tokens token old new e f =

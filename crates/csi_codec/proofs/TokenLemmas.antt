@@ -98,10 +98,10 @@ number_more p ts token n k = by_test (nat_lt most_tokens (length (ts ++ token �
         let l : length (ts ++ token ∷ []) ≤ most_tokens = grind (arith, nat_tests) in
         let all : p.tokens ≡ ts ++ token ∷ [] = k.kept ∙ take_all most_tokens (ts ++ token ∷ []) l in
         let count : length p.tokens - 1 ≡ length ts = omega (arith, ap length all, length-one ts token) in
-        let front : take (length p.tokens - 1) p.tokens ≡ ts = ap (λ (m : ℕ). take m p.tokens) count ∙ ap (λ xs. take (length ts) xs) all ∙ take-append-le (length ts) ts (token ∷ []) (omega arith) ∙ take-length ts in
+        let prefix : take (length p.tokens - 1) p.tokens ≡ ts = ap (λ (m : ℕ). take m p.tokens) count ∙ ap (λ xs. take (length ts) xs) all ∙ take-append-le (length ts) ts (token ∷ []) (omega arith) ∙ take-length ts in
         subst (λ (q : Parameters). Keeps q (ts ++ Integer (pos n) ∷ [])) (sym (with_number_is p n ∙ ap (λ (t : Bool). renumbered t p n) (k.more ∙ e)))
         (record {
-          kept = ap (λ xs. xs ++ Integer (pos n) ∷ []) front ∙ sym (take_all most_tokens (ts ++ Integer (pos n) ∷ []) (omega (arith, same)));
+          kept = ap (λ xs. xs ++ Integer (pos n) ∷ []) prefix ∙ sym (take_all most_tokens (ts ++ Integer (pos n) ∷ []) (omega (arith, same)));
           more = sym (ap (λ (m : ℕ). nat_lt most_tokens m) same ∙ e);
         })
 

@@ -86,7 +86,7 @@ target_large _ = refl
 
 forms_written : EachWritten (λ ts v. is_spellable ts ≡ true)
 forms_written = record {
-  lone = λ n v h e. number_written n (omega arith);
+  single = λ n v h e. number_written n (omega arith);
   line = λ n u h e. number_after n (byte_large n (omega arith));
   palette = λ t n h. rw (target_large t, byte_large n h) refl;
   opaque = λ t r g b h k l. rw (target_large t, byte_large r h, byte_large g k, byte_large b l) refl;

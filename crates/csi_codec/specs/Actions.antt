@@ -36,7 +36,7 @@ pub data Kind : Type 0 where
   private_mode_groups : Kind
   standard_mode_groups : Kind
 
--- a mode group is a number, with the `;` right behind it
+-- a mode group is a number, with the `;` right after it
 unfoldable pub mode_group : (ℤ → Option Mode) → List CsiParam → Option (Action × ℕ)
 mode_group read (Integer z ∷ ts) = with_semicolon (Integer z ∷ ts) (taking 1 (option_map mode (read z)))
 mode_group read _ = None
@@ -45,7 +45,7 @@ mode_group read _ = None
 abbrev pub found_mode : Mode × ℕ → Action × ℕ
 found_mode found = (mode found.0, found.1)
 
--- the group at the front of a list: of SGR, of private modes, or of modes of the standard
+-- the group at the start of a list: of SGR, of private modes, or of modes of the standard
 abbrev pub group_of : Kind → ℕ → List CsiParam → Option (Action × ℕ)
 group_of sgr_groups final ts = option_map (λ found. (sgr found.0, found.1)) (sgr_group ts)
 group_of private_mode_groups final ts = mode_group (private_mode_reading final) ts
@@ -102,7 +102,7 @@ standard_reading truncated final ts =
     if final == 104 || final == 108 then modes_or standard_mode_groups truncated final ts ts
     else single_or truncated final ts
 
--- under finals other than m: behind a `?` private modes
+-- under finals other than m: after a `?` private modes
 abbrev pub other_reading : Bool → ℕ → List CsiParam → List Action
 other_reading truncated final (P b ∷ ts) =
     if b == 63 then modes_or private_mode_groups truncated final ts (P b ∷ ts)

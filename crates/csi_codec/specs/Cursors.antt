@@ -103,7 +103,7 @@ cursor_spelling c = slots_spelling (cursor_slots c)
 
 -- ---- Reading
 
--- nothing saves the cursor; else two places are the margins
+-- nothing saves the cursor; else two positions are the margins
 abbrev pub save_or_margins : List CsiParam → Option Cursor
 save_or_margins [] = Some cursor.SaveCursor
 save_or_margins ts = option_map (λ m. cursor.SetLeftAndRightMargins m.0 m.1) (place_pair word_max ts)

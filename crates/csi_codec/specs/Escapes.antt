@@ -7,7 +7,7 @@ use Rattle.csi_codec.specs.declared.escapes.EscCode.TheVariants as code
 use Rattle.csi_codec.specs.declared.escapes.Esc.{Esc}
 use Rattle.csi_codec.specs.declared.escapes.Esc.TheVariants as esc
 
--- the bytes of a code behind ESC: the intermediate byte, if there is one, and the final byte
+-- the bytes of a code after ESC: the intermediate byte, if there is one, and the final byte
 abbrev pub esc_code_bytes : EscCode → Option ℕ × ℕ
 esc_code_bytes code.FullReset = (None, 99)  -- c: RIS, ECMA-48 8.3.105
 esc_code_bytes code.Index = (None, 68)  -- D: IND, xterm: C1 (8-Bit) Control Characters
@@ -72,7 +72,7 @@ esc_reading intermediate control =
 
 -- ---- Writing
 
--- the bytes of a pair behind its ESC
+-- the bytes of a pair after its ESC
 abbrev pub bytes_of_pair : Esc → Option ℕ × ℕ
 bytes_of_pair (esc.Code known) = esc_code_bytes known
 bytes_of_pair (esc.Unspecified intermediate control) = (intermediate, control)

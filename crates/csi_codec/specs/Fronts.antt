@@ -1,4 +1,4 @@
--- A control sequence at the front of some bytes.
+-- A control sequence at the start of some bytes.
 -- ECMA-48 5.4: CSI, parameter and intermediate bytes (20h to 3Fh), and a final byte (40h to 7Eh).
 use Rattle.std.specs.Prelude.{◌≡◌, ℕ, ◌≤◌, Bool, true, false, nat_lt, List, [], ◌∷◌, ◌++◌, length, take}
 use Rattle.std.specs.List.{AllByRecursion}
@@ -13,7 +13,7 @@ use Rattle.csi_codec.specs.Texts.{tokens_of, is_spellable, all_parameter_bytes}
 abbrev pub most_tokens : ℕ
 most_tokens = 256
 
--- the tokens that are kept, whether there were more, the final byte, and the bytes behind it
+-- the tokens that are kept, whether there were more, the final byte, and the bytes after it
 pub record Front : Type 0 where
   pub params : List CsiParam
   pub truncated : Bool
@@ -22,8 +22,12 @@ pub record Front : Type 0 where
 
 -- what a `CsiFront` shows: its parameters as a list, and its rest as bytes
 abbrev pub front_of : CsiFront → Front
-front_of front =
-    record { params = front.params.items; truncated = front.truncated; control = front.control; rest = front.rest.now }
+front_of prefix = record {
+  params = prefix.params.items;
+  truncated = prefix.truncated;
+  control = prefix.control;
+  rest = prefix.rest.now;
+}
 
 -- the bytes are ESC [, parameter and intermediate bytes, a final byte, and the rest
 pub record IsSequence (bytes body : List ℕ) (control : ℕ) (rest : List ℕ) : Type 0 where
@@ -32,24 +36,24 @@ pub record IsSequence (bytes body : List ℕ) (control : ℕ) (rest : List ℕ) 
   pub low : 64 ≤ control
   pub high : control ≤ 126
 
--- this sequence stands at the front of the bytes: of the tokens that its bytes spell the first ones are kept
-pub record HasFront (bytes : List ℕ) (front : Front) : Type 0 where
+-- this sequence stands at the start of the bytes: of the tokens that its bytes spell the first ones are kept
+pub record HasFront (bytes : List ℕ) (prefix : Front) : Type 0 where
   pub body : List ℕ
-  pub sequence : IsSequence bytes body front.control front.rest
-  pub kept : front.params ≡ take most_tokens (tokens_of body)
-  pub dropped : front.truncated ≡ nat_lt most_tokens (length (tokens_of body))
+  pub sequence : IsSequence bytes body prefix.control prefix.rest
+  pub kept : prefix.params ≡ take most_tokens (tokens_of body)
+  pub dropped : prefix.truncated ≡ nat_lt most_tokens (length (tokens_of body))
 
--- no sequence stands at the front of the bytes
+-- no sequence stands at the start of the bytes
 abbrev pub HasNoFront : List ℕ → Type 0
 HasNoFront bytes = (body : List ℕ) (control : ℕ) (rest : List ℕ) → IsSequence bytes body control rest → ⊥
 
 -- ---- Laws
 
--- at most one sequence stands at the front of some bytes
+-- at most one sequence stands at the start of some bytes
 abbrev pub OneFront : Type 0
 OneFront = (bytes : List ℕ) (a b : Front) → HasFront bytes a → HasFront bytes b → a ≡ b
 
--- parameters and a final byte as a sequence with nothing behind it, and with no token dropped
+-- parameters and a final byte as a sequence with nothing after it, and with no token dropped
 abbrev pub whole_front : Spelled → Front
 whole_front s = record { params = s.params; truncated = false; control = s.control; rest = [] }
 

@@ -7,16 +7,16 @@ use Rattle.csi_codec.specs.declared.parameters.CsiParam.TheVariants.{P}
 use Rattle.csi_codec.specs.Parameters.{semicolon_at}
 use Rattle.csi_codec.specs.Actions.{Action, unspecified, all_sgr_tokens, csi_reading, spelling_of}
 
--- a list without some tokens at its front
+-- a list without some tokens at its start
 abbrev pub IsSuffix : List CsiParam → List CsiParam → Type 0
 IsSuffix rest ts = (n : ℕ) × (rest ≡ drop n ts)
 
 -- the rest is a suffix of the list, keeps the flag and the final byte, and comes last
 abbrev pub KeepsRests : List CsiParam → Bool → ℕ → List Action → Type 0
 KeepsRests ts truncated final [] = Unit {0}
-KeepsRests ts truncated final (unspecified rest flag control ∷ others) =
-    IsSuffix rest ts × (flag ≡ truncated) × (control ≡ final) × (others ≡ [])
-KeepsRests ts truncated final (known ∷ others) = KeepsRests ts truncated final others
+KeepsRests ts truncated final (unspecified rest flag control ∷ remaining) =
+    IsSuffix rest ts × (flag ≡ truncated) × (control ≡ final) × (remaining ≡ [])
+KeepsRests ts truncated final (known ∷ remaining) = KeepsRests ts truncated final remaining
 
 -- whether an action is not the rest of a list
 abbrev pub is_known : Action → Bool
@@ -47,7 +47,7 @@ abbrev pub begins_with_question : List CsiParam → Bool
 begins_with_question (P b ∷ ts) = b == 63
 begins_with_question _ = false
 
--- the exception: a rest of modes, behind some that stand, and that begins with a `?` or stands under s or r
+-- the exception: a rest of modes, after some that stand, and that begins with a `?` or stands under s or r
 abbrev pub is_exempt : List CsiParam → ℕ → Action → Bool
 is_exempt ts final (unspecified rest truncated control) =
     nat_lt (length rest) (length ts) && not (final == 109)

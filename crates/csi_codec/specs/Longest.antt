@@ -21,17 +21,17 @@ single_numbers =
 abbrev pub underline_shapes : List (List Part)
 underline_shapes = map (λ k. number_part 4 ∷ colon ∷ number_part k ∷ []) (counted 0 6)
 
--- a colour behind its number
+-- a colour after its number
 abbrev pub colour_shapes : ℕ → List (List Part)
 colour_shapes target = map (λ form. number_part target ∷ form.0) colour_forms
 
--- every shape: a lone `;`, a lone number, an underline, and a colour of the text, behind it and of its line
+-- every shape: a single `;`, a single number, an underline, and a colour of the text, after it and of its line
 abbrev pub sgr_shapes : List (List Part)
 sgr_shapes =
     (byte_part 59 ∷ []) ∷ (map (λ n. number_part n ∷ []) single_numbers
     ++ (underline_shapes ++ (colour_shapes 38 ++ (colour_shapes 48 ++ colour_shapes 58))))
 
--- no shape of the list that stands at the front of the tokens is longer than n
+-- no shape of the list that stands at the start of the tokens is longer than n
 abbrev pub NoneIsLonger : List (List Part) → List CsiParam → ℕ → Type 0
 NoneIsLonger shapes ts n = AllByRecursion (λ shape. stands shape ts ≡ true → length shape ≤ n) shapes
 
@@ -55,11 +55,11 @@ OneNamesNone [] ts n = ⊥
 OneNamesNone (form ∷ forms) ts n =
     ((stands form.0 ts ≡ true) × (form.1 ts ≡ None) × (length form.0 ≡ n)) ⊎ OneNamesNone forms ts n
 
--- the longest shape that stands is that of a colour behind its number, and names none
+-- the longest shape that stands is that of a colour after its number, and names none
 pub record IsNoColour (ts : List CsiParam) : Type 0 where
-  pub behind : ℕ
-  pub longest : IsLongest ts (behind + 1)
-  pub names_none : OneNamesNone colour_forms (drop 1 ts) behind
+  pub after : ℕ
+  pub longest : IsLongest ts (after + 1)
+  pub names_none : OneNamesNone colour_forms (drop 1 ts) after
 
 -- A shape is chosen exactly where one that is listed stands, and it is the longest of these: where there is a value the
 -- longest that stands takes its tokens; where there is none no listed shape stands, or the longest names no colour.

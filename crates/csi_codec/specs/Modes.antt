@@ -113,7 +113,7 @@ standard_step final m =
     else (if final == 108 then Some (mode.ResetMode m)  -- l: RM, 8.3.106
     else None)
 
--- what a number behind ? spells before a final byte
+-- what a number after ? spells before a final byte
 unfoldable pub private_mode_reading : ℕ → ℤ → Option Mode
 private_mode_reading final z = option_and_then (λ n. private_step final (dec_mode_of n)) (number_within 65535 z)
 

@@ -29,14 +29,14 @@ is_number n (negsuc m) = false
 abbrev pub or_default : ℕ → ℕ → ℕ
 or_default default n = if n == 0 then default else n
 
--- a place: a number that a parameter can hold, 0 and absent standing for the default
-abbrev pub place : ℕ → Option ℤ → Option ℕ
-place default None = Some default
-place default (Some z) = option_map (or_default default) (number_within word_max z)
+-- a position: a number that a parameter can hold, 0 and absent standing for the default
+abbrev pub position : ℕ → Option ℤ → Option ℕ
+position default None = Some default
+position default (Some z) = option_map (or_default default) (number_within word_max z)
 
--- the place that a parameter names, 0 standing for the default
+-- the position that a parameter names, 0 standing for the default
 abbrev pub one_based : ℕ → CsiParam → Result ℕ CrackError
-one_based default (Integer z) = ok_or (place default (Some z)) NotASpelling
+one_based default (Integer z) = ok_or (position default (Some z)) NotASpelling
 one_based default (P b) = Err NotASpelling
 
 -- absent and 0 are 1
@@ -62,19 +62,20 @@ two_slots (P s ∷ []) = if s == 59 then Some (None, None) else None
 two_slots (P s ∷ Integer b ∷ []) = if s == 59 then Some (None, Some b) else None
 two_slots _ = None
 
--- nothing or one number, and behind it a space
+-- nothing or one number, and after it a space
 abbrev pub slot_and_space : List CsiParam → Option (Option ℤ)
 slot_and_space (P s ∷ []) = if s == 32 then Some None else None
 slot_and_space (Integer z ∷ P s ∷ []) = if s == 32 then Some (Some z) else None
 slot_and_space _ = None
 
--- a count, or a lone place: absent and 0 are 1
+-- a count, or a single position: absent and 0 are 1
 abbrev pub count : List CsiParam → Option ℕ
-count ts = option_and_then (place 1) (one_slot ts)
+count ts = option_and_then (position 1) (one_slot ts)
 
--- two places, of which the second may have a default of its own
+-- two positions, of which the second may have a default of its own
 abbrev pub place_pair : ℕ → List CsiParam → Option (ℕ × ℕ)
-place_pair default ts = option_and_then (λ slots. option_zip (place 1 slots.0) (place default slots.1)) (two_slots ts)
+place_pair default ts =
+    option_and_then (λ slots. option_zip (position 1 slots.0) (position default slots.1)) (two_slots ts)
 
 -- a list that begins with a number
 abbrev pub begins_with_number : List CsiParam → Bool
@@ -95,7 +96,7 @@ semicolon_count _ = 0
 abbrev pub semicolon_at : List CsiParam → ℕ → ℕ
 semicolon_at ts n = semicolon_count (slice_get ts n)
 
--- a shape takes the `;` right behind it, where there is one
+-- a shape takes the `;` right after it, where there is one
 abbrev pub with_semicolon : {A : Type 0} → List CsiParam → Option (A × ℕ) → Option (A × ℕ)
 with_semicolon ts found = option_map (λ f. (f.0, f.1 + semicolon_at ts f.1)) found
 
@@ -118,7 +119,7 @@ spelled params control = record { params = params; control = control }
 abbrev pub spelled_text : Spelled → List ℕ
 spelled_text s = flat_map token_text s.params ++ encode_utf8 s.control
 
--- and ESC [ in front of that
+-- and ESC [ before that
 abbrev pub sequence_text : Spelled → List ℕ
 sequence_text s = 27 ∷ 91 ∷ spelled_text s
 
@@ -138,7 +139,7 @@ pair_tokens a b = Integer (pos a) ∷ P 59 ∷ Integer (pos b) ∷ []
 abbrev pub extent_tokens : ℕ → List CsiParam
 extent_tokens n = if n == 0 then [] else number_tokens n
 
--- the number of a private mode, behind a ?
+-- the number of a private mode, after a ?
 abbrev pub private_tokens : ℕ → List CsiParam
 private_tokens n = P 63 ∷ Integer (pos n) ∷ []
 

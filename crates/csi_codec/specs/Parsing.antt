@@ -1,4 +1,4 @@
--- What is to come of a list from a place on.
+-- What is to come of a list from a position on.
 use Rattle.std.specs.Prelude.{◌≡◌, ℕ, ◌<◌, Bool, List, [], ◌∷◌, length, drop, ◌==◌, if◌then◌else◌}
 use Rattle.csi_codec.specs.declared.parameters.CsiParam.{CsiParam}
 use Rattle.csi_codec.specs.declared.groups.Kind.{Kind}
@@ -20,25 +20,25 @@ list_kind final ts =
     if final == 109 then sgr_groups
     else (if begins_with_question ts then private_mode_groups else standard_mode_groups)
 
--- the actions of a list that are to come where so many of its tokens were read: all of them where none was, and behind
+-- the actions of a list that are to come where so many of its tokens were read: all of them where none was, and after
 -- that the groups that follow
 unfoldable pub actions_after : ℕ → List CsiParam → Bool → ℕ → List Action
 actions_after read ts truncated final =
     if read == 0 then csi_reading ts truncated final else groups (list_kind final ts) truncated final (drop read ts)
 
--- the actions of a list that are to come from a place on, under a flag and a final byte
+-- the actions of a list that are to come from a position on, under a flag and a final byte
 abbrev pub actions_from : ParamCursor → List CsiParam → Bool → ℕ → List Action
-actions_from place ts truncated final = actions_after place.index ts truncated final
+actions_from position ts truncated final = actions_after position.index ts truncated final
 
 -- all actions of any list are to come
 abbrev pub IsStart : ParamCursor → Type 0
-IsStart place = (ts : List CsiParam) (truncated : Bool) (final : ℕ)
-    → actions_from place ts truncated final ≡ csi_reading ts truncated final
+IsStart position = (ts : List CsiParam) (truncated : Bool) (final : ℕ)
+    → actions_from position ts truncated final ≡ csi_reading ts truncated final
 
 -- the next action of a list where so many tokens were read, and how many are read then
-pub record IsNext (read : ℕ) (ts : List CsiParam) (final : ℕ) (next : Action) (behind : ℕ) : Type 0 where
+pub record IsNext (read : ℕ) (ts : List CsiParam) (final : ℕ) (next : Action) (after : ℕ) : Type 0 where
   pub actions : (truncated : Bool)
-      → actions_after read ts truncated final ≡ next ∷ actions_after behind ts truncated final
+      → actions_after read ts truncated final ≡ next ∷ actions_after after ts truncated final
 
 -- no setting is to come where so many tokens were read: the rest is the last action
 pub record HasNoSetting (read : ℕ) (ts : List CsiParam) : Type 0 where

@@ -32,7 +32,7 @@ is_part (number_part n) (Integer z) = is_number n z
 is_part any_number (Integer z) = true
 is_part _ _ = false
 
--- whether a shape stands at the front of a list
+-- whether a shape stands at the start of a list
 abbrev pub stands : List Part → List CsiParam → Bool
 stands [] ts = true
 stands (part ∷ parts) [] = false
@@ -47,22 +47,22 @@ byte_of (P b) = None
 abbrev pub byte_at : List CsiParam → ℕ → Option ℕ
 byte_at ts i = option_and_then byte_of (slice_get ts i)
 
--- ---- Colours behind 38, 48 and 58
+-- ---- Colours after 38, 48 and 58
 
 abbrev pub colour : ℕ → ℕ → ℕ → ℕ → ColorSpec
 colour r g b a = color.TrueColor (record { 0 = r; 1 = g; 2 = b; 3 = a })
 
--- the palette entry whose index is at a place
+-- the palette entry whose index is at a position
 abbrev pub palette_at : ℕ → List CsiParam → Option ColorSpec
 palette_at i ts = option_map color.PaletteIndex (byte_at ts i)
 
--- the opaque colour whose channels are at three places
+-- the opaque colour whose channels are at three positions
 abbrev pub opaque_at : ℕ → ℕ → ℕ → List CsiParam → Option ColorSpec
 opaque_at i j k ts =
     option_and_then (λ r. option_and_then (λ g.
     option_map (λ b. colour r g b 255) (byte_at ts k)) (byte_at ts j)) (byte_at ts i)
 
--- the colour whose channels are at four places
+-- the colour whose channels are at four positions
 abbrev pub colour_at : ℕ → ℕ → ℕ → ℕ → List CsiParam → Option ColorSpec
 colour_at i j k l ts =
     option_and_then (λ r. option_and_then (λ g. option_and_then (λ b.
@@ -79,7 +79,7 @@ colon = byte_part 58
 abbrev pub semicolon : Part
 semicolon = byte_part 59
 
--- so many numbers, each behind such a part
+-- so many numbers, each after such a part
 abbrev pub numbers_after : Part → ℕ → List Part
 numbers_after part zero = []
 numbers_after part (suc n) = part ∷ any_number ∷ numbers_after part n
@@ -235,7 +235,7 @@ single_code n = listed_or single_codes n (ranged_code n)
 abbrev pub plain_code : ℤ → Option Sgr
 plain_code z = option_and_then single_code (number_within 255 z)
 
--- ---- Underlines behind 4:
+-- ---- Underlines after 4:
 
 abbrev pub underline_numbered : ℤ → Option Underline
 underline_numbered z =
@@ -258,7 +258,7 @@ underline_shape _ = underline_or_single None
 
 -- ---- Groups
 
--- a colour behind its number; the tokens are counted with the number
+-- a colour after its number; the tokens are counted with the number
 abbrev pub colour_shape : (ColorSpec → Sgr) → List CsiParam → Option (Sgr × ℕ)
 colour_shape target ts = option_map (λ form. (target form.0, form.1 + 1)) (colour_form ts)
 
@@ -271,12 +271,12 @@ numbered_shape z ts =
     else (if is_number 4 z then underline_shape ts
     else taking 1 (plain_code z))))
 
--- the longest shape at the front of a list, and how many tokens it takes; a lone `;` is a reset
+-- the longest shape at the start of a list, and how many tokens it takes; a single `;` is a reset
 unfoldable pub sgr_shape : List CsiParam → Option (Sgr × ℕ)
 sgr_shape [] = None
 sgr_shape (P b ∷ ts) = taking 1 (if b == 59 then Some sgr.Reset else None)
 sgr_shape (Integer z ∷ ts) = numbered_shape z ts
 
--- a group: the longest shape, and the `;` right behind it
+-- a group: the longest shape, and the `;` right after it
 unfoldable pub sgr_group : List CsiParam → Option (Sgr × ℕ)
 sgr_group ts = with_semicolon ts (sgr_shape ts)

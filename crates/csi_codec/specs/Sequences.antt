@@ -34,7 +34,7 @@ NeedsMemory _ = ⊥
 
 abbrev pub FirstNeedsMemory : List Action → Type 0
 FirstNeedsMemory [] = ⊥
-FirstNeedsMemory (first ∷ others) = NeedsMemory first
+FirstNeedsMemory (first ∷ remaining) = NeedsMemory first
 
 -- one step of the iterator: the first of the actions that are to come, or nothing where none is;
 -- where memory was refused no action is to come

@@ -10,15 +10,15 @@ pub data Slots : Type 0 where
   nothing : Slots
   -- a count, not written where it is 1
   counted : ℕ → Slots
-  -- a place, always written
+  -- a position, always written
   placed : ℕ → Slots
-  -- two places, both written
+  -- two positions, both written
   paired : ℕ → ℕ → Slots
   -- the number of a name, always written
   named : ℕ → Slots
   -- the number of an extent, not written where it is 0
   extent : ℕ → Slots
-  -- the number of a name, and behind it a space
+  -- the number of a name, and after it a space
   spaced : ℕ → Slots
 
 abbrev pub slots_tokens : Slots → List CsiParam
@@ -34,15 +34,15 @@ slots_tokens (spaced n) = number_tokens n ++ P 32 ∷ []
 abbrev pub slots_spelling : Slots × ℕ → Spelled
 slots_spelling slots = spelled (slots_tokens slots.0) slots.1
 
--- the lines of what has one count or place, each under the final byte that it is written with
+-- the lines of what has one count or position, each under the final byte that it is written with
 abbrev pub count_lines : {A : Type 0} → (A → Slots × ℕ) → List (ℕ → A) → Lines A
 count_lines slots makes = map (λ make. ((slots (make 1)).1, λ ts. option_map make (count ts))) makes
 
--- a count or a place: 1 to the largest value of a parameter
+-- a count or a position: 1 to the largest value of a parameter
 abbrev pub IsPlace : ℕ → Type 0
 IsPlace n = (1 ≤ n) × (n ≤ word_max)
 
--- counts and places that can be written; the number of a name always can
+-- counts and positions that can be written; the number of a name always can
 abbrev pub ArePlaces : Slots → Type 0
 ArePlaces (counted n) = IsPlace n
 ArePlaces (placed n) = IsPlace n

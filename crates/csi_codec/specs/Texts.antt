@@ -17,7 +17,7 @@ abbrev pub begun_token : Option ℕ → List CsiParam
 begun_token None = []
 begun_token (Some n) = Integer (pos (min n largest_number)) ∷ []
 
--- the tokens of the bytes behind the digits that have begun
+-- the tokens of the bytes after the digits that have begun
 abbrev pub tokens_after : Option ℕ → List ℕ → List CsiParam
 tokens_after begun [] = begun_token begun
 tokens_after begun (b ∷ bs) =

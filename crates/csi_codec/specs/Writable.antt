@@ -25,7 +25,7 @@ use Rattle.csi_codec.specs.Fronts.{HasFront, whole_front}
 
 -- ---- Control sequences
 
--- a cursor sequence or an edit with counts and places from 1 to the largest value of a parameter
+-- a cursor sequence or an edit with counts and positions from 1 to the largest value of a parameter
 abbrev pub IsWritableCursor : Cursor → Type 0
 IsWritableCursor c = ArePlaces (cursor_slots c).0
 
@@ -74,7 +74,7 @@ IsWritable (unspecified params truncated final) = ⊥
 
 -- ---- ESC pairs
 
--- the byte behind ESC opens a control sequence or a string: [ ] P X ^ _
+-- the byte after ESC opens a control sequence or a string: [ ] P X ^ _
 abbrev pub IsOpener : ℕ → Type 0
 IsOpener b = (b ≡ 91) ⊎ (b ≡ 93) ⊎ (b ≡ 80) ⊎ (b ≡ 88) ⊎ (b ≡ 94) ⊎ (b ≡ 95)
 
@@ -89,6 +89,6 @@ ArePairBytes (Some between) final = (32 ≤ between) × (between ≤ 47) × (48 
 abbrev pub WritableActionsReadBack : Type 0
 WritableActionsReadBack = (truncated : Bool) (a : Action) → IsWritable a → ReadsBack truncated a
 
--- and its text is one sequence of them, with nothing behind it
+-- and its text is one sequence of them, with nothing after it
 abbrev pub WritableTextsAreFronts : Type 0
 WritableTextsAreFronts = (a : Action) → IsWritable a → HasFront (csi_text a) (whole_front (spelling_of a))

@@ -13,7 +13,7 @@ pub struct Cracked {
 }
 
 impl Cracked {
-    /// The entries of a list of numbers and `;`: a number is an entry, a `;` right behind a number separates, any
+    /// The entries of a list of numbers and `;`: a number is an entry, a `;` right after a number separates, any
     /// other `;` is an absent entry. A list with another byte is `NotASpelling`, whatever the memory.
     pub fn parse(alloc: Global, params: &[CsiParam]) -> Result<Self, CrackError>
         ensures entries { IfOk result (λ c. entries_of c ≡ cracked params.now) }

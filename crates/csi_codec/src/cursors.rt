@@ -1,4 +1,4 @@
-//! Sequences that move the cursor, set tab stops and margins, and report or save a place.
+//! Sequences that move the cursor, set tab stops and margins, and report or save a position.
 ghost use Rattle.std.specs.Prelude.{◌≡◌, Some, option_and_then};
 ghost use Rattle.csi_codec.specs.Cursors.{
   cursor_style_named,
@@ -132,7 +132,7 @@ impl CursorTabulationControl {
     }
 }
 
-/// A cursor sequence. Counts and places are `u32` or count from 1; the table of spellings names each standard.
+/// A cursor sequence. Counts and positions are `u32` or count from 1; the table of spellings names each standard.
 #[derive(Clone, Copy, Debug, PartialEq, Eq)]
 pub enum Cursor {
     Up(u32),

@@ -43,7 +43,7 @@ pub enum EscCode {
     DecDoubleWidthLine,
 }
 
-/// An ESC pair: by its name, or by the bytes behind ESC.
+/// An ESC pair: by its name, or by the bytes after ESC.
 #[derive(Clone, Copy, Debug, PartialEq, Eq)]
 pub enum Esc {
     Code(EscCode),

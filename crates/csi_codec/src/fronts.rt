@@ -1,4 +1,4 @@
-//! A control sequence at the front of some bytes (ECMA-48 5.4).
+//! A control sequence at the start of some bytes (ECMA-48 5.4).
 ghost use Rattle.std.specs.Prelude.{◌≡◌, ◌≤◌, ◌↔◌, IsTrue, ℕ, List, ◌∷◌, IfNone, IfOk, IfSome, OnErr};
 ghost use Rattle.csi_codec.specs.Fronts.{Front, HasFront, HasNoFront, front_of};
 
@@ -6,7 +6,7 @@ use crate::parameters::CsiParam;
 use crate::tokens::Parameters;
 use std::alloc::{AllocError, Global};
 
-/// A control sequence at the front of some bytes, and what stands behind it.
+/// A control sequence at the start of some bytes, and what follows it.
 #[derive(Debug, PartialEq, Eq, Drop)]
 pub struct CsiFront<'a> {
     /// The tokens between `ESC [` and the final byte, the first 256 of them: a run of digits is one number, cut at
@@ -16,7 +16,7 @@ pub struct CsiFront<'a> {
     pub truncated: bool,
     /// The final byte, from `@` to `~`.
     pub control: char,
-    /// The bytes behind the final byte.
+    /// The bytes after the final byte.
     pub rest: &'a [u8],
 }
 
@@ -34,19 +34,19 @@ impl<'a> CsiFront<'a> {
     }
 }
 
-/// Reads the control sequence at the front of `bytes`: `ESC [`, bytes 20h to 3Fh, and a final byte 40h to 7Eh. Where
+/// Reads the control sequence at the start of `bytes`: `ESC [`, bytes 20h to 3Fh, and a final byte 40h to 7Eh. Where
 /// something else stands there, or the sequence is not whole, it is `None`, which takes no memory.
 pub fn read_csi<'a>(alloc: Global, bytes: &'a [u8]) -> Result<Option<CsiFront<'a>>, AllocError>
-    ensures some { IfOk result (λ found. IfSome found (λ front. HasFront bytes.now (front_of front))) }
+    ensures some { IfOk result (λ found. IfSome found (λ prefix. HasFront bytes.now (front_of prefix))) }
     ensures none { IfOk result (λ found. IfNone found (HasNoFront bytes.now)) }
-    ensures refused { OnErr result ((front : Front) × HasFront bytes.now front) }
+    ensures refused { OnErr result ((prefix : Front) × HasFront bytes.now prefix) }
 {
-    let Some(behind) = after_introducer(bytes) else {
+    let Some(after) = after_introducer(bytes) else {
         return Ok(None);
     };
     let mut parameters = Parameters::new();
-    let len = parameters.push_all(behind);
-    let Some((control, rest)) = behind[len..].split_first() else {
+    let len = parameters.push_all(after);
+    let Some((control, rest)) = after[len..].split_first() else {
         return Ok(None);
     };
     if !is_final(*control) {
@@ -68,13 +68,13 @@ fn is_final(byte: u8) -> bool
     matches!(byte, 0x40..=0x7e)
 }
 
-/// What stands behind `ESC [`.
+/// What follows `ESC [`.
 fn after_introducer(bytes: &[u8]) -> Option<&[u8]>
-    ensures some { IfSome result (λ behind. bytes.now ≡ 27 ∷ 91 ∷ behind.now) }
-    ensures none { IfNone result ((behind : List ℕ) → bytes.now ≡ 27 ∷ 91 ∷ behind → ⊥) }
+    ensures some { IfSome result (λ after. bytes.now ≡ 27 ∷ 91 ∷ after.now) }
+    ensures none { IfNone result ((after : List ℕ) → bytes.now ≡ 27 ∷ 91 ∷ after → ⊥) }
 {
     match bytes {
-        [0x1b, b'[', behind @ ..] => Some(behind),
+        [0x1b, b'[', after @ ..] => Some(after),
         _ => None,
     }
 }

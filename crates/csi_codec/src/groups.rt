@@ -26,7 +26,7 @@ pub(crate) fn all_sgr_tokens(params: &[CsiParam]) -> bool
     true
 }
 
-/// The mode at the front of a list, and how many tokens it takes.
+/// The mode at the start of a list, and how many tokens it takes.
 #[tactic(auto, unfolding(crate::specs::Actions::mode_group))]
 pub(crate) fn mode_group(kind: Kind, params: &[CsiParam], control: char) -> Option<(Mode, usize)>
     ensures { option_map found_mode result ≡ group_of (kind_of kind) control params.now }

@@ -58,7 +58,7 @@ pub enum DecPrivateModeCode {
 }
 
 impl DecPrivateModeCode {
-    /// The private mode of this number (behind the `?`), if there is one.
+    /// The private mode of this number (after the `?`), if there is one.
     #[inline(never)]
     pub fn from_i64(value: i64) -> Option<Self>
         ensures { result ≡ dec_private_mode_named value }
@@ -231,7 +231,7 @@ impl TerminalMode {
     }
 }
 
-/// What a number behind `?` spells before a final byte.
+/// What a number after `?` spells before a final byte.
 #[tactic(auto, unfolding(crate::specs::Modes::private_mode_reading))]
 pub(crate) fn private_mode_reading(value: i64, control: char) -> Option<Mode>
     ensures { result ≡ private_mode_reading control value }

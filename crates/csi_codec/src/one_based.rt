@@ -1,7 +1,7 @@
 //! Lines and columns as sequences count them.
 ghost use Rattle.std.specs.Prelude.{◌≡◌, ◌+◌, ◌<◌, ◌≤◌, ℕ, Some, decimal, option_copied};
 
-use crate::parameters::{CrackError, CsiParam, place};
+use crate::parameters::{CrackError, CsiParam, position};
 use std::fmt;
 use std::marker::Model;
 
@@ -22,7 +22,7 @@ impl Model for OneBased {
 }
 
 impl fmt::Display for OneBased {
-    ghost output = { λ place. Some (decimal place) };
+    ghost output = { λ position. Some (decimal position) };
 
     fn fmt<W: fmt::Write>(&self, f: &mut fmt::Formatter<W>) -> fmt::Result {
         let value = self.as_one_based();
@@ -33,7 +33,7 @@ impl fmt::Display for OneBased {
 impl OneBased {
     ghost use Rattle.csi_codec.specs.Parameters.{one_based, optional_one_based, word_max};
 
-    /// The place that counts as `value` from 1.
+    /// The position that counts as `value` from 1.
     pub fn new(value: u32) -> Self
         requires { 1 ≤ value }
         ensures { result ≡ value }
@@ -41,7 +41,7 @@ impl OneBased {
         OneBased { value }
     }
 
-    /// The place that counts as `value` from 0.
+    /// The position that counts as `value` from 0.
     pub fn from_zero_based(value: u32) -> Self
         requires { value < u32.MAX }
         ensures { result ≡ value + 1 }
@@ -49,7 +49,7 @@ impl OneBased {
         OneBased { value: value + 1 }
     }
 
-    /// The place that a parameter names, where 0 is the first. A byte, a negative number and one above
+    /// The position that a parameter names, where 0 is the first. A byte, a negative number and one above
     /// `u32::MAX` are refused with `NotASpelling`.
     pub fn from_esc_param(param: &CsiParam) -> Result<Self, CrackError>
         ensures { result ≡ one_based 1 param.now }
@@ -57,14 +57,14 @@ impl OneBased {
         Self::from_param(1, *param)
     }
 
-    /// The place that a parameter names; 0 is `u32::MAX`, the last there is. Refuses as `from_esc_param` does.
+    /// The position that a parameter names; 0 is `u32::MAX`, the last there is. Refuses as `from_esc_param` does.
     pub fn from_esc_param_with_big_default(param: &CsiParam) -> Result<Self, CrackError>
         ensures { result ≡ one_based word_max param.now }
     {
         Self::from_param(u32::MAX, *param)
     }
 
-    /// The place that a parameter names; 0 and an absent one are the first. Refuses as `from_esc_param` does.
+    /// The position that a parameter names; 0 and an absent one are the first. Refuses as `from_esc_param` does.
     pub fn from_optional_esc_param(param: Option<&CsiParam>) -> Result<Self, CrackError>
         ensures { result ≡ optional_one_based (option_copied param.entry) }
     {
@@ -79,7 +79,7 @@ impl OneBased {
         ensures { result ≡ one_based default param }
     {
         match param {
-            CsiParam::Integer(value) => place(default, value).ok_or(CrackError::NotASpelling),
+            CsiParam::Integer(value) => position(default, value).ok_or(CrackError::NotASpelling),
             CsiParam::P(_) => Err(CrackError::NotASpelling),
         }
     }

@@ -1,4 +1,4 @@
-//! Reading the actions of a list from place to place.
+//! Reading the actions of a list from position to position.
 ghost use Rattle.std.specs.Prelude.{◌≡◌, ◌≢◌, ◌<◌, ◌≤◌, ℕ, Bool, true, false, IfNone, IfSome, ◌∷◌, [], drop, length};
 ghost use Rattle.std.specs.Prelude.{max};
 ghost use Rattle.csi_codec.specs.Actions.{single_or, modes_or, sgr, unspecified};
@@ -9,14 +9,14 @@ use crate::cursors::cursor_reading;
 use crate::devices::device_reading;
 use crate::edits::edit_reading;
 use crate::groups::{Kind, all_sgr_tokens, mode_group};
-use crate::parameters::{CsiParam, behind};
+use crate::parameters::{CsiParam, after};
 use crate::rendition::Sgr;
 use crate::sequences::{CSI, request, unspecified};
 use crate::sgr_reading::sgr_group;
 use std::alloc::{AllocError, Global};
 
 /// A place in a list of parameters before a final byte: how far its actions were read. It lends nothing, so it can be
-/// kept beside the list that it is a place in.
+/// kept beside the list that it is a position in.
 #[derive(Clone, Copy, Debug, PartialEq, Eq)]
 pub struct ParamCursor {
     index: usize,
@@ -32,7 +32,7 @@ impl ParamCursor {
     }
 
     /// The action at this place of a list, with the list's flag and final byte, which must be the same at each call.
-    /// It goes on to the next place. After a refusal of memory, and after the last action, it answers `None`.
+    /// It goes on to the next position. After a refusal of memory, and after the last action, it answers `None`.
     #[inline(always)]
     pub fn next(
         &mut self,
@@ -59,12 +59,12 @@ impl ParamCursor {
             }
             _ => {
                 self.index = params.len().max(1);
-                lone(alloc, params, truncated, control)
+                single(alloc, params, truncated, control)
             }
         }
     }
 
-    /// Whether no action of a list is to come at this place.
+    /// Whether no action of a list is to come at this position.
     #[inline(always)]
     pub fn is_end(&self, params: &[CsiParam]) -> bool
         ensures done { result ≡ true → (truncated : Bool) (control : ℕ)
@@ -112,14 +112,14 @@ impl ParamCursor {
         control: char,
     ) -> Option<Result<CSI, AllocError>>
         requires within { start ≤ length params.now }
-        requires place { self.old.index ≤ start }
+        requires position { self.old.index ≤ start }
         requires kind { list_kind control params.now ≡ kind_of kind }
         requires modes { actions_from self.old params.now truncated control
             ≡ modes_or (kind_of kind) truncated control (drop start params.now) (drop self.old.index params.now) }
         ensures { HandsOut (actions_from self.old params.now truncated control) result
             (actions_from self.new params.now truncated control) }
     {
-        match mode_group(kind, behind(params, start), control) {
+        match mode_group(kind, after(params, start), control) {
             Some((value, len)) => {
                 self.index = start + len;
                 Some(Ok(CSI::Mode(value)))
@@ -128,7 +128,7 @@ impl ParamCursor {
         }
     }
 
-    /// All that is left behind this place, as the last action.
+    /// All that is left after this position, as the last action.
     #[inline(always)]
     fn rest(
         &mut self,
@@ -143,14 +143,14 @@ impl ParamCursor {
         ensures { HandsOut (actions_from self.old params.now truncated control) result
             (actions_from self.new params.now truncated control) }
     {
-        let left = behind(params, self.index);
+        let left = after(params, self.index);
         self.index = params.len().max(1);
         Some(unspecified(alloc, left, truncated, control))
     }
 }
 
 /// The setting at a place of an SGR list that isn't its end, and how many tokens are read then. The empty list is a
-/// reset, and behind the first setting only tokens of SGR may stand.
+/// reset, and after the first setting only tokens of SGR may stand.
 #[inline(never)]
 fn setting_at(read: usize, params: &[CsiParam]) -> Option<(Sgr, usize)>
     requires { read < max (length params.now) 1 }
@@ -160,9 +160,9 @@ fn setting_at(read: usize, params: &[CsiParam]) -> Option<(Sgr, usize)>
     if params.is_empty() {
         return Some((Sgr::Reset, 1));
     }
-    let (value, len) = sgr_group(behind(params, read))?;
+    let (value, len) = sgr_group(after(params, read))?;
     let end = read + len;
-    if read > 0 || all_sgr_tokens(behind(params, end)) {
+    if read > 0 || all_sgr_tokens(after(params, end)) {
         Some((value, end))
     } else {
         None
@@ -170,7 +170,7 @@ fn setting_at(read: usize, params: &[CsiParam]) -> Option<(Sgr, usize)>
 }
 
 /// The one action of a whole list, or the list itself.
-fn lone(
+fn single(
     alloc: Global,
     params: &[CsiParam],
     truncated: bool,

@@ -1,7 +1,7 @@
-//! Tokens of a CSI list, the numbers and places that a list can have, and how tokens are written.
+//! Tokens of a CSI list, the numbers and positions that a list can have, and how tokens are written.
 ghost use Rattle.std.specs.Prelude.{◌≡◌, ◌≤◌, ◌++◌, Some, IfOk, OnErr, OnOk, option_map, drop, length, take};
 ghost use Rattle.std.specs.Fmt.{signed_decimal};
-ghost use Rattle.csi_codec.specs.Parameters.{number_within, place, semicolon_at};
+ghost use Rattle.csi_codec.specs.Parameters.{number_within, position, semicolon_at};
 ghost use Rattle.csi_codec.specs.Parameters.{one_slot, two_slots, slot_and_space, slot_number, count, place_pair};
 ghost use Rattle.csi_codec.specs.Parameters.{token_text, sequence_text, spelled, spelled_text};
 ghost use Rattle.csi_codec.specs.Sequences.{IsSameRest};
@@ -141,9 +141,9 @@ pub(crate) fn number_within(top: u32, value: i64) -> Option<u32>
 
 /// The place of a number, where 0 stands for `default`, if a parameter can hold it.
 #[inline(always)]
-pub(crate) fn place(default: u32, value: i64) -> Option<OneBased>
+pub(crate) fn position(default: u32, value: i64) -> Option<OneBased>
     requires { 1 ≤ default }
-    ensures { result ≡ place default (Some value) }
+    ensures { result ≡ position default (Some value) }
 {
     match number_within(u32::MAX, value)? {
         0 => Some(OneBased::new(default)),
@@ -162,7 +162,7 @@ pub(crate) fn one_number(params: &[CsiParam]) -> Option<i64>
     }
 }
 
-/// The number of a list that is at most one number, and a space behind it, where an absent one is 0.
+/// The number of a list that is at most one number, and a space after it, where an absent one is 0.
 pub(crate) fn number_and_space(params: &[CsiParam]) -> Option<i64>
     ensures { result ≡ option_map slot_number (slot_and_space params.now) }
 {
@@ -173,11 +173,11 @@ pub(crate) fn number_and_space(params: &[CsiParam]) -> Option<i64>
     }
 }
 
-/// The lone place that a list spells, where absent and 0 are 1.
+/// The single position that a list spells, where absent and 0 are 1.
 pub(crate) fn one_place(params: &[CsiParam]) -> Option<OneBased>
     ensures { result ≡ count params.now }
 {
-    place(1, one_number(params)?)
+    position(1, one_number(params)?)
 }
 
 /// The count that a list spells, where absent and 0 are 1.
@@ -205,31 +205,31 @@ fn two_numbers(params: &[CsiParam]) -> Option<(i64, i64)>
     }
 }
 
-/// The two places that a list spells, where absent and 0 are 1, or `default` for the second.
+/// The two positions that a list spells, where absent and 0 are 1, or `default` for the second.
 #[inline(always)]
 pub(crate) fn place_pair(default: u32, params: &[CsiParam]) -> Option<(OneBased, OneBased)>
     requires { 1 ≤ default }
     ensures { result ≡ place_pair default params.now }
 {
     let (a, b) = two_numbers(params)?;
-    Some((place(1, a)?, place(default, b)?))
+    Some((position(1, a)?, position(default, b)?))
 }
 
 /// 1 where a `;` stands at a place of the list, else 0.
 #[inline(always)]
-pub(crate) fn semicolon_at(params: &[CsiParam], place: usize) -> usize
-    ensures same { result ≡ semicolon_at params.now place }
+pub(crate) fn semicolon_at(params: &[CsiParam], position: usize) -> usize
+    ensures same { result ≡ semicolon_at params.now position }
     ensures small { result ≤ 1 }
 {
-    match params.get(place) {
+    match params.get(position) {
         Some(CsiParam::P(b';')) => 1,
         _ => 0,
     }
 }
 
-/// What stands behind the first `len` tokens.
+/// What follows the first `len` tokens.
 #[inline(always)]
-pub(crate) fn behind(params: &[CsiParam], len: usize) -> &[CsiParam]
+pub(crate) fn after(params: &[CsiParam], len: usize) -> &[CsiParam]
     requires { len ≤ length params.now }
     ensures { result.now ≡ drop len params.now }
 {

@@ -95,7 +95,7 @@ impl CSI {
             params,
             truncated: parameters_truncated,
             control,
-            place: ParamCursor::start(),
+            position: ParamCursor::start(),
         }
     }
 
@@ -125,7 +125,7 @@ pub struct CSIParser<'a> {
     params: &'a [CsiParam],
     truncated: bool,
     control: char,
-    place: ParamCursor,
+    position: ParamCursor,
 }
 
 impl<'a> Model for CSIParser<'a> {
@@ -136,7 +136,7 @@ impl<'a> Model for CSIParser<'a> {
 
     ghost use Rattle.csi_codec.specs.Parsing.{actions_from};
 
-    ghost view = { λ s. actions_from s.place s.params.now s.truncated s.control };
+    ghost view = { λ s. actions_from s.position s.params.now s.truncated s.control };
 }
 
 impl<'a> Iterator for CSIParser<'a> {
@@ -152,7 +152,7 @@ impl<'a> Iterator for CSIParser<'a> {
 
     #[inline(always)]
     fn next(&mut self) -> Option<Result<CSI, AllocError>> {
-        self.place
+        self.position
             .next(self.alloc, self.params, self.truncated, self.control)
     }
 }

@@ -94,7 +94,7 @@ fn colon_form(kind: i64, params: &[CsiParam]) -> Option<(ColorSpec, usize)>
     }
 }
 
-/// The opaque colour told with `:` by what stands behind its kind.
+/// The opaque colour told with `:` by what follows its kind.
 #[tactic(auto, unfolding(crate::specs::Rendition::colour_form))]
 fn colon_opaque(params: &[CsiParam]) -> Option<(ColorSpec, usize)>
     ensures { result ≡ colour_form (P 58 ∷ Integer (pos 2) ∷ params.now) }
@@ -134,7 +134,7 @@ fn colon_opaque(params: &[CsiParam]) -> Option<(ColorSpec, usize)>
     }
 }
 
-/// The colour with an alpha told with `:` by what stands behind its kind and a `:`.
+/// The colour with an alpha told with `:` by what follows its kind and a `:`.
 #[tactic(auto, unfolding(crate::specs::Rendition::colour_form))]
 fn colon_alpha(params: &[CsiParam]) -> Option<(ColorSpec, usize)>
     ensures { result ≡ colour_form (P 58 ∷ Integer (pos 6) ∷ P 58 ∷ params.now) }
@@ -155,7 +155,7 @@ fn colon_alpha(params: &[CsiParam]) -> Option<(ColorSpec, usize)>
     }
 }
 
-/// The colour that the longest form at the front of a list names, and how many tokens the form takes.
+/// The colour that the longest form at the start of a list names, and how many tokens the form takes.
 #[tactic(auto, unfolding(crate::specs::Rendition::colour_form))]
 fn color_form(params: &[CsiParam]) -> Option<(ColorSpec, usize)>
     ensures form { result ≡ colour_form params.now }
@@ -183,7 +183,7 @@ fn underline_numbered(kind: i64) -> Option<Underline>
     }
 }
 
-/// `4:k` where there is such an underline, else `4` alone; `params` is what stands behind the 4.
+/// `4:k` where there is such an underline, else `4` alone; `params` is what follows the 4.
 fn underline_shape(params: &[CsiParam]) -> Option<(Sgr, usize)>
     ensures shape { result ≡ underline_shape params.now }
     ensures short { IfSome result (λ found. found.1 ≤ 3) }
@@ -247,7 +247,7 @@ fn single_code(code: u8) -> Option<Sgr>
     }
 }
 
-/// What the longest shape at the front of a list that begins with a number stands for, and how many tokens it takes.
+/// What the longest shape at the start of a list that begins with a number stands for, and how many tokens it takes.
 #[tactic(auto, unfolding(crate::specs::Rendition::numbered_shape))]
 fn numbered_shape(value: i64, params: &[CsiParam]) -> Option<(Sgr, usize)>
     ensures shape { result ≡ numbered_shape value params.now }
@@ -268,7 +268,7 @@ fn numbered_shape(value: i64, params: &[CsiParam]) -> Option<(Sgr, usize)>
     }
 }
 
-/// What the longest shape at the front of a list stands for, and how many tokens it takes.
+/// What the longest shape at the start of a list stands for, and how many tokens it takes.
 #[tactic(auto, unfolding(crate::specs::Rendition::sgr_shape))]
 fn sgr_shape(params: &[CsiParam]) -> Option<(Sgr, usize)>
     ensures shape { result ≡ sgr_shape params.now }
@@ -282,7 +282,7 @@ fn sgr_shape(params: &[CsiParam]) -> Option<(Sgr, usize)>
     }
 }
 
-/// What the group at the front of a list stands for, and how many tokens it takes with the `;` right behind it.
+/// What the group at the start of a list stands for, and how many tokens it takes with the `;` right after it.
 #[tactic(auto, unfolding(crate::specs::Rendition::sgr_group))]
 pub(crate) fn sgr_group(params: &[CsiParam]) -> Option<(Sgr, usize)>
     ensures { result ≡ sgr_group params.now }

@@ -9,7 +9,7 @@ use crate::one_based::OneBased;
 use crate::text::SequenceText;
 use std::fmt;
 
-/// What is written as a control sequence: parameters and a final byte behind `ESC [`.
+/// What is written as a control sequence: parameters and a final byte after `ESC [`.
 pub(crate) trait ControlSequence {
     ghost spelling: { Self → Spelled };
 
@@ -63,7 +63,7 @@ pub(crate) fn put_count(count: u32, control: u8, text: &mut SequenceText)
     }
 }
 
-/// Two places, both written.
+/// Two positions, both written.
 pub(crate) fn put_pair(a: OneBased, b: OneBased, control: u8, text: &mut SequenceText)
     requires { control < 128 }
     ensures { text.new ≡ sequence_text (spelled (pair_tokens a b) control) }

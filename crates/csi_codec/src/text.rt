@@ -6,7 +6,7 @@ ghost use Rattle.csi_codec.specs.Writing.{are_digits};
 use std::marker::Model;
 use std::str;
 
-/// The most bytes that a text has room for: more than `ESC [`, two places and a final byte take.
+/// The most bytes that a text has room for: more than `ESC [`, two positions and a final byte take.
 const ROOM: usize = 32;
 
 /// The numbers 0 to 255, each in three bytes, the digits first.
@@ -143,13 +143,13 @@ impl SequenceText {
         unsafe { str::from_utf8_unchecked(&self.bytes[..self.len]) }
     }
 
-    /// What stands behind `ESC [`.
+    /// What follows `ESC [`.
     #[inline(always)]
     pub(crate) fn parameters(&self) -> &str
         requires { (parameters : List ℕ) × (self.now ≡ 27 ∷ 91 ∷ parameters) }
         ensures { result.now ≡ drop 2 self.now }
     {
-        // SAFETY: what stands behind two characters of ASCII is UTF-8.
+        // SAFETY: what follows two characters of ASCII is UTF-8.
         unsafe { str::from_utf8_unchecked(&self.bytes[2..self.len]) }
     }
 
@@ -162,7 +162,7 @@ impl SequenceText {
     }
 }
 
-/// The digits of a number, and blanks behind them.
+/// The digits of a number, and blanks after them.
 #[inline(always)]
 fn digits(number: u8) -> (u8, u8, u8)
     ensures { IsTrue (are_digits number result.0 result.1 result.2) }

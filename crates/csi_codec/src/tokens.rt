@@ -144,7 +144,7 @@ impl Parameters {
         }
     }
 
-    /// Reads the parameter bytes at the front in place of what was read before, and answers how many there are.
+    /// Reads the parameter bytes at the start in place of what was read before, and answers how many there are.
     #[inline(always)]
     pub fn read(&mut self, bytes: &[u8]) -> usize
         ensures count { result ≡ prefix_len in_parameters bytes.now }
@@ -154,7 +154,7 @@ impl Parameters {
         self.push_all(bytes)
     }
 
-    /// Reads the parameter bytes at the front, and answers how many there are.
+    /// Reads the parameter bytes at the start, and answers how many there are.
     #[inline(always)]
     pub fn push_all(&mut self, bytes: &[u8]) -> usize
         ensures count { result ≡ prefix_len in_parameters bytes.now }

@@ -65,10 +65,10 @@ prints_last s ds c n e = by_shape s e
     no_print : (xs : List Dispatch) → PrintNone xs → xs ≡ ds ++ Print c ∷ [] → ⊥
     no_print xs p k = none_last ds c (subst PrintNone k p)
 
-    alone : (d : ℕ) (front : List Dispatch) → Print d ∷ [] ≡ front ++ Print c ∷ [] → d ≡ c
+    alone : (d : ℕ) (prefix : List Dispatch) → Print d ∷ [] ≡ prefix ++ Print c ∷ [] → d ≡ c
     alone d [] k = cc
     alone d (x ∷ []) k = cc
-    alone d (x ∷ y ∷ front) k = cc
+    alone d (x ∷ y ∷ prefix) k = cc
 
     by_shape : (s : Segment) → dispatches_of s ≡ ds ++ Print c ∷ [] → s ≡ Character c
     by_shape (Character d) k = ap Character (alone d ds k)
@@ -127,7 +127,7 @@ holds_character (s ∷ segments) ds c n e = by_part (falls (dispatches_of s) (fl
         let k : length (bytes_of s) ≡ length (encode_utf8 c) = ap (λ (x : Segment). length (bytes_of x)) (prints_last s ds c n f) in
         omega (arith, k, length-append (bytes_of s) (flat_map bytes_of segments))
 
--- ---- a character at the front of a seven-bit form
+-- ---- a character at the start of a seven-bit form
 
 -- no byte is ESC
 abbrev NoEscape : List ℕ → Type 0
@@ -143,7 +143,7 @@ no_escape_in c s p = by_kind (spelled c s)
     by_kind (in_three g l t e) = subst NoEscape (sym e) (λ k. omega arith, (λ k. omega arith, (λ k. omega arith, tt)))
     by_kind (in_four g l e) = subst NoEscape (sym e) (λ k. omega arith, (λ k. omega arith, (λ k. omega arith, (λ k. omega arith, tt))))
 
--- bytes at the front of the form are those of the stream
+-- bytes at the start of the form are those of the stream
 front_is : (p s l : List ℕ) → NoEscape p → seven_bit s ≡ p ++ l → (rest : List ℕ) × (s ≡ p ++ rest)
 front_is [] s l n e = (s, refl)
 front_is (a ∷ p) [] l n e = cc
@@ -158,183 +158,183 @@ front_is (a ∷ p) (x ∷ y ∷ s) l n e = ⊎_elim
 
 -- ---- one byte
 
--- What a byte hands out: each dispatch by itself, or at last a character to lend, and nothing is held behind it.
-data HandsOut (start place : ℕ) (ds : List Dispatch) (after : Held) : Type 0 where
-  each_alone : IsAlone start place ds → HandsOut start place ds after
-  last_lent : (front : List Dispatch) (c : ℕ) → IsLendable c → ds ≡ front ++ Print c ∷ [] → IsAlone start place front → is_lent start place c ≡ true → after ≡ nothing_held → HandsOut start place ds after
+-- What a byte hands out: each dispatch by itself, or at last a character to lend, and nothing is held after it.
+data HandsOut (start offset : ℕ) (ds : List Dispatch) (after : Held) : Type 0 where
+  each_alone : IsAlone start offset ds → HandsOut start offset ds after
+  last_lent : (prefix : List Dispatch) (c : ℕ) → IsLendable c → ds ≡ prefix ++ Print c ∷ [] → IsAlone start offset prefix → is_lent start offset c ≡ true → after ≡ nothing_held → HandsOut start offset ds after
 
-lent_is_other : (start place c : ℕ) → is_lent start place c ≡ true → c ≢ 0xFFFD
-lent_is_other start place c h e = let k : true ≡ false = sym h ∙ never_lent start place c e in cc
+lent_is_other : (start offset c : ℕ) → is_lent start offset c ≡ true → c ≢ 0xFFFD
+lent_is_other start offset c h e = let k : true ≡ false = sym h ∙ never_lent start offset c e in cc
 
-lent_within : (start place c : ℕ) → is_lent start place c ≡ true → start + length (encode_utf8 c) ≤ place
-lent_within start place c h = leb-true _ _ (and_parts (not (c == 0xFFFD)) (nat_le (start + length (encode_utf8 c)) place) h).1
+lent_within : (start offset c : ℕ) → is_lent start offset c ≡ true → start + length (encode_utf8 c) ≤ offset
+lent_within start offset c h = leb-true _ _ (and_parts (not (c == 0xFFFD)) (nat_le (start + length (encode_utf8 c)) offset) h).1
 
-of_ending : (start place b : ℕ) (p : List ℕ) (ds : List Dispatch) (h : Held) → Ending p b ds h.kept h.waiting → HandsOut start place ds h
-of_ending start place b p ds h (goes_on e f) = each_alone (subst (IsAlone start place) (sym e) (λ placed. refl))
-of_ending start place b p ds h (prints c s q e f g w) = ⊎_elim
-    (λ k. last_lent [] c (s, q, lent_is_other start place c k) f (λ placed. refl) k (λ i. record { kept = g i; waiting = w i }))
-    (λ k. each_alone (subst (IsAlone start place) (sym f) (print_alone start place c [] k (λ placed. refl))))
-    (cases_Bool (is_lent start place c))
-of_ending start place b p ds h (quiet q g w) = each_alone (none_alone start place ds q)
-of_ending start place b p ds h (replaces f g w) = each_alone (subst (IsAlone start place) (sym f) (print_alone start place 0xFFFD [] (never_lent start place 0xFFFD refl) (λ placed. refl)))
+of_ending : (start offset b : ℕ) (p : List ℕ) (ds : List Dispatch) (h : Held) → Ending p b ds h.kept h.waiting → HandsOut start offset ds h
+of_ending start offset b p ds h (goes_on e f) = each_alone (subst (IsAlone start offset) (sym e) (λ placed. refl))
+of_ending start offset b p ds h (prints c s q e f g w) = ⊎_elim
+    (λ k. last_lent [] c (s, q, lent_is_other start offset c k) f (λ placed. refl) k (λ i. record { kept = g i; waiting = w i }))
+    (λ k. each_alone (subst (IsAlone start offset) (sym f) (print_alone start offset c [] k (λ placed. refl))))
+    (cases_Bool (is_lent start offset c))
+of_ending start offset b p ds h (quiet q g w) = each_alone (none_alone start offset ds q)
+of_ending start offset b p ds h (replaces f g w) = each_alone (subst (IsAlone start offset) (sym f) (print_alone start offset 0xFFFD [] (never_lent start offset 0xFFFD refl) (λ placed. refl)))
 
-of_printing : (start place b : ℕ) (p : List ℕ) (ds : List Dispatch) (h : Held) → Printing p b ds h.kept h.waiting → HandsOut start place ds h
-of_printing start place b p ds h (whole_one t) = of_ending start place b p ds h t
-of_printing start place b p ds h (breaks_one others e t) = after_broken (of_ending start place b [] others h t)
+of_printing : (start offset b : ℕ) (p : List ℕ) (ds : List Dispatch) (h : Held) → Printing p b ds h.kept h.waiting → HandsOut start offset ds h
+of_printing start offset b p ds h (whole_one t) = of_ending start offset b p ds h t
+of_printing start offset b p ds h (breaks_one remaining e t) = after_broken (of_ending start offset b [] remaining h t)
   where
-    never : is_lent start place 0xFFFD ≡ false
-    never = never_lent start place 0xFFFD refl
+    never : is_lent start offset 0xFFFD ≡ false
+    never = never_lent start offset 0xFFFD refl
 
-    after_broken : HandsOut start place others h → HandsOut start place ds h
-    after_broken (each_alone a) = each_alone (subst (IsAlone start place) (sym e) (print_alone start place 0xFFFD others never a))
-    after_broken (last_lent front c l f a k n) = last_lent (Print 0xFFFD ∷ front) c l (e ∙ ap (λ (x : List Dispatch). Print 0xFFFD ∷ x) f) (print_alone start place 0xFFFD front never a) k n
+    after_broken : HandsOut start offset remaining h → HandsOut start offset ds h
+    after_broken (each_alone a) = each_alone (subst (IsAlone start offset) (sym e) (print_alone start offset 0xFFFD remaining never a))
+    after_broken (last_lent prefix c l f a k n) = last_lent (Print 0xFFFD ∷ prefix) c l (e ∙ ap (λ (x : List Dispatch). Print 0xFFFD ∷ x) f) (print_alone start offset 0xFFFD prefix never a) k n
 
-step_hands_out : (stream : List ℕ) (b start place : ℕ) → HandsOut start place (held_step (held_of stream) b).dispatches (held_step (held_of stream) b).held
-step_hands_out stream b start place = ⊎_elim
-    (λ e. each_alone (none_alone start place (held_step (held_of stream) b).dispatches (held_body (held_of stream) b (stream_sound stream) e).0))
-    (λ e. of_printing start place b (begun_bytes (held_of stream)) (held_step (held_of stream) b).dispatches (held_step (held_of stream) b).held (held_prints (held_of stream) b (stream_sound stream) e))
+step_hands_out : (stream : List ℕ) (b start offset : ℕ) → HandsOut start offset (held_step (held_of stream) b).dispatches (held_step (held_of stream) b).held
+step_hands_out stream b start offset = ⊎_elim
+    (λ e. each_alone (none_alone start offset (held_step (held_of stream) b).dispatches (held_body (held_of stream) b (stream_sound stream) e).0))
+    (λ e. of_printing start offset b (begun_bytes (held_of stream)) (held_step (held_of stream) b).dispatches (held_step (held_of stream) b).held (held_prints (held_of stream) b (stream_sound stream) e))
     (cases_Bool (is_body (held_of stream).kept))
 
-byte_hands_out : (stream : List ℕ) (b start place : ℕ) → HandsOut start place (newly_decided stream (b ∷ [])) (held_of (stream ++ b ∷ []))
-byte_hands_out stream b start place =
+byte_hands_out : (stream : List ℕ) (b start offset : ℕ) → HandsOut start offset (newly_decided stream (b ∷ [])) (held_of (stream ++ b ∷ []))
+byte_hands_out stream b start offset =
     let d = step_decides stream b in
-    subst (λ (ds : List Dispatch). HandsOut start place ds (held_of (stream ++ b ∷ []))) (sym d.0)
-    (subst (λ (h : Held). HandsOut start place (held_step (held_of stream) b).dispatches h) (sym d.1) (step_hands_out stream b start place))
+    subst (λ (ds : List Dispatch). HandsOut start offset ds (held_of (stream ++ b ∷ []))) (sym d.0)
+    (subst (λ (h : Held). HandsOut start offset (held_step (held_of stream) b).dispatches h) (sym d.1) (step_hands_out stream b start offset))
 
 -- a character to lend is put before what follows
-lends_text : (start place c : ℕ) (ds front : List Dispatch) (placed : List (ℕ × Dispatch)) → ds ≡ front ++ Print c ∷ [] → IsAlone start place front → is_lent start place c ≡ true
-    → framed start (at_place place ds ++ placed) ≡ map Single front ++ put_text (place - length (encode_utf8 c)) (encode_utf8 c) (framed start placed)
-lends_text start place c ds front placed e a k =
-    let one : List (ℕ × Dispatch) = at_place place (Print c ∷ []) in
-    ap (λ (l : List Dispatch). framed start (at_place place l ++ placed)) e
-    ∙ ap (λ (l : List (ℕ × Dispatch)). framed start (l ++ placed)) (map-append (λ d. (place, d)) front (Print c ∷ []))
-    ∙ ap (framed start) (append_assoc (at_place place front) one placed)
+lends_text : (start offset c : ℕ) (ds prefix : List Dispatch) (placed : List (ℕ × Dispatch)) → ds ≡ prefix ++ Print c ∷ [] → IsAlone start offset prefix → is_lent start offset c ≡ true
+    → framed start (at_place offset ds ++ placed) ≡ map Single prefix ++ put_text (offset - length (encode_utf8 c)) (encode_utf8 c) (framed start placed)
+lends_text start offset c ds prefix placed e a k =
+    let one : List (ℕ × Dispatch) = at_place offset (Print c ∷ []) in
+    ap (λ (l : List Dispatch). framed start (at_place offset l ++ placed)) e
+    ∙ ap (λ (l : List (ℕ × Dispatch)). framed start (l ++ placed)) (map-append (λ d. (offset, d)) prefix (Print c ∷ []))
+    ∙ ap (framed start) (append_assoc (at_place offset prefix) one placed)
     ∙ a (one ++ placed)
     ∙ (rw k refl)
 
 -- ---- items in a row
 
-no_items : (before : List Framed) (i : Framed) (others : List Framed) → [] ≡ before ++ i ∷ others → ⊥
-no_items [] i others e = cc
-no_items (x ∷ before) i others e = cc
+no_items : (before : List Framed) (i : Framed) (remaining : List Framed) → [] ≡ before ++ i ∷ remaining → ⊥
+no_items [] i remaining e = cc
+no_items (x ∷ before) i remaining e = cc
 
--- behind dispatches by themselves
-after_single : (xs : List Dispatch) (rest before : List Framed) (from : ℕ) (text : List ℕ) (others : List Framed) → map Single xs ++ rest ≡ before ++ Text from text ∷ others
-    → (front : List Framed) × (rest ≡ front ++ Text from text ∷ others)
-after_single [] rest before from text others e = (before, e)
-after_single (x ∷ xs) rest [] from text others e = cc
-after_single (x ∷ xs) rest (y ∷ before) from text others e = after_single xs rest before from text others (let k : map Single xs ++ rest ≡ before ++ Text from text ∷ others = cc in k)
+-- after dispatches by themselves
+after_single : (xs : List Dispatch) (rest before : List Framed) (from : ℕ) (text : List ℕ) (remaining : List Framed) → map Single xs ++ rest ≡ before ++ Text from text ∷ remaining
+    → (prefix : List Framed) × (rest ≡ prefix ++ Text from text ∷ remaining)
+after_single [] rest before from text remaining e = (before, e)
+after_single (x ∷ xs) rest [] from text remaining e = cc
+after_single (x ∷ xs) rest (y ∷ before) from text remaining e = after_single xs rest before from text remaining (let k : map Single xs ++ rest ≡ before ++ Text from text ∷ remaining = cc in k)
 
 -- some of those before a text
-record Left (xs ds : List Dispatch) (rest : List Framed) (next : ℕ) (more : List ℕ) (others : List Framed) : Type 0 where
+record Left (xs ds : List Dispatch) (rest : List Framed) (next : ℕ) (more : List ℕ) (remaining : List Framed) : Type 0 where
   left : List Dispatch
   joined : ds ≡ xs ++ left
-  behind : rest ≡ map Single left ++ Text next more ∷ others
+  after : rest ≡ map Single left ++ Text next more ∷ remaining
 
-left_of : (xs ds : List Dispatch) (rest : List Framed) (next : ℕ) (more : List ℕ) (others : List Framed) → map Single xs ++ rest ≡ map Single ds ++ Text next more ∷ others → Left xs ds rest next more others
-left_of [] ds rest next more others e = record { left = ds; joined = refl; behind = e }
-left_of (x ∷ xs) [] rest next more others e = cc
-left_of (x ∷ xs) (d ∷ ds) rest next more others e =
-    let k = left_of xs ds rest next more others (let f : map Single xs ++ rest ≡ map Single ds ++ Text next more ∷ others = cc in f) in
+left_of : (xs ds : List Dispatch) (rest : List Framed) (next : ℕ) (more : List ℕ) (remaining : List Framed) → map Single xs ++ rest ≡ map Single ds ++ Text next more ∷ remaining → Left xs ds rest next more remaining
+left_of [] ds rest next more remaining e = record { left = ds; joined = refl; after = e }
+left_of (x ∷ xs) [] rest next more remaining e = cc
+left_of (x ∷ xs) (d ∷ ds) rest next more remaining e =
+    let k = left_of xs ds rest next more remaining (let f : map Single xs ++ rest ≡ map Single ds ++ Text next more ∷ remaining = cc in f) in
     let same : d ≡ x = cc in
-    record { left = k.left; joined = (λ i. same i ∷ k.joined i); behind = k.behind }
+    record { left = k.left; joined = (λ i. same i ∷ k.joined i); after = k.after }
 
 -- a text that is put begins the items
 record Begins (from : ℕ) (items : List Framed) : Type 0 where
   text : List ℕ
-  others : List Framed
-  are : items ≡ Text from text ∷ others
+  remaining : List Framed
+  are : items ≡ Text from text ∷ remaining
 
 put_begins : (from : ℕ) (text : List ℕ) (rest : List Framed) → Begins from (put_text from text rest)
-put_begins from text [] = record { text = text; others = []; are = refl }
-put_begins from text (Single d ∷ rest) = record { text = text; others = Single d ∷ rest; are = refl }
+put_begins from text [] = record { text = text; remaining = []; are = refl }
+put_begins from text (Single d ∷ rest) = record { text = text; remaining = Single d ∷ rest; are = refl }
 put_begins from text (Text next more ∷ rest) =
-    cond_both (next == from + length text) _ _ (Begins from) (λ e. record { text = text ++ more; others = rest; are = refl }) (λ e. record { text = text; others = Text next more ∷ rest; are = refl })
+    cond_both (next == from + length text) _ _ (Begins from) (λ e. record { text = text ++ more; remaining = rest; are = refl }) (λ e. record { text = text; remaining = Text next more ∷ rest; are = refl })
 
-first_is : (from : ℕ) (text : List ℕ) (rest : List Framed) (ds : List Dispatch) (next : ℕ) (more : List ℕ) (others : List Framed) → put_text from text rest ≡ map Single ds ++ Text next more ∷ others → (ds ≡ []) × (from ≡ next)
-first_is from text rest ds next more others e = by_dispatches ds (sym (put_begins from text rest).are ∙ e)
+first_is : (from : ℕ) (text : List ℕ) (rest : List Framed) (ds : List Dispatch) (next : ℕ) (more : List ℕ) (remaining : List Framed) → put_text from text rest ≡ map Single ds ++ Text next more ∷ remaining → (ds ≡ []) × (from ≡ next)
+first_is from text rest ds next more remaining e = by_dispatches ds (sym (put_begins from text rest).are ∙ e)
   where
-    by_dispatches : (ds : List Dispatch) → Text from (put_begins from text rest).text ∷ (put_begins from text rest).others ≡ map Single ds ++ Text next more ∷ others → (ds ≡ []) × (from ≡ next)
+    by_dispatches : (ds : List Dispatch) → Text from (put_begins from text rest).text ∷ (put_begins from text rest).remaining ≡ map Single ds ++ Text next more ∷ remaining → (ds ≡ []) × (from ≡ next)
     by_dispatches [] k = (refl, cc)
     by_dispatches (d ∷ ds) k = cc
 
 -- Where a text stands once another was put before the items: it is that one, or it stood there and ended where it ends now.
-data Put (first : ℕ) (characters : List ℕ) (rest : List Framed) (from : ℕ) (text : List ℕ) (others : List Framed) : Type 0 where
-  is_put : others ≡ rest → first + length characters ≡ from + length text → ((next : ℕ) (more : List ℕ) (behind : List Framed) → rest ≡ Text next more ∷ behind → next ≢ first + length characters) → Put first characters rest from text others
-  stood : (before : List Framed) (old : ℕ) (shown : List ℕ) → rest ≡ before ++ Text old shown ∷ others → old + length shown ≡ from + length text → Put first characters rest from text others
+data Put (first : ℕ) (characters : List ℕ) (rest : List Framed) (from : ℕ) (text : List ℕ) (remaining : List Framed) : Type 0 where
+  is_put : remaining ≡ rest → first + length characters ≡ from + length text → ((next : ℕ) (more : List ℕ) (after : List Framed) → rest ≡ Text next more ∷ after → next ≢ first + length characters) → Put first characters rest from text remaining
+  stood : (before : List Framed) (old : ℕ) (shown : List ℕ) → rest ≡ before ++ Text old shown ∷ remaining → old + length shown ≡ from + length text → Put first characters rest from text remaining
 
-put_where : (first : ℕ) (characters : List ℕ) (rest before : List Framed) (from : ℕ) (text : List ℕ) (others : List Framed) → put_text first characters rest ≡ before ++ Text from text ∷ others → Put first characters rest from text others
-put_where first characters [] [] from text others e =
-    let k : [] ≡ others = cc in
+put_where : (first : ℕ) (characters : List ℕ) (rest before : List Framed) (from : ℕ) (text : List ℕ) (remaining : List Framed) → put_text first characters rest ≡ before ++ Text from text ∷ remaining → Put first characters rest from text remaining
+put_where first characters [] [] from text remaining e =
+    let k : [] ≡ remaining = cc in
     let f : first ≡ from = cc in
     let t : characters ≡ text = cc in
-    is_put (sym k) (λ i. f i + length (t i)) (λ next more behind m. cc)
-put_where first characters [] (y ∷ before) from text others e = absurd (no_items before (Text from text) others (let k : [] ≡ before ++ Text from text ∷ others = cc in k))
-put_where first characters (Single d ∷ rest) [] from text others e =
-    let k : Single d ∷ rest ≡ others = cc in
+    is_put (sym k) (λ i. f i + length (t i)) (λ next more after m. cc)
+put_where first characters [] (y ∷ before) from text remaining e = absurd (no_items before (Text from text) remaining (let k : [] ≡ before ++ Text from text ∷ remaining = cc in k))
+put_where first characters (Single d ∷ rest) [] from text remaining e =
+    let k : Single d ∷ rest ≡ remaining = cc in
     let f : first ≡ from = cc in
     let t : characters ≡ text = cc in
-    is_put (sym k) (λ i. f i + length (t i)) (λ next more behind m. cc)
-put_where first characters (Single d ∷ rest) (y ∷ before) from text others e = stood before from text (let k : Single d ∷ rest ≡ before ++ Text from text ∷ others = cc in k) refl
-put_where first characters (Text next more ∷ rest) before from text others e =
+    is_put (sym k) (λ i. f i + length (t i)) (λ next more after m. cc)
+put_where first characters (Single d ∷ rest) (y ∷ before) from text remaining e = stood before from text (let k : Single d ∷ rest ≡ before ++ Text from text ∷ remaining = cc in k) refl
+put_where first characters (Text next more ∷ rest) before from text remaining e =
     ⊎_elim (λ k. joins before (eqb-true next (first + length characters) k) (rw k at e)) (λ k. apart before (eqb-false next (first + length characters) k) (rw k at e)) (cases_Bool (next == first + length characters))
   where
-    joins : (before : List Framed) → next ≡ first + length characters → Text first (characters ++ more) ∷ rest ≡ before ++ Text from text ∷ others → Put first characters (Text next more ∷ rest) from text others
+    joins : (before : List Framed) → next ≡ first + length characters → Text first (characters ++ more) ∷ rest ≡ before ++ Text from text ∷ remaining → Put first characters (Text next more ∷ rest) from text remaining
     joins [] n k =
         let f : first ≡ from = cc in
         let t : characters ++ more ≡ text = cc in
-        let r : rest ≡ others = cc in
+        let r : rest ≡ remaining = cc in
         stood [] next more (λ i. Text next more ∷ r i) (omega (arith, n, f, ap length t, length-append characters more))
     joins (y ∷ before) n k =
-        let r : rest ≡ before ++ Text from text ∷ others = cc in
+        let r : rest ≡ before ++ Text from text ∷ remaining = cc in
         stood (Text next more ∷ before) from text (λ i. Text next more ∷ r i) refl
 
-    apart : (before : List Framed) → next ≢ first + length characters → Text first characters ∷ Text next more ∷ rest ≡ before ++ Text from text ∷ others → Put first characters (Text next more ∷ rest) from text others
+    apart : (before : List Framed) → next ≢ first + length characters → Text first characters ∷ Text next more ∷ rest ≡ before ++ Text from text ∷ remaining → Put first characters (Text next more ∷ rest) from text remaining
     apart [] n k =
-        let r : Text next more ∷ rest ≡ others = cc in
+        let r : Text next more ∷ rest ≡ remaining = cc in
         let f : first ≡ from = cc in
         let t : characters ≡ text = cc in
-        is_put (sym r) (λ i. f i + length (t i)) (λ m l behind g. let same : next ≡ m = cc in subst (λ (a : ℕ). a ≢ first + length characters) same n)
-    apart (y ∷ before) n k = stood before from text (let r : Text next more ∷ rest ≡ before ++ Text from text ∷ others = cc in r) refl
+        is_put (sym r) (λ i. f i + length (t i)) (λ m l after g. let same : next ≡ m = cc in subst (λ (a : ℕ). a ≢ first + length characters) same n)
+    apart (y ∷ before) n k = stood before from text (let r : Text next more ∷ rest ≡ before ++ Text from text ∷ remaining = cc in r) refl
 
 -- ---- up to the next text
 
--- Behind a stream, the bytes hand these dispatches out, and then a text that begins behind so many bytes: the first of them
+-- After a stream, the bytes hand these dispatches out, and then a text that begins after so many bytes: the first of them
 -- are read up to its first character.
-record Reaches (front bytes : List ℕ) (ds : List Dispatch) (next : ℕ) : Type 0 where
+record Reaches (prefix bytes : List ℕ) (ds : List Dispatch) (next : ℕ) : Type 0 where
   read : List ℕ
   left : List ℕ
   character : ℕ
   lendable : IsLendable character
   split : bytes ≡ read ++ left
-  says : newly_decided front read ≡ ds ++ Print character ∷ []
-  place : next + length (encode_utf8 character) ≡ length front + length read
-  nothing : held_of (front ++ read) ≡ nothing_held
+  says : newly_decided prefix read ≡ ds ++ Print character ∷ []
+  offset : next + length (encode_utf8 character) ≡ length prefix + length read
+  nothing : held_of (prefix ++ read) ≡ nothing_held
 
-reaches : (bytes front : List ℕ) (start : ℕ) (ds : List Dispatch) (next : ℕ) (more : List ℕ) (others : List Framed) → framed start (placed_from front bytes) ≡ map Single ds ++ Text next more ∷ others → Reaches front bytes ds next
-reaches [] front start ds next more others e = absurd (no_items (map Single ds) (Text next more) others e)
-reaches (b ∷ bytes) front start ds next more others e = by_step (byte_hands_out front b start (length front + 1)) (λ left k. reaches bytes (front ++ b ∷ []) start left next more others k)
+reaches : (bytes prefix : List ℕ) (start : ℕ) (ds : List Dispatch) (next : ℕ) (more : List ℕ) (remaining : List Framed) → framed start (placed_from prefix bytes) ≡ map Single ds ++ Text next more ∷ remaining → Reaches prefix bytes ds next
+reaches [] prefix start ds next more remaining e = absurd (no_items (map Single ds) (Text next more) remaining e)
+reaches (b ∷ bytes) prefix start ds next more remaining e = by_step (byte_hands_out prefix b start (length prefix + 1)) (λ left k. reaches bytes (prefix ++ b ∷ []) start left next more remaining k)
   where
-    by_step : HandsOut start (length front + 1) (newly_decided front (b ∷ [])) (held_of (front ++ b ∷ []))
-        → ((left : List Dispatch) → framed start (placed_from (front ++ b ∷ []) bytes) ≡ map Single left ++ Text next more ∷ others → Reaches (front ++ b ∷ []) bytes left next)
-        → Reaches front (b ∷ bytes) ds next
+    by_step : HandsOut start (length prefix + 1) (newly_decided prefix (b ∷ [])) (held_of (prefix ++ b ∷ []))
+        → ((left : List Dispatch) → framed start (placed_from (prefix ++ b ∷ []) bytes) ≡ map Single left ++ Text next more ∷ remaining → Reaches (prefix ++ b ∷ []) bytes left next)
+        → Reaches prefix (b ∷ bytes) ds next
     by_step (each_alone a) later =
-        let l = left_of (newly_decided front (b ∷ [])) ds (framed start (placed_from (front ++ b ∷ []) bytes)) next more others (sym (a (placed_from (front ++ b ∷ []) bytes)) ∙ e) in
-        let w = later l.left l.behind in
+        let l = left_of (newly_decided prefix (b ∷ [])) ds (framed start (placed_from (prefix ++ b ∷ []) bytes)) next more remaining (sym (a (placed_from (prefix ++ b ∷ []) bytes)) ∙ e) in
+        let w = later l.left l.after in
         record {
           read = b ∷ w.read;
           left = w.left;
           character = w.character;
           lendable = w.lendable;
           split = ap (λ (x : List ℕ). b ∷ x) w.split;
-          says = newly_join front (b ∷ []) w.read ∙ ap (λ (x : List Dispatch). newly_decided front (b ∷ []) ++ x) w.says ∙ sym (append_assoc (newly_decided front (b ∷ [])) l.left (Print w.character ∷ [])) ∙ ap (λ (x : List Dispatch). x ++ Print w.character ∷ []) (sym l.joined);
-          place = omega (arith, w.place, length-append front (b ∷ []));
-          nothing = ap held_of (sym (append_assoc front (b ∷ []) w.read)) ∙ w.nothing;
+          says = newly_join prefix (b ∷ []) w.read ∙ ap (λ (x : List Dispatch). newly_decided prefix (b ∷ []) ++ x) w.says ∙ sym (append_assoc (newly_decided prefix (b ∷ [])) l.left (Print w.character ∷ [])) ∙ ap (λ (x : List Dispatch). x ++ Print w.character ∷ []) (sym l.joined);
+          offset = omega (arith, w.offset, length-append prefix (b ∷ []));
+          nothing = ap held_of (sym (append_assoc prefix (b ∷ []) w.read)) ∙ w.nothing;
         }
     by_step (last_lent f c l g a k n) later =
-        let put : List Framed = put_text (length front + 1 - length (encode_utf8 c)) (encode_utf8 c) (framed start (placed_from (front ++ b ∷ []) bytes)) in
-        let x = left_of f ds put next more others (sym (lends_text start (length front + 1) c (newly_decided front (b ∷ [])) f (placed_from (front ++ b ∷ []) bytes) g a k) ∙ e) in
-        let i = first_is (length front + 1 - length (encode_utf8 c)) (encode_utf8 c) (framed start (placed_from (front ++ b ∷ []) bytes)) x.left next more others x.behind in
+        let put : List Framed = put_text (length prefix + 1 - length (encode_utf8 c)) (encode_utf8 c) (framed start (placed_from (prefix ++ b ∷ []) bytes)) in
+        let x = left_of f ds put next more remaining (sym (lends_text start (length prefix + 1) c (newly_decided prefix (b ∷ [])) f (placed_from (prefix ++ b ∷ []) bytes) g a k) ∙ e) in
+        let i = first_is (length prefix + 1 - length (encode_utf8 c)) (encode_utf8 c) (framed start (placed_from (prefix ++ b ∷ []) bytes)) x.left next more remaining x.after in
         let same : ds ≡ f = x.joined ∙ ap (λ (y : List Dispatch). f ++ y) i.0 ∙ append-nil f in
         record {
           read = b ∷ [];
@@ -343,13 +343,13 @@ reaches (b ∷ bytes) front start ds next more others e = by_step (byte_hands_ou
           lendable = l;
           split = refl;
           says = g ∙ ap (λ (y : List Dispatch). y ++ Print c ∷ []) (sym same);
-          place = omega (arith, i.1, lent_within start (length front + 1) c k);
+          offset = omega (arith, i.1, lent_within start (length prefix + 1) c k);
           nothing = n;
         }
 
 -- ---- between two texts
 
--- between the places stands a segment, and what it hands out are the first of these dispatches
+-- between the positions stands a segment, and what it hands out are the first of these dispatches
 pub record IsBetween (stream : List ℕ) (from to : ℕ) (ds : List Dispatch) : Type 0 where
   pub segment : Segment
   pub lies : LiesBetween stream from to segment
@@ -361,20 +361,20 @@ whole_dispatches : (s : List ℕ) → held_of s ≡ nothing_held → dispatches 
 whole_dispatches s h = ap (λ (t : Tail). flat_map dispatches_of (the_cut s).segments ++ decided_of t) (idle_is_whole s h) ∙ append-nil _
 
 -- from where nothing is held up to the next text
-idle_between : (bytes front : List ℕ) (start : ℕ) (ds : List Dispatch) (next : ℕ) (more : List ℕ) (others : List Framed) → held_of front ≡ nothing_held → start ≤ length front
-    → framed start (placed_from front bytes) ≡ map Single ds ++ Text next more ∷ others → ((ds ≡ []) × (next ≡ length front)) ⊎ IsBetween (front ++ bytes) (length front) next ds
-idle_between bytes front start ds next more others idle l e = by_segments (the_cut w.read).segments refl
+idle_between : (bytes prefix : List ℕ) (start : ℕ) (ds : List Dispatch) (next : ℕ) (more : List ℕ) (remaining : List Framed) → held_of prefix ≡ nothing_held → start ≤ length prefix
+    → framed start (placed_from prefix bytes) ≡ map Single ds ++ Text next more ∷ remaining → ((ds ≡ []) × (next ≡ length prefix)) ⊎ IsBetween (prefix ++ bytes) (length prefix) next ds
+idle_between bytes prefix start ds next more remaining idle l e = by_segments (the_cut w.read).segments refl
   where
-    w : Reaches front bytes ds next
-    w = reaches bytes front start ds next more others e
+    w : Reaches prefix bytes ds next
+    w = reaches bytes prefix start ds next more remaining e
 
     held : held_of w.read ≡ nothing_held
-    held = sym (ap (λ (h : Held). (hand_out h w.read).held) idle) ∙ sym (held_append front w.read) ∙ w.nothing
+    held = sym (ap (λ (h : Held). (hand_out h w.read).held) idle) ∙ sym (held_append prefix w.read) ∙ w.nothing
 
     says : flat_map dispatches_of (the_cut w.read).segments ≡ ds ++ Print w.character ∷ []
-    says = sym (whole_dispatches w.read held) ∙ decided w.read ∙ ap (λ (h : Held). (hand_out h w.read).dispatches) (sym idle) ∙ sym (newly_handed front w.read) ∙ w.says
+    says = sym (whole_dispatches w.read held) ∙ decided w.read ∙ ap (λ (h : Held). (hand_out h w.read).dispatches) (sym idle) ∙ sym (newly_handed prefix w.read) ∙ w.says
 
-    by_segments : (segments : List Segment) → segments ≡ (the_cut w.read).segments → ((ds ≡ []) × (next ≡ length front)) ⊎ IsBetween (front ++ bytes) (length front) next ds
+    by_segments : (segments : List Segment) → segments ≡ (the_cut w.read).segments → ((ds ≡ []) × (next ≡ length prefix)) ⊎ IsBetween (prefix ++ bytes) (length prefix) next ds
     by_segments [] k = absurd (none ds (ap (flat_map dispatches_of) k ∙ says))
       where
         none : (xs : List Dispatch) → [] ≡ xs ++ Print w.character ∷ [] → ⊥
@@ -382,18 +382,18 @@ idle_between bytes front start ds next more others idle l e = by_segments (the_c
         none (x ∷ xs) m = cc
     by_segments (s ∷ segments) k = by_part (falls (dispatches_of s) (flat_map dispatches_of segments) ds (Print w.character) (ap (flat_map dispatches_of) k ∙ says))
       where
-        by_part : Falls (dispatches_of s) (flat_map dispatches_of segments) ds (Print w.character) → ((ds ≡ []) × (next ≡ length front)) ⊎ IsBetween (front ++ bytes) (length front) next ds
+        by_part : Falls (dispatches_of s) (flat_map dispatches_of segments) ds (Print w.character) → ((ds ≡ []) × (next ≡ length prefix)) ⊎ IsBetween (prefix ++ bytes) (length prefix) next ds
         by_part (in_second rest f g) =
             let long = holds_character segments rest w.character w.lendable.2 g in
             let all : length (bytes_of s ++ flat_map bytes_of segments) ≡ length w.read = ap (λ (x : List Segment). length (flat_map bytes_of x)) k ∙ whole_length w.read held in
-            let place = w.place in
+            let offset = w.offset in
             inr (record {
               segment = s;
               lies = record {
-                place = length front;
-                stands = subst (λ (x : List ℕ). Contains (placed_segments (front ++ x)) (length front, s)) (sym w.split) (stands_after front w.read w.left s segments idle held k);
-                behind = omega arith;
-                before = omega (arith, long, all, place, length-append (bytes_of s) (flat_map bytes_of segments));
+                offset = length prefix;
+                stands = subst (λ (x : List ℕ). Contains (placed_segments (prefix ++ x)) (length prefix, s)) (sym w.split) (stands_after prefix w.read w.left s segments idle held k);
+                after = omega arith;
+                before = omega (arith, long, all, offset, length-append (bytes_of s) (flat_map bytes_of segments));
               };
               rest = rest;
               first = f;
@@ -404,49 +404,49 @@ idle_between bytes front start ds next more others idle l e = by_segments (the_c
             = sym (whole_form w.read held) ∙ ap (flat_map bytes_of) (sym k) ∙ ap (λ (x : Segment). bytes_of x ++ flat_map bytes_of segments) is in
             let stands = front_is (encode w.character) w.read (flat_map bytes_of segments) (no_escape_in w.character w.lendable.0 w.lendable.1) form in
             let split : bytes ≡ encode w.character ++ (stands.0 ++ w.left) = w.split ∙ ap (λ (x : List ℕ). x ++ w.left) stands.1 ∙ append_assoc (encode w.character) stands.0 w.left in
-            let put : framed start (placed_from front bytes) ≡ put_text (length front) (encode w.character) (framed start (placed_after (length front + length (encode w.character)) nothing_held (stands.0 ++ w.left)))
-            = ap (framed start) (sym (placed_same bytes front))
-            ∙ (λ i. framed start (placed_after (length front) (idle i) (split i)))
-            ∙ lent_character start (length front) w.character (stands.0 ++ w.left) w.lendable l in
-            let b = first_is (length front) (encode w.character) (framed start (placed_after (length front + length (encode w.character)) nothing_held (stands.0 ++ w.left))) ds next more others (sym put ∙ e) in
+            let put : framed start (placed_from prefix bytes) ≡ put_text (length prefix) (encode w.character) (framed start (placed_after (length prefix + length (encode w.character)) nothing_held (stands.0 ++ w.left)))
+            = ap (framed start) (sym (placed_same bytes prefix))
+            ∙ (λ i. framed start (placed_after (length prefix) (idle i) (split i)))
+            ∙ lent_character start (length prefix) w.character (stands.0 ++ w.left) w.lendable l in
+            let b = first_is (length prefix) (encode w.character) (framed start (placed_after (length prefix + length (encode w.character)) nothing_held (stands.0 ++ w.left))) ds next more remaining (sym put ∙ e) in
             inl (b.0, sym b.1)
 
 -- between two texts with nothing but dispatches between them
-pub texts_between : (bytes front : List ℕ) (start : ℕ) (before : List Framed) (from : ℕ) (text : List ℕ) (ds : List Dispatch) (next : ℕ) (more : List ℕ) (others : List Framed) → start ≤ length front
-    → framed start (placed_from front bytes) ≡ before ++ Text from text ∷ (map Single ds ++ Text next more ∷ others) → IsBetween (front ++ bytes) (from + length text) next ds
-texts_between [] front start before from text ds next more others l e = absurd (no_items before (Text from text) (map Single ds ++ Text next more ∷ others) e)
-texts_between (b ∷ bytes) front start before from text ds next more others l e =
-    by_step (byte_hands_out front b start (length front + 1))
-    (λ lead old shown k. texts_between bytes (front ++ b ∷ []) start lead old shown ds next more others (omega (arith, length-append front (b ∷ []))) k)
+pub texts_between : (bytes prefix : List ℕ) (start : ℕ) (before : List Framed) (from : ℕ) (text : List ℕ) (ds : List Dispatch) (next : ℕ) (more : List ℕ) (remaining : List Framed) → start ≤ length prefix
+    → framed start (placed_from prefix bytes) ≡ before ++ Text from text ∷ (map Single ds ++ Text next more ∷ remaining) → IsBetween (prefix ++ bytes) (from + length text) next ds
+texts_between [] prefix start before from text ds next more remaining l e = absurd (no_items before (Text from text) (map Single ds ++ Text next more ∷ remaining) e)
+texts_between (b ∷ bytes) prefix start before from text ds next more remaining l e =
+    by_step (byte_hands_out prefix b start (length prefix + 1))
+    (λ lead old shown k. texts_between bytes (prefix ++ b ∷ []) start lead old shown ds next more remaining (omega (arith, length-append prefix (b ∷ []))) k)
   where
-    joined : (from : ℕ) → IsBetween ((front ++ b ∷ []) ++ bytes) from next ds → IsBetween (front ++ b ∷ bytes) from next ds
-    joined from h = subst (λ (s : List ℕ). IsBetween s from next ds) (append_assoc front (b ∷ []) bytes) h
+    joined : (from : ℕ) → IsBetween ((prefix ++ b ∷ []) ++ bytes) from next ds → IsBetween (prefix ++ b ∷ bytes) from next ds
+    joined from h = subst (λ (s : List ℕ). IsBetween s from next ds) (append_assoc prefix (b ∷ []) bytes) h
 
-    by_step : HandsOut start (length front + 1) (newly_decided front (b ∷ [])) (held_of (front ++ b ∷ []))
-        → ((lead : List Framed) (old : ℕ) (shown : List ℕ) → framed start (placed_from (front ++ b ∷ []) bytes) ≡ lead ++ Text old shown ∷ (map Single ds ++ Text next more ∷ others) → IsBetween ((front ++ b ∷ []) ++ bytes) (old + length shown) next ds)
-        → IsBetween (front ++ b ∷ bytes) (from + length text) next ds
+    by_step : HandsOut start (length prefix + 1) (newly_decided prefix (b ∷ [])) (held_of (prefix ++ b ∷ []))
+        → ((lead : List Framed) (old : ℕ) (shown : List ℕ) → framed start (placed_from (prefix ++ b ∷ []) bytes) ≡ lead ++ Text old shown ∷ (map Single ds ++ Text next more ∷ remaining) → IsBetween ((prefix ++ b ∷ []) ++ bytes) (old + length shown) next ds)
+        → IsBetween (prefix ++ b ∷ bytes) (from + length text) next ds
     by_step (each_alone a) later =
-        let k = after_single (newly_decided front (b ∷ [])) (framed start (placed_from (front ++ b ∷ []) bytes)) before from text (map Single ds ++ Text next more ∷ others) (sym (a (placed_from (front ++ b ∷ []) bytes)) ∙ e) in
+        let k = after_single (newly_decided prefix (b ∷ [])) (framed start (placed_from (prefix ++ b ∷ []) bytes)) before from text (map Single ds ++ Text next more ∷ remaining) (sym (a (placed_from (prefix ++ b ∷ []) bytes)) ∙ e) in
         joined (from + length text) (later k.0 from text k.1)
     by_step (last_lent f c y g a t n) later =
-        by_put (put_where (length front + 1 - length (encode_utf8 c)) (encode_utf8 c) (framed start (placed_from (front ++ b ∷ []) bytes)) x.0 from text (map Single ds ++ Text next more ∷ others) x.1)
+        by_put (put_where (length prefix + 1 - length (encode_utf8 c)) (encode_utf8 c) (framed start (placed_from (prefix ++ b ∷ []) bytes)) x.0 from text (map Single ds ++ Text next more ∷ remaining) x.1)
       where
-        x : (lead : List Framed) × (put_text (length front + 1 - length (encode_utf8 c)) (encode_utf8 c) (framed start (placed_from (front ++ b ∷ []) bytes)) ≡ lead ++ Text from text ∷ (map Single ds ++ Text next more ∷ others))
-        x = after_single f (put_text (length front + 1 - length (encode_utf8 c)) (encode_utf8 c) (framed start (placed_from (front ++ b ∷ []) bytes))) before from text (map Single ds ++ Text next more ∷ others)
-            (sym (lends_text start (length front + 1) c (newly_decided front (b ∷ [])) f (placed_from (front ++ b ∷ []) bytes) g a t) ∙ e)
+        x : (lead : List Framed) × (put_text (length prefix + 1 - length (encode_utf8 c)) (encode_utf8 c) (framed start (placed_from (prefix ++ b ∷ []) bytes)) ≡ lead ++ Text from text ∷ (map Single ds ++ Text next more ∷ remaining))
+        x = after_single f (put_text (length prefix + 1 - length (encode_utf8 c)) (encode_utf8 c) (framed start (placed_from (prefix ++ b ∷ []) bytes))) before from text (map Single ds ++ Text next more ∷ remaining)
+            (sym (lends_text start (length prefix + 1) c (newly_decided prefix (b ∷ [])) f (placed_from (prefix ++ b ∷ []) bytes) g a t) ∙ e)
 
-        by_put : Put (length front + 1 - length (encode_utf8 c)) (encode_utf8 c) (framed start (placed_from (front ++ b ∷ []) bytes)) from text (map Single ds ++ Text next more ∷ others)
-            → IsBetween (front ++ b ∷ bytes) (from + length text) next ds
-        by_put (stood lead old shown r m) = subst (λ (p : ℕ). IsBetween (front ++ b ∷ bytes) p next ds) m (joined (old + length shown) (later lead old shown r))
+        by_put : Put (length prefix + 1 - length (encode_utf8 c)) (encode_utf8 c) (framed start (placed_from (prefix ++ b ∷ []) bytes)) from text (map Single ds ++ Text next more ∷ remaining)
+            → IsBetween (prefix ++ b ∷ bytes) (from + length text) next ds
+        by_put (stood lead old shown r m) = subst (λ (p : ℕ). IsBetween (prefix ++ b ∷ bytes) p next ds) m (joined (old + length shown) (later lead old shown r))
         by_put (is_put same ends other) =
-            let at : length (front ++ b ∷ []) ≡ from + length text = omega (arith, ends, lent_within start (length front + 1) c t, length-append front (b ∷ [])) in
-            by_case at (idle_between bytes (front ++ b ∷ []) start ds next more others n (omega (arith, length-append front (b ∷ []))) (sym same))
+            let at : length (prefix ++ b ∷ []) ≡ from + length text = omega (arith, ends, lent_within start (length prefix + 1) c t, length-append prefix (b ∷ [])) in
+            by_case at (idle_between bytes (prefix ++ b ∷ []) start ds next more remaining n (omega (arith, length-append prefix (b ∷ []))) (sym same))
           where
-            by_case : length (front ++ b ∷ []) ≡ from + length text → ((ds ≡ []) × (next ≡ length (front ++ b ∷ []))) ⊎ IsBetween ((front ++ b ∷ []) ++ bytes) (length (front ++ b ∷ [])) next ds → IsBetween (front ++ b ∷ bytes) (from + length text) next ds
+            by_case : length (prefix ++ b ∷ []) ≡ from + length text → ((ds ≡ []) × (next ≡ length (prefix ++ b ∷ []))) ⊎ IsBetween ((prefix ++ b ∷ []) ++ bytes) (length (prefix ++ b ∷ [])) next ds → IsBetween (prefix ++ b ∷ bytes) (from + length text) next ds
             by_case at (inl (nil, here)) =
-                let k : framed start (placed_from (front ++ b ∷ []) bytes) ≡ Text next more ∷ others = sym same ∙ ap (λ (l : List Dispatch). map Single l ++ Text next more ∷ others) nil in
-                absurd (other next more others k (omega (arith, here, at, ends)))
-            by_case at (inr h) = subst (λ (p : ℕ). IsBetween (front ++ b ∷ bytes) p next ds) at (joined (length (front ++ b ∷ [])) h)
+                let k : framed start (placed_from (prefix ++ b ∷ []) bytes) ≡ Text next more ∷ remaining = sym same ∙ ap (λ (l : List Dispatch). map Single l ++ Text next more ∷ remaining) nil in
+                absurd (other next more remaining k (omega (arith, here, at, ends)))
+            by_case at (inr h) = subst (λ (p : ℕ). IsBetween (prefix ++ b ∷ bytes) p next ds) at (joined (length (prefix ++ b ∷ [])) h)
 
 -- two texts side by side
 pub side_by_side : (stream bytes : List ℕ) (before after : List Framed) (from next : ℕ) (text more : List ℕ) → framed (length stream) (placed_from stream bytes) ≡ before ++ Text from text ∷ Text next more ∷ after

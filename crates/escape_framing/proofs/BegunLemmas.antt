@@ -13,7 +13,7 @@ length-tail t (inl e) = omega (arith, ap length e)
 length-tail t (inr (c, [], s, e, n, m)) = absurd (m refl)
 length-tail t (inr (c, y ∷ more, s, e, n, m)) = let k = len_utf8_bounds c in omega (arith, ap length e, length-append t (y ∷ more), length-encode c)
 
--- no front of a tail is a text, with one byte behind it neither
+-- no prefix of a tail is a text, with one byte after it neither
 pub no_text_in_tail : (t : List ℕ) (b n : ℕ) → IsUnfinished (Begun t) → IsUtf8 (take n (t ++ b ∷ [])) → n < length (t ++ b ∷ []) → n ≡ 0
 no_text_in_tail t b zero g u l = refl
 no_text_in_tail t b (suc n) g u l =

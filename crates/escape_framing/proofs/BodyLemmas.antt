@@ -1,11 +1,11 @@
--- Where a body or a header is read behind some bytes.
+-- Where a body or a header is read after some bytes.
 use Rattle.std.proofs.Common.{◌≡◌, ◌⊎◌, inl, inr, ℕ, zero, suc, ◌+◌, List, [], ◌∷◌, take, drop, false, sym, ap, subst, ◌∙◌, arith}
 use Rattle.std.proofs.Math.Seq.{take-add}
 use Rattle.escape_framing.specs.Held.{InCharacter, InDevice, Held, Handed, TakesMemory, hand_out}
 use Rattle.escape_framing.specs.Read.{TakesMemoryAt}
 use Rattle.escape_framing.proofs.HeldLemmas.{hand_append}
 
--- behind bytes that were read whole
+-- after bytes that were read whole
 pub opens_read : (old after : Held) (bytes : List ℕ) (n : ℕ) → (hand_out old (take n bytes)).held ≡ after → (m : ℕ) → TakesMemoryAt after (drop n bytes) m → TakesMemoryAt old bytes (n + m)
 opens_read old after bytes n e m t =
     subst (λ (h : Held). TakesMemory h.kept)
@@ -16,7 +16,7 @@ opens_read old after bytes n e m t =
 pub none_more : (held : Held) (bytes : List ℕ) (m : ℕ) → TakesMemoryAt held bytes m → TakesMemoryAt held bytes (0 + m)
 none_more held bytes m t = let e : m ≡ 0 + m = omega arith in subst (TakesMemoryAt held bytes) e t
 
--- behind what was closed for a byte that is left unread
+-- after what was closed for a byte that is left unread
 pub opens_left : (old new : Held) (b : ℕ) (rest : List ℕ) → ((xs : List ℕ) → (hand_out old (b ∷ xs)).held ≡ (hand_out new (b ∷ xs)).held) → (TakesMemory new.kept → ⊥) → (m : ℕ) → TakesMemoryAt new (b ∷ rest) m
     → TakesMemoryAt old (b ∷ rest) (0 + m)
 unfolding hand_out

@@ -24,7 +24,7 @@ use Rattle.std.proofs.lemmas.Bool.{cases_eq, false_from_ne_true, or_right, le-le
 -- what the first bytes of a character to lend are
 pub record Lead (b : ℕ) (rest : List ℕ) : Type 0 where
   pub outer : Inner b → ⊥
-  pub behind : b ≡ 0xC2 → (y : ℕ) × (others : List ℕ) × (rest ≡ y ∷ others) × (0x9F < y) × (y ≢ 0xC2)
+  pub after : b ≡ 0xC2 → (y : ℕ) × (remaining : List ℕ) × (rest ≡ y ∷ remaining) × (0x9F < y) × (y ≢ 0xC2)
 
 pub lead_of : (c b : ℕ) (rest more : List ℕ) → IsLendable c → b ∷ rest ≡ encode c ++ more → Lead b rest
 lead_of c b rest more l e = by_kind (spelled c l.0)
@@ -37,20 +37,20 @@ lead_of c b rest more l e = by_kind (spelled c l.0)
     by_kind (in_one g k) =
         let m : b ∷ rest ≡ c ∷ [] ++ more = e ∙ ap (λ (x : List ℕ). x ++ more) k in
         let n : b ≡ c = cc in
-        record { outer = λ i. let o = i.least in omega arith; behind = λ q. absurd (omega arith) }
+        record { outer = λ i. let o = i.least in omega arith; after = λ q. absurd (omega arith) }
     by_kind (in_two g h k) =
         let m : b ∷ rest ≡ (192 + c / 64) ∷ (128 + c % 64) ∷ more = e ∙ ap (λ (x : List ℕ). x ++ more) k in
         let n : b ≡ 192 + c / 64 = cc in
         let r : rest ≡ (128 + c % 64) ∷ more = cc in
-        record { outer = λ i. let o = i.most in omega arith; behind = λ q. (128 + c % 64, more, r, above l.1 g q n, λ z. omega arith) }
+        record { outer = λ i. let o = i.most in omega arith; after = λ q. (128 + c % 64, more, r, above l.1 g q n, λ z. omega arith) }
     by_kind (in_three g h t k) =
         let m : b ∷ rest ≡ (224 + c / 4096) ∷ (128 + (c / 64) % 64) ∷ (128 + c % 64) ∷ more = e ∙ ap (λ (x : List ℕ). x ++ more) k in
         let n : b ≡ 224 + c / 4096 = cc in
-        record { outer = λ i. let o = i.most in omega arith; behind = λ q. absurd (omega arith) }
+        record { outer = λ i. let o = i.most in omega arith; after = λ q. absurd (omega arith) }
     by_kind (in_four g h k) =
         let m : b ∷ rest ≡ (240 + c / 262144) ∷ (128 + (c / 4096) % 64) ∷ (128 + (c / 64) % 64) ∷ (128 + c % 64) ∷ more = e ∙ ap (λ (x : List ℕ). x ++ more) k in
         let n : b ≡ 240 + c / 262144 = cc in
-        record { outer = λ i. let o = i.most in omega arith; behind = λ q. absurd (omega arith) }
+        record { outer = λ i. let o = i.most in omega arith; after = λ q. absurd (omega arith) }
 
 -- ---- a character that has begun is broken
 
@@ -108,7 +108,7 @@ same_goes h b rest e = record {
   keeps = ap (λ (x : Handed). (hand_out x.held rest).held) e;
 }
 
--- a C2 and the byte behind it
+-- a C2 and the byte after it
 lead_goes : (k : Kept) (y : ℕ) (rest : List ℕ) → interrupted k ≡ steps [] k → waiting_step k y ≡ waiting_step (InCharacter []) y → GoesOn (record { kept = k; waiting = false }) (0xC2 ∷ y ∷ rest) [] nothing_held
 unfolding placed_after hand_out held_step fresh_step
 lead_goes k y rest i e = record {
@@ -132,7 +132,7 @@ cut_goes k b rest h l i cuts s lead = ⊎_elim twice (λ n. same_goes (record { 
 
     twice : b ≡ 0xC2 → GoesOn (record { kept = k; waiting = false }) (b ∷ rest) [] nothing_held
     twice e =
-        let y = lead.behind e in
+        let y = lead.after e in
         let c1 : is_c1 0xC2 y.0 ≡ false = above y.0 y.3 in
         let g : GoesOn (record { kept = k; waiting = false }) (0xC2 ∷ y.0 ∷ y.1) [] nothing_held = lead_goes k y.0 y.1 i (other_waiting k y.0 s h c1 ∙ sym (other_waiting (InCharacter []) y.0 (inl refl, λ z. refl) refl c1)) in
         subst (λ (l : List ℕ). GoesOn (record { kept = k; waiting = false }) l [] nothing_held) (λ j. sym e j ∷ sym y.2 j) g

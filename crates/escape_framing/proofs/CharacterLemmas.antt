@@ -17,7 +17,7 @@ use Rattle.escape_framing.proofs.Existence.OutcomeLemmas.{Outcome, whole, begun,
 use Rattle.escape_framing.proofs.Existence.StepLemmas.{adds_in_character}
 use Rattle.escape_framing.proofs.BegunLemmas.{length-tail}
 
--- ---- places in the four bytes
+-- ---- positions in the four bytes
 
 pub take_set : (l : List ℕ) (n b : ℕ) → n < length l → take (n + 1) (set l n b) ≡ take n l ++ b ∷ []
 take_set l n b h = grind (arith, common_steps)
@@ -53,8 +53,8 @@ begun_more l bytes b g e k = let h = subst (λ m. IsUnfinished (Begun m)) (sym e
 -- ---- what is handed out
 
 pub waits_goes : (o : Own) (l v : List ℕ) (b : ℕ) → o ≡ own.Waits → l ≡ b ∷ [] → v ≡ [] → steps [] (InCharacter (b ∷ [])) ≡ character_step [] b → step_of o l ≡ character_step v b
-waits_goes o l v b is front none e =
-    ap (λ (x : Own). step_of x l) is ∙ ap (λ (m : List ℕ). steps [] (InCharacter m)) front ∙ e ∙ ap (λ m. character_step m b) (sym none)
+waits_goes o l v b is prefix none e =
+    ap (λ (x : Own). step_of x l) is ∙ ap (λ (m : List ℕ). steps [] (InCharacter m)) prefix ∙ e ∙ ap (λ m. character_step m b) (sym none)
 
 pub broken_step : (x : ℕ) (t : List ℕ) (b : ℕ) → IsKind (x ∷ t ++ b ∷ []) kind.Broken → before (dispatch.Print 0xFFFD ∷ []) (character_step [] b) ≡ character_step (x ∷ t) b
 unfolding character_step in_character

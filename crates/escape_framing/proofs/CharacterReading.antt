@@ -19,9 +19,9 @@ use Rattle.std.proofs.lemmas.Bool.{cases_Bool, eqb-true, cond_both}
 same_char : (c d : ℕ) → encode c ≡ encode d → c ≡ d
 same_char c d e = (encode_same c d [] [] (ap (λ l. l ++ []) e)).0
 
--- ---- one byte behind the first ones of a character
+-- ---- one byte after the first ones of a character
 
--- ESC is no front of a longer character
+-- ESC is no prefix of a longer character
 one_is_all : (c : ℕ) (more : List ℕ) → encode c ≡ 0x1B ∷ more → more ≡ []
 one_is_all c more e = sym (encode_same c 0x1B [] more (append_nil (encode c) ∙ e ∙ ap (λ l. l ++ more) (sym (encode_ascii 0x1B (omega arith))))).1
 
@@ -63,13 +63,13 @@ reads_begun bytes rest (inr (c, more, s, e, n, m)) = reads_front [] bytes rest (
 
 -- a list that isn't empty, cut before its last
 record Last (xs : List ℕ) : Type 0 where
-  front : List ℕ
+  prefix : List ℕ
   last : ℕ
-  is : xs ≡ front ++ last ∷ []
+  is : xs ≡ prefix ++ last ∷ []
 
 last_of : (x : ℕ) (xs : List ℕ) → Last (x ∷ xs)
-last_of x [] = record { front = []; last = x; is = refl }
-last_of x (y ∷ xs) = let l = last_of y xs in record { front = x ∷ l.front; last = l.last; is = ap (λ m. x ∷ m) l.is }
+last_of x [] = record { prefix = []; last = x; is = refl }
+last_of x (y ∷ xs) = let l = last_of y xs in record { prefix = x ∷ l.prefix; last = l.last; is = ap (λ m. x ∷ m) l.is }
 
 last_byte : (c : ℕ) → Last (encode c)
 last_byte c = by_list (encode c) refl
@@ -110,15 +110,15 @@ ends_character c b p s e n g = by_outcome p e (outcome p b g)
 reads_scalar : (c : ℕ) (f : List ℕ) → IsScalar c → c ≢ 0x1B → read_on (Begun []) (encode c ++ f) ≡ after (segment_of (encode c) c) (read_on (Begun []) f)
 reads_scalar c f s n =
     let l = last_byte c in
-    let g : IsUnfinished (Begun l.front) = front l.front l.last l.is in
+    let g : IsUnfinished (Begun l.prefix) = prefix l.prefix l.last l.is in
     ap (λ m. read_on (Begun []) (m ++ f)) l.is
-    ∙ ap (read_on (Begun [])) (append_assoc l.front (l.last ∷ []) f)
-    ∙ reads_begun l.front (l.last ∷ f) g
-    ∙ step_ends (Begun l.front) (segment_of (encode c) c) l.last f (ends_character c l.last l.front s l.is n g ∙ ap (λ m. ends (segment_of m c)) (sym l.is))
+    ∙ ap (read_on (Begun [])) (append_assoc l.prefix (l.last ∷ []) f)
+    ∙ reads_begun l.prefix (l.last ∷ f) g
+    ∙ step_ends (Begun l.prefix) (segment_of (encode c) c) l.last f (ends_character c l.last l.prefix s l.is n g ∙ ap (λ m. ends (segment_of m c)) (sym l.is))
   where
-    front : (p : List ℕ) (b : ℕ) → encode c ≡ p ++ b ∷ [] → IsUnfinished (Begun p)
-    front [] b e = inl refl
-    front (x ∷ p) b e = inr (c, b ∷ [], s, e, λ h. cc, λ h. cc)
+    prefix : (p : List ℕ) (b : ℕ) → encode c ≡ p ++ b ∷ [] → IsUnfinished (Begun p)
+    prefix [] b e = inl refl
+    prefix (x ∷ p) b e = inr (c, b ∷ [], s, e, λ h. cc, λ h. cc)
 
 pub no_escape : (c : ℕ) → IsPrintable c → c ≢ 0x1B
 no_escape c (inl p) e = omega arith
@@ -160,8 +160,8 @@ pub reads_ill_formed : (p f : List ℕ) → IsSegment (IllFormed p) f → read_o
 unfolding next_byte in_character
 reads_ill_formed p f (inl (b, e, n)) =
     ap (λ l. read_on (Begun []) (l ++ f)) e ∙ step_ends (Begun []) (IllFormed (b ∷ [])) b f (breaks_first b (subst (λ l. BeginsCharacter l → ⊥) e n)) ∙ ap (λ l. after (IllFormed l) (read_on (Begun []) f)) (sym e)
-reads_ill_formed p f (inr (g, (next, others, e, n))) =
+reads_ill_formed p f (inr (g, (next, remaining, e, n))) =
     reads_begun p f (inr g)
     ∙ ap (read_on (Begun p)) e
-    ∙ step_ends_before (Begun p) (IllFormed p) next others (breaks p next g n)
+    ∙ step_ends_before (Begun p) (IllFormed p) next remaining (breaks p next g n)
     ∙ ap (λ l. after (IllFormed p) (read_on (Begun []) l)) (sym e)

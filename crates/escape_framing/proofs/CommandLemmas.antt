@@ -1,4 +1,4 @@
--- Operating system commands that stand whole at the front.
+-- Operating system commands that stand whole at the start.
 use Rattle.std.proofs.Common.{◌≡◌, ◌⊎◌, inl, inr, ℕ, suc, ◌+◌, ◌<◌, ◌≤◌, true, false, List, [], ◌∷◌, ◌++◌, length, map, take, drop, Option, Some, None, refl, sym, ap, subst, ◌∙◌, arith}
 use Rattle.std.proofs.lemmas.List.{drop-drop, length-drop}
 use Rattle.csi_codec.specs.Tokens.{Parameters}
@@ -20,7 +20,7 @@ use Rattle.escape_framing.proofs.FrontLemmas.{reads_run, opening_handed}
 use Rattle.escape_framing.proofs.ReadEventLemmas.{reads_one, reads_left}
 use Rattle.escape_framing.proofs.RunLemmas.{all_pass, quiet_front, body_handed, in_command}
 
--- ---- a run, and an event behind it
+-- ---- a run, and an event after it
 
 reads_after : (old : Held) (bytes : List ℕ) (n m : ℕ) (e : Option Event) (mid l : Lending) → IsReached mid.held → 0 < n → ReadsEvent old bytes (read.Bytes None n) mid → ReadsEvent mid.held (drop n bytes) (read.Bytes e m) l → ReadsEvent old bytes (read.Bytes e (n + m)) l
 reads_after old bytes n m e mid l reached z a b = record {
@@ -57,13 +57,13 @@ bracket_handed = refl
 two_more : (n : ℕ) → n + 2 ≡ suc (suc n)
 two_more n = omega arith
 
-body_silent : (others body : List ℕ) → body ≡ take (prefix_len is_body_byte others) others → IsSilent nothing_held (0x1B ∷ 0x5D ∷ others) (length body + 2) (in_command body)
-body_silent others body k =
-    let l : length body ≡ prefix_len is_body_byte others = ap length k ∙ length-prefix_len is_body_byte others in
-    let t : take (length body + 2) (0x1B ∷ 0x5D ∷ others) ≡ 0x1B ∷ 0x5D ∷ body =
-    ap (λ (n : ℕ). take n (0x1B ∷ 0x5D ∷ others)) (two_more (length body)) ∙ ap (λ (x : List ℕ). 0x1B ∷ 0x5D ∷ x) (ap (λ (n : ℕ). take n others) l ∙ sym k) in
-    quiet_front nothing_held (in_command body) (0x1B ∷ 0x5D ∷ others) (length body + 2) (let m = prefix_len-le-length is_body_byte others in omega (arith, l))
-    (ap (hand_out nothing_held) t ∙ opening_handed 0x5D (in_command []) body bracket_handed ∙ body_handed [] body (subst (λ (x : List ℕ). list_all is_body_byte x ≡ true) (sym k) (all_pass is_body_byte others)))
+body_silent : (remaining body : List ℕ) → body ≡ take (prefix_len is_body_byte remaining) remaining → IsSilent nothing_held (0x1B ∷ 0x5D ∷ remaining) (length body + 2) (in_command body)
+body_silent remaining body k =
+    let l : length body ≡ prefix_len is_body_byte remaining = ap length k ∙ length-prefix_len is_body_byte remaining in
+    let t : take (length body + 2) (0x1B ∷ 0x5D ∷ remaining) ≡ 0x1B ∷ 0x5D ∷ body =
+    ap (λ (n : ℕ). take n (0x1B ∷ 0x5D ∷ remaining)) (two_more (length body)) ∙ ap (λ (x : List ℕ). 0x1B ∷ 0x5D ∷ x) (ap (λ (n : ℕ). take n remaining) l ∙ sym k) in
+    quiet_front nothing_held (in_command body) (0x1B ∷ 0x5D ∷ remaining) (length body + 2) (let m = prefix_len-le-length is_body_byte remaining in omega (arith, l))
+    (ap (hand_out nothing_held) t ∙ opening_handed 0x5D (in_command []) body bracket_handed ∙ body_handed [] body (subst (λ (x : List ℕ). list_all is_body_byte x ≡ true) (sym k) (all_pass is_body_byte remaining)))
     refl
 
 -- ---- its end
@@ -80,15 +80,15 @@ reads_end p body rest b m (inr (e, k)) = subst (λ (n : ℕ). ReadsEvent (in_com
     reads_left (in_command body) 0x1B rest (0x1B ∷ rest) (shown p body) (Some event.OperatingSystemCommand) refl refl
     (record { falls = omega arith; closed = inl refl; waits = λ w. cc; alone = tt })))
 
-pub reads_command : (l : Lending) (bytes others body rest : List ℕ) (b m n : ℕ) → l.held ≡ nothing_held → bytes ≡ 0x1B ∷ 0x5D ∷ others → body ≡ take (prefix_len is_body_byte others) others → drop (length body) others ≡ b ∷ rest
+pub reads_command : (l : Lending) (bytes remaining body rest : List ℕ) (b m n : ℕ) → l.held ≡ nothing_held → bytes ≡ 0x1B ∷ 0x5D ∷ remaining → body ≡ take (prefix_len is_body_byte remaining) remaining → drop (length body) remaining ≡ b ∷ rest
     → (b ≡ 0x07) × (m ≡ 1) ⊎ (b ≡ 0x1B) × (m ≡ 0) → n ≡ length body + 2 + m → ReadsEvent l.held bytes (whole_command n) (record l { body = body })
-reads_command l bytes others body rest b m n h is k d e s =
+reads_command l bytes remaining body rest b m n h is k d e s =
     let begun : Lending = record { held = in_command body; parameters = l.parameters; body = body } in
-    let left : drop (length body + 2) (0x1B ∷ 0x5D ∷ others) ≡ b ∷ rest = ap (λ (x : ℕ). drop x (0x1B ∷ 0x5D ∷ others)) (two_more (length body)) ∙ d in
-    let read_it : ReadsEvent nothing_held (0x1B ∷ 0x5D ∷ others) (whole_command (length body + 2 + m)) (shown l.parameters body) =
-    reads_after nothing_held (0x1B ∷ 0x5D ∷ others) (length body + 2) m (Some event.OperatingSystemCommand) begun (shown l.parameters body) (take (length body + 2) (0x1B ∷ 0x5D ∷ others), sym (body_silent others body k).keeps) (omega arith)
-    (reads_run nothing_held (0x1B ∷ 0x5D ∷ others) (length body + 2) begun (omega arith) (body_silent others body k))
+    let left : drop (length body + 2) (0x1B ∷ 0x5D ∷ remaining) ≡ b ∷ rest = ap (λ (x : ℕ). drop x (0x1B ∷ 0x5D ∷ remaining)) (two_more (length body)) ∙ d in
+    let read_it : ReadsEvent nothing_held (0x1B ∷ 0x5D ∷ remaining) (whole_command (length body + 2 + m)) (shown l.parameters body) =
+    reads_after nothing_held (0x1B ∷ 0x5D ∷ remaining) (length body + 2) m (Some event.OperatingSystemCommand) begun (shown l.parameters body) (take (length body + 2) (0x1B ∷ 0x5D ∷ remaining), sym (body_silent remaining body k).keeps) (omega arith)
+    (reads_run nothing_held (0x1B ∷ 0x5D ∷ remaining) (length body + 2) begun (omega arith) (body_silent remaining body k))
     (subst (λ (x : List ℕ). ReadsEvent (in_command body) x (whole_command m) (shown l.parameters body)) (sym left) (reads_end l.parameters body rest b m e)) in
     subst (λ (x : Held). ReadsEvent x bytes (whole_command n) (record l { held = x; body = body })) (sym h)
     (subst (λ (x : List ℕ). ReadsEvent nothing_held x (whole_command n) (shown l.parameters body)) (sym is)
-    (subst (λ (x : ℕ). ReadsEvent nothing_held (0x1B ∷ 0x5D ∷ others) (whole_command x) (shown l.parameters body)) (sym s) read_it))
+    (subst (λ (x : ℕ). ReadsEvent nothing_held (0x1B ∷ 0x5D ∷ remaining) (whole_command x) (shown l.parameters body)) (sym s) read_it))

@@ -42,9 +42,9 @@ three x y z l m s k = three_bytes x y z l m (λ e. grind (arith, nat_tests)) (λ
 four : (x y z w : ℕ) → 0xF0 ≤ x → x ≤ 0xF4 → second x y ≡ true → continues z ≡ true → continues w ≡ true → Encodes (x ∷ y ∷ z ∷ w ∷ [])
 four x y z w l m s k i = four_bytes x y z w l m (λ e. grind (arith, nat_tests)) (λ e. grind (arith, nat_tests)) (grind (arith, nat_tests)) (grind (arith, nat_tests)) (grind (arith, nat_tests)) (grind (arith, nat_tests)) (grind (arith, nat_tests)) (grind (arith, nat_tests))
 
--- so many bytes at the front
-front : (bytes xs more : List ℕ) (c n : ℕ) → Encodes xs → bytes ≡ xs ++ more → decoded bytes ≡ good c n → Begins bytes c n
-front bytes xs more c n t e h = encoded bytes more t.0 c n t.1 (e ∙ ap (λ (b : List ℕ). b ++ more) (sym t.2)) h
+-- so many bytes at the start
+prefix : (bytes xs more : List ℕ) (c n : ℕ) → Encodes xs → bytes ≡ xs ++ more → decoded bytes ≡ good c n → Begins bytes c n
+prefix bytes xs more c n t e h = encoded bytes more t.0 c n t.1 (e ∙ ap (λ (b : List ℕ). b ++ more) (sym t.2)) h
 
 no_character : (n m c : ℕ) → bad n ≡ good c m → ⊥
 no_character n m c e = let k : None ≡ Some c = ap (λ (p : Decoded). p.char) e in cc
@@ -54,21 +54,21 @@ decoded_is bytes c n h = by_shape bytes h (decoded_by-shape (length bytes) (slic
   where
     by_shape : (bytes : List ℕ) → decoded bytes ≡ good c n → Shape (decoded bytes) (length bytes) (slice_index bytes 0) (slice_index bytes 1) (slice_index bytes 2) (slice_index bytes 3) → Begins bytes c n
     by_shape bytes h (inl p) = absurd (no_character 0 n c (sym p.1 ∙ h))
-    by_shape (x ∷ more) h (inr (inl p)) = front (x ∷ more) (x ∷ []) more c n (x, low_scalar x (omega arith), encode_ascii x p.1) refl h
+    by_shape (x ∷ more) h (inr (inl p)) = prefix (x ∷ more) (x ∷ []) more c n (x, low_scalar x (omega arith), encode_ascii x p.1) refl h
     by_shape _ h (inr (inl p)) = absurd (omega (arith, p.0))
     by_shape bytes h (inr (inr (inl p))) = absurd (no_character 1 n c (sym p.3 ∙ h))
     by_shape bytes h (inr (inr (inr (inl p)))) = absurd (no_character 1 n c (sym p.2 ∙ h))
     by_shape bytes h (inr (inr (inr (inr (inl p))))) = absurd (no_character 1 n c (sym p.4 ∙ h))
     by_shape bytes h (inr (inr (inr (inr (inr (inl p)))))) = absurd (no_character 1 n c (sym p.4 ∙ h))
-    by_shape (x ∷ y ∷ more) h (inr (inr (inr (inr (inr (inr (inl p))))))) = front (x ∷ y ∷ more) (x ∷ y ∷ []) more c n (two x y p.1 p.2 p.3) refl h
+    by_shape (x ∷ y ∷ more) h (inr (inr (inr (inr (inr (inr (inl p))))))) = prefix (x ∷ y ∷ more) (x ∷ y ∷ []) more c n (two x y p.1 p.2 p.3) refl h
     by_shape _ h (inr (inr (inr (inr (inr (inr (inl p))))))) = absurd (omega (arith, p.0))
     by_shape bytes h (inr (inr (inr (inr (inr (inr (inr (inl p)))))))) = absurd (no_character 2 n c (sym p.5 ∙ h))
     by_shape bytes h (inr (inr (inr (inr (inr (inr (inr (inr (inl p))))))))) = absurd (no_character 2 n c (sym p.5 ∙ h))
-    by_shape (x ∷ y ∷ z ∷ more) h (inr (inr (inr (inr (inr (inr (inr (inr (inr (inl p)))))))))) = front (x ∷ y ∷ z ∷ more) (x ∷ y ∷ z ∷ []) more c n (three x y z p.1 p.2 p.3 p.4) refl h
+    by_shape (x ∷ y ∷ z ∷ more) h (inr (inr (inr (inr (inr (inr (inr (inr (inr (inl p)))))))))) = prefix (x ∷ y ∷ z ∷ more) (x ∷ y ∷ z ∷ []) more c n (three x y z p.1 p.2 p.3 p.4) refl h
     by_shape _ h (inr (inr (inr (inr (inr (inr (inr (inr (inr (inl p)))))))))) = absurd (omega (arith, p.0))
     by_shape bytes h (inr (inr (inr (inr (inr (inr (inr (inr (inr (inr (inl p))))))))))) = absurd (no_character 3 n c (sym p.6 ∙ h))
     by_shape bytes h (inr (inr (inr (inr (inr (inr (inr (inr (inr (inr (inr (inl p)))))))))))) = absurd (no_character 3 n c (sym p.6 ∙ h))
-    by_shape (x ∷ y ∷ z ∷ w ∷ more) h (inr (inr (inr (inr (inr (inr (inr (inr (inr (inr (inr (inr p)))))))))))) = front (x ∷ y ∷ z ∷ w ∷ more) (x ∷ y ∷ z ∷ w ∷ []) more c n (four x y z w p.1 p.2 p.3 p.4 p.5) refl h
+    by_shape (x ∷ y ∷ z ∷ w ∷ more) h (inr (inr (inr (inr (inr (inr (inr (inr (inr (inr (inr (inr p)))))))))))) = prefix (x ∷ y ∷ z ∷ w ∷ more) (x ∷ y ∷ z ∷ w ∷ []) more c n (four x y z w p.1 p.2 p.3 p.4 p.5) refl h
     by_shape _ h (inr (inr (inr (inr (inr (inr (inr (inr (inr (inr (inr (inr p)))))))))))) = absurd (omega (arith, p.0))
 
 -- ---- characters that can be lent

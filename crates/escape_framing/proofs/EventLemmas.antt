@@ -95,7 +95,7 @@ fresh_left old new b e w v l = record {
   alone = l.alone;
 }
 
--- ---- a byte behind a C2
+-- ---- a byte after a C2
 
 c1_at : (h : Held) (b : ℕ) → h.waiting ≡ true → is_c1 0xC2 b ≡ true → held_step h b ≡ (let escape = kept_step h.kept 0x1B in handed_after escape (handed (kept_step escape.kept (b - 0x40)) false))
 unfolding held_step waiting_step
@@ -141,7 +141,7 @@ other_read : (old new : Held) (b : ℕ) (ds : List Dispatch) → old.waiting ≡
 unfolding held_step
 other_read old new b ds w v c e = rw v (other_at old b w c ∙ ap (λ (plain : Step). handed_after plain (fresh_step plain.kept b)) e)
 
--- or it hands nothing out, and the byte does what it does behind that
+-- or it hands nothing out, and the byte does what it does after that
 pub other_goes : (old : Held) (middle : Kept) (b : ℕ) (l : Lending) (e : Option Event) (r : Bool) (h : Handed) → old.waiting ≡ true → is_c1 0xC2 b ≡ false → e ≡ None → r ≡ true → l.held.kept ≡ middle → kept_step old.kept 0xC2 ≡ resumed (handed_out l e) l.held.kept r 0xC2 → fresh_step middle b ≡ h
     → held_step old b ≡ h
 other_goes old middle b l e r h w c n z m f g =
@@ -149,7 +149,7 @@ other_goes old middle b l e r h w c n z m f g =
     ∙ ap (λ (plain : Step). handed_after plain (fresh_step plain.kept b)) (f ∙ (λ i. resumed (handed_out l (n i)) (m i) (z i) 0xC2))
     ∙ g
 
--- ---- what is left behind a C2
+-- ---- what is left after a C2
 
 -- a C2 that breaks off a sequence, or ESC
 waiting_left : (old new : Held) (b : ℕ) (e : Option Event) → old.waiting ≡ true → new.waiting ≡ old.waiting → (is_c1 0xC2 b ≡ true) ⊎ (takes_text old b ≡ true) → IsLeft old.kept e new.kept → IsHeldLeft old b e new
@@ -187,17 +187,17 @@ data_alone l (event.Print c) h = cc
 data_alone l _ h = tt
 
 -- the C2 was read with this event, and now no C2 waits
-module _ (old : Held) (b : ℕ) (l x : Lending) (first behind : Stepped) (e : Event) (w : old.waiting ≡ true) (view : x ≡ l) (r : first.is_read ≡ true) (some : first.event ≡ Some e) (is : behind ≡ record { event = Some e; is_read = false })
+module _ (old : Held) (b : ℕ) (l x : Lending) (first after : Stepped) (e : Event) (w : old.waiting ≡ true) (view : x ≡ l) (r : first.is_read ≡ true) (some : first.event ≡ Some e) (is : after ≡ record { event = Some e; is_read = false })
     (s : kept_step old.kept 0xC2 ≡ resumed (handed_out l first.event) l.held.kept first.is_read 0xC2) where
   handed_data : kept_step old.kept 0xC2 ≡ steps (dispatch_in (unwaiting x) e ∷ []) (unwaiting x).held.kept
   handed_data =
       s ∙ (λ i. resumed (handed_out l (some i)) l.held.kept (r i) 0xC2) ∙ (λ i. steps (dispatch_in (sym view i) e ∷ []) (sym view i).held.kept)
       ∙ ap (λ (d : Dispatch). steps (d ∷ []) x.held.kept) (sym (lent_likewise x e))
 
-  pub data_goes : is_c1 0xC2 b ≡ false → held_step old b ≡ held_resumed (handed_out (unwaiting x) behind.event) (unwaiting x).held behind.is_read b
+  pub data_goes : is_c1 0xC2 b ≡ false → held_step old b ≡ held_resumed (handed_out (unwaiting x) after.event) (unwaiting x).held after.is_read b
   data_goes c = other_read old (unwaiting x).held b (dispatch_in (unwaiting x) e ∷ []) w refl c handed_data ∙ (λ i. held_resumed (handed_out (unwaiting x) (sym is i).event) (unwaiting x).held (sym is i).is_read b)
 
-  pub data_is_left : GoesOn old.kept 0xC2 → IsHeldLeft old b behind.event (unwaiting x).held
+  pub data_is_left : GoesOn old.kept 0xC2 → IsHeldLeft old b after.event (unwaiting x).held
   data_is_left g =
       let d = lead_read old.kept x.held.kept (dispatch_in (unwaiting x) e) g handed_data in
       subst (λ (y : Stepped). IsHeldLeft old b y.event (unwaiting x).held) (sym is) (data_left old (unwaiting x).held b (Some e) w refl d.1 (data_alone (unwaiting x) e d.0))

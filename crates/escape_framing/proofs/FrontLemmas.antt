@@ -1,4 +1,4 @@
--- Bytes at the front that hand out one event or none, none of which prints: a run, or a whole control sequence.
+-- Bytes at the start that hand out one event or none, none of which prints: a run, or a whole control sequence.
 use Rattle.std.proofs.Common.{◌≡◌, ℕ, ◌+◌, ◌<◌, ◌≤◌, true, false, List, [], ◌∷◌, ◌++◌, length, map, fold, take, drop, Option, Some, None, IfSome, refl, sym, ap, subst, ◌∙◌, arith, append_assoc, length-append}
 use Rattle.std.specs.Prelude.{◌==◌}
 use Rattle.std.specs.List.{prefix_len, list_all}
@@ -30,46 +30,46 @@ both_none [] ys p = (tt, p)
 both_none (Print c ∷ xs) ys p = absurd p
 both_none (_ ∷ xs) ys p = both_none xs ys p
 
-front_alone : (start count : ℕ) (h : Held) (front rest : List ℕ) → PrintNone (hand_out h front).dispatches
-    → framed_after start count h (front ++ rest) ≡ map Single (hand_out h front).dispatches ++ framed_after start (count + length front) (hand_out h front).held rest
+front_alone : (start count : ℕ) (h : Held) (prefix rest : List ℕ) → PrintNone (hand_out h prefix).dispatches
+    → framed_after start count h (prefix ++ rest) ≡ map Single (hand_out h prefix).dispatches ++ framed_after start (count + length prefix) (hand_out h prefix).held rest
 unfolding placed_after hand_out
 front_alone start count h [] rest p = let k : count ≡ count + 0 = omega arith in ap (λ (n : ℕ). framed_after start n h rest) k
-front_alone start count h (b ∷ front) rest p =
+front_alone start count h (b ∷ prefix) rest p =
     let first = held_step h b in
-    let more = hand_out first.held front in
+    let more = hand_out first.held prefix in
     let q = both_none first.dispatches more.dispatches p in
-    let n : count + 1 + length front ≡ count + length (b ∷ front) = omega arith in
-    none_alone start (count + 1) first.dispatches q.0 (placed_after (count + 1) first.held (front ++ rest))
+    let n : count + 1 + length prefix ≡ count + length (b ∷ prefix) = omega arith in
+    none_alone start (count + 1) first.dispatches q.0 (placed_after (count + 1) first.held (prefix ++ rest))
     ∙ ap (λ (l : List Framed). map Single first.dispatches ++ l)
-    (front_alone start (count + 1) first.held front rest q.1 ∙ ap (λ (m : ℕ). map Single more.dispatches ++ framed_after start m more.held rest) n)
-    ∙ sym (append_assoc (map Single first.dispatches) (map Single more.dispatches) (framed_after start (count + length (b ∷ front)) more.held rest))
-    ∙ ap (λ (l : List Framed). l ++ framed_after start (count + length (b ∷ front)) more.held rest) (sym (map-append Single first.dispatches more.dispatches))
+    (front_alone start (count + 1) first.held prefix rest q.1 ∙ ap (λ (m : ℕ). map Single more.dispatches ++ framed_after start m more.held rest) n)
+    ∙ sym (append_assoc (map Single first.dispatches) (map Single more.dispatches) (framed_after start (count + length (b ∷ prefix)) more.held rest))
+    ∙ ap (λ (l : List Framed). l ++ framed_after start (count + length (b ∷ prefix)) more.held rest) (sym (map-append Single first.dispatches more.dispatches))
 
-frames_front : (h after : Held) (front rest : List ℕ) (ds : List Dispatch) (count : ℕ) → hand_out h front ≡ record { dispatches = ds; held = after } → PrintNone ds → begun_bytes after ≡ [] → IsReached h
-    → Frames count h (front ++ rest) (λ from. map Single ds) (length front) after
-frames_front h after front rest ds count e q z r =
-    let d : (hand_out h front).dispatches ≡ ds = ap (λ (x : Handed). x.dispatches) e in
-    let a : (hand_out h front).held ≡ after = ap (λ (x : Handed). x.held) e in
+frames_front : (h after : Held) (prefix rest : List ℕ) (ds : List Dispatch) (count : ℕ) → hand_out h prefix ≡ record { dispatches = ds; held = after } → PrintNone ds → begun_bytes after ≡ [] → IsReached h
+    → Frames count h (prefix ++ rest) (λ from. map Single ds) (length prefix) after
+frames_front h after prefix rest ds count e q z r =
+    let d : (hand_out h prefix).dispatches ≡ ds = ap (λ (x : Handed). x.dispatches) e in
+    let a : (hand_out h prefix).held ≡ after = ap (λ (x : Handed). x.held) e in
     record {
-      within = omega (arith, length-append front rest);
+      within = omega (arith, length-append prefix rest);
       lends = λ start.
-          front_alone start (start + count) h front rest (subst PrintNone (sym d) q)
-          ∙ (λ i. map Single (d i) ++ framed_after start (start + count + length front) (a i) (sym (drop_at front rest (length front) refl) i));
-      keeps = ap (λ (x : Handed). x.held) (hand_append h front rest) ∙ (λ i. (hand_out (a i) (sym (drop_at front rest (length front) refl) i)).held);
-      reached = (r.0 ++ front, sym a ∙ ap (λ (x : Held). (hand_out x front).held) r.1 ∙ sym (held_append r.0 front));
-      carried = carried_none 0 (count + length front) after (drop (length front) (front ++ rest)) z;
+          front_alone start (start + count) h prefix rest (subst PrintNone (sym d) q)
+          ∙ (λ i. map Single (d i) ++ framed_after start (start + count + length prefix) (a i) (sym (drop_at prefix rest (length prefix) refl) i));
+      keeps = ap (λ (x : Handed). x.held) (hand_append h prefix rest) ∙ (λ i. (hand_out (a i) (sym (drop_at prefix rest (length prefix) refl) i)).held);
+      reached = (r.0 ++ prefix, sym a ∙ ap (λ (x : Held). (hand_out x prefix).held) r.1 ∙ sym (held_append r.0 prefix));
+      carried = carried_none 0 (count + length prefix) after (drop (length prefix) (prefix ++ rest)) z;
     }
 
-reads_front : (old : Held) (bytes front rest : List ℕ) (n : ℕ) (e : Option Event) (l : Lending) → front ++ rest ≡ bytes → length front ≡ n → 0 < n → hand_out old front ≡ record { dispatches = handed_out l e; held = l.held } → PrintNone (handed_out l e) → begun_bytes l.held ≡ []
+reads_front : (old : Held) (bytes prefix rest : List ℕ) (n : ℕ) (e : Option Event) (l : Lending) → prefix ++ rest ≡ bytes → length prefix ≡ n → 0 < n → hand_out old prefix ≡ record { dispatches = handed_out l e; held = l.held } → PrintNone (handed_out l e) → begun_bytes l.held ≡ []
     → ReadsEvent old bytes (read.Bytes e n) l
-reads_front old bytes front rest n e l is len z h q none =
+reads_front old bytes prefix rest n e l is len z h q none =
     subst (λ (m : ℕ). ReadsEvent old bytes (read.Bytes e m) l) len
-    (subst (λ (m : List ℕ). ReadsEvent old m (read.Bytes e (length front)) l) is (record {
-      frames = λ count r c. frames_front old l.held front rest (handed_out l e) count h q none r;
-      within = omega (arith, length-append front rest);
+    (subst (λ (m : List ℕ). ReadsEvent old m (read.Bytes e (length prefix)) l) is (record {
+      frames = λ count r c. frames_front old l.held prefix rest (handed_out l e) count h q none r;
+      within = omega (arith, length-append prefix rest);
       text = no_text;
       moves = λ x y. absurd (omega (arith, len));
-      opens = λ r. opens_read old l.held (front ++ rest) (length front) (ap (λ (x : List ℕ). (hand_out old x).held) (take_at front rest (length front) refl) ∙ ap (λ (x : Handed). x.held) h);
+      opens = λ r. opens_read old l.held (prefix ++ rest) (length prefix) (ap (λ (x : List ℕ). (hand_out old x).held) (take_at prefix rest (length prefix) refl) ∙ ap (λ (x : Handed). x.held) h);
     }))
 
 pub reads_run : (old : Held) (bytes : List ℕ) (n : ℕ) (l : Lending) → 0 < n → IsSilent old bytes n l.held → ReadsEvent old bytes (read.Bytes None n) l
@@ -105,36 +105,36 @@ final_handed : (p : Parameters) (b : ℕ) → is_final b ≡ true → hand_out (
 unfolding hand_out held_step fresh_step control_sequence_step
 final_handed p b h = let e = final_not b h in rw (e.3, e.0, e.1, e.2) refl
 
--- parameter bytes behind ESC [, of which so many stand there, and this final byte
-pub reads_sequence : (old : Held) (bytes others : List ℕ) (n b : ℕ) (rest : List ℕ) (l : Lending) → old ≡ nothing_held → l.held ≡ nothing_held → bytes ≡ 0x1B ∷ 0x5B ∷ others → n ≡ prefix_len is_parameter others
-    → l.parameters ≡ fold with_byte no_parameters (take n others) → is_final b ≡ true → drop n others ≡ b ∷ rest → ReadsEvent old bytes (read.Bytes (Some (event.ControlSequence b)) (n + 3)) l
-reads_sequence old bytes others n b rest l o g is k p f d =
-    reads_front old bytes (front ++ b ∷ []) rest (n + 3) (Some (event.ControlSequence b)) l parted counted (omega arith)
-    (ap (λ (h : Held). hand_out h (front ++ b ∷ [])) o ∙ sequence_handed
+-- parameter bytes after ESC [, of which so many stand there, and this final byte
+pub reads_sequence : (old : Held) (bytes remaining : List ℕ) (n b : ℕ) (rest : List ℕ) (l : Lending) → old ≡ nothing_held → l.held ≡ nothing_held → bytes ≡ 0x1B ∷ 0x5B ∷ remaining → n ≡ prefix_len is_parameter remaining
+    → l.parameters ≡ fold with_byte no_parameters (take n remaining) → is_final b ≡ true → drop n remaining ≡ b ∷ rest → ReadsEvent old bytes (read.Bytes (Some (event.ControlSequence b)) (n + 3)) l
+reads_sequence old bytes remaining n b rest l o g is k p f d =
+    reads_front old bytes (prefix ++ b ∷ []) rest (n + 3) (Some (event.ControlSequence b)) l parted counted (omega arith)
+    (ap (λ (h : Held). hand_out h (prefix ++ b ∷ [])) o ∙ sequence_handed
     ∙ (λ i. record { dispatches = ControlSequence (sym p i).tokens (sym p i).truncated b ∷ []; held = sym g i })) tt (ap begun_bytes g)
   where
-    front : List ℕ
-    front = 0x1B ∷ 0x5B ∷ take n others
+    prefix : List ℕ
+    prefix = 0x1B ∷ 0x5B ∷ take n remaining
 
-    within : n ≤ length others
-    within = let m = prefix_len-le-length is_parameter others in omega (arith, k)
+    within : n ≤ length remaining
+    within = let m = prefix_len-le-length is_parameter remaining in omega (arith, k)
 
-    parted : (front ++ b ∷ []) ++ rest ≡ bytes
+    parted : (prefix ++ b ∷ []) ++ rest ≡ bytes
     parted =
-        append_assoc front (b ∷ []) rest
-        ∙ ap (λ (x : List ℕ). 0x1B ∷ 0x5B ∷ x) (ap (λ (x : List ℕ). take n others ++ x) (sym d) ∙ take-append-drop n others)
+        append_assoc prefix (b ∷ []) rest
+        ∙ ap (λ (x : List ℕ). 0x1B ∷ 0x5B ∷ x) (ap (λ (x : List ℕ). take n remaining ++ x) (sym d) ∙ take-append-drop n remaining)
         ∙ sym is
 
-    counted : length (front ++ b ∷ []) ≡ n + 3
-    counted = omega (arith, length-append front (b ∷ []), length-take-le n others within)
+    counted : length (prefix ++ b ∷ []) ≡ n + 3
+    counted = omega (arith, length-append prefix (b ∷ []), length-take-le n remaining within)
 
     q : Parameters
-    q = fold with_byte no_parameters (take n others)
+    q = fold with_byte no_parameters (take n remaining)
 
-    opened_front : hand_out nothing_held front ≡ record { dispatches = []; held = in_sequence q }
+    opened_front : hand_out nothing_held prefix ≡ record { dispatches = []; held = in_sequence q }
     opened_front =
-        opening_handed 0x5B (in_sequence no_parameters) (take n others) bracket_handed
-        ∙ parameters_handed no_parameters (take n others) (subst (λ (m : ℕ). list_all is_parameter (take m others) ≡ true) (sym k) (all_pass is_parameter others))
+        opening_handed 0x5B (in_sequence no_parameters) (take n remaining) bracket_handed
+        ∙ parameters_handed no_parameters (take n remaining) (subst (λ (m : ℕ). list_all is_parameter (take m remaining) ≡ true) (sym k) (all_pass is_parameter remaining))
 
-    sequence_handed : hand_out nothing_held (front ++ b ∷ []) ≡ record { dispatches = ControlSequence q.tokens q.truncated b ∷ []; held = nothing_held }
-    sequence_handed = hand_append nothing_held front (b ∷ []) ∙ rw opened_front (final_handed q b f)
+    sequence_handed : hand_out nothing_held (prefix ++ b ∷ []) ≡ record { dispatches = ControlSequence q.tokens q.truncated b ∷ []; held = nothing_held }
+    sequence_handed = hand_append nothing_held prefix (b ∷ []) ∙ rw opened_front (final_handed q b f)

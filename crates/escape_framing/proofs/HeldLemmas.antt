@@ -27,7 +27,7 @@ use Rattle.escape_framing.proofs.WaitingLemmas.{lead_cuts}
 
 -- ---- a C2 or ESC goes on with no character
 
--- the bytes behind a character's first are between 80 and BF
+-- the bytes after a character's first are between 80 and BF
 pub record Inner (b : ℕ) : Type 0 where
   pub least : 128 ≤ b
   pub most : b ≤ 191
@@ -131,7 +131,7 @@ pub data At (s : List ℕ) (h : Handed) : Type 0 where
   at_c2 : (v : List ℕ) (ds : List Dispatch) (kept : Kept) → seven_bit s ≡ v ++ 0xC2 ∷ [] → opens s ≡ true → ReadsTo v ds kept
       → h ≡ record { dispatches = ds ++ (interrupted kept).dispatches; held = record { kept = (interrupted kept).kept; waiting = true } } → At s h
 
--- behind what was handed out
+-- after what was handed out
 abbrev pub then_handed : List Dispatch → Handed → Handed
 then_handed ds h = record { dispatches = ds ++ h.dispatches; held = h.held }
 
@@ -145,7 +145,7 @@ fresh_at s b ds kept n r =
     opened : opens (s ++ b ∷ []) ≡ (b == 0xC2)
     opened = opens_more s b ∙ ap (λ (t : Bool). cond t false (b == 0xC2)) n
 
--- what an interrupted step hands out with the step behind it
+-- what an interrupted step hands out with the step after it
 joined : (ds : List Dispatch) (kept : Kept) (b : ℕ) (rest : Kept → Handed) → before (interrupted kept).dispatches (kept_step (interrupted kept).kept b) ≡ kept_step kept b
     → then_handed (ds ++ (interrupted kept).dispatches) (handed_after (kept_step (interrupted kept).kept b) (rest (kept_step (interrupted kept).kept b).kept))
     ≡ then_handed (ds ++ (kept_step kept b).dispatches) (rest (kept_step kept b).kept)
@@ -163,10 +163,10 @@ waiting_at s b v ds kept form last r = cond_both (is_c1 0xC2 b) _ _ (λ (h : Han
     (λ e.
     let pair : pairs s b ≡ true = rw (last, e) refl in
     let p = seven_bit_pair s b pair in
-    let front : p.front ≡ v = (same_from_push p.front v 0xC2 0xC2 (sym p.before ∙ form)).0 in
+    let prefix : p.prefix ≡ v = (same_from_push p.prefix v 0xC2 0xC2 (sym p.before ∙ form)).0 in
     let one = reads_one v 0x1B ds kept r in
     let two = reads_one (v ++ 0x1B ∷ []) (b - 0x40) (ds ++ (kept_step kept 0x1B).dispatches) (kept_step kept 0x1B).kept one in
-    let bytes : (v ++ 0x1B ∷ []) ++ (b - 0x40) ∷ [] ≡ seven_bit (s ++ b ∷ []) = append_assoc v (0x1B ∷ []) ((b - 0x40) ∷ []) ∙ ap (λ l. l ++ 0x1B ∷ (b - 0x40) ∷ []) (sym front) ∙ sym p.after in
+    let bytes : (v ++ 0x1B ∷ []) ++ (b - 0x40) ∷ [] ≡ seven_bit (s ++ b ∷ []) = append_assoc v (0x1B ∷ []) ((b - 0x40) ∷ []) ∙ ap (λ l. l ++ 0x1B ∷ (b - 0x40) ∷ []) (sym prefix) ∙ sym p.after in
     subst (At (s ++ b ∷ [])) (sym (joined ds kept 0x1B (λ k. handed (kept_step k (b - 0x40)) false) (reads_interrupted v 0x1B ds kept r no_escape)))
     (at_rest (opens_more s b ∙ ap (λ (t : Bool). cond t false (b == 0xC2)) pair) (subst (λ l. ReadsTo l ((ds ++ (kept_step kept 0x1B).dispatches) ++ (kept_step (kept_step kept 0x1B).kept (b - 0x40)).dispatches) (kept_step (kept_step kept 0x1B).kept (b - 0x40)).kept) bytes two) refl))
     (λ e.
@@ -234,15 +234,15 @@ opens_last (x ∷ y ∷ s) = ⊎_elim (λ e. rw e (after_escape (seven_bit s) e 
     after_byte z (w ∷ s) = cond_both (is_c1 z w) _ _ (λ l. last_is_c2 (x ∷ l) ≡ last_is_c2 l) (λ e. refl) (λ e. refl)
 
 -- where no C2 stands last, what is open has decided all that it was given
-decided_all : (t : Tail) (front : List ℕ) → last_is_c2 (front ++ bytes_of_tail t) ≡ false → decided_of t ≡ given t
-decided_all (OpenDevice o header f body) front h =
-    let e : last_is_c2 (f ∷ body) ≡ false = sym (last_after (front ++ (0x1B ∷ o ++ 0x50 ∷ header)) f body) ∙ ap last_is_c2 (append_assoc front (0x1B ∷ o ++ 0x50 ∷ header) (f ∷ body)) ∙ h in
+decided_all : (t : Tail) (prefix : List ℕ) → last_is_c2 (prefix ++ bytes_of_tail t) ≡ false → decided_of t ≡ given t
+decided_all (OpenDevice o header f body) prefix h =
+    let e : last_is_c2 (f ∷ body) ≡ false = sym (last_after (prefix ++ (0x1B ∷ o ++ 0x50 ∷ header)) f body) ∙ ap last_is_c2 (append_assoc prefix (0x1B ∷ o ++ 0x50 ∷ header) (f ∷ body)) ∙ h in
     ap (λ l. controls_in o ++ Enter (taken header) f ∷ map Data l) (settled_all body (last_data body e))
   where
     last_data : (xs : List ℕ) → last_is_c2 (f ∷ xs) ≡ false → last_is_c2 xs ≡ false
     last_data [] k = refl
     last_data (x ∷ xs) k = k
-decided_all _ front h = refl
+decided_all _ prefix h = refl
 
 pub rest_decides : (s : List ℕ) → opens s ≡ false → dispatches s ≡ flat_map dispatches_of (read_on (Begun []) (seven_bit s)).segments ++ given (read_on (Begun []) (seven_bit s)).tail
 unfolding the_cut

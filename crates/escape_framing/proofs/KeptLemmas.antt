@@ -31,9 +31,9 @@ abbrev pub given : Tail → List Dispatch
 given (OpenDevice opening header final body) = controls_in opening ++ Enter (taken header) final ∷ map Data body
 given tail = decided_of tail
 
--- a reading hands out what a step does, behind what was given, and keeps what the step keeps
-pub record Goes (front : List Dispatch) (r : Reading) (s : Step) : Type 0 where
-  pub dispatches : flat_map dispatches_of r.segments ++ given r.tail ≡ front ++ s.dispatches
+-- a reading hands out what a step does, after what was given, and keeps what the step keeps
+pub record Goes (prefix : List Dispatch) (r : Reading) (s : Step) : Type 0 where
+  pub dispatches : flat_map dispatches_of r.segments ++ given r.tail ≡ prefix ++ s.dispatches
   pub kept : kept_of r.tail ≡ s.kept
 
 -- ---- lists of bytes
@@ -90,21 +90,21 @@ unfolding next_byte character_step
 goes_begun bytes b = record { dispatches = ap (λ l. flat_map dispatches_of (in_character bytes b).segments ++ l) (character_tails (λ t. given t ≡ []) (λ x. refl) refl bytes b) ∙ append-nil _; kept = refl }
 
 -- a segment that ends before a byte, of which others are read
-goes_before : (s : Segment) (front more : List Dispatch) (b : ℕ) → dispatches_of s ≡ front ++ more → Goes front (ends_before s (first_byte b)) (before more (character_step [] b))
+goes_before : (s : Segment) (prefix more : List Dispatch) (b : ℕ) → dispatches_of s ≡ prefix ++ more → Goes prefix (ends_before s (first_byte b)) (before more (character_step [] b))
 unfolding character_step in_character
-goes_before s front more b e = record {
+goes_before s prefix more b e = record {
   dispatches = ap (λ l. (dispatches_of s ++ flat_map dispatches_of (first_byte b).segments) ++ l) (first_tails (λ t. given t ≡ []) (λ x. refl) refl b) ∙ append-nil _
-      ∙ ap (λ l. l ++ flat_map dispatches_of (first_byte b).segments) e ∙ append_assoc front more _;
+      ∙ ap (λ l. l ++ flat_map dispatches_of (first_byte b).segments) e ∙ append_assoc prefix more _;
   kept = refl;
 }
 
 -- a segment that ends at a byte
-goes_end : (s : Segment) (front more : List Dispatch) → dispatches_of s ≡ front ++ more → Goes front (ends s) (steps more (InCharacter []))
-goes_end s front more e = record { dispatches = append-nil _ ∙ append-nil _ ∙ e; kept = refl }
+goes_end : (s : Segment) (prefix more : List Dispatch) → dispatches_of s ≡ prefix ++ more → Goes prefix (ends s) (steps more (InCharacter []))
+goes_end s prefix more e = record { dispatches = append-nil _ ∙ append-nil _ ∙ e; kept = refl }
 
 -- what stays open
-goes_on : (t : Tail) (front more : List Dispatch) (kept : Kept) → given t ≡ front ++ more → kept_of t ≡ kept → Goes front (waits t) (steps more kept)
-goes_on t front more kept e k = record { dispatches = e; kept = k }
+goes_on : (t : Tail) (prefix more : List Dispatch) (kept : Kept) → given t ≡ prefix ++ more → kept_of t ≡ kept → Goes prefix (waits t) (steps more kept)
+goes_on t prefix more kept e k = record { dispatches = e; kept = k }
 
 -- which of three tests is the first to pass
 by_three : {P : Type 0} (t u v : Bool) → (t ≡ true → P) → (t ≡ false → u ≡ true → P) → (t ≡ false → u ≡ false → v ≡ true → P) → (t ≡ false → u ≡ false → v ≡ false → P) → P
@@ -208,7 +208,7 @@ goes_string o x body b = ⊎_elim
     (λ f. rw f (goes_on (OpenString o x (body ++ b ∷ [])) (controls_in o) [] _ (sym (append-nil _)) refl))
     (cases_Bool (is_stop b))
 
--- a byte behind anything that is open
+-- a byte after anything that is open
 pub goes : (t : Tail) (b : ℕ) → IsUnfinished t → Goes (given t) (next_byte t b) (kept_step (kept_of t) b)
 goes (Begun bytes) b g = goes_begun bytes b
 goes (OpenEscape body) b g = goes_escape body b g

@@ -11,7 +11,7 @@ use Rattle.escape_framing.specs.Lengthened.{IsOpen, IsLengthened}
 use Rattle.escape_framing.proofs.Existence.Utf8Lemmas.{order, Spelled, in_one, in_two, in_three, in_four, spelled, front_of_one, front_of_two, two}
 use Rattle.escape_framing.proofs.Existence.SequenceLemmas.{all_push}
 use Rattle.escape_framing.proofs.Existence.CutLemmas.{cuts_on}
-use Rattle.escape_framing.proofs.ReadLemmas.{after, behind, read_append}
+use Rattle.escape_framing.proofs.ReadLemmas.{after, read_after, read_append}
 use Rattle.escape_framing.proofs.UniqueLemmas.{reads_segment}
 use Rattle.std.proofs.lemmas.List.{nil_from_length}
 
@@ -27,7 +27,7 @@ lengthened_is_open bytes g = by_segments (read_on (Begun []) bytes).segments ref
     by_segments (s ∷ ss) e =
         let c = cuts_on (Begun []) bytes (inl refl) in
         let t = (read_on (Begun []) bytes).tail in
-        let two : behind (read_on (Begun []) bytes) (g.more ++ g.following) ≡ after g.segment (read_on (Begun []) g.following)
+        let two : read_after (read_on (Begun []) bytes) (g.more ++ g.following) ≡ after g.segment (read_on (Begun []) g.following)
         = sym (read_append (Begun []) bytes (g.more ++ g.following)) ∙ ap (read_on (Begun [])) (sym (append_assoc bytes g.more g.following) ∙ ap (λ l. l ++ g.following) (sym g.is)) ∙ reads_segment g.segment g.following g.stands in
         let segments : (s ∷ ss) ++ (read_on t (g.more ++ g.following)).segments ≡ g.segment ∷ (read_on (Begun []) g.following).segments
         = ap (λ l. l ++ (read_on t (g.more ++ g.following)).segments) (sym e) ∙ ap (λ (q : Reading). q.segments) two in

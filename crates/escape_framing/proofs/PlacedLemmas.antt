@@ -1,4 +1,4 @@
--- More bytes take no dispatch back, and each dispatch stands behind the byte that decides it.
+-- More bytes take no dispatch back, and each dispatch follows the byte that decides it.
 use Rattle.std.proofs.Common.{◌≡◌, ℕ, zero, suc, ◌+◌, ◌≤◌, Some, List, [], ◌∷◌, ◌++◌, length, take, drop, map, refl, sym, ap, subst, ◌∙◌, arith, append_assoc, length-append}
 use Rattle.std.specs.List.{slice_get}
 use Rattle.std.proofs.lemmas.List.{append-nil, map-append, take_at, take-append-le, take-append-drop, drop_at, length-map}
@@ -51,17 +51,17 @@ of_one (y ∷ xs) ys (suc i) x h = one_on (of_one xs ys i x h)
     one_on (here k) = here k
     one_on (there j e k) = there j (omega arith) k
 
--- ---- places
+-- ---- positions
 
--- the dispatches, all at one place
+-- the dispatches, all at one position
 abbrev put_at : ℕ → List Dispatch → List (ℕ × Dispatch)
 put_at n xs = map (λ a. (n, a)) xs
 
-at_place : (n : ℕ) (xs : List Dispatch) (i place : ℕ) (dispatch : Dispatch) → slice_get (put_at n xs) i ≡ Some (place, dispatch) → (n ≡ place) × (slice_get xs i ≡ Some dispatch)
-at_place n [] i place dispatch h = cc
-at_place n (x ∷ xs) zero place dispatch h =
-    let k : (n, x) ≡ (place, dispatch) = cc in (ap (λ (p : ℕ × Dispatch). p.0) k, ap (λ (p : ℕ × Dispatch). Some p.1) k)
-at_place n (x ∷ xs) (suc i) place dispatch h = at_place n xs i place dispatch h
+at_place : (n : ℕ) (xs : List Dispatch) (i offset : ℕ) (dispatch : Dispatch) → slice_get (put_at n xs) i ≡ Some (offset, dispatch) → (n ≡ offset) × (slice_get xs i ≡ Some dispatch)
+at_place n [] i offset dispatch h = cc
+at_place n (x ∷ xs) zero offset dispatch h =
+    let k : (n, x) ≡ (offset, dispatch) = cc in (ap (λ (p : ℕ × Dispatch). p.0) k, ap (λ (p : ℕ × Dispatch). Some p.1) k)
+at_place n (x ∷ xs) (suc i) offset dispatch h = at_place n xs i offset dispatch h
 
 -- what is decided stands there, whatever follows
 stands : (s x more : List ℕ) (i : ℕ) (dispatch : Dispatch) → slice_get (newly_decided s x) i ≡ Some dispatch
@@ -71,51 +71,51 @@ stands s x more i dispatch h =
     = dispatches_grow (s ++ x) more ∙ ap (λ l. l ++ newly_decided (s ++ x) more) (dispatches_grow s x) ∙ append_assoc (dispatches s) _ _ in
     ap (λ l. slice_get l (length (dispatches s) + i)) grown ∙ at_after (dispatches s) _ i _ refl ∙ at_front (newly_decided s x) _ i dispatch h
 
--- a front decides no more than the whole
+-- a prefix decides no more than the whole
 front_decides : (s : List ℕ) (n : ℕ) → length (dispatches (take n s)) ≤ length (dispatches s)
 front_decides s n =
     let grown = ap length (ap dispatches (sym (take-append-drop n s)) ∙ dispatches_grow (take n s) (drop n s)) in
     omega (arith, grown, length-append (dispatches (take n s)) (newly_decided (take n s) (drop n s)))
 
-placed_here : (front bytes : List ℕ) (b i : ℕ) (dispatch : Dispatch) → slice_get (newly_decided front (b ∷ [])) i ≡ Some dispatch
-    → IsPlaced (front ++ b ∷ bytes) (length (dispatches front) + i) (length front + 1) dispatch
-placed_here front bytes b i dispatch h = record {
-  within = omega (arith, length-append front (b ∷ bytes));
-  decided = λ more. ap (λ l. slice_get (dispatches (l ++ more)) (length (dispatches front) + i)) so_far ∙ stands front (b ∷ []) more i dispatch h;
+placed_here : (prefix bytes : List ℕ) (b i : ℕ) (dispatch : Dispatch) → slice_get (newly_decided prefix (b ∷ [])) i ≡ Some dispatch
+    → IsPlaced (prefix ++ b ∷ bytes) (length (dispatches prefix) + i) (length prefix + 1) dispatch
+placed_here prefix bytes b i dispatch h = record {
+  within = omega (arith, length-append prefix (b ∷ bytes));
+  decided = λ more. ap (λ l. slice_get (dispatches (l ++ more)) (length (dispatches prefix) + i)) so_far ∙ stands prefix (b ∷ []) more i dispatch h;
   least = λ fewer l always. too_early fewer (omega arith) (always []);
 }
   where
-    so_far : take (length front + 1) (front ++ b ∷ bytes) ≡ front ++ b ∷ []
-    so_far = ap (λ l. take (length front + 1) l) (sym (append_assoc front (b ∷ []) bytes)) ∙ take_at (front ++ b ∷ []) bytes (length front + 1) (length-append front (b ∷ []))
+    so_far : take (length prefix + 1) (prefix ++ b ∷ bytes) ≡ prefix ++ b ∷ []
+    so_far = ap (λ l. take (length prefix + 1) l) (sym (append_assoc prefix (b ∷ []) bytes)) ∙ take_at (prefix ++ b ∷ []) bytes (length prefix + 1) (length-append prefix (b ∷ []))
 
-    too_early : (fewer : ℕ) → fewer ≤ length front → slice_get (dispatches (take fewer (front ++ b ∷ bytes) ++ [])) (length (dispatches front) + i) ≡ Some dispatch → ⊥
+    too_early : (fewer : ℕ) → fewer ≤ length prefix → slice_get (dispatches (take fewer (prefix ++ b ∷ bytes) ++ [])) (length (dispatches prefix) + i) ≡ Some dispatch → ⊥
     too_early fewer l e =
-        let same : take fewer (front ++ b ∷ bytes) ++ [] ≡ take fewer front = append-nil _ ∙ take-append-le fewer front (b ∷ bytes) l in
-        let few : length (dispatches (take fewer front)) ≤ length (dispatches front) + i = omega (arith, front_decides front fewer) in
-        let none = sym (slice_get_past (dispatches (take fewer front)) (length (dispatches front) + i) few) ∙ ap (λ l. slice_get (dispatches l) (length (dispatches front) + i)) (sym same) ∙ e in cc
+        let same : take fewer (prefix ++ b ∷ bytes) ++ [] ≡ take fewer prefix = append-nil _ ∙ take-append-le fewer prefix (b ∷ bytes) l in
+        let few : length (dispatches (take fewer prefix)) ≤ length (dispatches prefix) + i = omega (arith, front_decides prefix fewer) in
+        let none = sym (slice_get_past (dispatches (take fewer prefix)) (length (dispatches prefix) + i) few) ∙ ap (λ l. slice_get (dispatches l) (length (dispatches prefix) + i)) (sym same) ∙ e in cc
 
-placing : (bytes front : List ℕ) (i place : ℕ) (dispatch : Dispatch) → slice_get (placed_from front bytes) i ≡ Some (place, dispatch)
-    → IsPlaced (front ++ bytes) (length (dispatches front) + i) place dispatch
-placing [] front i place dispatch h = cc
-placing (b ∷ bytes) front i place dispatch h =
-    by_part (λ j k. placing bytes (front ++ b ∷ []) j place dispatch k) (of_one (put_at (length front + 1) (newly_decided front (b ∷ []))) (placed_from (front ++ b ∷ []) bytes) i (place, dispatch) h)
+placing : (bytes prefix : List ℕ) (i offset : ℕ) (dispatch : Dispatch) → slice_get (placed_from prefix bytes) i ≡ Some (offset, dispatch)
+    → IsPlaced (prefix ++ bytes) (length (dispatches prefix) + i) offset dispatch
+placing [] prefix i offset dispatch h = cc
+placing (b ∷ bytes) prefix i offset dispatch h =
+    by_part (λ j k. placing bytes (prefix ++ b ∷ []) j offset dispatch k) (of_one (put_at (length prefix + 1) (newly_decided prefix (b ∷ []))) (placed_from (prefix ++ b ∷ []) bytes) i (offset, dispatch) h)
   where
-    by_part : ((j : ℕ) → slice_get (placed_from (front ++ b ∷ []) bytes) j ≡ Some (place, dispatch) → IsPlaced ((front ++ b ∷ []) ++ bytes) (length (dispatches (front ++ b ∷ [])) + j) place dispatch)
-        → OfOne (put_at (length front + 1) (newly_decided front (b ∷ []))) (placed_from (front ++ b ∷ []) bytes) i (place, dispatch)
-        → IsPlaced (front ++ b ∷ bytes) (length (dispatches front) + i) place dispatch
+    by_part : ((j : ℕ) → slice_get (placed_from (prefix ++ b ∷ []) bytes) j ≡ Some (offset, dispatch) → IsPlaced ((prefix ++ b ∷ []) ++ bytes) (length (dispatches (prefix ++ b ∷ [])) + j) offset dispatch)
+        → OfOne (put_at (length prefix + 1) (newly_decided prefix (b ∷ []))) (placed_from (prefix ++ b ∷ []) bytes) i (offset, dispatch)
+        → IsPlaced (prefix ++ b ∷ bytes) (length (dispatches prefix) + i) offset dispatch
     by_part later (here k) =
-        let p = at_place (length front + 1) (newly_decided front (b ∷ [])) i place dispatch k in
-        subst (λ (n : ℕ). IsPlaced (front ++ b ∷ bytes) (length (dispatches front) + i) n dispatch) p.0 (placed_here front bytes b i dispatch p.1)
+        let p = at_place (length prefix + 1) (newly_decided prefix (b ∷ [])) i offset dispatch k in
+        subst (λ (n : ℕ). IsPlaced (prefix ++ b ∷ bytes) (length (dispatches prefix) + i) n dispatch) p.0 (placed_here prefix bytes b i dispatch p.1)
     by_part later (there j e k) =
-        let index : length (dispatches (front ++ b ∷ [])) + j ≡ length (dispatches front) + i
-        = omega (arith, ap length (dispatches_grow front (b ∷ [])), length-append (dispatches front) (newly_decided front (b ∷ [])), length-map {B = ℕ × Dispatch} (newly_decided front (b ∷ [])) (λ d. (length front + 1, d))) in
-        subst (λ (n : ℕ). IsPlaced (front ++ b ∷ bytes) n place dispatch) index
-        (subst (λ l. IsPlaced l (length (dispatches (front ++ b ∷ [])) + j) place dispatch) (append_assoc front (b ∷ []) bytes) (later j k))
+        let index : length (dispatches (prefix ++ b ∷ [])) + j ≡ length (dispatches prefix) + i
+        = omega (arith, ap length (dispatches_grow prefix (b ∷ [])), length-append (dispatches prefix) (newly_decided prefix (b ∷ [])), length-map {B = ℕ × Dispatch} (newly_decided prefix (b ∷ [])) (λ d. (length prefix + 1, d))) in
+        subst (λ (n : ℕ). IsPlaced (prefix ++ b ∷ bytes) n offset dispatch) index
+        (subst (λ l. IsPlaced l (length (dispatches (prefix ++ b ∷ [])) + j) offset dispatch) (append_assoc prefix (b ∷ []) bytes) (later j k))
 
-pub all_placed : (stream : List ℕ) (index place : ℕ) (dispatch : Dispatch) → slice_get (placed_dispatches stream) index ≡ Some (place, dispatch) → IsPlaced stream index place dispatch
-all_placed stream index place dispatch h =
+pub all_placed : (stream : List ℕ) (index offset : ℕ) (dispatch : Dispatch) → slice_get (placed_dispatches stream) index ≡ Some (offset, dispatch) → IsPlaced stream index offset dispatch
+all_placed stream index offset dispatch h =
     let start : length (dispatches []) + index ≡ index = omega (arith, ap length decided_none) in
-    subst (λ (n : ℕ). IsPlaced stream n place dispatch) start (placing stream [] index place dispatch h)
+    subst (λ (n : ℕ). IsPlaced stream n offset dispatch) start (placing stream [] index offset dispatch h)
 
 -- ---- all of them
 
@@ -123,16 +123,16 @@ without : (n : ℕ) (xs : List Dispatch) → map (λ (p : ℕ × Dispatch). p.1)
 without n [] = refl
 without n (x ∷ xs) = ap (λ l. x ∷ l) (without n xs)
 
-collected : (bytes front : List ℕ) → dispatches front ++ map (λ (p : ℕ × Dispatch). p.1) (placed_from front bytes) ≡ dispatches (front ++ bytes)
-collected [] front = append-nil (dispatches front) ∙ ap dispatches (sym (append-nil front))
-collected (b ∷ bytes) front =
-    let new = newly_decided front (b ∷ []) in
-    let rest = placed_from (front ++ b ∷ []) bytes in
-    ap (λ l. dispatches front ++ l) (map-append (λ (p : ℕ × Dispatch). p.1) (put_at (length front + 1) new) rest ∙ ap (λ l. l ++ map (λ (p : ℕ × Dispatch). p.1) rest) (without (length front + 1) new))
-    ∙ sym (append_assoc (dispatches front) new _)
-    ∙ ap (λ l. l ++ map (λ (p : ℕ × Dispatch). p.1) rest) (sym (dispatches_grow front (b ∷ [])))
-    ∙ collected bytes (front ++ b ∷ [])
-    ∙ ap dispatches (append_assoc front (b ∷ []) bytes)
+collected : (bytes prefix : List ℕ) → dispatches prefix ++ map (λ (p : ℕ × Dispatch). p.1) (placed_from prefix bytes) ≡ dispatches (prefix ++ bytes)
+collected [] prefix = append-nil (dispatches prefix) ∙ ap dispatches (sym (append-nil prefix))
+collected (b ∷ bytes) prefix =
+    let new = newly_decided prefix (b ∷ []) in
+    let rest = placed_from (prefix ++ b ∷ []) bytes in
+    ap (λ l. dispatches prefix ++ l) (map-append (λ (p : ℕ × Dispatch). p.1) (put_at (length prefix + 1) new) rest ∙ ap (λ l. l ++ map (λ (p : ℕ × Dispatch). p.1) rest) (without (length prefix + 1) new))
+    ∙ sym (append_assoc (dispatches prefix) new _)
+    ∙ ap (λ l. l ++ map (λ (p : ℕ × Dispatch). p.1) rest) (sym (dispatches_grow prefix (b ∷ [])))
+    ∙ collected bytes (prefix ++ b ∷ [])
+    ∙ ap dispatches (append_assoc prefix (b ∷ []) bytes)
 
 pub all_collected : (stream : List ℕ) → map (λ (p : ℕ × Dispatch). p.1) (placed_dispatches stream) ≡ dispatches stream
 all_collected stream = ap (λ l. l ++ map (λ (p : ℕ × Dispatch). p.1) (placed_dispatches stream)) (sym decided_none) ∙ collected stream []

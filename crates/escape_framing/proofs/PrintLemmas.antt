@@ -31,7 +31,7 @@ none_append [] ys p q = q
 none_append (Print c ∷ xs) ys p q = absurd p
 none_append (_ ∷ xs) ys p q = none_append xs ys p q
 
--- What a byte behind the first bytes of a character prints, with what is held then.
+-- What a byte after the first bytes of a character prints, with what is held then.
 pub data Ending (p : List ℕ) (b : ℕ) (ds : List Dispatch) (kept : Kept) (waiting : Bool) : Type 0 where
   goes_on : ds ≡ [] → bytes_begun kept waiting ≡ p ++ b ∷ [] → Ending p b ds kept waiting
   prints : (c : ℕ) → IsScalar c → IsPrintable c → encode c ≡ p ++ b ∷ [] → ds ≡ Print c ∷ [] → kept ≡ InCharacter [] → waiting ≡ false → Ending p b ds kept waiting
@@ -41,7 +41,7 @@ pub data Ending (p : List ℕ) (b : ℕ) (ds : List Dispatch) (kept : Kept) (wai
 -- A byte does so, or it breaks them first.
 pub data Printing (p : List ℕ) (b : ℕ) (ds : List Dispatch) (kept : Kept) (waiting : Bool) : Type 0 where
   whole_one : Ending p b ds kept waiting → Printing p b ds kept waiting
-  breaks_one : (others : List Dispatch) → ds ≡ Print 0xFFFD ∷ others → Ending [] b others kept waiting → Printing p b ds kept waiting
+  breaks_one : (remaining : List Dispatch) → ds ≡ Print 0xFFFD ∷ remaining → Ending [] b remaining kept waiting → Printing p b ds kept waiting
 
 abbrev pub Ends : List ℕ → ℕ → Step → Type 0
 Ends p b s = Ending p b s.dispatches s.kept false

@@ -33,13 +33,13 @@ use Rattle.std.proofs.lemmas.List.{map-append}
 
 -- ---- an event that is left a byte stands alone
 
-event_alone : (l : Lending) (e : Option Event) (start place : ℕ) (placed : List (ℕ × Dispatch)) → IsAlone e → framed start (at_place place (handed_out l e) ++ placed) ≡ map Single (handed_out l e) ++ framed start placed
-event_alone l None start place placed a = refl
-event_alone l (Some (event.Print c)) start place placed a = rw (never_lent start place c a) refl
-event_alone l (Some _) start place placed a = refl
+event_alone : (l : Lending) (e : Option Event) (start offset : ℕ) (placed : List (ℕ × Dispatch)) → IsAlone e → framed start (at_place offset (handed_out l e) ++ placed) ≡ map Single (handed_out l e) ++ framed start placed
+event_alone l None start offset placed a = refl
+event_alone l (Some (event.Print c)) start offset placed a = rw (never_lent start offset c a) refl
+event_alone l (Some _) start offset placed a = refl
 
-at_both : (place : ℕ) (xs ys : List Dispatch) (placed : List (ℕ × Dispatch)) → at_place place (xs ++ ys) ++ placed ≡ at_place place xs ++ (at_place place ys ++ placed)
-at_both place xs ys placed = ap (λ l. l ++ placed) (map-append (λ (d : Dispatch). (place, d)) xs ys) ∙ append_assoc (at_place place xs) (at_place place ys) placed
+at_both : (offset : ℕ) (xs ys : List Dispatch) (placed : List (ℕ × Dispatch)) → at_place offset (xs ++ ys) ++ placed ≡ at_place offset xs ++ (at_place offset ys ++ placed)
+at_both offset xs ys placed = ap (λ l. l ++ placed) (map-append (λ (d : Dispatch). (offset, d)) xs ys) ∙ append_assoc (at_place offset xs) (at_place offset ys) placed
 
 -- ---- what is held where a byte is left
 
@@ -68,7 +68,7 @@ c1_high y h = grind (arith, nat_tests)
 c1_carried : (count : ℕ) (h : Held) (b : ℕ) (rest : List ℕ) → begun_bytes h ≡ 0xC2 ∷ [] → is_c1 0xC2 b ≡ true → IsCarried 0 count h (b ∷ rest)
 c1_carried count h b rest e c = record {
   carried = λ x more l k n.
-      let f = (lead_of x 0xC2 (b ∷ rest) more l (ap (λ (p : List ℕ). p ++ (b ∷ rest)) (sym e) ∙ k)).behind refl in
+      let f = (lead_of x 0xC2 (b ∷ rest) more l (ap (λ (p : List ℕ). p ++ (b ∷ rest)) (sym e) ∙ k)).after refl in
       absurd (let m : b ≡ f.0 = cons_head b f.0 rest f.1 f.2 in omega (arith, m, f.3, c1_high b c));
 }
   where
@@ -197,10 +197,10 @@ abbrev shown : State → Bool → List ℕ → Parameters → List ℕ → Lendi
 shown s w xs p body = record { held = record { kept = kept_as s xs p body; waiting = w }; parameters = p; body = body }
 
 -- a control sequence that stands there whole
-pub reads_whole : (old : Lending) (s : State) (w : Bool) (xs : List ℕ) (p q : Parameters) (body bytes others : List ℕ) (n control : ℕ) → shown s w xs p body ≡ old → old.held ≡ nothing_held → bytes ≡ 0x1B ∷ 0x5B ∷ others → n ≡ prefix_len is_parameter others
-    → q ≡ fold with_byte no_parameters (take n others) → IsLastAt others n (Some control) → ReadsEvent old.held bytes (read.Bytes (Some (event.ControlSequence control)) (n + 3)) (shown s w xs q body)
-reads_whole old s w xs p q body bytes others n control v e is k t last =
+pub reads_whole : (old : Lending) (s : State) (w : Bool) (xs : List ℕ) (p q : Parameters) (body bytes remaining : List ℕ) (n control : ℕ) → shown s w xs p body ≡ old → old.held ≡ nothing_held → bytes ≡ 0x1B ∷ 0x5B ∷ remaining → n ≡ prefix_len is_parameter remaining
+    → q ≡ fold with_byte no_parameters (take n remaining) → IsLastAt remaining n (Some control) → ReadsEvent old.held bytes (read.Bytes (Some (event.ControlSequence control)) (n + 3)) (shown s w xs q body)
+reads_whole old s w xs p q body bytes remaining n control v e is k t last =
     let kept : kept_as s xs q body ≡ InCharacter [] = kept_rest s xs p q body (ap (λ (l : Lending). l.held.kept) v ∙ ap (λ (h : Held). h.kept) e) in
     let waits : w ≡ false = ap (λ (l : Lending). l.held.waiting) v ∙ ap (λ (h : Held). h.waiting) e in
     let same : record { kept = kept_as s xs q body; waiting = w } ≡ old.held = (λ i. record { kept = kept i; waiting = waits i }) ∙ sym e in
-    reads_sequence old.held bytes others n control last.1.0 (shown s w xs q body) e (same ∙ e) is k t last.0 last.1.1
+    reads_sequence old.held bytes remaining n control last.1.0 (shown s w xs q body) e (same ∙ e) is k t last.0 last.1.1

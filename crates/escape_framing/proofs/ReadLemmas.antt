@@ -6,11 +6,11 @@ use Rattle.escape_framing.specs.Segment.{Tail, Begun, Segment}
 use Rattle.escape_framing.specs.Decode.{Reading, waits, ends, ends_before, first_byte, in_character, next_byte, read_on}
 use Rattle.escape_framing.proofs.Existence.Utf8Lemmas.{append_nil}
 
--- what is read behind a reading
-abbrev pub behind : Reading → List ℕ → Reading
-behind r bytes = let rest = read_on r.tail bytes in record { segments = r.segments ++ rest.segments; tail = rest.tail }
+-- what is read after a reading
+abbrev pub read_after : Reading → List ℕ → Reading
+read_after r bytes = let rest = read_on r.tail bytes in record { segments = r.segments ++ rest.segments; tail = rest.tail }
 
--- a segment, and what is read behind it
+-- a segment, and what is read after it
 abbrev pub after : Segment → Reading → Reading
 after s r = record { segments = s ∷ r.segments; tail = r.tail }
 
@@ -18,19 +18,19 @@ pub read_nil : (t : Tail) → read_on t [] ≡ waits t
 unfolding read_on
 read_nil t = refl
 
-pub read_step : (t : Tail) (b : ℕ) (bytes : List ℕ) → read_on t (b ∷ bytes) ≡ behind (next_byte t b) bytes
+pub read_step : (t : Tail) (b : ℕ) (bytes : List ℕ) → read_on t (b ∷ bytes) ≡ read_after (next_byte t b) bytes
 unfolding read_on
 read_step t b bytes = refl
 
 pub step_waits : (t u : Tail) (b : ℕ) (bytes : List ℕ) → next_byte t b ≡ waits u → read_on t (b ∷ bytes) ≡ read_on u bytes
-step_waits t u b bytes e = read_step t b bytes ∙ ap (λ (r : Reading). behind r bytes) e
+step_waits t u b bytes e = read_step t b bytes ∙ ap (λ (r : Reading). read_after r bytes) e
 
 pub step_ends : (t : Tail) (s : Segment) (b : ℕ) (bytes : List ℕ) → next_byte t b ≡ ends s → read_on t (b ∷ bytes) ≡ after s (read_on (Begun []) bytes)
-step_ends t s b bytes e = read_step t b bytes ∙ ap (λ (r : Reading). behind r bytes) e
+step_ends t s b bytes e = read_step t b bytes ∙ ap (λ (r : Reading). read_after r bytes) e
 
 pub step_ends_before : (t : Tail) (s : Segment) (b : ℕ) (bytes : List ℕ) → next_byte t b ≡ ends_before s (first_byte b) → read_on t (b ∷ bytes) ≡ after s (read_on (Begun []) (b ∷ bytes))
 unfolding next_byte in_character
-step_ends_before t s b bytes e = read_step t b bytes ∙ ap (λ (r : Reading). behind r bytes) e ∙ sym (ap (after s) (read_step (Begun []) b bytes))
+step_ends_before t s b bytes e = read_step t b bytes ∙ ap (λ (r : Reading). read_after r bytes) e ∙ sym (ap (after s) (read_step (Begun []) b bytes))
 
 -- bytes that pass a test stay open
 pub spans : (test : ℕ → Bool) (open_with : List ℕ → Tail) → ((xs : List ℕ) (b : ℕ) → test b ≡ true → next_byte (open_with xs) b ≡ waits (open_with (xs ++ b ∷ [])))
@@ -42,8 +42,8 @@ spans test open_with stays xs (b ∷ body) rest h =
     ∙ spans test open_with stays (xs ++ b ∷ []) body rest k.1
     ∙ ap (λ l. read_on (open_with l) rest) (append_assoc xs (b ∷ []) body)
 
--- the reading of more bytes, behind another
-pub read_append : (t : Tail) (x y : List ℕ) → read_on t (x ++ y) ≡ behind (read_on t x) y
+-- the reading of more bytes, after another
+pub read_append : (t : Tail) (x y : List ℕ) → read_on t (x ++ y) ≡ read_after (read_on t x) y
 unfolding read_on
 read_append t [] y = refl
 read_append t (b ∷ x) y =

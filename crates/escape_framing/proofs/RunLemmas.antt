@@ -19,7 +19,7 @@ all_pass test [] = refl
 all_pass test (b ∷ xs) = cond_both (test b) _ _ (λ n. list_all test (take n (b ∷ xs)) ≡ true)
     (λ e. let k : 1 + prefix_len test xs ≡ suc (prefix_len test xs) = omega arith in rw k (rw e (all_pass test xs))) (λ e. refl)
 
--- So many bytes at the front hand nothing out, and leave no character begun.
+-- So many bytes at the start hand nothing out, and leave no character begun.
 pub record IsSilent (held : Held) (bytes : List ℕ) (n : ℕ) (after : Held) : Type 0 where
   pub within : n ≤ length bytes
   pub silent : (hand_out held (take n bytes)).dispatches ≡ []
@@ -82,15 +82,15 @@ body_handed body (b ∷ xs) h =
     rw (body_step body b t.0) (rw (body_handed (body ++ b ∷ []) xs t.1) (ap (λ (l : List ℕ). record { dispatches = []; held = in_command l }) (append_assoc body (b ∷ []) xs)))
 
 -- the body grows by them
-pub body_silent : (held after : Held) (body new bytes front : List ℕ) (w : Bool) → held ≡ record { kept = InCommand body; waiting = w } → w ≡ false → front ≡ take (prefix_len is_body_byte bytes) bytes → new ≡ body ++ front
-    → after ≡ record { kept = InCommand new; waiting = w } → IsSilent held bytes (length front) after
-body_silent held after body new bytes front w e f k n a =
-    let l : length front ≡ prefix_len is_body_byte bytes = ap length k ∙ length-prefix_len is_body_byte bytes in
-    let t : take (length front) bytes ≡ front = ap (λ (m : ℕ). take m bytes) l ∙ sym k in
+pub body_silent : (held after : Held) (body new bytes prefix : List ℕ) (w : Bool) → held ≡ record { kept = InCommand body; waiting = w } → w ≡ false → prefix ≡ take (prefix_len is_body_byte bytes) bytes → new ≡ body ++ prefix
+    → after ≡ record { kept = InCommand new; waiting = w } → IsSilent held bytes (length prefix) after
+body_silent held after body new bytes prefix w e f k n a =
+    let l : length prefix ≡ prefix_len is_body_byte bytes = ap length k ∙ length-prefix_len is_body_byte bytes in
+    let t : take (length prefix) bytes ≡ prefix = ap (λ (m : ℕ). take m bytes) l ∙ sym k in
     let g : after ≡ in_command new = a ∙ ap (λ (x : Bool). record { kept = InCommand new; waiting = x }) f in
-    quiet_front held after bytes (length front) (let m = prefix_len-le-length is_body_byte bytes in omega (arith, l))
-    ((λ i. hand_out (e i) (t i)) ∙ ap (λ (x : Bool). hand_out (record { kept = InCommand body; waiting = x }) front) f
-    ∙ body_handed body front (subst (λ (x : List ℕ). list_all is_body_byte x ≡ true) (sym k) (all_pass is_body_byte bytes))
+    quiet_front held after bytes (length prefix) (let m = prefix_len-le-length is_body_byte bytes in omega (arith, l))
+    ((λ i. hand_out (e i) (t i)) ∙ ap (λ (x : Bool). hand_out (record { kept = InCommand body; waiting = x }) prefix) f
+    ∙ body_handed body prefix (subst (λ (x : List ℕ). list_all is_body_byte x ≡ true) (sym k) (all_pass is_body_byte bytes))
     ∙ ap (λ (x : List ℕ). record { dispatches = []; held = in_command x }) (sym n)
     ∙ ap (λ (h : Held). record { dispatches = []; held = h }) (sym g))
     (ap begun_bytes g)
@@ -99,7 +99,7 @@ plain_body : (b : ℕ) → is_printable b ≡ true → is_body_byte b ≡ true
 unfolding is_body_byte
 plain_body b h = grind (arith, nat_tests)
 
--- how many stand at the front: plain ones, and then others
+-- how many stand at the start: plain ones, and then others
 pub body_run : (xs : List ℕ) → prefix_len is_printable xs + prefix_len is_body_byte (drop (prefix_len is_printable xs) xs) ≡ prefix_len is_body_byte xs
 body_run [] = refl
 body_run (b ∷ xs) = ⊎_elim

@@ -44,7 +44,7 @@ segments_is : (s : List ℕ) → (the_cut s).segments ≡ (read_on (Begun []) (s
 unfolding the_cut
 segments_is s = refl
 
--- the bytes behind such a stream are cut by themselves
+-- the bytes after such a stream are cut by themselves
 pub segments_join : (s x : List ℕ) → held_of s ≡ nothing_held → (the_cut (s ++ x)).segments ≡ (the_cut s).segments ++ (the_cut x).segments
 segments_join s x h =
     let form : seven_bit (s ++ x) ≡ seven_bit s ++ seven_bit x = seven_bit_join s x (idle_opens s (hand_out nothing_held s) (at_all s) h) in
@@ -66,7 +66,7 @@ whole_form s h =
 pub whole_length : (s : List ℕ) → held_of s ≡ nothing_held → length (flat_map bytes_of (the_cut s).segments) ≡ length s
 whole_length s h = ap length (whole_form s h) ∙ length-seven_bit s
 
--- ---- places
+-- ---- positions
 
 pub segments_append : (n : ℕ) (xs ys : List Segment) → segments_from n (xs ++ ys) ≡ segments_from n xs ++ segments_from (n + length (flat_map bytes_of xs)) ys
 segments_append n [] ys = ap (λ (k : ℕ). segments_from k ys) (let e : n ≡ n + length (flat_map bytes_of []) = omega arith in e)
@@ -79,16 +79,16 @@ segments_append n (x ∷ xs) ys =
 contains_at : (p : List (ℕ × Segment)) (x : ℕ × Segment) (ys : List (ℕ × Segment)) → Contains (p ++ x ∷ ys) x
 contains_at p x ys = (length p, omega (arith, length-append p (x ∷ ys)), get_or_at p x ys x (length p) refl)
 
--- the first segment behind a stream of which nothing is held stands there
+-- the first segment after a stream of which nothing is held stands there
 pub stands_after : (s x left : List ℕ) (segment : Segment) (segments : List Segment) → held_of s ≡ nothing_held → held_of x ≡ nothing_held → segment ∷ segments ≡ (the_cut x).segments
     → Contains (placed_segments (s ++ (x ++ left))) (length s, segment)
 stands_after s x left segment segments h k e =
     let rest = segments ++ (the_cut left).segments in
     let row : (the_cut (s ++ (x ++ left))).segments ≡ (the_cut s).segments ++ (segment ∷ rest)
     = segments_join s (x ++ left) h ∙ ap (λ l. (the_cut s).segments ++ l) (segments_join x left k ∙ ap (λ l. l ++ (the_cut left).segments) (sym e)) in
-    let place : 0 + length (flat_map bytes_of (the_cut s).segments) ≡ length s = zero-add _ ∙ whole_length s h in
+    let offset : 0 + length (flat_map bytes_of (the_cut s).segments) ≡ length s = zero-add _ ∙ whole_length s h in
     let placed : placed_segments (s ++ (x ++ left)) ≡ segments_from 0 (the_cut s).segments ++ segments_from (length s) (segment ∷ rest)
-    = ap (segments_from 0) row ∙ segments_append 0 (the_cut s).segments (segment ∷ rest) ∙ ap (λ (n : ℕ). segments_from 0 (the_cut s).segments ++ segments_from n (segment ∷ rest)) place in
+    = ap (segments_from 0) row ∙ segments_append 0 (the_cut s).segments (segment ∷ rest) ∙ ap (λ (n : ℕ). segments_from 0 (the_cut s).segments ++ segments_from n (segment ∷ rest)) offset in
     subst (λ (l : List (ℕ × Segment)). Contains l (length s, segment)) (sym placed)
     (contains_at (segments_from 0 (the_cut s).segments) (length s, segment) (segments_from (length s + length (bytes_of segment)) rest))
 
@@ -104,22 +104,22 @@ all_segments stream = without_places 0 (the_cut stream).segments
 same_parts : (a b : ℕ × Segment) → Some a ≡ Some b → (a.0 ≡ b.0) × (a.1 ≡ b.1)
 same_parts a b h = let k : a ≡ b = cc in (ap (λ (p : ℕ × Segment). p.0) k, ap (λ (p : ℕ × Segment). p.1) k)
 
-placed_in : (n : ℕ) (xs : List Segment) (tail : List ℕ) (index place : ℕ) (segment : Segment) → slice_get (segments_from n xs) index ≡ Some (place, segment)
-    → (front back : List ℕ) × (flat_map bytes_of xs ++ tail ≡ front ++ (bytes_of segment ++ back)) × (n + length front ≡ place)
-placed_in n [] tail index place segment h = cc
-placed_in n (x ∷ xs) tail zero place segment h =
-    let k = same_parts (n, x) (place, segment) h in
+placed_in : (n : ℕ) (xs : List Segment) (tail : List ℕ) (index offset : ℕ) (segment : Segment) → slice_get (segments_from n xs) index ≡ Some (offset, segment)
+    → (prefix back : List ℕ) × (flat_map bytes_of xs ++ tail ≡ prefix ++ (bytes_of segment ++ back)) × (n + length prefix ≡ offset)
+placed_in n [] tail index offset segment h = cc
+placed_in n (x ∷ xs) tail zero offset segment h =
+    let k = same_parts (n, x) (offset, segment) h in
     let s : x ≡ segment = k.1 in
     ([], flat_map bytes_of xs ++ tail, append_assoc (bytes_of x) (flat_map bytes_of xs) tail ∙ ap (λ (y : Segment). bytes_of y ++ (flat_map bytes_of xs ++ tail)) s, omega (arith, k.0))
-placed_in n (x ∷ xs) tail (suc index) place segment h =
-    let r = placed_in (n + length (bytes_of x)) xs tail index place segment h in
+placed_in n (x ∷ xs) tail (suc index) offset segment h =
+    let r = placed_in (n + length (bytes_of x)) xs tail index offset segment h in
     (bytes_of x ++ r.0, r.1, append_assoc (bytes_of x) (flat_map bytes_of xs) tail ∙ ap (λ l. bytes_of x ++ l) r.2 ∙ sym (append_assoc (bytes_of x) r.0 _), omega (arith, r.3, length-append (bytes_of x) r.0))
 
-pub each_segment : (stream : List ℕ) (index place : ℕ) (segment : Segment) → slice_get (placed_segments stream) index ≡ Some (place, segment) → take (length (bytes_of segment)) (drop place (seven_bit stream)) ≡ bytes_of segment
-each_segment stream index place segment h =
+pub each_segment : (stream : List ℕ) (index offset : ℕ) (segment : Segment) → slice_get (placed_segments stream) index ≡ Some (offset, segment) → take (length (bytes_of segment)) (drop offset (seven_bit stream)) ≡ bytes_of segment
+each_segment stream index offset segment h =
     let c = is_the_cut stream in
-    let r = placed_in 0 (the_cut stream).segments (bytes_of_tail (tail_of stream)) index place segment h in
+    let r = placed_in 0 (the_cut stream).segments (bytes_of_tail (tail_of stream)) index offset segment h in
     let whole : seven_bit stream ≡ r.0 ++ (bytes_of segment ++ r.1) = c.joined ∙ r.2 in
-    ap (λ l. take (length (bytes_of segment)) (drop place l)) whole
-    ∙ ap (take (length (bytes_of segment))) (drop_at r.0 (bytes_of segment ++ r.1) place (omega (arith, r.3)))
+    ap (λ l. take (length (bytes_of segment)) (drop offset l)) whole
+    ∙ ap (take (length (bytes_of segment))) (drop_at r.0 (bytes_of segment ++ r.1) offset (omega (arith, r.3)))
     ∙ take_at (bytes_of segment) r.1 (length (bytes_of segment)) refl

@@ -13,23 +13,23 @@ use Rattle.escape_framing.proofs.PrintLemmas.{PrintNone, Ending, goes_on, prints
 use Rattle.escape_framing.proofs.SoundLemmas.{stream_sound, held_prints, held_body, begun_none, reached_sound}
 use Rattle.std.proofs.lemmas.Bool.{cases_Bool, ne_eqb, lt-leb, cases_eq}
 
--- dispatches at one place, each by itself
+-- dispatches at one position, each by itself
 abbrev pub IsAlone : ℕ → ℕ → List Dispatch → Type 0
-IsAlone start place ds = (placed : List (ℕ × Dispatch)) → framed start (at_place place ds ++ placed) ≡ map Single ds ++ framed start placed
+IsAlone start offset ds = (placed : List (ℕ × Dispatch)) → framed start (at_place offset ds ++ placed) ≡ map Single ds ++ framed start placed
 
-pub none_alone : (start place : ℕ) (ds : List Dispatch) → PrintNone ds → IsAlone start place ds
-none_alone start place [] p placed = refl
-none_alone start place (Print c ∷ ds) p placed = absurd p
-none_alone start place (d ∷ ds) p placed = ap (λ l. Single d ∷ l) (none_alone start place ds p placed)
+pub none_alone : (start offset : ℕ) (ds : List Dispatch) → PrintNone ds → IsAlone start offset ds
+none_alone start offset [] p placed = refl
+none_alone start offset (Print c ∷ ds) p placed = absurd p
+none_alone start offset (d ∷ ds) p placed = ap (λ l. Single d ∷ l) (none_alone start offset ds p placed)
 
-pub print_alone : (start place c : ℕ) (ds : List Dispatch) → is_lent start place c ≡ false → IsAlone start place ds → IsAlone start place (Print c ∷ ds)
-print_alone start place c ds e h placed = rw e (ap (λ l. Single (Print c) ∷ l) (h placed))
+pub print_alone : (start offset c : ℕ) (ds : List Dispatch) → is_lent start offset c ≡ false → IsAlone start offset ds → IsAlone start offset (Print c ∷ ds)
+print_alone start offset c ds e h placed = rw e (ap (λ l. Single (Print c) ∷ l) (h placed))
 
 -- a character isn't lent unless it could be
-not_lent : (start place c : ℕ) → IsScalar c → IsPrintable c → (IsLendable c → place < start + length (encode_utf8 c)) → is_lent start place c ≡ false
-not_lent start place c s p n = ⊎_elim
-    (λ e. never_lent start place c e)
-    (λ m. rw (ne_eqb c 0xFFFD m, lt-leb (start + length (encode_utf8 c)) place (n (s, p, m))) refl)
+not_lent : (start offset c : ℕ) → IsScalar c → IsPrintable c → (IsLendable c → offset < start + length (encode_utf8 c)) → is_lent start offset c ≡ false
+not_lent start offset c s p n = ⊎_elim
+    (λ e. never_lent start offset c e)
+    (λ m. rw (ne_eqb c 0xFFFD m, lt-leb (start + length (encode_utf8 c)) offset (n (s, p, m))) refl)
     (cases_eq c 0xFFFD)
 
 nothing_begun : (h : Held) → begun_in h.kept ≡ 0 → h.waiting ≡ false → begun_bytes h ≡ []
@@ -38,7 +38,7 @@ nothing_begun h e w = rw w (begun_none h.kept e)
 pub carried_none : (start count : ℕ) (h : Held) (rest : List ℕ) → begun_bytes h ≡ [] → IsCarried start count h rest
 carried_none start count h rest e = record { carried = λ c more l k n. absurd (n e) }
 
--- the dispatches of one byte stand alone, and what has begun behind it began before the call, if it can be lent
+-- the dispatches of one byte stand alone, and what has begun after it began before the call, if it can be lent
 pub record StandAlone (start count : ℕ) (h : Held) (rest : List ℕ) (ds : List Dispatch) : Type 0 where
   pub alone : IsAlone start count ds
   pub carried : IsCarried start count h rest
@@ -68,9 +68,9 @@ some_or_none [] = inl refl
 some_or_none (x ∷ p) = inr (λ e. cc)
 
 printing_alone : (start count b : ℕ) (h0 h : Held) (rest : List ℕ) (ds : List Dispatch) → BeginsNoText (b ∷ rest) → IsCarried start count h0 (b ∷ rest) → Printing (begun_bytes h0) b ds h.kept h.waiting → StandAlone start (count + 1) h rest ds
-printing_alone start count b h0 h rest ds n k (breaks_one others e t) =
-    let a = ending_alone start count b h rest others n t in
-    record { alone = subst (IsAlone start (count + 1)) (sym e) (print_alone start (count + 1) 0xFFFD others (never_lent start (count + 1) 0xFFFD refl) a.alone); carried = a.carried }
+printing_alone start count b h0 h rest ds n k (breaks_one remaining e t) =
+    let a = ending_alone start count b h rest remaining n t in
+    record { alone = subst (IsAlone start (count + 1)) (sym e) (print_alone start (count + 1) 0xFFFD remaining (never_lent start (count + 1) 0xFFFD refl) a.alone); carried = a.carried }
 printing_alone start count b h0 h rest ds n k (whole_one (quiet p g w)) = ending_alone start count b h rest ds n (quiet p g w)
 printing_alone start count b h0 h rest ds n k (whole_one (replaces f g w)) = ending_alone start count b h rest ds n (replaces f g w)
 printing_alone start count b h0 h rest ds n k (whole_one (goes_on e f)) = by_bytes (some_or_none (begun_bytes h0))
@@ -113,13 +113,13 @@ body_alone h b rest start count r o = let q = held_body h b (reached_sound h r) 
 
 -- ---- no text begins
 
-none_begins : (n start place : ℕ) (ds : List Dispatch) (placed : List (ℕ × Dispatch)) → PrintNone ds → BeginsFrom n (framed start placed) → BeginsFrom n (framed start (at_place place ds ++ placed))
-none_begins n start place [] placed p h = h
-none_begins n start place (Print c ∷ ds) placed p h = absurd p
-none_begins n start place (d ∷ ds) placed p h = tt
+none_begins : (n start offset : ℕ) (ds : List Dispatch) (placed : List (ℕ × Dispatch)) → PrintNone ds → BeginsFrom n (framed start placed) → BeginsFrom n (framed start (at_place offset ds ++ placed))
+none_begins n start offset [] placed p h = h
+none_begins n start offset (Print c ∷ ds) placed p h = absurd p
+none_begins n start offset (d ∷ ds) placed p h = tt
 
-alone_begins : (n start place c : ℕ) (ds : List Dispatch) (placed : List (ℕ × Dispatch)) → is_lent start place c ≡ false → BeginsFrom n (framed start (at_place place (Print c ∷ ds) ++ placed))
-alone_begins n start place c ds placed e = rw e tt
+alone_begins : (n start offset c : ℕ) (ds : List Dispatch) (placed : List (ℕ × Dispatch)) → is_lent start offset c ≡ false → BeginsFrom n (framed start (at_place offset (Print c ∷ ds) ++ placed))
+alone_begins n start offset c ds placed e = rw e tt
 
 -- so many bytes have been read before what is held of a character, or that can't become a character to lend
 abbrev pub IsLate : ℕ → ℕ → List ℕ → List ℕ → Type 0
@@ -153,7 +153,7 @@ begins_late (b ∷ rest) stream start count n l =
         (λ h. by_printing (held_prints (held_of stream) b (stream_sound stream) h)) (cases_Bool (is_body (held_of stream).kept))
       where
         by_printing : Printing (begun_bytes (held_of stream)) b next.dispatches next.held.kept next.held.waiting → Goal next.dispatches
-        by_printing (breaks_one others e k) = subst Goal (sym e) (alone_begins n start (count + 1) 0xFFFD others placed (never_lent start (count + 1) 0xFFFD refl))
+        by_printing (breaks_one remaining e k) = subst Goal (sym e) (alone_begins n start (count + 1) 0xFFFD remaining placed (never_lent start (count + 1) 0xFFFD refl))
         by_printing (whole_one (replaces e g w)) = subst Goal (sym e) (alone_begins n start (count + 1) 0xFFFD [] placed (never_lent start (count + 1) 0xFFFD refl))
         by_printing (whole_one (quiet p g w)) = none_begins n start (count + 1) next.dispatches placed p (later (soon l (nothing_begun next.held g w)))
         by_printing (whole_one (prints c s p e f g w)) = subst Goal (sym f) (by_late l)

@@ -1,4 +1,4 @@
--- What a byte of a stream prints behind what is held of it.
+-- What a byte of a stream prints after what is held of it.
 use Rattle.std.proofs.Common.{◌≡◌, ℕ, ◌-◌, inl, inr, Bool, true, false, List, [], ◌∷◌, ◌++◌, refl, sym, ap, subst, ◌∙◌, arith, append-nil, ⊎_elim}
 use Rattle.std.specs.Prelude.{◌==◌}
 use Rattle.std.proofs.lemmas.Bool.{cond_both, cases_Bool, eqb-true}
@@ -42,7 +42,7 @@ stream_sound s = at_sound s (hand_out nothing_held s) (at_all s)
 pub reached_sound : (h : Held) → IsReached h → IsSoundIn h.kept h.waiting
 reached_sound h (s, e) = subst (λ (x : Held). IsSoundIn x.kept x.waiting) (sym e) (stream_sound s)
 
--- ---- ESC and C2 behind what is kept
+-- ---- ESC and C2 after what is kept
 
 record Escapes (k : Kept) : Type 0 where
   kept : (kept_step k 0x1B).kept ≡ InEscape []
@@ -120,7 +120,7 @@ lead_bytes InDevice s h = cc
 lead_bytes InString s h = cc
 lead_bytes _ s h = refl
 
--- a byte behind a C2 that is no half of a C1 control
+-- a byte after a C2 that is no half of a C1 control
 pub other_waiting : (k : Kept) (b : ℕ) → IsSoundIn k true → is_body k ≡ false → is_c1 0xC2 b ≡ false → waiting_step k b ≡ fresh_step (InCharacter (0xC2 ∷ [])) b
 unfolding waiting_step
 other_waiting k b s h e = rw (e, lead_opens k s h) refl
@@ -157,7 +157,7 @@ body_interrupted InDevice h = refl
 body_interrupted InString h = refl
 body_interrupted _ h = cc
 
--- it prints nothing, and no character has begun behind it
+-- it prints nothing, and no character has begun after it
 abbrev pub IsQuietAt : Handed → Type 0
 IsQuietAt h = PrintNone h.dispatches × (begun_bytes h.held ≡ [])
 

@@ -24,9 +24,9 @@ put_spells from c (Single d ∷ items) ds h = one_spells from c (Single d ∷ it
 put_spells from c (Text next more ∷ items) ds h =
     cond_both (next == from + length (encode_utf8 c)) _ _ (λ l. Spells l (Print c ∷ ds)) (λ e. more_spells from next c more items ds h) (λ e. one_spells from c (Text next more ∷ items) ds h)
 
-character_spells : (start place c : ℕ) (items : List Framed) (ds : List Dispatch) → Spells items ds → Spells (put_character start place c items) (Print c ∷ ds)
-character_spells start place c items ds h =
-    cond_both (is_lent start place c) _ _ (λ l. Spells l (Print c ∷ ds)) (λ e. put_spells (place - length (encode_utf8 c)) c items ds h) (λ e. alone (Print c) items ds h)
+character_spells : (start offset c : ℕ) (items : List Framed) (ds : List Dispatch) → Spells items ds → Spells (put_character start offset c items) (Print c ∷ ds)
+character_spells start offset c items ds h =
+    cond_both (is_lent start offset c) _ _ (λ l. Spells l (Print c ∷ ds)) (λ e. put_spells (offset - length (encode_utf8 c)) c items ds h) (λ e. alone (Print c) items ds h)
 
 pub framed_spells : (start : ℕ) (placed : List (ℕ × Dispatch)) → Spells (framed start placed) (map (λ (p : ℕ × Dispatch). p.1) placed)
 framed_spells start [] = nothing
@@ -46,16 +46,16 @@ put_stands_apart from text (Single d ∷ items) h = h
 put_stands_apart from text (Text next more ∷ items) h =
     cond_both (next == from + length text) _ _ AreApart (λ e. after_text from text more next items h (eqb-true next (from + length text) e)) (λ e. (eqb-false next (from + length text) e, h))
 
-character_apart : (start place c : ℕ) (items : List Framed) → AreApart items → AreApart (put_character start place c items)
-character_apart start place c items h =
-    cond_both (is_lent start place c) _ _ AreApart (λ e. put_stands_apart (place - length (encode_utf8 c)) (encode_utf8 c) items h) (λ e. h)
+character_apart : (start offset c : ℕ) (items : List Framed) → AreApart items → AreApart (put_character start offset c items)
+character_apart start offset c items h =
+    cond_both (is_lent start offset c) _ _ AreApart (λ e. put_stands_apart (offset - length (encode_utf8 c)) (encode_utf8 c) items h) (λ e. h)
 
 pub framed_apart : (start : ℕ) (placed : List (ℕ × Dispatch)) → AreApart (framed start placed)
 framed_apart start [] = tt
 framed_apart start ((n, Print c) ∷ placed) = character_apart start n c (framed start placed) (framed_apart start placed)
 framed_apart start ((n, _) ∷ placed) = framed_apart start placed
 
--- ---- what is held is enough for the places too
+-- ---- what is held is enough for the positions too
 
 pub placed_same : (bytes stream : List ℕ) → placed_after (length stream) (held_of stream) bytes ≡ placed_from stream bytes
 unfolding placed_after

@@ -17,7 +17,7 @@ closed old = record old { held = record old.held { kept = InCharacter [] } }
 pub cut_left : (old new : Lending) (r : Stepped) (b : ℕ) → new ≡ closed old → r ≡ record { event = None; is_read = false } → character_step [] b ≡ resumed (handed_out new r.event) new.held.kept r.is_read b
 cut_left old new r b n e = sym (λ i. resumed (handed_out (n i) (e i).event) (n i).held.kept (e i).is_read b)
 
--- ESC is left behind the command
+-- ESC is left after the command
 pub command_left : (old new : Lending) (r : Stepped) (b : ℕ) → b ≡ 0x1B → new ≡ closed old → r ≡ record { event = Some event.OperatingSystemCommand; is_read = false } → command_step old.body b ≡ resumed (handed_out new r.event) new.held.kept r.is_read b
 unfolding command_step is_stop
 command_left old new r b h n e =

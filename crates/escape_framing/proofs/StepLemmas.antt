@@ -67,7 +67,7 @@ frames_broken count n h b rest r t z k p =
       carried = carried_none 0 (count + 0) nothing_held (b ∷ rest) refl;
     }
 
--- whatever stands behind its first byte
+-- whatever follows its first byte
 pub broken_same : (n : ℕ) (h : Held) (b : ℕ) (rest : List ℕ) → IsReached h → takes_text h b ≡ true → begun_bytes h ≢ [] → IsTextLen (b ∷ rest) n → 0 < n → (xs : List ℕ) → (hand_out h (b ∷ xs)).held ≡ (hand_out nothing_held (b ∷ xs)).held
 unfolding hand_out
 broken_same n h b rest r t z k p xs =
@@ -109,7 +109,7 @@ frames_text count n h b rest r t z k p =
     let f = first_in (b ∷ rest) n k p in
     text_after count n h (b ∷ rest) k p (text_cuts h b rest f.c f.more r (takes_outside h.kept h.waiting b t) z (high h.kept h.waiting b t z) f.lendable f.is)
 
--- nothing is held behind it
+-- nothing is held after it
 pub text_ends : (n : ℕ) (h : Held) (b : ℕ) (rest : List ℕ) → IsReached h → takes_text h b ≡ true → begun_bytes h ≡ [] → IsTextLen (b ∷ rest) n → 0 < n → (hand_out h (take n (b ∷ rest))).held ≡ nothing_held
 text_ends zero h b rest r t z k p = absurd (omega arith)
 text_ends (suc n) h b rest r t z k p =

@@ -35,7 +35,7 @@ pub lead_kept : character_step [] 0xC2 ≡ steps [] (InCharacter (0xC2 ∷ []))
 unfolding character_step in_character
 lead_kept = ap (λ (r : Reading). steps (flat_map dispatches_of r.segments) (kept_of r.tail)) first_c2
 
--- a byte behind a C2 that is no half of a C1 control
+-- a byte after a C2 that is no half of a C1 control
 pub after_lead : (b : ℕ) → is_c1 0xC2 b ≡ false → b ≢ 0xC2 → held_step lead_waits b ≡ handed (character_step (0xC2 ∷ []) b) false
 unfolding held_step waiting_step fresh_step
 after_lead b h n = rw (h, lead_kept) (rw (ne_eqb b 0xC2 n) refl)
@@ -49,16 +49,16 @@ unfolding character_step next_byte
 whole_step c b p s h e g =
     ap (λ (r : Reading). steps (flat_map dispatches_of r.segments) (kept_of r.tail)) (ends_character c b p s e (no_escape c h) g ∙ ap (λ (x : Segment). ends x) (plain_segment (p ++ b ∷ []) c h))
 
--- ---- behind the first byte
+-- ---- after the first byte
 
--- the placed dispatches of bytes, and what is held behind them
+-- the placed dispatches of bytes, and what is held after them
 abbrev Both : Type 0
 Both = List (ℕ × Dispatch) × Held
 
 abbrev both : ℕ → Held → List ℕ → Both
 both count held bytes = (placed_after count held bytes, (hand_out held bytes).held)
 
--- a character that is printed, before what bytes do behind it
+-- a character that is printed, before what bytes do after it
 abbrev printed : ℕ → ℕ → List ℕ → Both
 printed count c bytes = ((count, Print c) ∷ placed_after count nothing_held bytes, (hand_out nothing_held bytes).held)
 
@@ -66,7 +66,7 @@ step_of : (count : ℕ) (held : Held) (b : ℕ) (bytes : List ℕ) (h : Handed) 
 unfolding placed_after hand_out
 step_of count held b bytes h e = ap (λ (x : Handed). (at_place (count + 1) x.dispatches ++ placed_after (count + 1) x.held bytes, (hand_out x.held bytes).held)) e
 
--- the bytes of a character behind its first ones, where none of them is a C2
+-- the bytes of a character after its first ones, where none of them is a C2
 reads_on : (count c x : ℕ) (p q more : List ℕ) → IsScalar c → IsPrintable c → encode c ≡ (x ∷ p) ++ q → q ≢ []
     → both count (first_bytes (x ∷ p)) (q ++ more) ≡ printed (count + length q) c more
 reads_on count c x p [] more s h e n = absurd (n refl)
@@ -147,7 +147,7 @@ lent_character start count c more h l =
     ∙ (let e : is_lent start (count + length (encode c)) c ≡ true = lends start (count + length (encode c)) c h (omega arith) in rw e refl)
     ∙ (let k : count + length (encode c) - length (encode c) ≡ count = omega arith in ap (λ (n : ℕ). put_text n (encode c) (framed_after start (count + length (encode c)) nothing_held more)) k)
 
--- characters side by side are one text, where the bytes behind them don't go on with it
+-- characters side by side are one text, where the bytes after them don't go on with it
 pub reads_text : (start count : ℕ) (text rest : List ℕ) → IsText text → text ≢ [] → start ≤ count → BeginsFrom (count + length text + 1) (framed_after start (count + length text) nothing_held rest)
     → framed_after start count nothing_held (text ++ rest) ≡ Text count text ∷ framed_after start (count + length text) nothing_held rest
 reads_text start count text rest no_text n l r = absurd (n refl)
@@ -165,7 +165,7 @@ reads_text start count text rest (text_of c (x ∷ more) h t) n l r =
     ∙ put_joined count (encode c) (x ∷ more) (framed_after start (count + length (encode c) + length (x ∷ more)) nothing_held rest)
     ∙ ap (λ (m : ℕ). Text count (encode c ++ x ∷ more) ∷ framed_after start m nothing_held rest) k
 
--- nothing is held behind a text
+-- nothing is held after a text
 pub text_kept : (text rest : List ℕ) → IsText text → (hand_out nothing_held (text ++ rest)).held ≡ (hand_out nothing_held rest).held
 text_kept text rest no_text = refl
 text_kept text rest (text_of c more l t) = ap (λ (b : List ℕ). (hand_out nothing_held b).held) (append_assoc (encode c) more rest) ∙ held_character c (more ++ rest) l.0 l.1 ∙ text_kept more rest t

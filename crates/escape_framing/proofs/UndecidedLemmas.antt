@@ -49,13 +49,13 @@ hand_rest : (kept : Kept) (b : ℕ) (bytes : List ℕ) (s : Step) → (b == 0xC2
 unfolding hand_out held_step fresh_step
 hand_rest kept b bytes s e f = rw e (ap (λ (x : Step). x.dispatches ++ (hand_out (at_rest_with x.kept) bytes).dispatches) f)
 
--- a byte behind a C2 that makes no pair, where the C2 by itself does this
+-- a byte after a C2 that makes no pair, where the C2 by itself does this
 hand_c2 : (kept : Kept) (b : ℕ) (c s : Step) → is_c1 0xC2 b ≡ false → (b == 0xC2) ≡ false → kept_step kept 0xC2 ≡ c → kept_step c.kept b ≡ s → (hand_out (at_c2_with kept) (b ∷ [])).dispatches ≡ (c.dispatches ++ s.dispatches) ++ []
 unfolding hand_out held_step waiting_step fresh_step
 hand_c2 kept b c s e f g h =
     rw (e, f) (ap (λ (x : Step). (x.dispatches ++ (kept_step x.kept b).dispatches) ++ []) g ∙ ap (λ (x : Step). (c.dispatches ++ x.dispatches) ++ []) h)
 
--- a byte behind a C2 that makes a pair
+-- a byte after a C2 that makes a pair
 hand_pair : (kept : Kept) (b : ℕ) → is_c1 0xC2 b ≡ true → (hand_out (at_c2_with kept) (b ∷ [])).dispatches ≡ ((kept_step kept 0x1B).dispatches ++ (kept_step (kept_step kept 0x1B).kept (b - 0x40)).dispatches) ++ []
 unfolding hand_out held_step waiting_step
 hand_pair kept b e = rw e refl

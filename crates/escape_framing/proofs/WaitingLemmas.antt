@@ -28,12 +28,12 @@ pub header_cut : (header : List ℕ) (b : ℕ) → is_cut b ≡ true → header_
 unfolding header_step
 header_cut header b h = let n = or_parts (is_embedded b) (is_parameter b) (cut_is_no_parameter b h) in rw (n.0, n.1, h) refl
 
--- the second half of a C1 control, as a byte behind ESC
+-- the second half of a C1 control, as a byte after ESC
 pub c1_not_cut : (b : ℕ) → is_c1 0xC2 b ≡ true → is_cut (b - 0x40) ≡ false
 unfolding is_cut is_stop
 c1_not_cut b h = grind (arith, nat_tests)
 
--- what takes memory behind a byte that cuts off took memory before it
+-- what takes memory after a byte that cuts off took memory before it
 pub took_memory : (kept : Kept) (b : ℕ) → is_cut b ≡ true → TakesMemory (kept_step kept b).kept → TakesMemory kept
 unfolding device_step string_step
 took_memory (InCharacter bytes) b h m = takes_none bytes b m

@@ -27,7 +27,7 @@ is_escape_final b = nat_le 0x30 b && nat_le b 0x7E
 unfoldable pub is_string_opener : ℕ → Bool
 is_string_opener b = b == 0x58 || b == 0x5E || b == 0x5F
 
--- the bytes that open something longer behind ESC: [, ], P, and those of strings
+-- the bytes that open something longer after ESC: [, ], P, and those of strings
 unfoldable pub is_opener : ℕ → Bool
 is_opener b = b == 0x5B || b == 0x5D || b == 0x50 || is_string_opener b
 

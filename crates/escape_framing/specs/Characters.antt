@@ -14,7 +14,7 @@ use Rattle.escape_framing.specs.declared.characters.Own.TheVariants as own
 
 -- the bytes are the first ones of a character, and one byte more
 abbrev pub IsAfterBegun : List ℕ → Type 0
-IsAfterBegun bytes = (front : List ℕ) × (b : ℕ) × IsUnfinished (Begun front) × (bytes ≡ front ++ b ∷ [])
+IsAfterBegun bytes = (prefix : List ℕ) × (b : ℕ) × IsUnfinished (Begun prefix) × (bytes ≡ prefix ++ b ∷ [])
 
 abbrev pub IsKind : List ℕ → Kind → Type 0
 IsKind bytes (kind.Whole c) = (is_utf8 bytes ≡ true) × (slice_index (chars bytes) 0 ≡ c)
@@ -45,7 +45,7 @@ own_dispatches o = (own_step o []).dispatches
 abbrev pub step_of : Own → List ℕ → Step
 step_of o bytes = steps (own_dispatches o) (own_kept o bytes)
 
--- A byte breaks the character of these first bytes: it does what it does by itself, behind U+FFFD.
+-- A byte breaks the character of these first bytes: it does what it does by itself, after U+FFFD.
 pub record Breaks (bytes : List ℕ) (b : ℕ) : Type 0 where
   pub breaks : character_step bytes b ≡ before (dispatch.Print 0xFFFD ∷ []) (character_step [] b)
   pub some : bytes ≢ []

@@ -19,6 +19,6 @@ tail_of stream = (the_cut stream).tail
 abbrev pub dispatches : List ℕ → List Dispatch
 dispatches stream = flat_map dispatches_of (the_cut stream).segments ++ decided_of (tail_of stream)
 
--- the dispatches that are decided once more bytes stand behind a stream
+-- the dispatches that are decided once more bytes follow a stream
 abbrev pub newly_decided : List ℕ → List ℕ → List Dispatch
 newly_decided stream more = drop (length (dispatches stream)) (dispatches (stream ++ more))

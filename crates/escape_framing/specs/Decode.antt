@@ -47,14 +47,14 @@ reading_of bytes broken =
 unfoldable pub first_byte : ℕ → Reading
 first_byte b = if b == 0x1B then waits (OpenEscape []) else reading_of (b ∷ []) (ends (IllFormed (b ∷ [])))
 
--- a byte behind the first ones of a character
+-- a byte after the first ones of a character
 unfoldable pub in_character : List ℕ → ℕ → Reading
 in_character [] b = first_byte b
 in_character (t ∷ tail) b = reading_of ((t ∷ tail) ++ b ∷ []) (ends_before (IllFormed (t ∷ tail)) (first_byte b))
 
 -- ---- Sequences
 
--- what a byte opens behind ESC
+-- what a byte opens after ESC
 unfoldable pub opened_by : List ℕ → ℕ → Tail
 opened_by body b =
     if b == 0x5B then OpenControlSequence body []
@@ -62,12 +62,12 @@ opened_by body b =
     else if b == 0x50 then OpenHeader body []
     else OpenString body b []
 
--- a byte from 30 to 7E behind ESC and intermediate bytes
+-- a byte from 30 to 7E after ESC and intermediate bytes
 unfoldable pub after_escape : List ℕ → ℕ → Reading
 after_escape body b =
     if list_any is_intermediate body || not (is_opener b) then ends (Escape body b) else waits (opened_by body b)
 
--- a byte behind what is open
+-- a byte after what is open
 unfoldable pub next_byte : Tail → ℕ → Reading
 next_byte (Begun bytes) b = in_character bytes b
 next_byte (OpenEscape body) b =

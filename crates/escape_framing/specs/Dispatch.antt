@@ -30,7 +30,7 @@ controls_in bytes = map Control (filter (λ b. nat_lt b 0x20) bytes)
 unfoldable pub escape_dispatch : List ℕ → ℕ → List Dispatch
 escape_dispatch [] final = Escape None final ∷ []
 escape_dispatch (intermediate ∷ []) final = Escape (Some intermediate) final ∷ []
-escape_dispatch (intermediate ∷ second ∷ others) final = []
+escape_dispatch (intermediate ∷ second ∷ remaining) final = []
 
 unfoldable pub control_sequence_dispatch : List ℕ → ℕ → Dispatch
 control_sequence_dispatch parameters final =
@@ -41,7 +41,7 @@ control_sequence_dispatch parameters final =
 unfoldable pub command_dispatch : List ℕ → ℕ → List Dispatch
 command_dispatch body ender = if ender == 0x07 || ender == 0x1B then OperatingSystemCommand (taken body) ∷ [] else []
 
--- the bytes that no other can make half of a C1 control: a C2 at the end waits for the byte behind it
+-- the bytes that no other can make half of a C1 control: a C2 at the end waits for the byte after it
 abbrev pub settled : List ℕ → List ℕ
 settled [] = []
 settled (b ∷ []) = if b == 0xC2 then [] else b ∷ []

@@ -28,7 +28,7 @@ handed_out l None = []
 handed_out l (Some e) = dispatch_in l e ∷ []
 
 -- what a byte of the seven-bit form does where it hands these out and this is kept then: where it is left unread, it is
--- still to do what it does behind that
+-- still to do what it does after that
 abbrev pub resumed : List stream.Dispatch → Kept → Bool → ℕ → Step
 resumed ds kept true b = steps ds kept
 resumed ds kept false b = before ds (kept_step kept b)
@@ -72,7 +72,7 @@ pub record IsLeft (old : Kept) (event : Option Event) (new : Kept) : Type 0 wher
   pub was_open : kept_rank old ≡ 1
   pub alone : IsAlone event
 
--- A byte of the seven-bit form that is read behind what is kept cuts nothing off.
+-- A byte of the seven-bit form that is read after what is kept cuts nothing off.
 abbrev pub GoesOn : Kept → ℕ → Type 0
 GoesOn (InCharacter bytes) b = (bytes ≡ []) ⊎ ((0x80 ≤ b) × (b ≤ 0xBF))
 GoesOn (InEscape xs) b = is_cut b ≡ false

@@ -13,10 +13,10 @@ pub data Framed : Type 0 where
   Text : ℕ → List ℕ → Framed
   Single : Dispatch → Framed
 
--- A character is lent where all its bytes stand behind the start of the call. U+FFFD never is, since it also stands for
+-- A character is lent where all its bytes follow the start of the call. U+FFFD never is, since it also stands for
 -- bytes that are ill-formed.
 abbrev pub is_lent : ℕ → ℕ → ℕ → Bool
-is_lent start place c = not (c == 0xFFFD) && nat_le (start + length (encode_utf8 c)) place
+is_lent start offset c = not (c == 0xFFFD) && nat_le (start + length (encode_utf8 c)) offset
 
 -- a text before others: one with the text that begins where it ends
 abbrev pub put_text : ℕ → List ℕ → List Framed → List Framed
@@ -27,31 +27,31 @@ put_text from text (Text next more ∷ rest) =
 
 -- a character that has its place before others
 abbrev pub put_character : ℕ → ℕ → ℕ → List Framed → List Framed
-put_character start place c rest =
-    if is_lent start place c then put_text (place - length (encode_utf8 c)) (encode_utf8 c) rest
+put_character start offset c rest =
+    if is_lent start offset c then put_text (offset - length (encode_utf8 c)) (encode_utf8 c) rest
     else Single (Print c) ∷ rest
 
 abbrev pub put_dispatch : ℕ → ℕ → Dispatch → List Framed → List Framed
-put_dispatch start place (Print c) rest = put_character start place c rest
-put_dispatch start place (Control b) rest = Single (Control b) ∷ rest
-put_dispatch start place (Escape intermediate final) rest = Single (Escape intermediate final) ∷ rest
-put_dispatch start place (ControlSequence tokens truncated final) rest =
+put_dispatch start offset (Print c) rest = put_character start offset c rest
+put_dispatch start offset (Control b) rest = Single (Control b) ∷ rest
+put_dispatch start offset (Escape intermediate final) rest = Single (Escape intermediate final) ∷ rest
+put_dispatch start offset (ControlSequence tokens truncated final) rest =
     Single (ControlSequence tokens truncated final) ∷ rest
-put_dispatch start place (OperatingSystemCommand body) rest = Single (OperatingSystemCommand body) ∷ rest
-put_dispatch start place (Enter header final) rest = Single (Enter header final) ∷ rest
-put_dispatch start place (Data b) rest = Single (Data b) ∷ rest
-put_dispatch start place Exit rest = Single Exit ∷ rest
+put_dispatch start offset (OperatingSystemCommand body) rest = Single (OperatingSystemCommand body) ∷ rest
+put_dispatch start offset (Enter header final) rest = Single (Enter header final) ∷ rest
+put_dispatch start offset (Data b) rest = Single (Data b) ∷ rest
+put_dispatch start offset Exit rest = Single Exit ∷ rest
 
--- placed dispatches of a call whose bytes begin behind the start: characters that stand side by side are one text
+-- placed dispatches of a call whose bytes begin after the start: characters that stand side by side are one text
 abbrev pub framed : ℕ → List (ℕ × Dispatch) → List Framed
 framed start [] = []
 framed start (p ∷ placed) = put_dispatch start p.0 p.1 (framed start placed)
 
--- dispatches at one place
+-- dispatches at one position
 abbrev pub at_place : ℕ → List Dispatch → List (ℕ × Dispatch)
-at_place place dispatches = map (λ d. (place, d)) dispatches
+at_place offset dispatches = map (λ d. (offset, d)) dispatches
 
--- the placed dispatches of bytes, behind so many others of which this is held
+-- the placed dispatches of bytes, after so many others of which this is held
 unfoldable pub placed_after : ℕ → Held → List ℕ → List (ℕ × Dispatch)
 placed_after count held [] = []
 placed_after count held (b ∷ bytes) =
@@ -79,7 +79,7 @@ kept_takes (InHeader header) waiting b = waiting || nat_le 0x80 b
 kept_takes InDevice waiting b = false
 kept_takes InString waiting b = false
 
--- what bytes hand out behind so many others, of which this is held, in a call whose bytes begin behind the start
+-- what bytes hand out after so many others, of which this is held, in a call whose bytes begin after the start
 abbrev pub framed_after : ℕ → ℕ → Held → List ℕ → List Framed
 framed_after start count held bytes = framed start (placed_after count held bytes)
 
@@ -92,7 +92,7 @@ pub data IsText : List ℕ → Type 0 where
   no_text : IsText []
   text_of : (c : ℕ) (more : List ℕ) → IsLendable c → IsText more → IsText (encode_utf8 c ++ more)
 
--- no such character stands at the front
+-- no such character stands at the start
 pub record BeginsNoText (bytes : List ℕ) : Type 0 where
   pub none : (c : ℕ) (more : List ℕ) → IsLendable c → bytes ≢ encode_utf8 c ++ more
 
@@ -109,7 +109,7 @@ pub record IsCarried (start count : ℕ) (held : Held) (rest : List ℕ) : Type 
 abbrev pub IsReached : Held → Type 0
 IsReached held = (stream : List ℕ) × (held ≡ held_of stream)
 
--- Behind what is held, the bytes hand out these first, and then what the bytes behind so many of them do behind what is
+-- After what is held, the bytes hand out these first, and then what the bytes after so many of them do after what is
 -- held now: in each call that began where those before have been read.
 pub record Frames (count : ℕ) (held : Held) (bytes : List ℕ) (items : ℕ → List Framed) (n : ℕ) (after : Held) : Type 0
   where
@@ -123,25 +123,25 @@ pub record Frames (count : ℕ) (held : Held) (bytes : List ℕ) (items : ℕ �
 
 -- ---- how texts are found
 
--- so many bytes are the character at the front, which can be lent; 0 where none is
+-- so many bytes are the character at the start, which can be lent; 0 where none is
 pub record IsCharacterLen (bytes : List ℕ) (n : ℕ) : Type 0 where
   pub none : n ≡ 0 → BeginsNoText bytes
   pub some : 0 < n
       → (c : ℕ) × (more : List ℕ) × IsLendable c × (bytes ≡ encode_utf8 c ++ more) × (length (encode_utf8 c) ≡ n)
 
--- so many bytes are a text at the front; 0 only where none can stand there
+-- so many bytes are a text at the start; 0 only where none can stand there
 pub record IsRunLen (bytes : List ℕ) (n : ℕ) : Type 0 where
   pub none : n ≡ 0 → BeginsNoText bytes
   pub text : IsText (take n bytes)
   pub within : n ≤ length bytes
 
--- so many bytes are a text, and no text stands behind them
+-- so many bytes are a text, and no text follows them
 pub record IsTextLen (bytes : List ℕ) (n : ℕ) : Type 0 where
   pub within : n ≤ length bytes
   pub text : IsText (take n bytes)
   pub rest : BeginsNoText (drop n bytes)
 
--- whether a character at the front can be one of a text: no body is open, and its first byte is none of a sequence
+-- whether a character at the start can be one of a text: no body is open, and its first byte is none of a sequence
 abbrev pub takes_text : Held → ℕ → Bool
 takes_text held b = kept_takes held.kept held.waiting b
 

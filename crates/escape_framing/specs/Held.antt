@@ -42,7 +42,7 @@ TakesMemory (InHeader header) = Unit {0}
 TakesMemory InDevice = ⊥
 TakesMemory InString = ⊥
 
--- what a byte hands out, and what is kept behind it
+-- what a byte hands out, and what is kept after it
 pub record Step : Type 0 where
   pub dispatches : List Dispatch
   pub kept : Kept
@@ -59,7 +59,7 @@ before dispatches step = record { dispatches = dispatches ++ step.dispatches; ke
 unfoldable pub character_step : List ℕ → ℕ → Step
 character_step bytes b = let r = in_character bytes b in steps (flat_map dispatches_of r.segments) (kept_of r.tail)
 
--- what a byte opens behind ESC
+-- what a byte opens after ESC
 unfoldable pub opened : ℕ → Kept
 opened b =
     if b == 0x5B then InControlSequence no_parameters
@@ -67,7 +67,7 @@ opened b =
     else if b == 0x50 then InHeader []
     else InString
 
--- a byte from 30 to 7E behind ESC and intermediate bytes
+-- a byte from 30 to 7E after ESC and intermediate bytes
 abbrev pub final_step : List ℕ → ℕ → Step
 final_step [] b = if is_opener b then steps [] (opened b) else steps (escape_dispatch [] b) (InCharacter [])
 final_step (x ∷ xs) b = steps (escape_dispatch (x ∷ xs) b) (InCharacter [])
@@ -106,7 +106,7 @@ device_step b = if is_stop b then before (Exit ∷ []) (character_step [] b) els
 unfoldable pub string_step : ℕ → Step
 string_step b = if is_stop b then character_step [] b else steps [] InString
 
--- a byte behind what is kept
+-- a byte after what is kept
 abbrev pub kept_step : Kept → ℕ → Step
 kept_step (InCharacter bytes) b = character_step bytes b
 kept_step (InEscape xs) b = escape_step xs b
@@ -118,7 +118,7 @@ kept_step InString b = string_step b
 
 -- ---- A byte of the stream
 
--- what is kept, and whether a C2 waits for the byte behind it
+-- what is kept, and whether a C2 waits for the byte after it
 pub record Held : Type 0 where
   pub kept : Kept
   pub waiting : Bool
@@ -145,11 +145,11 @@ interrupted InString = steps [] InString
 unfoldable pub fresh_step : Kept → ℕ → Handed
 fresh_step kept b = if b == 0xC2 then handed (interrupted kept) true else handed (kept_step kept b) false
 
--- behind a step
+-- after a step
 abbrev pub handed_after : Step → Handed → Handed
 handed_after step rest = record { dispatches = step.dispatches ++ rest.dispatches; held = rest.held }
 
--- a byte behind a C2: half of a C1 control, which is two bytes of the seven-bit form, or another byte
+-- a byte after a C2: half of a C1 control, which is two bytes of the seven-bit form, or another byte
 unfoldable pub waiting_step : Kept → ℕ → Handed
 waiting_step kept b =
     if is_c1 0xC2 b

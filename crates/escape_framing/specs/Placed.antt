@@ -4,21 +4,21 @@ use Rattle.std.specs.List.{slice_get}
 use Rattle.escape_framing.specs.Dispatch.{Dispatch}
 use Rattle.escape_framing.specs.Cut.{dispatches, newly_decided}
 
--- The first bytes of the stream, as many as the place says, decide the dispatch at the index, and fewer don't.
-pub record IsPlaced (stream : List ℕ) (index place : ℕ) (dispatch : Dispatch) : Type 0 where
+-- The first bytes of the stream, as many as the position says, decide the dispatch at the index, and fewer don't.
+pub record IsPlaced (stream : List ℕ) (index offset : ℕ) (dispatch : Dispatch) : Type 0 where
   -- the stream has so many bytes
-  pub within : place ≤ length stream
-  -- however the stream goes on behind so many bytes, this dispatch is at the index
-  pub decided : (more : List ℕ) → slice_get (dispatches (take place stream ++ more)) index ≡ Some dispatch
-  -- behind fewer bytes the stream can go on so that it is not
-  pub least : (fewer : ℕ) → fewer < place
+  pub within : offset ≤ length stream
+  -- however the stream goes on after so many bytes, this dispatch is at the index
+  pub decided : (more : List ℕ) → slice_get (dispatches (take offset stream ++ more)) index ≡ Some dispatch
+  -- after fewer bytes the stream can go on so that it is not
+  pub least : (fewer : ℕ) → fewer < offset
       → ((more : List ℕ) → slice_get (dispatches (take fewer stream ++ more)) index ≡ Some dispatch) → ⊥
 
--- the placed dispatches of the bytes, behind others: what a byte decides has its place behind that byte
+-- the placed dispatches of the bytes, after others: what a byte decides has its place after that byte
 abbrev pub placed_from : List ℕ → List ℕ → List (ℕ × Dispatch)
-placed_from front [] = []
-placed_from front (b ∷ bytes) =
-    map (λ d. (length front + 1, d)) (newly_decided front (b ∷ [])) ++ placed_from (front ++ b ∷ []) bytes
+placed_from prefix [] = []
+placed_from prefix (b ∷ bytes) =
+    map (λ d. (length prefix + 1, d)) (newly_decided prefix (b ∷ [])) ++ placed_from (prefix ++ b ∷ []) bytes
 
 -- the dispatches that a stream decides, in order, each with the count of bytes that decides it
 abbrev pub placed_dispatches : List ℕ → List (ℕ × Dispatch)

@@ -3,7 +3,7 @@ use Rattle.std.specs.Prelude.{ℕ, ◌+◌, ◌≤◌, List, [], ◌∷◌, leng
 use Rattle.escape_framing.specs.Segment.{Segment, bytes_of}
 use Rattle.escape_framing.specs.Cut.{the_cut}
 
--- segments behind so many bytes, each with the count of the bytes before it
+-- segments after so many bytes, each with the count of the bytes before it
 abbrev pub segments_from : ℕ → List Segment → List (ℕ × Segment)
 segments_from count [] = []
 segments_from count (segment ∷ segments) = (count, segment) ∷ segments_from (count + length (bytes_of segment)) segments
@@ -13,9 +13,9 @@ segments_from count (segment ∷ segments) = (count, segment) ∷ segments_from 
 abbrev pub placed_segments : List ℕ → List (ℕ × Segment)
 placed_segments stream = segments_from 0 (the_cut stream).segments
 
--- the segment is one of the stream's, and lies behind the first place and before the second
+-- the segment is one of the stream's, and lies after the first position and before the second
 pub record LiesBetween (stream : List ℕ) (from to : ℕ) (segment : Segment) : Type 0 where
-  pub place : ℕ
-  pub stands : Contains (placed_segments stream) (place, segment)
-  pub behind : from ≤ place
-  pub before : place + length (bytes_of segment) ≤ to
+  pub offset : ℕ
+  pub stands : Contains (placed_segments stream) (offset, segment)
+  pub after : from ≤ offset
+  pub before : offset + length (bytes_of segment) ≤ to

@@ -1,9 +1,9 @@
--- What stands at the front of some bytes.
+-- What stands at the start of some bytes.
 use Rattle.std.specs.Prelude.{◌≡◌, ℕ, Bool, true, not, ◌&&◌, ◌==◌, List, ◌∷◌, drop, Option, Some, None}
 use Rattle.std.specs.Char.{is_ascii_control}
 use Rattle.escape_framing.specs.Bytes.{is_stop, is_final}
 
--- a final byte stands behind so many bytes, or the end or another byte does
+-- a final byte follows so many bytes, or the end or another byte does
 abbrev pub IsLastAt : List ℕ → ℕ → Option ℕ → Type 0
 IsLastAt bytes count None = Unit {0}
 IsLastAt bytes count (Some b) = (is_final b ≡ true) × ((rest : List ℕ) × (drop count bytes ≡ b ∷ rest))

@@ -17,7 +17,7 @@ abbrev pub text_of : Read → ℕ
 text_of (read.Text n) = n
 text_of (read.Bytes event n) = 0
 
--- the text that was read of the bytes behind so many, or the event, with what is lent
+-- the text that was read of the bytes after so many, or the event, with what is lent
 abbrev pub items_of : Lending → Read → List ℕ → ℕ → List Framed
 items_of l (read.Text n) bytes from = Text from (take n bytes) ∷ []
 items_of l (read.Bytes event n) bytes from = map Single (handed_out l event)
@@ -30,11 +30,11 @@ whole_sequence final n = read.Bytes (Some (event.ControlSequence final)) n
 abbrev pub whole_command : ℕ → Read
 whole_command n = read.Bytes (Some event.OperatingSystemCommand) n
 
--- behind so many of some bytes the body of a command or a header is read, which takes memory
+-- after so many of some bytes the body of a command or a header is read, which takes memory
 abbrev pub TakesMemoryAt : Held → List ℕ → ℕ → Type 0
 TakesMemoryAt held bytes n = TakesMemory (hand_out held (take n bytes)).held.kept
 
--- Of the bytes, behind what was held, this has been read, and now the framer shows this.
+-- Of the bytes, after what was held, this has been read, and now the framer shows this.
 pub record ReadsEvent (held : Held) (bytes : List ℕ) (r : Read) (after : Lending) : Type 0 where
   -- in a call that holds these bytes, with `count` others of it read
   pub frames : (count : ℕ) → IsReached held → IsCarried 0 count held bytes
@@ -44,6 +44,6 @@ pub record ReadsEvent (held : Held) (bytes : List ℕ) (r : Read) (after : Lendi
   pub text : IsText (take (text_of r) bytes)
   -- where none of some bytes is read, something was closed for them, which can't go on: the rank is at most 3
   pub moves : count_of r ≡ 0 → 0 < length bytes → rank after.held < rank held
-  -- where a body or a header is read behind these and some more bytes, it is so behind what was held
+  -- where a body or a header is read after these and some more bytes, it is so after what was held
   pub opens : IsReached held → (m : ℕ) → TakesMemoryAt after.held (drop (count_of r) bytes) m
       → TakesMemoryAt held bytes (count_of r + m)

@@ -111,12 +111,12 @@ abbrev pub IsControl : ℕ → Type 0
 IsControl b = ((b < 0x20) × (b ≢ 0x1B)) ⊎ (b ≡ 0x7F)
 
 -- The bytes are a maximal subpart of an ill-formed sequence (Unicode, 3.9): one byte that begins no character, or the
--- longest front of what stands there that begins one. `String::from_utf8_lossy` writes one U+FFFD for it.
+-- longest prefix of what stands there that begins one. `String::from_utf8_lossy` writes one U+FFFD for it.
 abbrev pub IsIllFormed : List ℕ → List ℕ → Type 0
 IsIllFormed bytes following =
     ((b : ℕ) × (bytes ≡ b ∷ []) × (BeginsCharacter bytes → ⊥))
     ⊎ (IsBegun bytes
-    × ((next : ℕ) × (others : List ℕ) × (following ≡ next ∷ others) × (BeginsCharacter (bytes ++ next ∷ []) → ⊥)))
+    × ((next : ℕ) × (remaining : List ℕ) × (following ≡ next ∷ remaining) × (BeginsCharacter (bytes ++ next ∷ []) → ⊥)))
 
 -- what follows begins with a byte that passes the test
 abbrev pub follows : (ℕ → Bool) → List ℕ → Bool
@@ -147,7 +147,7 @@ IsSegment (CutOff tail) following =
 
 -- ---- The cut
 
--- each segment may stand before those behind it and the tail
+-- each segment may stand before those after it and the tail
 abbrev pub StandInRow : List Segment → List ℕ → Type 0
 StandInRow [] tail = Unit {0}
 StandInRow (segment ∷ segments) tail = IsSegment segment (flat_map bytes_of segments ++ tail) × StandInRow segments tail

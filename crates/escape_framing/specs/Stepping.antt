@@ -5,7 +5,7 @@ use Rattle.escape_framing.specs.Lending.{Lending}
 use Rattle.escape_framing.specs.Event.{handed_out, resumed, held_resumed, IsLeft, IsHeldLeft}
 use Rattle.escape_framing.specs.declared.states.Stepped.{Stepped}
 
--- a byte of the seven-bit form, with what the framer shows behind it
+-- a byte of the seven-bit form, with what the framer shows after it
 abbrev pub as_stepped : Lending → Stepped → ℕ → Step
 as_stepped new s b = resumed (handed_out new s.event) new.held.kept s.is_read b
 

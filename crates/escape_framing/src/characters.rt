@@ -16,7 +16,7 @@ enum Kind {
     Broken,
 }
 
-/// What a byte is behind the first bytes of a character, or behind none.
+/// What a byte is after the first bytes of a character, or after none.
 #[derive(Clone, Copy)]
 pub(crate) enum Own {
     /// More bytes of its character are to come.

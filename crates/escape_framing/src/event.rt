@@ -26,7 +26,7 @@ pub enum Event {
     Exit,
 }
 
-/// What a framer has read at the front of some bytes.
+/// What a framer has read at the start of some bytes.
 #[derive(Clone, Copy, Debug, PartialEq, Eq)]
 pub enum Read {
     /// A text of so many bytes.

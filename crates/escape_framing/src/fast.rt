@@ -1,4 +1,4 @@
-//! Shortcuts: what stands whole or in a run at the front of the bytes of a call is read at once. A reader may skip
+//! Shortcuts: what stands whole or in a run at the start of the bytes of a call is read at once. A reader may skip
 //! them, since each answers what the general way does, or `None`, which leaves all to it.
 ghost use Rattle.std.specs.Prelude.{◌≡◌, ◌∷◌, IfSome};
 
@@ -6,13 +6,13 @@ mod command;
 mod runs;
 mod sequence;
 
-// What stands behind ESC and the byte that introduces a sequence.
+// What follows ESC and the byte that introduces a sequence.
 #[inline(always)]
 fn after_introducer(bytes: &[u8], introducer: u8) -> Option<&[u8]>
-    ensures { IfSome result (λ others. bytes.now ≡ 0x1B ∷ introducer ∷ others.now) }
+    ensures { IfSome result (λ remaining. bytes.now ≡ 0x1B ∷ introducer ∷ remaining.now) }
 {
     match bytes {
-        [0x1b, byte, others @ ..] if *byte == introducer => Some(others),
+        [0x1b, byte, remaining @ ..] if *byte == introducer => Some(remaining),
         _ => None,
     }
 }

@@ -133,7 +133,7 @@ impl Framer {
         }
     }
 
-    // The second byte of a C1 control behind its C2: ESC ends what is open, and then opens what the control does.
+    // The second byte of a C1 control after its C2: ESC ends what is open, and then opens what the control does.
     fn after_c1(&mut self, byte: u8) -> Result<Stepped, AllocError>
         requires waiting { self.old.held.waiting ≡ true }
         requires half { in_c1s 0xC2 byte ≡ true }
@@ -149,7 +149,7 @@ impl Framer {
         Ok(self.in_escape(Intermediates::Zero, byte - 0x40))
     }
 
-    // Another byte behind a C2, which is read first; a C2 that is data hands itself out.
+    // Another byte after a C2, which is read first; a C2 that is data hands itself out.
     fn after_lead(&mut self, byte: u8) -> Result<Stepped, AllocError>
         requires waiting { self.old.held.waiting ≡ true }
         requires plain { in_c1s 0xC2 byte ≡ false }
@@ -189,7 +189,7 @@ impl Framer {
 
     // ---- Bytes of a call
 
-    // Whether a character at the front can be one of a text: no body is open, and its first byte is none of a sequence.
+    // Whether a character at the start can be one of a text: no body is open, and its first byte is none of a sequence.
     fn takes_text(&self, byte: u8) -> bool
         ensures { result ≡ takes_text self.now.held byte }
     {
@@ -212,7 +212,7 @@ impl Framer {
         }
     }
 
-    // How many bytes the text at the front has, if one can stand there.
+    // How many bytes the text at the start has, if one can stand there.
     fn text_at(&self, byte: u8, bytes: &[u8]) -> usize
         ensures text { 0 < result → IsTextLen bytes.now result }
         ensures takes { 0 < result → takes_text self.now.held byte ≡ true }
@@ -253,7 +253,7 @@ impl Framer {
 
     // Reads a run of bytes that hand nothing out, or one byte.
     fn read_bytes(&mut self, byte: u8, bytes: &[u8]) -> Result<Read, AllocError>
-        requires front { (rest : List ℕ) × (bytes.now ≡ byte ∷ rest) }
+        requires prefix { (rest : List ℕ) × (bytes.now ≡ byte ∷ rest) }
         requires none { takes_text self.old.held byte ≡ true → BeginsNoText bytes.now }
         ensures reads { IfOk result (λ r. ReadsEvent self.old.held bytes.now r self.new) }
         ensures memory { OnErr result (TakesMemory self.old.held.kept) }
@@ -269,8 +269,8 @@ impl Framer {
         })
     }
 
-    /// Reads some bytes at the front of those of one call: a text, a run that hands nothing out, or what hands out one
-    /// event. None is read where `bytes` is empty, or where the byte at the front first ends something else, as a text
+    /// Reads some bytes at the start of those of one call: a text, a run that hands nothing out, or what hands out one
+    /// event. None is read where `bytes` is empty, or where the byte at the start first ends something else, as a text
     /// does with a character that it breaks: at most three calls in a row read none of some bytes. A text is made of
     /// printable characters, U+0020 to U+007E and from U+00A0, but U+FFFD. Memory is taken for the body of an operating
     /// system command and the header of a device control string alone; a framer that was refused memory is to be used

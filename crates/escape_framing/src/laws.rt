@@ -29,8 +29,8 @@ pub fn open_bytes()
 /// A law, which needs no call: the placed dispatches are the stream's dispatches, each with the least count of bytes
 /// that decides it however the stream goes on.
 pub fn places()
-    ensures placed { (stream : List ℕ) (index place : ℕ) (dispatch : Dispatch)
-        → slice_get (placed_dispatches stream) index ≡ Some (place, dispatch) → IsPlaced stream index place dispatch }
+    ensures placed { (stream : List ℕ) (index offset : ℕ) (dispatch : Dispatch)
+        → slice_get (placed_dispatches stream) index ≡ Some (offset, dispatch) → IsPlaced stream index offset dispatch }
     ensures all { (stream : List ℕ) → map (λ (p : ℕ × Dispatch). p.1) (placed_dispatches stream) ≡ dispatches stream }
 {}
 
@@ -46,7 +46,7 @@ pub fn held_is_enough()
     ensures goes_on { (stream more : List ℕ) → held_of (stream ++ more) ≡ (hand_out (held_of stream) more).held }
 {}
 
-/// A law, which needs no call: a dispatch comes as soon as the bytes so far decide it, since behind those that a stream
+/// A law, which needs no call: a dispatch comes as soon as the bytes so far decide it, since after those that a stream
 /// decides two continuations have different ones.
 pub fn as_soon_as_decided()
     ensures { (stream : List ℕ) → IsUndecided stream }
@@ -73,9 +73,9 @@ pub fn texts_and_dispatches()
 pub fn segment_places()
     ensures all { (stream : List ℕ)
         → map (λ (p : ℕ × Segment). p.1) (placed_segments stream) ≡ (the_cut stream).segments }
-    ensures placed { (stream : List ℕ) (index place : ℕ) (segment : Segment)
-        → slice_get (placed_segments stream) index ≡ Some (place, segment)
-        → take (length (bytes_of segment)) (drop place (seven_bit stream)) ≡ bytes_of segment }
+    ensures placed { (stream : List ℕ) (index offset : ℕ) (segment : Segment)
+        → slice_get (placed_segments stream) index ≡ Some (offset, segment)
+        → take (length (bytes_of segment)) (drop offset (seven_bit stream)) ≡ bytes_of segment }
     ensures same_length { (stream : List ℕ) → length (seven_bit stream) ≡ length stream }
 {}
 

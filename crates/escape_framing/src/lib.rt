@@ -2,10 +2,10 @@
 //! and which dispatches these decide, is defined in `specs`; each event is one of these dispatches.
 //!
 //! - `framer`: what the bytes of a call are read as, a text, a run that hands nothing out, a whole control sequence or
-//!   one byte, and what a byte does behind a C2, which may be half of a C1 control.
+//!   one byte, and what a byte does after a C2, which may be half of a C1 control.
 //! - `states`: what a byte of the seven-bit form does, for each thing that can be open.
-//! - `characters`: the first bytes of a character, and the byte behind them.
-//! - `texts`, `bodies`: how many bytes at the front are a text, or stand for themselves in a body.
+//! - `characters`: the first bytes of a character, and the byte after them.
+//! - `texts`, `bodies`: how many bytes at the start are a text, or stand for themselves in a body.
 //! - `bytes`: the classes of bytes.
 //! - `fast`: shortcuts past the framer, which a reader may skip.
 //! - `event`, `error`: what is handed out, and what is refused.

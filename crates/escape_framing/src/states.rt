@@ -1,4 +1,4 @@
-//! The states of a framer: what a byte of the seven-bit form does behind what is open.
+//! The states of a framer: what a byte of the seven-bit form does after what is open.
 ghost use Rattle.std.specs.Prelude.{◌≡◌, ◌<◌, not, ℕ, true, false, IfOk, OnErr, List, [], ◌∷◌, ◌++◌, Some, None, take};
 ghost use Rattle.escape_framing.specs.Bytes.{is_stop as in_stops, is_cut as in_cuts};
 ghost use Rattle.escape_framing.specs.Dispatch.{controls_in};
@@ -51,7 +51,7 @@ fn with_intermediate(intermediates: Intermediates, byte: u8) -> Intermediates
     }
 }
 
-/// What a byte hands out, and whether it was read: one that cuts something off is left for what begins behind that.
+/// What a byte hands out, and whether it was read: one that cuts something off is left for what begins after that.
 #[derive(Clone, Copy)]
 pub(crate) struct Stepped {
     pub event: Option<Event>,
@@ -109,7 +109,7 @@ impl Framer {
         self.characters = Characters::new();
     }
 
-    // A byte behind the first ones of a character, or behind nothing.
+    // A byte after the first ones of a character, or after nothing.
     fn in_character(&mut self, byte: u8) -> Stepped
         requires { (bytes : List ℕ) × (self.old.held.kept ≡ InCharacter bytes) }
         ensures steps { kept_step self.old.held.kept byte ≡ as_stepped self.new result byte }
@@ -137,7 +137,7 @@ impl Framer {
         left(None)
     }
 
-    // A byte that opens something behind ESC.
+    // A byte that opens something after ESC.
     #[tactic(auto, unfolding(crate::specs::Held::opened))]
     fn open(&mut self, byte: u8)
         ensures held { self.new.held ≡ record self.old.held { kept = opened byte } }
@@ -191,7 +191,7 @@ impl Framer {
         }
     }
 
-    // A byte behind ESC and intermediate bytes.
+    // A byte after ESC and intermediate bytes.
     #[tactic(auto, unfolding(crate::specs::Held::escape_step))]
     pub(crate) fn in_escape(&mut self, intermediates: Intermediates, byte: u8) -> Stepped
         requires { self.old.held.kept ≡ InEscape (bytes_in intermediates) }
@@ -212,7 +212,7 @@ impl Framer {
         }
     }
 
-    // A byte behind ESC [ and parameter bytes.
+    // A byte after ESC [ and parameter bytes.
     #[tactic(auto, unfolding(crate::specs::Held::control_sequence_step))]
     fn in_control_sequence(&mut self, byte: u8) -> Stepped
         requires { self.old.held.kept ≡ InControlSequence self.old.parameters }

@@ -1,4 +1,4 @@
-//! Texts: the characters at the front of some bytes that are lent as they stand.
+//! Texts: the characters at the start of some bytes that are lent as they stand.
 ghost use Rattle.std.specs.Prelude.{◌≡◌, ◌≢◌, ◌↔◌, IsTrue, ◌≤◌, length, drop};
 ghost use Rattle.escape_framing.specs.Segment.{IsPrintable};
 ghost use Rattle.escape_framing.specs.Framed.{IsCharacterLen, IsRunLen, IsTextLen};
@@ -14,7 +14,7 @@ fn is_lendable(c: char) -> bool
     !c.is_control() && c != '\u{fffd}'
 }
 
-// How many bytes the character at the front has; 0 where none can be lent.
+// How many bytes the character at the start has; 0 where none can be lent.
 fn character_len(bytes: &[u8]) -> usize
     ensures { IsCharacterLen bytes.now result }
 {
@@ -24,7 +24,7 @@ fn character_len(bytes: &[u8]) -> usize
     }
 }
 
-// How many bytes the printable ASCII characters at the front have, or the character there; 0 where none can be lent.
+// How many bytes the printable ASCII characters at the start have, or the character there; 0 where none can be lent.
 fn run_len(bytes: &[u8]) -> usize
     ensures { IsRunLen bytes.now result }
 {
@@ -34,16 +34,16 @@ fn run_len(bytes: &[u8]) -> usize
     }
 }
 
-/// What stands behind so many bytes.
+/// What follows so many bytes.
 #[inline(always)]
-pub(crate) fn behind(bytes: &[u8], count: usize) -> &[u8]
+pub(crate) fn after(bytes: &[u8], count: usize) -> &[u8]
     requires { count ≤ length bytes.now }
     ensures { result.now ≡ drop count bytes.now }
 {
     &bytes[count..]
 }
 
-/// How many bytes the text at the front has, of as many characters as can be lent.
+/// How many bytes the text at the start has, of as many characters as can be lent.
 pub(crate) fn text_len(bytes: &[u8]) -> usize
     ensures { IsTextLen bytes.now result }
 {
@@ -54,7 +54,7 @@ pub(crate) fn text_len(bytes: &[u8]) -> usize
         if count == 0 {
             return len;
         }
-        rest = behind(rest, count);
+        rest = after(rest, count);
         len += count;
     }
 }

@@ -58,6 +58,6 @@ pub param_appended : (before dest separator key value new : List ℕ) (params : 
     → separator ≡ cond (eqb (length params) 0) [] (58 ∷ []) → dest ≡ before ++ params_text (texts_of (map deref_pair params))
     → key ≡ string_bytes param.0.now → value ≡ string_bytes param.1.now → new ≡ (((dest ++ separator) ++ key) ++ 61 ∷ []) ++ value
     → new ≡ before ++ params_text (texts_of (map deref_pair (params ++ param ∷ [])))
-param_appended before dest separator key value new params param behind so_far of_key of_value appended =
+param_appended before dest separator key value new params param after so_far of_key of_value appended =
     appended ∙ rw (so_far, of_key, of_value, append_assoc, append_assoc, append_assoc, append_assoc)
-    (ap (λ text. before ++ text) (params_more (λ e. (string_bytes e.0, string_bytes e.1)) deref_pair params param separator behind))
+    (ap (λ text. before ++ text) (params_more (λ e. (string_bytes e.0, string_bytes e.1)) deref_pair params param separator after))

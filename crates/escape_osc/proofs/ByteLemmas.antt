@@ -24,9 +24,9 @@ module _ (P : ℕ → Type 0) where
   each-append [] b h k = k
   each-append (x ∷ a) b h k = (h.0, each-append a b h.1 k)
 
-  pub each-front : (a b : List ℕ) → Each (a ++ b) → Each a
-  each-front [] b h = tt
-  each-front (x ∷ a) b h = (h.0, each-front a b h.1)
+  pub each-prefix : (a b : List ℕ) → Each (a ++ b) → Each a
+  each-prefix [] b h = tt
+  each-prefix (x ∷ a) b h = (h.0, each-prefix a b h.1)
 
   pub each-back : (a b : List ℕ) → Each (a ++ b) → Each b
   each-back [] b h = h
@@ -41,7 +41,7 @@ module _ (P : ℕ → Type 0) where
   each_joined c [] h = tt
   each_joined c (x ∷ []) h = (h, tt)
   each_joined c (x ∷ y ∷ ys) h =
-      (each-front x (c ∷ join_with_byte c (y ∷ ys)) h, each_joined c (y ∷ ys) (each-back x (c ∷ join_with_byte c (y ∷ ys)) h).1)
+      (each-prefix x (c ∷ join_with_byte c (y ∷ ys)) h, each_joined c (y ∷ ys) (each-back x (c ∷ join_with_byte c (y ∷ ys)) h).1)
 
   -- ---- Links
 
@@ -53,7 +53,7 @@ module _ (P : ℕ → Type 0) where
         let key : List ℕ = (param_of text).0 in
         let value : List ℕ = (param_of text).1 in
         let whole : Each (key ++ 61 ∷ value) = subst Each (sym (cut_joined 61 text both.0)) h.0 in
-        ((each-front key (61 ∷ value) whole, (each-back key (61 ∷ value) whole).1), params_cut texts both.1 h.1)
+        ((each-prefix key (61 ∷ value) whole, (each-back key (61 ∷ value) whole).1), params_cut texts both.1 h.1)
 
     param_texts : (params : List Param) → AllByRecursion (λ p. Each p.0 × Each p.1) params → EachText (map param_text params)
     param_texts [] h = tt

@@ -18,30 +18,30 @@ any_c1_end parts i h = at_drop_all (λ ps. any_holds_c1 (map (λ p. p.now) ps)) 
 
 -- ---- a walk that joins them, with the text so far
 
--- parts as they stand behind another: each behind a `;`
-abbrev pub behind : List (List ℕ) → List ℕ
-behind parts = flat_map (λ part. semicolon ∷ part) parts
+-- parts as they follow another: each after a `;`
+abbrev pub after : List (List ℕ) → List ℕ
+after parts = flat_map (λ part. semicolon ∷ part) parts
 
-pub joined-cons : (first : List ℕ) (rest : List (List ℕ)) → joined (first ∷ rest) ≡ first ++ behind rest
+pub joined-cons : (first : List ℕ) (rest : List (List ℕ)) → joined (first ∷ rest) ≡ first ++ after rest
 joined-cons first [] = sym (append-nil first)
 joined-cons first (part ∷ rest) = ap (λ text. first ++ semicolon ∷ text) (joined-cons part rest)
 
 pub joined_start : {P : Type 0} (text_of : P → List ℕ) (before text dest : List ℕ) (parts : List P) (first : P) (rest : List P) → parts ≡ first ∷ rest
-    → text ≡ text_of first → dest ≡ before ++ text → dest ++ behind (map text_of rest) ≡ before ++ joined (map text_of parts)
+    → text ≡ text_of first → dest ≡ before ++ text → dest ++ after (map text_of rest) ≡ before ++ joined (map text_of parts)
 joined_start {P} text_of before text dest parts first rest e same appended =
-    ap (λ d. d ++ behind (map text_of rest)) (appended ∙ ap (λ t. before ++ t) same)
+    ap (λ d. d ++ after (map text_of rest)) (appended ∙ ap (λ t. before ++ t) same)
     ∙ append_assoc before (text_of first) _
     ∙ ap (λ t. before ++ t) (sym (ap (λ (ps : List P). joined (map text_of ps)) e ∙ joined-cons (text_of first) (map text_of rest)))
 
 pub joined_next : {P : Type 0} (text_of : P → List ℕ) (text : List ℕ) (rest : List P) (i : ℕ) (part : P) → i < length rest → part ≡ get_or rest i part
-    → text ++ behind (map text_of (drop i rest)) ≡ text ++ semicolon ∷ [] ++ text_of part ++ behind (map text_of (drop (i + 1) rest))
+    → text ++ after (map text_of (drop i rest)) ≡ text ++ semicolon ∷ [] ++ text_of part ++ after (map text_of (drop (i + 1) rest))
 joined_next {P} text_of text rest i part below item =
-    at_drop_more (λ (ps : List P). text ++ behind (map text_of ps)) rest i part below
-    ∙ ap (λ (p : P). text ++ (semicolon ∷ (text_of p ++ behind (map text_of (drop (i + 1) rest))))) (sym item)
+    at_drop_more (λ (ps : List P). text ++ after (map text_of ps)) rest i part below
+    ∙ ap (λ (p : P). text ++ (semicolon ∷ (text_of p ++ after (map text_of (drop (i + 1) rest))))) (sym item)
     ∙ simp append_assoc
 
-pub joined_end : {P : Type 0} (text_of : P → List ℕ) (text : List ℕ) (rest : List P) (i : ℕ) → length rest ≤ i → text ++ behind (map text_of (drop i rest)) ≡ text
-joined_end {P} text_of text rest i h = at_drop_all (λ (ps : List P). text ++ behind (map text_of ps)) rest i h ∙ append-nil text
+pub joined_end : {P : Type 0} (text_of : P → List ℕ) (text : List ℕ) (rest : List P) (i : ℕ) → length rest ≤ i → text ++ after (map text_of (drop i rest)) ≡ text
+joined_end {P} text_of text rest i h = at_drop_all (λ (ps : List P). text ++ after (map text_of ps)) rest i h ∙ append-nil text
 
 -- ---- a walk that copies them, with the copies so far
 

@@ -46,7 +46,7 @@ utf8_same bytes text h = elim (cases_Bool (is_utf8 bytes)) [
   | inr other ↦ cc (rw other at h)
 ]
 
--- a text behind a code
+-- a text after a code
 text_back : (make : List ℕ → Command) (code : List ℕ) (rest : List (List ℕ)) (command : Command) → ((text : List ℕ) → body_of (make text) ≡ code ++ semicolon ∷ text)
     → ArePieces (code ∷ rest) → osc_reading (code ∷ rest) ≡ command → option_map make (text_reading rest) ≡ Some command → ReadsBack command
 unfolding text_reading
@@ -59,7 +59,7 @@ text_back make code (part ∷ rest) command body are is h = elim (option_cases (
       (ap body_of (sym e) ∙ body text ∙ ap (λ t. code ++ semicolon ∷ t) (sym (utf8_same _ text some)))
 ]
 
--- ---- what a code and the parts behind it read as
+-- ---- what a code and the parts after it read as
 
 pub fits : (first : List ℕ) (rest : List (List ℕ)) (command : Command) → any_holds_c1 (first ∷ rest) ≡ false → coded_reading first rest (first ∷ rest) ≡ Some command → osc_reading (first ∷ rest) ≡ command
 fits first rest command lacks is = rw (lacks, is) refl
@@ -214,17 +214,17 @@ coded_back : (code : List ℕ) (rest : List (List ℕ)) (command : Command) → 
 unfolding coded_reading
 coded_back code rest command are bytes lacks is =
     let reads : osc_reading (code ∷ rest) ≡ command = fits code rest command lacks is in
-    let behind : (make : List ℕ → Command) (name : List ℕ) → bytes_eq code name ≡ true → ((text : List ℕ) → body_of (make text) ≡ name ++ semicolon ∷ text)
+    let after : (make : List ℕ → Command) (name : List ℕ) → bytes_eq code name ≡ true → ((text : List ℕ) → body_of (make text) ≡ name ++ semicolon ∷ text)
     → option_map make (text_reading rest) ≡ Some command → ReadsBack command =
     λ make name same body h. text_back make code rest command (λ text. body text ∙ ap (λ c. c ++ semicolon ∷ text) (sym (is_code code name same))) are reads h in
     elim (cases_Bool (bytes_eq code (codes "0"))) [
-      | inl c0 ↦ behind set_icon_name_and_window_title (codes "0") c0 (λ text. refl) (rw c0 at is)
+      | inl c0 ↦ after set_icon_name_and_window_title (codes "0") c0 (λ text. refl) (rw c0 at is)
       | inr n0 ↦ elim (cases_Bool (bytes_eq code (codes "1"))) [
-        | inl c1 ↦ behind set_icon_name (codes "1") c1 (λ text. refl) (rw (n0, c1) at is)
+        | inl c1 ↦ after set_icon_name (codes "1") c1 (λ text. refl) (rw (n0, c1) at is)
         | inr n1 ↦ elim (cases_Bool (bytes_eq code (codes "2"))) [
-          | inl c2 ↦ behind set_window_title (codes "2") c2 (λ text. refl) (rw (n0, n1, c2) at is)
+          | inl c2 ↦ after set_window_title (codes "2") c2 (λ text. refl) (rw (n0, n1, c2) at is)
           | inr n2 ↦ elim (cases_Bool (bytes_eq code (codes "7"))) [
-            | inl c7 ↦ behind current_working_directory (codes "7") c7 (λ text. refl) (rw (n0, n1, n2, c7) at is)
+            | inl c7 ↦ after current_working_directory (codes "7") c7 (λ text. refl) (rw (n0, n1, n2, c7) at is)
             | inr n7 ↦ elim (cases_Bool (bytes_eq code (codes "8"))) [
               | inl c8 ↦ link_case (code ∷ rest) command (parts_of-joined code rest are.0 are.1) lacks (rw (n0, n1, n2, n7, c8) at is)
               | inr n8 ↦ elim (cases_Bool (bytes_eq code (codes "52"))) [
@@ -274,7 +274,7 @@ unfolding text_reading
 text_some [] some = absurd (some refl)
 text_some (part ∷ parts) some = refl
 
--- a text reads back from behind its code, which is one digit
+-- a text reads back from after its code, which is one digit
 pub code_text_back : (make : List ℕ → Command) (code : ℕ) (text : List ℕ) → (code == semicolon) ≡ false → holds_c1 (code ∷ []) ≡ false → IsUtf8 text → holds_c1 text ≡ false
     → ((rest parts : List (List ℕ)) → coded_reading (code ∷ []) rest parts ≡ option_map make (text_reading rest))
     → osc_reading (parts_of (code ∷ semicolon ∷ text)) ≡ make text

@@ -156,7 +156,7 @@ clear_spelled bits lacks is =
           ]
     ]
 
--- what stands behind the letters, where a text does
+-- what follows the letters, where a text does
 lettered_spelled : (bits : ℕ) (text : List ℕ) (command : Command) → IsKnown command → IsPiece text → holds_c1 (codes "52;" ++ (letters_of bits ++ semicolon ∷ text)) ≡ false
     → osc_reading (parts_of (codes "52;" ++ (letters_of bits ++ semicolon ∷ text))) ≡ command
     → (other : ℕ) × ((selection_reading (letters_of bits) ≡ Some other) × (data_reading other text ≡ Some command))
@@ -300,17 +300,17 @@ coded_clean : (code : List ℕ) (rest : List (List ℕ)) (command : Command) →
     → coded_reading code rest (code ∷ rest) ≡ Some command → LacksControls (body_of command)
 unfolding coded_reading
 coded_clean code rest command bytes plains clean lacks whole is =
-    let behind : (make : List ℕ → Command) (name : List ℕ) → bytes_eq code name ≡ true → ((text : List ℕ) → body_of (make text) ≡ name ++ semicolon ∷ text)
+    let after : (make : List ℕ → Command) (name : List ℕ) → bytes_eq code name ≡ true → ((text : List ℕ) → body_of (make text) ≡ name ++ semicolon ∷ text)
     → option_map make (text_reading rest) ≡ Some command → LacksControls (body_of command) =
     λ make name same body h. kept_clean command (joined (code ∷ rest)) (text_body make code rest command (λ text. body text ∙ ap (λ c. c ++ semicolon ∷ text) (sym (is_code code name same))) h) whole in
     elim (cases_Bool (bytes_eq code (codes "0"))) [
-      | inl c0 ↦ behind set_icon_name_and_window_title (codes "0") c0 (λ text. refl) (rw c0 at is)
+      | inl c0 ↦ after set_icon_name_and_window_title (codes "0") c0 (λ text. refl) (rw c0 at is)
       | inr n0 ↦ elim (cases_Bool (bytes_eq code (codes "1"))) [
-        | inl c1 ↦ behind set_icon_name (codes "1") c1 (λ text. refl) (rw (n0, c1) at is)
+        | inl c1 ↦ after set_icon_name (codes "1") c1 (λ text. refl) (rw (n0, c1) at is)
         | inr n1 ↦ elim (cases_Bool (bytes_eq code (codes "2"))) [
-          | inl c2 ↦ behind set_window_title (codes "2") c2 (λ text. refl) (rw (n0, n1, c2) at is)
+          | inl c2 ↦ after set_window_title (codes "2") c2 (λ text. refl) (rw (n0, n1, c2) at is)
           | inr n2 ↦ elim (cases_Bool (bytes_eq code (codes "7"))) [
-            | inl c7 ↦ behind current_working_directory (codes "7") c7 (λ text. refl) (rw (n0, n1, n2, c7) at is)
+            | inl c7 ↦ after current_working_directory (codes "7") c7 (λ text. refl) (rw (n0, n1, n2, c7) at is)
             | inr n7 ↦ elim (cases_Bool (bytes_eq code (codes "8"))) [
               | inl c8 ↦ link_clean (code ∷ rest) command plains lacks (rw (n0, n1, n2, n7, c8) at is)
               | inr n8 ↦ elim (cases_Bool (bytes_eq code (codes "52"))) [

@@ -21,7 +21,7 @@ utf8_no bytes h = elim (cases_Bool (is_utf8 bytes)) [
   | inr other ↦ rw other refl
 ]
 
--- the parts behind `52`, by how many they are
+-- the parts after `52`, by how many they are
 pub selection_one : (rest : List (Bor (List ℕ))) (d : Bor (List ℕ)) → 1 ≤ length rest → length rest < 2
     → selection_command (map (λ p. p.now) rest) ≡ clear_reading (get_or rest 0 d).now
 unfolding selection_command

@@ -13,7 +13,7 @@ use Rattle.std.specs.Int.RustNames.{bit_and}
 use Rattle.escape_osc.specs.declared.selection.Selection.{Selection}
 use Rattle.escape_osc.specs.declared.show.TheConstants.{LETTERS}
 use Rattle.escape_osc.specs.Parts.{semicolon, joined}
-use Rattle.escape_osc.proofs.PartsLemmas.{behind, joined-cons}
+use Rattle.escape_osc.proofs.PartsLemmas.{after, joined-cons}
 use Rattle.escape_osc.specs.ShownParts.{replacement_of}
 use Rattle.escape_osc.specs.Selection.{Letter, bits_of, letter_bits, letters, letters_of}
 
@@ -104,29 +104,29 @@ module _ {W : Type 0} (took : W → List ℕ → W → Type 0) where
 pub utf8_lossy-chunk : (bytes valid invalid rest : List ℕ) → bytes ≡ valid ++ (invalid ++ rest) → length valid ≡ utf8_valid_len bytes
     → length invalid ≡ utf8_invalid_len (drop (utf8_valid_len bytes) bytes) → (length invalid ≡ 0 → length rest ≡ 0)
     → utf8_lossy bytes ≡ valid ++ (replacement_of invalid ++ utf8_lossy rest)
-utf8_lossy-chunk bytes valid [] rest parts front back last = utf8_lossy_last_chunk bytes valid [] rest parts front refl (last refl)
-utf8_lossy-chunk bytes valid (b ∷ invalid) rest parts front back last = utf8_lossy_chunk bytes valid (b ∷ invalid) rest parts front back (omega arith)
+utf8_lossy-chunk bytes valid [] rest parts prefix back last = utf8_lossy_last_chunk bytes valid [] rest parts prefix refl (last refl)
+utf8_lossy-chunk bytes valid (b ∷ invalid) rest parts prefix back last = utf8_lossy_chunk bytes valid (b ∷ invalid) rest parts prefix back (omega arith)
 
 -- the steps of a walk over parts
 pub lossy_after_next : (parts : List (Vec ℕ Global)) (i : ℕ) (part : Vec ℕ Global) → i < length parts → part ≡ get_or parts i part
-    → behind (map utf8_lossy (map (λ v. v.items) (drop i parts))) ≡ semicolon ∷ utf8_lossy part.items ++ behind (map utf8_lossy (map (λ v. v.items) (drop (i + 1) parts)))
+    → after (map utf8_lossy (map (λ v. v.items) (drop i parts))) ≡ semicolon ∷ utf8_lossy part.items ++ after (map utf8_lossy (map (λ v. v.items) (drop (i + 1) parts)))
 lossy_after_next parts i part below item =
-    at_drop_more (λ ps. behind (map utf8_lossy (map (λ (v : Vec ℕ Global). v.items) ps))) parts i part below
-    ∙ ap (λ (v : Vec ℕ Global). semicolon ∷ (utf8_lossy v.items ++ behind (map utf8_lossy (map (λ v. v.items) (drop (i + 1) parts))))) (sym item)
+    at_drop_more (λ ps. after (map utf8_lossy (map (λ (v : Vec ℕ Global). v.items) ps))) parts i part below
+    ∙ ap (λ (v : Vec ℕ Global). semicolon ∷ (utf8_lossy v.items ++ after (map utf8_lossy (map (λ v. v.items) (drop (i + 1) parts))))) (sym item)
 
-pub lossy_after_end : (parts : List (Vec ℕ Global)) (i : ℕ) → length parts ≤ i → behind (map utf8_lossy (map (λ v. v.items) (drop i parts))) ≡ []
-lossy_after_end parts i h = at_drop_all (λ ps. behind (map utf8_lossy (map (λ (v : Vec ℕ Global). v.items) ps))) parts i h
+pub lossy_after_end : (parts : List (Vec ℕ Global)) (i : ℕ) → length parts ≤ i → after (map utf8_lossy (map (λ v. v.items) (drop i parts))) ≡ []
+lossy_after_end parts i h = at_drop_all (λ ps. after (map utf8_lossy (map (λ (v : Vec ℕ Global). v.items) ps))) parts i h
 
 pub lossy_start : (parts rest : List (Vec ℕ Global)) (first : Vec ℕ Global) (text : List ℕ) → text ≡ first.items → parts ≡ first ∷ rest
-    → utf8_lossy text ++ behind (map utf8_lossy (map (λ v. v.items) rest)) ≡ joined (map utf8_lossy (map (λ v. v.items) parts))
+    → utf8_lossy text ++ after (map utf8_lossy (map (λ v. v.items) rest)) ≡ joined (map utf8_lossy (map (λ v. v.items) parts))
 lossy_start parts rest first text same split =
-    ap (λ t. utf8_lossy t ++ behind (map utf8_lossy (map (λ (v : Vec ℕ Global). v.items) rest))) same
+    ap (λ t. utf8_lossy t ++ after (map utf8_lossy (map (λ (v : Vec ℕ Global). v.items) rest))) same
     ∙ sym (joined-cons (utf8_lossy first.items) (map utf8_lossy (map (λ v. v.items) rest)))
     ∙ ap (λ ps. joined (map utf8_lossy (map (λ (v : Vec ℕ Global). v.items) ps))) (sym split)
 
 pub lossy_next : (done text : List ℕ) (parts : List (Vec ℕ Global)) (i : ℕ) (part : Vec ℕ Global) → i < length parts → part ≡ get_or parts i part → text ≡ part.items
-    → (done ++ semicolon ∷ utf8_lossy text) ++ behind (map utf8_lossy (map (λ v. v.items) (drop (i + 1) parts))) ≡ done ++ behind (map utf8_lossy (map (λ v. v.items) (drop i parts)))
+    → (done ++ semicolon ∷ utf8_lossy text) ++ after (map utf8_lossy (map (λ v. v.items) (drop (i + 1) parts))) ≡ done ++ after (map utf8_lossy (map (λ v. v.items) (drop i parts)))
 lossy_next done text parts i part below item same =
     append_assoc done _ _
-    ∙ ap (λ t. done ++ semicolon ∷ (utf8_lossy t ++ behind (map utf8_lossy (map (λ (v : Vec ℕ Global). v.items) (drop (i + 1) parts))))) same
+    ∙ ap (λ t. done ++ semicolon ∷ (utf8_lossy t ++ after (map utf8_lossy (map (λ (v : Vec ℕ Global). v.items) (drop (i + 1) parts))))) same
     ∙ ap (λ t. done ++ t) (sym (lossy_after_next parts i part below item))

@@ -17,7 +17,7 @@ use Rattle.escape_osc.specs.Selection.{selection_reading}
 unfoldable pub utf8_reading : List ℕ → Option (List ℕ)
 utf8_reading bytes = if is_utf8 bytes then Some bytes else None
 
--- the text of the parts behind a code, of which there is at least one: they are joined again
+-- the text of the parts after a code, of which there is at least one: they are joined again
 unfoldable pub text_reading : List (List ℕ) → Option (List ℕ)
 text_reading [] = None
 text_reading (part ∷ rest) = utf8_reading (joined (part ∷ rest))
@@ -31,15 +31,15 @@ unfoldable pub data_reading : ℕ → List ℕ → Option Command
 data_reading bits text = if bytes_eq text (codes "?") then Some (query_selection bits)
     else option_map (set_selection bits) (base64_reading text)
 
--- letters with nothing behind them
+-- letters with nothing after them
 unfoldable pub clear_reading : List ℕ → Option Command
 clear_reading letters = option_map clear_selection (selection_reading letters)
 
--- letters with a text behind them
+-- letters with a text after them
 unfoldable pub lettered_reading : List ℕ → List ℕ → Option Command
 lettered_reading letters text = option_and_then (λ bits. data_reading bits text) (selection_reading letters)
 
--- the parts behind `52`: the letters of a selection, and at most one more
+-- the parts after `52`: the letters of a selection, and at most one more
 unfoldable pub selection_command : List (List ℕ) → Option Command
 selection_command [] = None
 selection_command (letters ∷ []) = clear_reading letters
@@ -50,7 +50,7 @@ selection_command (letters ∷ text ∷ more ∷ rest) = None
 unfoldable pub link_command : List (List ℕ) → Option Command
 link_command parts = option_map set_hyperlink (result_ok (link_reading parts))
 
--- what a code, the parts behind it and all parts mean, where they fit
+-- what a code, the parts after it and all parts mean, where they fit
 unfoldable pub coded_reading : List ℕ → List (List ℕ) → List (List ℕ) → Option Command
 coded_reading code rest parts =
     if bytes_eq code (codes "0") then option_map set_icon_name_and_window_title (text_reading rest)

@@ -14,7 +14,7 @@ use Rattle.escape_osc.specs.Selection.{letters_of}
 unfoldable pub base64_of : List ℕ → List ℕ
 base64_of bytes = encode_of standard bytes
 
--- the body: the code, `;`, and what is behind it
+-- the body: the code, `;`, and what follows it
 abbrev pub body_of : Command → List ℕ
 body_of (set_icon_name_and_window_title text) = codes "0;" ++ text
 body_of (set_icon_name text) = codes "1;" ++ text

@@ -17,13 +17,13 @@ use std::fmt;
 // What stands between ESC ] and ESC \, by its form.
 #[derive(Clone, Copy)]
 pub(crate) enum Body<'a> {
-    // A code with its `;`, and a text behind it.
+    // A code with its `;`, and a text after it.
     Text(&'static str, &'a str),
     // A link.
     Link(&'a Hyperlink),
-    // The letters of selections, and what stands behind them.
+    // The letters of selections, and what follows them.
     Selection(Selection, &'static str),
-    // The letters of selections, and a text that stands behind them in base64.
+    // The letters of selections, and a text that follows them in base64.
     SelectionText(Selection, &'a str),
     // Parts, with `;` between.
     Parts(&'a [Vec<u8>]),

@@ -26,7 +26,7 @@ pub enum OperatingSystemCommand {
     SetSelection(Selection, String),
     /// OSC 52 with `?`: asks for selections.
     QuerySelection(Selection),
-    /// OSC 52 with nothing behind its letters: clears selections.
+    /// OSC 52 with nothing after its letters: clears selections.
     ClearSelection(Selection),
     /// Any other command, by the parts of its body, which stand between its `;`.
     Unspecified(Vec<Vec<u8>>),

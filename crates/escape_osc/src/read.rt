@@ -30,7 +30,7 @@ fn utf8(bytes: Vec<u8>) -> Option<String>
     }
 }
 
-// The text of the parts behind a code.
+// The text of the parts after a code.
 #[tactic(auto, unfolding(crate::specs::Reading::text_reading))]
 fn read_text(alloc: Global, rest: &[&[u8]]) -> Result<Option<String>, AllocError>
     ensures { IfOk result (λ o. option_map string_bytes o ≡ text_reading (map (λ p. p.now) rest.now)) }
@@ -82,7 +82,7 @@ fn read_data(
     Ok(text.map(|text| OperatingSystemCommand::SetSelection(selection, text)))
 }
 
-// Letters with nothing behind them.
+// Letters with nothing after them.
 #[tactic(auto, unfolding(crate::specs::Reading::clear_reading))]
 fn read_clear(letters: &[u8]) -> Option<OperatingSystemCommand>
     ensures { option_map command_of result ≡ clear_reading letters.now }
@@ -90,7 +90,7 @@ fn read_clear(letters: &[u8]) -> Option<OperatingSystemCommand>
     Selection::from_letters(letters).map(OperatingSystemCommand::ClearSelection)
 }
 
-// Letters with a text behind them.
+// Letters with a text after them.
 #[tactic(auto, unfolding(crate::specs::Reading::lettered_reading))]
 fn read_lettered(
     alloc: Global,
@@ -105,7 +105,7 @@ fn read_lettered(
     }
 }
 
-// The parts behind `52`.
+// The parts after `52`.
 #[tactic(auto, using(crate::proofs::ReadingLemmas::selection_more))]
 fn read_selection(
     alloc: Global,
@@ -134,7 +134,7 @@ fn read_link(alloc: Global, parts: &[&[u8]]) -> Result<Option<OperatingSystemCom
     Ok(Some(OperatingSystemCommand::SetHyperlink(link)))
 }
 
-// A code, the parts behind it, and all parts.
+// A code, the parts after it, and all parts.
 #[tactic(auto, unfolding(crate::specs::Reading::coded_reading))]
 fn read_coded(
     alloc: Global,

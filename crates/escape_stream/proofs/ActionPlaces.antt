@@ -32,47 +32,47 @@ no_actions = refl
 none_new : (s : List ℕ) → newly_decided_actions s [] ≡ []
 none_new s = ap actions_of (ap (λ l. drop (length (dispatches s)) (dispatches l)) (append-nil s) ∙ drop_all (length (dispatches s)) (dispatches s) (omega arith))
 
--- a front decides no more than the whole
+-- a prefix decides no more than the whole
 front_decides : (s : List ℕ) (n : ℕ) → length (stream_actions (take n s)) ≤ length (stream_actions s)
 front_decides s n =
     let grown = ap length (ap stream_actions (sym (take-append-drop n s)) ∙ actions_grow (take n s) (drop n s)) in
     omega (arith, grown, length-append (stream_actions (take n s)) (newly_decided_actions (take n s) (drop n s)))
 
--- ---- actions at a place
+-- ---- actions at a position
 
--- the actions, all at one place
+-- the actions, all at one position
 abbrev put_at : ℕ → List StreamAction → List (ℕ × StreamAction)
 put_at n xs = map (λ a. (n, a)) xs
 
--- the actions of dispatches that have places
+-- the actions of dispatches that have positions
 abbrev spread : List (ℕ × Dispatch) → List (ℕ × StreamAction)
 spread ps = flat_map (λ (p : ℕ × Dispatch). map (λ a. (p.0, a)) (actions_of_dispatch p.1)) ps
 
--- the placed actions of the bytes, behind others
+-- the placed actions of the bytes, after others
 abbrev actions_from : List ℕ → List ℕ → List (ℕ × StreamAction)
-actions_from front bytes = spread (placed_from front bytes)
+actions_from prefix bytes = spread (placed_from prefix bytes)
 
 abbrev new_at : List ℕ → ℕ → List StreamAction
-new_at front b = newly_decided_actions front (b ∷ [])
+new_at prefix b = newly_decided_actions prefix (b ∷ [])
 
 spread_put : (n : ℕ) (ds : List Dispatch) → spread (map (λ d. (n, d)) ds) ≡ put_at n (actions_of ds)
 spread_put n [] = refl
 spread_put n (d ∷ ds) = ap (λ l. put_at n (actions_of_dispatch d) ++ l) (spread_put n ds) ∙ sym (map-append (λ a. (n, a)) (actions_of_dispatch d) (actions_of ds))
 
-next_from : (front bytes : List ℕ) (b : ℕ) → actions_from front (b ∷ bytes) ≡ put_at (length front + 1) (new_at front b) ++ actions_from (front ++ b ∷ []) bytes
-next_from front bytes b =
-    flat_map-append (λ (p : ℕ × Dispatch). map (λ a. (p.0, a)) (actions_of_dispatch p.1)) (map (λ d. (length front + 1, d)) (newly_decided front (b ∷ []))) (placed_from (front ++ b ∷ []) bytes)
-    ∙ ap (λ l. l ++ actions_from (front ++ b ∷ []) bytes) (spread_put (length front + 1) (newly_decided front (b ∷ [])))
+next_from : (prefix bytes : List ℕ) (b : ℕ) → actions_from prefix (b ∷ bytes) ≡ put_at (length prefix + 1) (new_at prefix b) ++ actions_from (prefix ++ b ∷ []) bytes
+next_from prefix bytes b =
+    flat_map-append (λ (p : ℕ × Dispatch). map (λ a. (p.0, a)) (actions_of_dispatch p.1)) (map (λ d. (length prefix + 1, d)) (newly_decided prefix (b ∷ []))) (placed_from (prefix ++ b ∷ []) bytes)
+    ∙ ap (λ l. l ++ actions_from (prefix ++ b ∷ []) bytes) (spread_put (length prefix + 1) (newly_decided prefix (b ∷ [])))
 
 length-put : (n : ℕ) (xs : List StreamAction) → length (put_at n xs) ≡ length xs
 length-put n [] = refl
 length-put n (x ∷ xs) = ap suc (length-put n xs)
 
-at_place : (n : ℕ) (xs : List StreamAction) (i place : ℕ) (action : StreamAction) → slice_get (put_at n xs) i ≡ Some (place, action) → (n ≡ place) × (slice_get xs i ≡ Some action)
-at_place n [] i place action h = cc
-at_place n (x ∷ xs) zero place action h =
-    let k : (n, x) ≡ (place, action) = cc in (ap (λ (p : ℕ × StreamAction). p.0) k, ap (λ (p : ℕ × StreamAction). Some p.1) k)
-at_place n (x ∷ xs) (suc i) place action h = at_place n xs i place action h
+at_place : (n : ℕ) (xs : List StreamAction) (i offset : ℕ) (action : StreamAction) → slice_get (put_at n xs) i ≡ Some (offset, action) → (n ≡ offset) × (slice_get xs i ≡ Some action)
+at_place n [] i offset action h = cc
+at_place n (x ∷ xs) zero offset action h =
+    let k : (n, x) ≡ (offset, action) = cc in (ap (λ (p : ℕ × StreamAction). p.0) k, ap (λ (p : ℕ × StreamAction). Some p.1) k)
+at_place n (x ∷ xs) (suc i) offset action h = at_place n xs i offset action h
 
 -- ---- each has its place
 
@@ -84,46 +84,46 @@ stands s x more i action h =
     = actions_grow (s ++ x) more ∙ ap (λ l. l ++ newly_decided_actions (s ++ x) more) (actions_grow s x) ∙ append_assoc (stream_actions s) _ _ in
     ap (λ l. slice_get l (length (stream_actions s) + i)) grown ∙ at_after (stream_actions s) _ i _ refl ∙ at_front (newly_decided_actions s x) _ i action h
 
-placed_here : (front bytes : List ℕ) (b i : ℕ) (action : StreamAction) → slice_get (new_at front b) i ≡ Some action
-    → IsPlacedAction (front ++ b ∷ bytes) (length (stream_actions front) + i) (length front + 1) action
-placed_here front bytes b i action h = record {
-  within = omega (arith, length-append front (b ∷ bytes));
-  decided = λ more. ap (λ l. slice_get (stream_actions (l ++ more)) (length (stream_actions front) + i)) so_far ∙ stands front (b ∷ []) more i action h;
+placed_here : (prefix bytes : List ℕ) (b i : ℕ) (action : StreamAction) → slice_get (new_at prefix b) i ≡ Some action
+    → IsPlacedAction (prefix ++ b ∷ bytes) (length (stream_actions prefix) + i) (length prefix + 1) action
+placed_here prefix bytes b i action h = record {
+  within = omega (arith, length-append prefix (b ∷ bytes));
+  decided = λ more. ap (λ l. slice_get (stream_actions (l ++ more)) (length (stream_actions prefix) + i)) so_far ∙ stands prefix (b ∷ []) more i action h;
   least = λ fewer l always. too_early fewer (omega arith) (always []);
 }
   where
-    so_far : take (length front + 1) (front ++ b ∷ bytes) ≡ front ++ b ∷ []
-    so_far = ap (λ l. take (length front + 1) l) (sym (append_assoc front (b ∷ []) bytes)) ∙ take_at (front ++ b ∷ []) bytes (length front + 1) (length-append front (b ∷ []))
+    so_far : take (length prefix + 1) (prefix ++ b ∷ bytes) ≡ prefix ++ b ∷ []
+    so_far = ap (λ l. take (length prefix + 1) l) (sym (append_assoc prefix (b ∷ []) bytes)) ∙ take_at (prefix ++ b ∷ []) bytes (length prefix + 1) (length-append prefix (b ∷ []))
 
-    too_early : (fewer : ℕ) → fewer ≤ length front → slice_get (stream_actions (take fewer (front ++ b ∷ bytes) ++ [])) (length (stream_actions front) + i) ≡ Some action → ⊥
+    too_early : (fewer : ℕ) → fewer ≤ length prefix → slice_get (stream_actions (take fewer (prefix ++ b ∷ bytes) ++ [])) (length (stream_actions prefix) + i) ≡ Some action → ⊥
     too_early fewer l e =
-        let same : take fewer (front ++ b ∷ bytes) ++ [] ≡ take fewer front = append-nil _ ∙ take-append-le fewer front (b ∷ bytes) l in
-        let few : length (stream_actions (take fewer front)) ≤ length (stream_actions front) + i = omega (arith, front_decides front fewer) in
-        let none = sym (slice_get_past (stream_actions (take fewer front)) (length (stream_actions front) + i) few) ∙ ap (λ l. slice_get (stream_actions l) (length (stream_actions front) + i)) (sym same) ∙ e in cc
+        let same : take fewer (prefix ++ b ∷ bytes) ++ [] ≡ take fewer prefix = append-nil _ ∙ take-append-le fewer prefix (b ∷ bytes) l in
+        let few : length (stream_actions (take fewer prefix)) ≤ length (stream_actions prefix) + i = omega (arith, front_decides prefix fewer) in
+        let none = sym (slice_get_past (stream_actions (take fewer prefix)) (length (stream_actions prefix) + i) few) ∙ ap (λ l. slice_get (stream_actions l) (length (stream_actions prefix) + i)) (sym same) ∙ e in cc
 
-placing : (bytes front : List ℕ) (i place : ℕ) (action : StreamAction) → slice_get (actions_from front bytes) i ≡ Some (place, action)
-    → IsPlacedAction (front ++ bytes) (length (stream_actions front) + i) place action
-placing [] front i place action h = cc
-placing (b ∷ bytes) front i place action h =
-    by_part (λ j k. placing bytes (front ++ b ∷ []) j place action k)
-    (of_one (put_at (length front + 1) (new_at front b)) (actions_from (front ++ b ∷ []) bytes) i (place, action) (ap (λ l. slice_get l i) (sym (next_from front bytes b)) ∙ h))
+placing : (bytes prefix : List ℕ) (i offset : ℕ) (action : StreamAction) → slice_get (actions_from prefix bytes) i ≡ Some (offset, action)
+    → IsPlacedAction (prefix ++ bytes) (length (stream_actions prefix) + i) offset action
+placing [] prefix i offset action h = cc
+placing (b ∷ bytes) prefix i offset action h =
+    by_part (λ j k. placing bytes (prefix ++ b ∷ []) j offset action k)
+    (of_one (put_at (length prefix + 1) (new_at prefix b)) (actions_from (prefix ++ b ∷ []) bytes) i (offset, action) (ap (λ l. slice_get l i) (sym (next_from prefix bytes b)) ∙ h))
   where
-    by_part : ((j : ℕ) → slice_get (actions_from (front ++ b ∷ []) bytes) j ≡ Some (place, action) → IsPlacedAction ((front ++ b ∷ []) ++ bytes) (length (stream_actions (front ++ b ∷ [])) + j) place action)
-        → OfOne (put_at (length front + 1) (new_at front b)) (actions_from (front ++ b ∷ []) bytes) i (place, action)
-        → IsPlacedAction (front ++ b ∷ bytes) (length (stream_actions front) + i) place action
+    by_part : ((j : ℕ) → slice_get (actions_from (prefix ++ b ∷ []) bytes) j ≡ Some (offset, action) → IsPlacedAction ((prefix ++ b ∷ []) ++ bytes) (length (stream_actions (prefix ++ b ∷ [])) + j) offset action)
+        → OfOne (put_at (length prefix + 1) (new_at prefix b)) (actions_from (prefix ++ b ∷ []) bytes) i (offset, action)
+        → IsPlacedAction (prefix ++ b ∷ bytes) (length (stream_actions prefix) + i) offset action
     by_part later (here k) =
-        let p = at_place (length front + 1) (new_at front b) i place action k in
-        subst (λ (n : ℕ). IsPlacedAction (front ++ b ∷ bytes) (length (stream_actions front) + i) n action) p.0 (placed_here front bytes b i action p.1)
+        let p = at_place (length prefix + 1) (new_at prefix b) i offset action k in
+        subst (λ (n : ℕ). IsPlacedAction (prefix ++ b ∷ bytes) (length (stream_actions prefix) + i) n action) p.0 (placed_here prefix bytes b i action p.1)
     by_part later (there j e k) =
-        let index : length (stream_actions (front ++ b ∷ [])) + j ≡ length (stream_actions front) + i
-        = omega (arith, ap length (actions_grow front (b ∷ [])), length-append (stream_actions front) (new_at front b), length-put (length front + 1) (new_at front b)) in
-        subst (λ (n : ℕ). IsPlacedAction (front ++ b ∷ bytes) n place action) index
-        (subst (λ l. IsPlacedAction l (length (stream_actions (front ++ b ∷ [])) + j) place action) (append_assoc front (b ∷ []) bytes) (later j k))
+        let index : length (stream_actions (prefix ++ b ∷ [])) + j ≡ length (stream_actions prefix) + i
+        = omega (arith, ap length (actions_grow prefix (b ∷ [])), length-append (stream_actions prefix) (new_at prefix b), length-put (length prefix + 1) (new_at prefix b)) in
+        subst (λ (n : ℕ). IsPlacedAction (prefix ++ b ∷ bytes) n offset action) index
+        (subst (λ l. IsPlacedAction l (length (stream_actions (prefix ++ b ∷ [])) + j) offset action) (append_assoc prefix (b ∷ []) bytes) (later j k))
 
-pub each_placed : (stream : List ℕ) (index place : ℕ) (action : StreamAction) → slice_get (placed_actions stream) index ≡ Some (place, action) → IsPlacedAction stream index place action
-each_placed stream index place action h =
+pub each_placed : (stream : List ℕ) (index offset : ℕ) (action : StreamAction) → slice_get (placed_actions stream) index ≡ Some (offset, action) → IsPlacedAction stream index offset action
+each_placed stream index offset action h =
     let start : length (stream_actions []) + index ≡ index = omega (arith, ap length no_actions) in
-    subst (λ (n : ℕ). IsPlacedAction stream n place action) start (placing stream [] index place action h)
+    subst (λ (n : ℕ). IsPlacedAction stream n offset action) start (placing stream [] index offset action h)
 
 -- ---- all of them
 
@@ -131,29 +131,29 @@ without : (n : ℕ) (xs : List StreamAction) → map (λ (p : ℕ × StreamActio
 without n [] = refl
 without n (x ∷ xs) = ap (λ l. x ∷ l) (without n xs)
 
-collected : (bytes front : List ℕ) → map (λ (p : ℕ × StreamAction). p.1) (actions_from front bytes) ≡ newly_decided_actions front bytes
-collected [] front = sym (none_new front)
-collected (b ∷ bytes) front =
-    let rest = actions_from (front ++ b ∷ []) bytes in
-    ap (map (λ (p : ℕ × StreamAction). p.1)) (next_from front bytes b)
-    ∙ map-append (λ (p : ℕ × StreamAction). p.1) (put_at (length front + 1) (new_at front b)) rest
-    ∙ ap (λ l. l ++ map (λ (p : ℕ × StreamAction). p.1) rest) (without (length front + 1) (new_at front b))
-    ∙ ap (λ l. new_at front b ++ l) (collected bytes (front ++ b ∷ []))
-    ∙ sym (actions_join front (b ∷ []) bytes)
+collected : (bytes prefix : List ℕ) → map (λ (p : ℕ × StreamAction). p.1) (actions_from prefix bytes) ≡ newly_decided_actions prefix bytes
+collected [] prefix = sym (none_new prefix)
+collected (b ∷ bytes) prefix =
+    let rest = actions_from (prefix ++ b ∷ []) bytes in
+    ap (map (λ (p : ℕ × StreamAction). p.1)) (next_from prefix bytes b)
+    ∙ map-append (λ (p : ℕ × StreamAction). p.1) (put_at (length prefix + 1) (new_at prefix b)) rest
+    ∙ ap (λ l. l ++ map (λ (p : ℕ × StreamAction). p.1) rest) (without (length prefix + 1) (new_at prefix b))
+    ∙ ap (λ l. new_at prefix b ++ l) (collected bytes (prefix ++ b ∷ []))
+    ∙ sym (actions_join prefix (b ∷ []) bytes)
 
 pub each_collected : (stream : List ℕ) → map (λ (p : ℕ × StreamAction). p.1) (placed_actions stream) ≡ stream_actions stream
 each_collected stream = collected stream [] ∙ ap (λ l. l ++ newly_decided_actions [] stream) (sym no_actions) ∙ sym (actions_grow [] stream)
 
 -- ---- those of a piece
 
-abbrev behind : ℕ → (ℕ × StreamAction) → Bool
-behind k p = nat_lt k p.0
+abbrev after : ℕ → (ℕ × StreamAction) → Bool
+after k p = nat_lt k p.0
 
-kept_put : (k n : ℕ) (xs : List StreamAction) → nat_lt k n ≡ true → filter (behind k) (put_at n xs) ≡ put_at n xs
+kept_put : (k n : ℕ) (xs : List StreamAction) → nat_lt k n ≡ true → filter (after k) (put_at n xs) ≡ put_at n xs
 kept_put k n [] e = refl
 kept_put k n (x ∷ xs) e = rw e (ap (λ l. (n, x) ∷ l) (kept_put k n xs e))
 
-dropped_put : (k n : ℕ) (xs : List StreamAction) → nat_lt k n ≡ false → filter (behind k) (put_at n xs) ≡ []
+dropped_put : (k n : ℕ) (xs : List StreamAction) → nat_lt k n ≡ false → filter (after k) (put_at n xs) ≡ []
 dropped_put k n [] e = refl
 dropped_put k n (x ∷ xs) e = rw e (dropped_put k n xs e)
 
@@ -163,39 +163,39 @@ above k n l = grind (arith, nat_tests)
 not_above : (k n : ℕ) → n ≤ k → nat_lt k n ≡ false
 not_above k n l = grind (arith, nat_tests)
 
-all_kept : (bytes front : List ℕ) (k : ℕ) → k ≤ length front → filter (behind k) (actions_from front bytes) ≡ actions_from front bytes
-all_kept [] front k l = refl
-all_kept (b ∷ bytes) front k l =
-    let new = put_at (length front + 1) (new_at front b) in
-    let rest = actions_from (front ++ b ∷ []) bytes in
-    ap (filter (behind k)) (next_from front bytes b) ∙ filter-append (behind k) new rest
-    ∙ ap (λ xs. xs ++ filter (behind k) rest) (kept_put k (length front + 1) (new_at front b) (above k (length front + 1) (omega arith)))
-    ∙ ap (λ xs. new ++ xs) (all_kept bytes (front ++ b ∷ []) k (omega (arith, length-append front (b ∷ [])))) ∙ sym (next_from front bytes b)
+all_kept : (bytes prefix : List ℕ) (k : ℕ) → k ≤ length prefix → filter (after k) (actions_from prefix bytes) ≡ actions_from prefix bytes
+all_kept [] prefix k l = refl
+all_kept (b ∷ bytes) prefix k l =
+    let new = put_at (length prefix + 1) (new_at prefix b) in
+    let rest = actions_from (prefix ++ b ∷ []) bytes in
+    ap (filter (after k)) (next_from prefix bytes b) ∙ filter-append (after k) new rest
+    ∙ ap (λ xs. xs ++ filter (after k) rest) (kept_put k (length prefix + 1) (new_at prefix b) (above k (length prefix + 1) (omega arith)))
+    ∙ ap (λ xs. new ++ xs) (all_kept bytes (prefix ++ b ∷ []) k (omega (arith, length-append prefix (b ∷ [])))) ∙ sym (next_from prefix bytes b)
 
-none_kept : (bytes front : List ℕ) (k : ℕ) → length front + length bytes ≤ k → filter (behind k) (actions_from front bytes) ≡ []
-none_kept [] front k l = refl
-none_kept (b ∷ bytes) front k l =
-    let new = put_at (length front + 1) (new_at front b) in
-    let rest = actions_from (front ++ b ∷ []) bytes in
-    ap (filter (behind k)) (next_from front bytes b) ∙ filter-append (behind k) new rest
-    ∙ ap (λ xs. xs ++ filter (behind k) rest) (dropped_put k (length front + 1) (new_at front b) (not_above k (length front + 1) (omega arith)))
-    ∙ none_kept bytes (front ++ b ∷ []) k (omega (arith, length-append front (b ∷ [])))
+none_kept : (bytes prefix : List ℕ) (k : ℕ) → length prefix + length bytes ≤ k → filter (after k) (actions_from prefix bytes) ≡ []
+none_kept [] prefix k l = refl
+none_kept (b ∷ bytes) prefix k l =
+    let new = put_at (length prefix + 1) (new_at prefix b) in
+    let rest = actions_from (prefix ++ b ∷ []) bytes in
+    ap (filter (after k)) (next_from prefix bytes b) ∙ filter-append (after k) new rest
+    ∙ ap (λ xs. xs ++ filter (after k) rest) (dropped_put k (length prefix + 1) (new_at prefix b) (not_above k (length prefix + 1) (omega arith)))
+    ∙ none_kept bytes (prefix ++ b ∷ []) k (omega (arith, length-append prefix (b ∷ [])))
 
-actions_from-append : (xs ys front : List ℕ) → actions_from front (xs ++ ys) ≡ actions_from front xs ++ actions_from (front ++ xs) ys
-actions_from-append [] ys front = ap (λ l. actions_from l ys) (sym (append-nil front))
-actions_from-append (x ∷ xs) ys front =
-    let new = put_at (length front + 1) (new_at front x) in
-    next_from front (xs ++ ys) x ∙ ap (λ l. new ++ l) (actions_from-append xs ys (front ++ x ∷ []))
-    ∙ sym (append_assoc new (actions_from (front ++ x ∷ []) xs) (actions_from ((front ++ x ∷ []) ++ xs) ys))
-    ∙ ap (λ l. l ++ actions_from ((front ++ x ∷ []) ++ xs) ys) (sym (next_from front xs x))
-    ∙ ap (λ l. actions_from front (x ∷ xs) ++ actions_from l ys) (append_assoc front (x ∷ []) xs)
+actions_from-append : (xs ys prefix : List ℕ) → actions_from prefix (xs ++ ys) ≡ actions_from prefix xs ++ actions_from (prefix ++ xs) ys
+actions_from-append [] ys prefix = ap (λ l. actions_from l ys) (sym (append-nil prefix))
+actions_from-append (x ∷ xs) ys prefix =
+    let new = put_at (length prefix + 1) (new_at prefix x) in
+    next_from prefix (xs ++ ys) x ∙ ap (λ l. new ++ l) (actions_from-append xs ys (prefix ++ x ∷ []))
+    ∙ sym (append_assoc new (actions_from (prefix ++ x ∷ []) xs) (actions_from ((prefix ++ x ∷ []) ++ xs) ys))
+    ∙ ap (λ l. l ++ actions_from ((prefix ++ x ∷ []) ++ xs) ys) (sym (next_from prefix xs x))
+    ∙ ap (λ l. actions_from prefix (x ∷ xs) ++ actions_from l ys) (append_assoc prefix (x ∷ []) xs)
 
 pub of_piece : (stream more : List ℕ) → newly_decided_actions stream more ≡ map (λ (p : ℕ × StreamAction). p.1) (filter (λ (p : ℕ × StreamAction). nat_lt (length stream) p.0) (placed_actions (stream ++ more)))
 of_piece stream more =
     let k = length stream in
-    let parts : filter (behind k) (actions_from [] (stream ++ more)) ≡ actions_from stream more
-    = ap (filter (behind k)) (actions_from-append stream more []) ∙ filter-append (behind k) (actions_from [] stream) (actions_from stream more)
-    ∙ ap (λ xs. xs ++ filter (behind k) (actions_from stream more)) (none_kept stream [] k (omega arith)) ∙ all_kept more stream k (omega arith) in
+    let parts : filter (after k) (actions_from [] (stream ++ more)) ≡ actions_from stream more
+    = ap (filter (after k)) (actions_from-append stream more []) ∙ filter-append (after k) (actions_from [] stream) (actions_from stream more)
+    ∙ ap (λ xs. xs ++ filter (after k) (actions_from stream more)) (none_kept stream [] k (omega arith)) ∙ all_kept more stream k (omega arith) in
     sym (ap (map (λ (p : ℕ × StreamAction). p.1)) parts ∙ collected more stream)
 
 -- ---- no further one

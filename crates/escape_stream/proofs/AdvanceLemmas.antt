@@ -37,16 +37,16 @@ use Rattle.escape_stream.proofs.PieceLemmas.{read_pieces, read_after, event_piec
 
 -- ---- where a body is read
 
-bodies_at : (old new : Pieces) → new.parser.now.held ≡ old.parser.now.held → new.bytes ≡ old.bytes → new.count ≡ old.count → (place : ℕ) → ReadsBody new place → ReadsBody old place
-bodies_at old new h b n place r = record {
-  behind = subst (λ (k : ℕ). k ≤ place) n r.behind;
+bodies_at : (old new : Pieces) → new.parser.now.held ≡ old.parser.now.held → new.bytes ≡ old.bytes → new.count ≡ old.count → (offset : ℕ) → ReadsBody new offset → ReadsBody old offset
+bodies_at old new h b n offset r = record {
+  after = subst (λ (k : ℕ). k ≤ offset) n r.after;
   within = rw (sym b) r.within;
   takes = rw (sym h, sym n, sym b) r.takes;
 }
 
 -- ---- what is left of a control sequence
 
-bodies_too : (old new : Pieces) → SameBut old new → (place : ℕ) → ReadsBody new place → ReadsBody old place
+bodies_too : (old new : Pieces) → SameBut old new → (offset : ℕ) → ReadsBody new offset → ReadsBody old offset
 bodies_too old new s = bodies_at old new (ap (λ (p : Parsing). p.held) s.parser) s.bytes s.count
 
 ready_too : (old new : Pieces) → SameBut old new → IsUnderWay old → IsUnderWay new
@@ -60,7 +60,7 @@ ends_too : (old new : Pieces) → SameBut old new → held_at_end new ≡ held_a
 ends_too old new s = rw (s.parser, s.count, s.bytes) refl
 
 pub stays : (it : Pieces) → IsUnderWay it → GoesOn it it
-stays it u = record { same = λ start. refl; ready = u; ends = refl; bodies = λ place b. b }
+stays it u = record { same = λ start. refl; ready = u; ends = refl; bodies = λ offset b. b }
 
 pub gives_action : (first old new : Pieces) (a : Action) → GoesOn first old → SameBut old new → Gives (actions_left old.parser.now.parameters old.sequence) (Some a) (actions_left old.parser.now.parameters new.sequence) → HasGiven first (Some (code.Action a)) new
 gives_action first old new a g s e = record {
@@ -74,7 +74,7 @@ gives_action first old new a g s e = record {
   ready = ready_too old new s g.ready;
   ends = ends_too old new s ∙ g.ends;
   done = λ z. cc;
-  bodies = λ place b. g.bodies place (bodies_too old new s place b);
+  bodies = λ offset b. g.bodies offset (bodies_too old new s offset b);
 }
 
 -- nothing is left of it
@@ -85,7 +85,7 @@ sequence_over first old new g s e n = record {
       ∙ g.same start;
   ready = ready_too old new s g.ready;
   ends = ends_too old new s ∙ g.ends;
-  bodies = λ place b. g.bodies place (bodies_too old new s place b);
+  bodies = λ offset b. g.bodies offset (bodies_too old new s offset b);
 }
 
 -- ---- the end
@@ -146,16 +146,16 @@ read_ready old new r l h =
       rw (h.held, h.count, h.bytes) b.ends,
     )
 
-bodies_read : (old new : Pieces) (r : Read) (l : Lending) → HasRead old r l new → (place : ℕ) → ReadsBody new place → ReadsBody old place
-bodies_read old new r l h place b =
+bodies_read : (old new : Pieces) (r : Read) (l : Lending) → HasRead old r l new → (offset : ℕ) → ReadsBody new offset → ReadsBody old offset
+bodies_read old new r l h offset b =
     let left : drop new.count new.bytes.now ≡ drop (count_of r) (drop old.count old.bytes.now) = (λ i. drop (h.count i) (h.bytes i).now) ∙ sym (drop-drop (count_of r) old.count old.bytes.now) in
-    let more : count_of r + (place - new.count) ≡ place - old.count = omega (arith, h.count, b.behind) in
+    let more : count_of r + (offset - new.count) ≡ offset - old.count = omega (arith, h.count, b.after) in
     record {
-      behind = omega (arith, h.count, b.behind);
+      after = omega (arith, h.count, b.after);
       within = rw (sym h.bytes) b.within;
       takes = subst (TakesMemoryAt old.parser.now.held (drop old.count old.bytes.now)) more
-          (h.reads.opens h.under.reached (place - new.count)
-          (subst (λ (x : List ℕ). TakesMemoryAt l.held x (place - new.count)) left (subst (λ (x : Held). TakesMemoryAt x (drop new.count new.bytes.now) (place - new.count)) h.held b.takes)));
+          (h.reads.opens h.under.reached (offset - new.count)
+          (subst (λ (x : List ℕ). TakesMemoryAt l.held x (offset - new.count)) left (subst (λ (x : Held). TakesMemoryAt x (drop new.count new.bytes.now) (offset - new.count)) h.held b.takes)));
     }
 
 read_whole : (old new : Pieces) (r : Read) (l : Lending) (h : HasRead old r l new) (start : ℕ) → pieces_of (framed_after start (start + old.count) old.parser.now.held (drop old.count old.bytes.now)) ≡ open_pieces start old
@@ -212,17 +212,17 @@ module _ (old new : Pieces) (n : ℕ) (l : Lending) (e : Event) (h : HasRead old
 -- the first action of a control sequence
 pub begins_sequence : (old new : Pieces) (e : Event) (s : Sequence) (answer : Result (Option Action) AllocError) → HandsOutOf (record old { sequence = Some s }) (Some s) answer new → actions_left old.parser.now.parameters (Some s) ≡ event_actions (lending_in old.parser.now) e → BeginsEvent old e answer new
 begins_sequence old new e s answer h is = record {
-  same = h.others.same;
-  parser = h.others.parser ∙ ap (λ (b : List ℕ). record old.parser.now { body = b }) (sym (ap (λ (p : Parsing). p.body) h.others.parser));
-  bytes = h.others.bytes;
-  count = h.others.count;
-  stage = h.others.stage;
+  same = h.remaining.same;
+  parser = h.remaining.parser ∙ ap (λ (b : List ℕ). record old.parser.now { body = b }) (sym (ap (λ (p : Parsing). p.body) h.remaining.parser));
+  bytes = h.remaining.bytes;
+  count = h.remaining.count;
+  stage = h.remaining.stage;
   gives = subst (λ (xs : List StreamAction). IfOk answer (λ next. Gives xs next (actions_left old.parser.now.parameters new.sequence))) is h.gives;
   over = h.over;
   memory = subst (λ (xs : List StreamAction). OnErr answer (FirstTakes xs)) is h.memory;
 }
 
--- ---- what is handed out behind the same
+-- ---- what is handed out after the same
 
 pub given_after : (old mid new : Pieces) (piece : Option PieceCode) → GoesOn old mid → HasGiven mid piece new → HasGiven old piece new
 given_after old mid new piece g h = record {
@@ -230,7 +230,7 @@ given_after old mid new piece g h = record {
   ready = h.ready;
   ends = h.ends ∙ g.ends;
   done = λ z. h.done z ∙ g.ends;
-  bodies = λ place b. g.bodies place (h.bodies place b);
+  bodies = λ offset b. g.bodies offset (h.bodies offset b);
 }
 
 pub found_after : (old mid new : Pieces) (piece : Option PieceCode) → GoesOn old mid → FindsHere mid piece new → is_some piece ≡ true → HasGiven old piece new
@@ -256,7 +256,7 @@ pub asks_body : (it : Pieces) → IsUnderWay it → TakesMemory it.parser.now.he
 asks_body it u t =
     let z : 0 ≡ it.count - it.count = omega arith in
     let bytes = drop it.count it.bytes.now in
-    inl (it.count, record { behind = omega arith; within = u.within; takes = subst (TakesMemoryAt it.parser.now.held bytes) z (at_front it.parser.now.held bytes t) })
+    inl (it.count, record { after = omega arith; within = u.within; takes = subst (TakesMemoryAt it.parser.now.held bytes) z (at_front it.parser.now.held bytes t) })
 
 -- for the action of an event
 pub asks_event : (old new : Pieces) (n : ℕ) (l : Lending) (e : Event) → HasRead old (read.Bytes (Some e) n) l new → FirstTakes (event_actions l e) → AsksMemory old
@@ -294,7 +294,7 @@ finds_command old n body answer going over some reads is = record {
 
 -- ---- where pieces begin
 
--- what is to come of bytes behind a stream
+-- what is to come of bytes after a stream
 pub record Begins (it : Pieces) (stream bytes : List ℕ) : Type 0 where
   pub ready : IsUnderWay it
   pub pieces : open_pieces (length stream) it ≡ pieces stream bytes
@@ -316,13 +316,13 @@ begins it stream bytes h n b q = record {
 }
 
 pub bytes_ask : (it : Pieces) (stream bytes : List ℕ) → it.parser.now.held ≡ held_of stream → it.count ≡ 0 → it.bytes.now ≡ bytes → it.sequence ≡ None → AsksMemoryLater it → BytesTakeMemory stream bytes
-bytes_ask it stream bytes h n b q (inl (place, r)) =
-    let z : place - it.count ≡ place = omega (arith, n) in
+bytes_ask it stream bytes h n b q (inl (offset, r)) =
+    let z : offset - it.count ≡ offset = omega (arith, n) in
     inl (
-      place,
-      subst (λ (x : List ℕ). place ≤ length x) b r.within,
+      offset,
+      subst (λ (x : List ℕ). offset ≤ length x) b r.within,
       subst (λ (x : Held). TakesMemory x.kept)
-          ((λ i. (hand_out (h i) (take (z i) (drop (n i) (b i)))).held) ∙ sym (held_append stream (take place bytes))) r.takes,
+          ((λ i. (hand_out (h i) (take (z i) (drop (n i) (b i)))).held) ∙ sym (held_append stream (take offset bytes))) r.takes,
     )
 bytes_ask it stream bytes h n b q (inr f) = inr (subst SomeTakesMemory (begins it stream bytes h n b q).pieces (f (length stream)))
 
@@ -352,7 +352,7 @@ progress old new (Some (Err refusal.Memory)) o g = let k = goes_over old new o g
 progress old new (Some (Err refusal.Failed)) o g = let e : stage.Open ≡ stage.Failed = sym o ∙ g.items.0 in cc
 progress old new None o g = record { on = λ _. tt; keeps = tt; rests = λ _. tt }
 
--- what is handed out, where the same is left behind it
+-- what is handed out, where the same is left after it
 pub gives_left : (before after other : List StreamAction) (action : Option Action) → Gives before action after → (is_none action ≡ false → after ≡ other) → Gives before action other
 gives_left before after other None g h = g
 gives_left before after other (Some a) g h = g ∙ ap (λ (xs : List StreamAction). value_of a ∷ xs) (h refl)

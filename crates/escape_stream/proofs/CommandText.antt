@@ -48,15 +48,15 @@ says_sequence body final bytes actions p l u h =
     split : (27 ∷ 91 ∷ (body ++ final ∷ [])) ++ bytes ≡ 27 ∷ 91 ∷ (body ++ final ∷ bytes)
     split = ap (λ x. 27 ∷ 91 ∷ x) (append_assoc body (final ∷ []) bytes)
 
-    behind : no_pair (0xC2 ∷ (body ++ final ∷ bytes)) ≡ true
-    behind = low_text body (final ∷ bytes) (parameters_low body p) (low_stands final bytes (low_byte final u) (no_pair_after (0xC2 ∷ []) bytes h.unpaired))
+    after : no_pair (0xC2 ∷ (body ++ final ∷ bytes)) ≡ true
+    after = low_text body (final ∷ bytes) (parameters_low body p) (low_stands final bytes (low_byte final u) (no_pair_after (0xC2 ∷ []) bytes h.unpaired))
 
     stands : no_pair (0xC2 ∷ 27 ∷ 91 ∷ (body ++ final ∷ bytes)) ≡ true
-    stands = low_text (27 ∷ 91 ∷ []) (body ++ final ∷ bytes) refl behind
+    stands = low_text (27 ∷ 91 ∷ []) (body ++ final ∷ bytes) refl after
 
 pub says_csi : (a : codec.Action) (bytes : List ℕ) (actions : List StreamAction) → IsReadBack a → Says bytes actions → Says (csi_text a ++ bytes) (csi a ∷ actions)
 says_csi a bytes actions r h =
-    let f = r.front in
+    let f = r.prefix in
     let s = r.stands.sequence in
     let body = r.stands.body in
     let text : csi_text a ≡ 27 ∷ 91 ∷ (body ++ f.control ∷ []) = s.text ∙ ap (λ rest. 27 ∷ 91 ∷ (body ++ f.control ∷ rest)) r.whole in
@@ -95,7 +95,7 @@ says_body body bytes actions p n h =
     stands : no_pair (0xC2 ∷ 27 ∷ 93 ∷ (body ++ 27 ∷ bytes)) ≡ true
     stands = other_stands 93 (body ++ 27 ∷ bytes) refl (escape_after body bytes (not_c1 body n) (no_pair_after (0xC2 ∷ []) (27 ∷ bytes) h.unpaired))
 
--- the text of a command, where what is behind it begins with its ESC \
+-- the text of a command, where what follows it begins with its ESC \
 pub says_command : (c : Command) (bytes : List ℕ) (actions : List StreamAction) → osc.IsWritable c → Says (27 ∷ 92 ∷ bytes) actions → Says (text_of c ++ bytes) (command c ∷ actions)
 says_command c bytes actions w h =
     says_same (sym (ap (λ x. 27 ∷ 93 ∷ x) (append_assoc (body_of c) (27 ∷ 92 ∷ []) bytes))) (ap (λ x. command x ∷ actions) (writable_back c w))

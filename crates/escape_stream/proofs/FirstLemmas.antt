@@ -1,4 +1,4 @@
--- The reading of bytes up to a place.
+-- The reading of bytes up to a position.
 use Rattle.std.proofs.Common.{◌≡◌, ◌≢◌, ℕ, zero, suc, ◌+◌, ◌<◌, ◌≤◌, List, [], ◌∷◌, ◌++◌, length, map, take, drop, refl, ap, sym, ◌∙◌, arith, append_assoc, append-nil}
 use Rattle.std.specs.Prelude.{Option, Some, None}
 use Rattle.std.specs.List.{FoldsTo}
@@ -47,9 +47,9 @@ kept_items get p (x ∷ xs) q s =
 pub kept_newly : {P : Type 0} (get : P → List StreamAction) (p : P) (stream bytes : List ℕ) (q : P) → FoldsTo (λ a x b. get b ≡ get a ++ actions_of_item x) p (items stream bytes) q → get q ≡ get p ++ newly_decided_actions stream bytes
 kept_newly get p stream bytes q s = kept_items get p (items stream bytes) q s ∙ ap (λ (l : List StreamAction). get p ++ l) (items_say stream bytes)
 
--- ---- Bytes up to a place
+-- ---- Bytes up to a position
 
--- the first bytes were read behind the stream, and none of them, in order, are so
+-- the first bytes were read after the stream, and none of them, in order, are so
 pub record IsReadTo (P : List ℕ → Type 0) (stream bytes : List ℕ) (held : Held) (i : ℕ) : Type 0 where
   pub held_is : held ≡ held_of (stream ++ take i bytes)
   pub none : (k : ℕ) → k < i + 1 → P (take k bytes) → ⊥
@@ -130,7 +130,7 @@ module _ (stream bytes : List ℕ) (i : ℕ) where
   newly_first : (before : Held) → IsReadTo (DecidesAction stream) stream bytes before i → newly_decided_actions stream (take (i + 1) bytes) ≡ next_actions
   newly_first before r = newly_next ∙ ap (λ l. l ++ next_actions) (none_there (newly_decided_actions stream (take i bytes)) (r.none i (omega arith)))
 
-  some_first : (us : List StreamAction) (v : StreamAction) → first_of None us ≡ Some v → (others : List StreamAction) × (us ≡ v ∷ others)
+  some_first : (us : List StreamAction) (v : StreamAction) → first_of None us ≡ Some v → (remaining : List StreamAction) × (us ≡ v ∷ remaining)
   some_first [] v e = cc
   some_first (u ∷ us) v e = (us, cc)
 

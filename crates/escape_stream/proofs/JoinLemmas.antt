@@ -29,7 +29,7 @@ two_prints (a ∷ []) x y p q = by_test (is_print a) refl
 two_prints (a ∷ b ∷ u) x y p q =
     after_some a (appended (b ∷ u) x) y (some_after (b ∷ u) x) ∙ ap (λ l. a ∷ l) (two_prints (b ∷ u) x y p q)
 
--- characters behind a text
+-- characters after a text
 joined_text : (u : List StreamAction) (text cs : List ℕ) → fold appended (appended u (print_string text)) (map print cs) ≡ appended u (print_string (text ++ encode_utf8_all cs))
 joined_text u text [] = ap (λ l. appended u (print_string l)) (sym (append-nil text))
 joined_text u text (c ∷ cs) =
@@ -65,6 +65,6 @@ no_chars text e = ap chars (none_left text e) ∙ chars-nil
 pub one_char : (text rest : List ℕ) (c : ℕ) → IsUtf8 text → text ≡ encode_utf8 c ++ rest → length rest ≡ 0 → chars text ≡ c ∷ []
 one_char text rest c u e z = chars_past_char text rest c u e ∙ ap (λ (l : List ℕ). c ∷ l) (no_chars rest z)
 
-pub more_chars : (text rest others : List ℕ) (c d e : ℕ) → IsUtf8 text → text ≡ encode_utf8 c ++ rest → rest ≡ encode_utf8 d ++ others → chars text ≡ e ∷ [] → ⊥
-more_chars text rest others c d e u p q h =
-    let k : e ∷ [] ≡ c ∷ d ∷ chars others = sym h ∙ chars_past_char text rest c u p ∙ ap (λ (l : List ℕ). c ∷ l) (chars_past_char rest others d (IsUtf8-past_char text rest c u p) q) in cc
+pub more_chars : (text rest remaining : List ℕ) (c d e : ℕ) → IsUtf8 text → text ≡ encode_utf8 c ++ rest → rest ≡ encode_utf8 d ++ remaining → chars text ≡ e ∷ [] → ⊥
+more_chars text rest remaining c d e u p q h =
+    let k : e ∷ [] ≡ c ∷ d ∷ chars remaining = sym h ∙ chars_past_char text rest c u p ∙ ap (λ (l : List ℕ). c ∷ l) (chars_past_char rest remaining d (IsUtf8-past_char text rest c u p) q) in cc

@@ -38,19 +38,19 @@ same_intermediate (Some m) None p q h = absurd (false≢true (rw h at p))
 same_intermediate (Some m) (Some n) p q h = ap Some (same_number m n h)
 
 -- what is found in a list passes the test, and whatever each element passes
-found_by : {A : Type 0} (test kept : A → Bool) (first : A) (others : List A) (x : A) (u : Bool) → test first ≡ u → kept first ≡ true
-    → (find test others ≡ Some x → (test x ≡ true) × (kept x ≡ true)) → find test (first ∷ others) ≡ Some x → (test x ≡ true) × (kept x ≡ true)
-found_by test kept first others x true e k behind f =
+found_by : {A : Type 0} (test kept : A → Bool) (first : A) (remaining : List A) (x : A) (u : Bool) → test first ≡ u → kept first ≡ true
+    → (find test remaining ≡ Some x → (test x ≡ true) × (kept x ≡ true)) → find test (first ∷ remaining) ≡ Some x → (test x ≡ true) × (kept x ≡ true)
+found_by test kept first remaining x true e k after f =
     let g : Some first ≡ Some x = rw e at f in
     let same : first ≡ x = cc in
     (subst (λ y. test y ≡ true) same e, subst (λ y. kept y ≡ true) same k)
-found_by test kept first others x false e k behind f = behind (rw e at f)
+found_by test kept first remaining x false e k after f = after (rw e at f)
 
 found : {A : Type 0} (test kept : A → Bool) (list : List A) (x : A) → list_all kept list ≡ true → find test list ≡ Some x → (test x ≡ true) × (kept x ≡ true)
 found test kept [] x h f = cc
-found test kept (first ∷ others) x h f =
-    let p = and_parts (kept first) (list_all kept others) h in
-    found_by test kept first others x (test first) refl p.0 (found test kept others x p.1) f
+found test kept (first ∷ remaining) x h f =
+    let p = and_parts (kept first) (list_all kept remaining) h in
+    found_by test kept first remaining x (test first) refl p.0 (found test kept remaining x p.1) f
 
 no_zero : (intermediate : Option ℕ) (final : ℕ) → ArePairBytes intermediate final → is_no_zero intermediate ≡ true
 no_zero None final b = refl

@@ -28,13 +28,13 @@ is_whole (x ∷ body) e = by_test (x == semicolon) refl e (is_whole body)
         let k : drop (prefix_len is_in_part body) body ≡ [] = rw (at, n) at e in
         rw at (ap (onto_first x) (h k))
 
-pub part_and_rest : (body first others rest : List ℕ) (b n : ℕ) → n ≡ prefix_len is_in_part body → first ≡ take n body → others ≡ drop n body → others ≡ b ∷ rest → parts_of body ≡ first ∷ parts_of rest
-part_and_rest body first others rest b n e f g h =
+pub part_and_rest : (body first remaining rest : List ℕ) (b n : ℕ) → n ≡ prefix_len is_in_part body → first ≡ take n body → remaining ≡ drop n body → remaining ≡ b ∷ rest → parts_of body ≡ first ∷ parts_of rest
+part_and_rest body first remaining rest b n e f g h =
     is_cut body rest b (ap (λ (m : ℕ). drop m body) (sym e) ∙ sym g ∙ h) ∙ ap (λ (l : List ℕ). l ∷ parts_of rest) (ap (λ (m : ℕ). take m body) (sym e) ∙ sym f)
 
 no_bytes : (xs : List ℕ) → length xs ≡ 0 → xs ≡ []
 no_bytes [] h = refl
 no_bytes (x ∷ xs) h = absurd (omega (arith, h))
 
-pub part_alone : (body others : List ℕ) (n : ℕ) → n ≡ prefix_len is_in_part body → others ≡ drop n body → length others ≡ 0 → parts_of body ≡ body ∷ []
-part_alone body others n e g h = is_whole body (ap (λ (m : ℕ). drop m body) (sym e) ∙ sym g ∙ no_bytes others h)
+pub part_alone : (body remaining : List ℕ) (n : ℕ) → n ≡ prefix_len is_in_part body → remaining ≡ drop n body → length remaining ≡ 0 → parts_of body ≡ body ∷ []
+part_alone body remaining n e g h = is_whole body (ap (λ (m : ℕ). drop m body) (sym e) ∙ sym g ∙ no_bytes remaining h)

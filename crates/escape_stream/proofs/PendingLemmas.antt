@@ -19,7 +19,7 @@ folds_then : {F : Type 0} (R : F → StreamAction → F → Type 0) (f g h : F) 
 folds_then R f g h [] ys p q = rw p q
 folds_then R f g h (x ∷ xs) ys p q = (p.0, p.1, folds_then R p.0 g h xs ys p.2 q)
 
--- calls behind others
+-- calls after others
 pub called_then : {F : Type 0} (step : F → Action → F → Type 0) (f g h : F) (xs ys : List StreamAction) → IsCalledAt step f xs g → IsCalledAt step g ys h → IsCalledAt step f (xs ++ ys) h
 called_then step f g h xs ys p q = record { calls = folds_then (by_value step) f g h xs ys p.calls q.calls }
 

@@ -22,7 +22,7 @@ event_pieces l e rest = ap (λ (x : List Piece). x ++ rest) (append-nil (map Sin
 
 -- ---- what was read
 
--- what holds behind a step
+-- what holds after a step
 pub record Behind (k n : ℕ) (h after : Held) (bytes : List ℕ) : Type 0 where
   pub within : k + n ≤ length bytes
   pub reached : IsReached after
@@ -30,7 +30,7 @@ pub record Behind (k n : ℕ) (h after : Held) (bytes : List ℕ) : Type 0 where
   pub ends : (hand_out after (drop (k + n) bytes)).held ≡ (hand_out h (drop k bytes)).held
 
 module _ (k : ℕ) (h : Held) (bytes : List ℕ) (r : Read) (l : Lending) (reads : ReadsEvent h (drop k bytes) r l) where
-  -- what is left behind it
+  -- what is left after it
   left_after : (start n : ℕ) → framed_after start (start + k + n) l.held (drop n (drop k bytes)) ≡ framed_after start (start + (k + n)) l.held (drop (k + n) bytes)
   left_after start n = λ i. framed_after start (add_assoc start k n i) l.held (drop-drop n k bytes i)
 

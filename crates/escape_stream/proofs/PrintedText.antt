@@ -113,8 +113,8 @@ found (known ∷ codes) n h = by_test (control_number known == n) refl h (found 
   where
     by_test : (u : Bool) → (control_number known == n) ≡ u → is_listed (known ∷ codes) n ≡ true → (is_listed codes n ≡ true → named_control (find (λ known. control_number known == n) codes) ≡ control n ∷ [])
         → named_control (find (λ known. control_number known == n) (known ∷ codes)) ≡ control n ∷ []
-    by_test true e h others = rw e (ap (λ m. control m ∷ []) (same_number (control_number known) n e))
-    by_test false e h others = rw e (others (rw e at h))
+    by_test true e h remaining = rw e (ap (λ m. control m ∷ []) (same_number (control_number known) n e))
+    by_test false e h remaining = rw e (remaining (rw e at h))
 
 control_low : (n : ℕ) → IsControl n → n < 128
 control_low n (inl h) = let l = h.0 in omega arith

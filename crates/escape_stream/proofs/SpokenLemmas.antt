@@ -129,10 +129,10 @@ put_actions from text (framing.Text next more ∷ rest) u = by_test (next == fro
 chars_of_one : (c : ℕ) → IsScalar c → chars (encode_utf8 c) ≡ c ∷ []
 chars_of_one c s = chars_past_char (encode_utf8 c) [] c (IsUtf8-encode c s) (sym (append-nil (encode_utf8 c))) ∙ ap (λ (l : List ℕ). c ∷ l) chars-nil
 
-character_actions : (start place c : ℕ) (rest : List Framed) → IsScalar c → actions_of_pieces (pieces_of (put_character start place c rest)) ≡ print c ∷ actions_of_pieces (pieces_of rest)
-character_actions start place c rest s = by_test (is_lent start place c) refl
+character_actions : (start offset c : ℕ) (rest : List Framed) → IsScalar c → actions_of_pieces (pieces_of (put_character start offset c rest)) ≡ print c ∷ actions_of_pieces (pieces_of rest)
+character_actions start offset c rest s = by_test (is_lent start offset c) refl
   where
-    by_test : (t : Bool) → is_lent start place c ≡ t → actions_of_pieces (pieces_of (put_character start place c rest)) ≡ print c ∷ actions_of_pieces (pieces_of rest)
+    by_test : (t : Bool) → is_lent start offset c ≡ t → actions_of_pieces (pieces_of (put_character start offset c rest)) ≡ print c ∷ actions_of_pieces (pieces_of rest)
     by_test true e = rw e (put_actions _ (encode_utf8 c) rest (IsUtf8-encode c s) ∙ ap (λ (l : List ℕ). map print l ++ actions_of_pieces (pieces_of rest)) (chars_of_one c s))
     by_test false e = rw e refl
 

@@ -37,7 +37,7 @@ module _ {P : Type 0} (does : P → Item → P → Type 0) where
   by_code before x after = does before (item_handed x) after
 
   pub reaches_here : (it : Reading) (p : P) → IsUnderWay it → Reaches does it p it p
-  reaches_here it p u = record { done = []; performed = refl; handed = λ start. record { pieces = []; are = tt; whole = refl }; ready = u; ends = refl; bodies = λ place b. b }
+  reaches_here it p u = record { done = []; performed = refl; handed = λ start. record { pieces = []; are = tt; whole = refl }; ready = u; ends = refl; bodies = λ offset b. b }
 
   pub reaches_given : (old mid new : Reading) (p q last : P) (x : PieceCode) → Reaches does old p mid q → HasGiven mid (Some x) new → does q (item_handed x) last → Reaches does old p new last
   reaches_given old mid new p q last x r g d = record {
@@ -53,7 +53,7 @@ module _ {P : Type 0} (does : P → Item → P → Type 0) where
         };
     ready = g.ready;
     ends = g.ends ∙ r.ends;
-    bodies = λ place b. r.bodies place (g.bodies place b);
+    bodies = λ offset b. r.bodies offset (g.bodies offset b);
   }
 
   folds_items : (p q : P) (xs : List PieceCode) → FoldsTo by_code p xs q → FoldsTo does p (map item_handed xs) q
@@ -99,7 +99,7 @@ pub asks_later : {P : Type 0} (does : P → Item → P → Type 0) (old : Readin
 asks_later does old first last w = by_case w.memory
   where
     by_case : AsksMemory w.it → AsksMemoryLater old
-    by_case (inl (place, b)) = inl (place, w.reached.bodies place b)
+    by_case (inl (offset, b)) = inl (offset, w.reached.bodies offset b)
     by_case (inr f) = inr (λ start. let h = w.reached.handed start in record { done = h.pieces; left = open_pieces start w.it; whole = h.whole; takes = f start })
 
 pub refusal_asks : {P E : Type 0} (does : P → Item → P → Type 0) (refuses : P → Item → E → P → Type 0) (old new : Reading) (first last : P) (h : Halted E) → WalksTo does refuses old first (Err h) new last

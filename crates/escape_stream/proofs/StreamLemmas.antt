@@ -37,19 +37,19 @@ texts_join-lem a b h = texts_after-append false a b h
 -- ---- The last action
 
 -- what holds of the last of two holds of the list
-lone : (last next after : StreamAction) (joined : Bool) → JoinsPair last next joined after → JoinsLast (last ∷ []) next joined (after ∷ [])
-lone last next after true h = ap (λ a. a ∷ []) h.1 ∙ sym (ap (λ v. cond v (print_string (printed last ++ printed next) ∷ []) (last ∷ next ∷ [])) h.0)
-lone last next after false h =
+single : (last next after : StreamAction) (joined : Bool) → JoinsPair last next joined after → JoinsLast (last ∷ []) next joined (after ∷ [])
+single last next after true h = ap (λ a. a ∷ []) h.1 ∙ sym (ap (λ v. cond v (print_string (printed last ++ printed next) ∷ []) (last ∷ next ∷ [])) h.0)
+single last next after false h =
     (ap (λ a. a ∷ []) h.1, ap (λ v. cond v (print_string (printed last ++ printed next) ∷ []) (last ∷ next ∷ [])) h.0)
 
-after_first : (first second : StreamAction) (others after : List StreamAction) (next : StreamAction) (joined : Bool) → JoinsLast (second ∷ others) next joined after → JoinsLast (first ∷ second ∷ others) next joined (first ∷ after)
-after_first first second others after next true h = ap (λ rest. first ∷ rest) h
-after_first first second others after next false h = (ap (λ rest. first ∷ rest) h.0, ap (λ rest. first ∷ rest) h.1)
+after_first : (first second : StreamAction) (remaining after : List StreamAction) (next : StreamAction) (joined : Bool) → JoinsLast (second ∷ remaining) next joined after → JoinsLast (first ∷ second ∷ remaining) next joined (first ∷ after)
+after_first first second remaining after next true h = ap (λ rest. first ∷ rest) h
+after_first first second remaining after next false h = (ap (λ rest. first ∷ rest) h.0, ap (λ rest. first ∷ rest) h.1)
 
 pub joins_at : (actions : List Action) (n : ℕ) (last after : Action) (next : StreamAction) (joined : Bool) → length actions ≡ suc n → last ≡ get_or actions n last
     → JoinsPair (value_of last) next joined (value_of after) → JoinsLast (map value_of actions) next joined (map value_of (set actions n after))
 joins_at [] n last after next joined len item h = absurd (omega (arith, len))
-joins_at (a ∷ []) zero last after next joined len item h = lone (value_of a) next (value_of after) joined (subst (λ (x : Action). JoinsPair (value_of x) next joined (value_of after)) item h)
+joins_at (a ∷ []) zero last after next joined len item h = single (value_of a) next (value_of after) joined (subst (λ (x : Action). JoinsPair (value_of x) next joined (value_of after)) item h)
 joins_at (a ∷ []) (suc n) last after next joined len item h = absurd (omega (arith, len))
 joins_at (a ∷ b ∷ actions) zero last after next joined len item h = absurd (omega (arith, len))
 joins_at (a ∷ b ∷ actions) (suc n) last after next joined len item h =

@@ -13,14 +13,14 @@ use Rattle.escape_framing.specs.Dispatch.{Dispatch, dispatches_of, decided_of}
 use Rattle.escape_framing.specs.Decode.{Reading, read_on}
 use Rattle.escape_framing.specs.Cut.{the_cut, tail_of, dispatches, newly_decided}
 use Rattle.escape_framing.proofs.Existence.SevenBitLemmas.{no_pair, no_pair_after}
-use Rattle.escape_framing.proofs.ReadLemmas.{behind, read_append}
+use Rattle.escape_framing.proofs.ReadLemmas.{read_after, read_append}
 use Rattle.escape_framing.proofs.UniqueLemmas.{reads_segment}
 use Rattle.escape_stream.specs.StreamAction.{StreamAction}
 use Rattle.escape_stream.specs.StreamActions.{actions_of_dispatch, actions_of, stream_actions, newly_decided_actions}
 
 -- ---- Bytes without a C1 control
 
--- a byte that may stand behind another, before bytes without a C1 control
+-- a byte that may follow another, before bytes without a C1 control
 pub pair_stands : (x b : ℕ) (bytes : List ℕ) → is_c1 x b ≡ false → no_pair (b ∷ bytes) ≡ true → no_pair (x ∷ b ∷ bytes) ≡ true
 pair_stands x b bytes e h = rw e h
 
@@ -46,7 +46,7 @@ low_text (b ∷ text) bytes h k =
     let p = and_parts (nat_lt b 128) (list_all (λ b. nat_lt b 128) text) h in
     low_stands b (text ++ bytes) p.0 (no_pair_after (0xC2 ∷ []) (text ++ bytes) (low_text text bytes p.1 k))
 
--- ESC may stand behind any byte
+-- ESC may follow any byte
 pub before_escape : (x : ℕ) → is_c1 x 0x1B ≡ false
 before_escape x = and_right (x == 0xC2) false refl
 
@@ -102,7 +102,7 @@ says_segment s bytes actions g u h =
 
 -- ---- What a stream decides
 
--- a C2 at the stream's end makes no pair with the bytes behind it
+-- a C2 at the stream's end makes no pair with the bytes after it
 no_seam : (x y : ℕ) (u : Bool) → is_c1 0xC2 y ≡ false → is_c1 x y ≡ u → u ≡ false
 no_seam x y true h e = let k = (and_parts (x == 0xC2) (nat_le 0x80 y && nat_le y 0x9F) e).1 in let l : (nat_le 0x80 y && nat_le y 0x9F) ≡ false = h in cc
 no_seam x y false h e = refl
@@ -126,16 +126,16 @@ joined_form (b ∷ c ∷ stream) bytes h = by_test (is_c1 b c) refl (joined_form
 
 -- the stream's own segments, where it leaves nothing unfinished, and then those of the bytes
 joined_reading : (stream bytes : List ℕ) → tail_of stream ≡ Begun [] → no_pair (0xC2 ∷ bytes) ≡ true
-    → read_on (Begun []) (seven_bit (stream ++ bytes)) ≡ behind (record { segments = (read_on (Begun []) (seven_bit stream)).segments; tail = Begun [] }) bytes
+    → read_on (Begun []) (seven_bit (stream ++ bytes)) ≡ read_after (record { segments = (read_on (Begun []) (seven_bit stream)).segments; tail = Begun [] }) bytes
 unfolding the_cut
 joined_reading stream bytes e h =
     ap (read_on (Begun [])) (joined_form stream bytes h) ∙ read_append (Begun []) (seven_bit stream) bytes
-    ∙ ap (λ (t : Tail). behind (record { segments = (read_on (Begun []) (seven_bit stream)).segments; tail = t }) bytes) e
+    ∙ ap (λ (t : Tail). read_after (record { segments = (read_on (Begun []) (seven_bit stream)).segments; tail = t }) bytes) e
 
 whole_dispatches : (segments : List Segment) (tail : Tail) → tail ≡ Begun [] → flat_map dispatches_of segments ++ decided_of tail ≡ flat_map dispatches_of segments
 whole_dispatches segments tail e = ap (λ (t : Tail). flat_map dispatches_of segments ++ decided_of t) e ∙ append-nil (flat_map dispatches_of segments)
 
--- behind a stream that leaves nothing unfinished the bytes decide these actions, and leave nothing unfinished
+-- after a stream that leaves nothing unfinished the bytes decide these actions, and leave nothing unfinished
 pub stream_says_after : (stream bytes : List ℕ) (actions : List StreamAction) → tail_of stream ≡ Begun [] → Says bytes actions
     → (newly_decided_actions stream bytes ≡ actions) × (tail_of (stream ++ bytes) ≡ Begun [])
 unfolding the_cut

@@ -1,4 +1,4 @@
--- A writable list reads back: at the start of a segment, behind what closed a string, and within a device control string.
+-- A writable list reads back: at the start of a segment, after what closed a string, and within a device control string.
 use Rattle.std.proofs.Common.{◌≡◌, arith, Bool, true, false, cond, List, [], ◌∷◌, ◌++◌, map, refl, sym, ap, ◌∙◌, append_assoc, Some, None}
 use Rattle.std.specs.Prelude.{ℕ, ◌≢◌, not}
 use Rattle.std.proofs.lemmas.Bool.Decides.{nat_tests}
@@ -30,7 +30,7 @@ use Rattle.escape_stream.proofs.CommandText.{final_byte, says_csi, says_command}
 
 -- ---- Device control strings
 
--- Behind the opening of a device control string and some data the bytes ask these actions, with those of the string, and
+-- After the opening of a device control string and some data the bytes ask these actions, with those of the string, and
 -- leave nothing open; there is no C1 control in them, where this byte stands before them.
 record Feeds (header : List ℕ) (final : ℕ) (body : List ℕ) (before : ℕ) (bytes : List ℕ) (actions : List StreamAction) : Type 0 where
   asks : actions_of (flat_map dispatches_of (read_on (OpenDevice [] header final body) bytes).segments) ≡ actions
@@ -88,18 +88,18 @@ says_device : (header : List ℕ) (final : ℕ) (bytes : List ℕ) (actions : Li
 says_device header final bytes actions o h = record {
   asks = ap (λ (r : Reading). actions_of (flat_map dispatches_of r.segments)) e ∙ h.asks;
   whole = ap (λ (r : Reading). r.tail) e ∙ h.whole;
-  unpaired = ap (λ l. no_pair (0xC2 ∷ 27 ∷ 80 ∷ l)) (append_assoc header (final ∷ []) bytes) ∙ low_text (27 ∷ 80 ∷ []) (header ++ final ∷ bytes) refl behind;
+  unpaired = ap (λ l. no_pair (0xC2 ∷ 27 ∷ 80 ∷ l)) (append_assoc header (final ∷ []) bytes) ∙ low_text (27 ∷ 80 ∷ []) (header ++ final ∷ bytes) refl later;
 }
   where
     e : read_on (Begun []) (27 ∷ 80 ∷ ((header ++ final ∷ []) ++ bytes)) ≡ read_on (OpenDevice [] header final []) bytes
     e = reads_tail (OpenDevice [] header final []) bytes (refl, parameters_inside header (header_bytes header o.header_bytes), final_byte final o.low o.high, refl)
 
-    behind : no_pair (0xC2 ∷ (header ++ final ∷ bytes)) ≡ true
-    behind = low_text header (final ∷ bytes) (parameters_low header (header_bytes header o.header_bytes)) (low_stands final bytes (low_byte final o.high) (no_pair_after (final ∷ []) bytes h.unpaired))
+    later : no_pair (0xC2 ∷ (header ++ final ∷ bytes)) ≡ true
+    later = low_text header (final ∷ bytes) (parameters_low header (header_bytes header o.header_bytes)) (low_stands final bytes (low_byte final o.high) (no_pair_after (final ∷ []) bytes h.unpaired))
 
 -- ---- The lists
 
--- what is written for the list reads back: where a segment begins, behind what closed a string, and within the data of a
+-- what is written for the list reads back: where a segment begins, after what closed a string, and within the data of a
 -- device control string
 record Back (actions : List StreamAction) : Type 0 where
   start : IsWritableAfter None actions → Says (texts_after false actions) (read_form_after false actions)
@@ -130,53 +130,53 @@ data_moves body b actions = ap (λ l. l ++ actions) (map-append data_byte body (
 
 back : (actions : List StreamAction) → Back actions
 back [] = record { start = λ w. says_nothing; closed = λ w. says_terminator [] [] says_nothing; within = λ header final body before p w. absurd w }
-back (print c ∷ others) =
-    let r = back others in
-    outside (print c ∷ others) (λ w. says_print c (texts_after false others) (read_form_after false others) w.0.0 w.0.1 (r.start w.1)) refl refl (λ before w. w)
-back (print_string text ∷ others) =
-    let r = back others in
-    outside (print_string text ∷ others) (λ w. says_text text (texts_after false others) (read_form_after false others) w.0 (r.start w.1)) refl refl (λ before w. w)
-back (control n ∷ others) =
-    let r = back others in
-    outside (control n ∷ others) (λ w. says_control n (texts_after false others) (read_form_after false others) w.0 (r.start w.1)) refl refl (λ before w. w)
-back (enter header final ∷ others) =
-    let r = back others in
-    outside (enter header final ∷ others) (λ w. says_device header final (texts_after false others) (enter header final ∷ read_form_after false others) w.0
+back (print c ∷ remaining) =
+    let r = back remaining in
+    outside (print c ∷ remaining) (λ w. says_print c (texts_after false remaining) (read_form_after false remaining) w.0.0 w.0.1 (r.start w.1)) refl refl (λ before w. w)
+back (print_string text ∷ remaining) =
+    let r = back remaining in
+    outside (print_string text ∷ remaining) (λ w. says_text text (texts_after false remaining) (read_form_after false remaining) w.0 (r.start w.1)) refl refl (λ before w. w)
+back (control n ∷ remaining) =
+    let r = back remaining in
+    outside (control n ∷ remaining) (λ w. says_control n (texts_after false remaining) (read_form_after false remaining) w.0 (r.start w.1)) refl refl (λ before w. w)
+back (enter header final ∷ remaining) =
+    let r = back remaining in
+    outside (enter header final ∷ remaining) (λ w. says_device header final (texts_after false remaining) (enter header final ∷ read_form_after false remaining) w.0
     (r.within header final [] final (parameters_plain header (header_bytes header w.0.header_bytes)) w.1)) refl refl (λ before w. w)
-back (data_byte b ∷ others) =
-    let r = back others in
+back (data_byte b ∷ remaining) =
+    let r = back remaining in
     record {
       start = λ w. absurd w.0;
       closed = λ w. absurd w.0;
-      within = λ header final body before p w. feeds_byte header final body before b (texts_after false others) (enter header final ∷ (map data_byte body ++ data_byte b ∷ read_form_after false others)) w.0
-          (feeds_same (ap (λ l. enter header final ∷ l) (data_moves body b (read_form_after false others))) (r.within header final (body ++ b ∷ []) b p w.1));
+      within = λ header final body before p w. feeds_byte header final body before b (texts_after false remaining) (enter header final ∷ (map data_byte body ++ data_byte b ∷ read_form_after false remaining)) w.0
+          (feeds_same (ap (λ l. enter header final ∷ l) (data_moves body b (read_form_after false remaining))) (r.within header final (body ++ b ∷ []) b p w.1));
     }
-back (exit ∷ others) =
-    let r = back others in
+back (exit ∷ remaining) =
+    let r = back remaining in
     record {
       start = λ w. absurd w.0;
       closed = λ w. absurd w.0;
-      within = λ header final body before p w. feeds_end header final body before (92 ∷ texts_after true others) (read_form_after true others) p (r.closed w);
+      within = λ header final body before p w. feeds_end header final body before (92 ∷ texts_after true remaining) (read_form_after true remaining) p (r.closed w);
     }
-back (command c ∷ others) =
-    let r = back others in
-    outside (command c ∷ others) (λ w. says_command c (texts_after true others) (read_form_after true others) w.0 (r.closed w.1)) refl refl (λ before w. w)
-back (csi a ∷ others) =
-    let r = back others in
-    outside (csi a ∷ others) (λ w. says_csi a (texts_after false others) (read_form_after false others) w.0 (r.start w.1)) refl refl (λ before w. w)
-back (esc e ∷ others) =
-    let r = back others in
+back (command c ∷ remaining) =
+    let r = back remaining in
+    outside (command c ∷ remaining) (λ w. says_command c (texts_after true remaining) (read_form_after true remaining) w.0 (r.closed w.1)) refl refl (λ before w. w)
+back (csi a ∷ remaining) =
+    let r = back remaining in
+    outside (csi a ∷ remaining) (λ w. says_csi a (texts_after false remaining) (read_form_after false remaining) w.0 (r.start w.1)) refl refl (λ before w. w)
+back (esc e ∷ remaining) =
+    let r = back remaining in
     record {
-      start = λ w. says_pair e (texts_after false others) (read_form_after false others) w.0 (r.start w.1);
-      closed = λ w. pair_closed e (texts_after false others) (read_form_after false others) (is_terminator_pair e) refl
-          (says_pair e (texts_after false others) (read_form_after false others) w.0 (r.start w.1)) (r.start w.1);
+      start = λ w. says_pair e (texts_after false remaining) (read_form_after false remaining) w.0 (r.start w.1);
+      closed = λ w. pair_closed e (texts_after false remaining) (read_form_after false remaining) (is_terminator_pair e) refl
+          (says_pair e (texts_after false remaining) (read_form_after false remaining) w.0 (r.start w.1)) (r.start w.1);
       within = λ header final body before p w. absurd w;
     }
 
 pub writable_lists : (actions : List StreamAction) → IsWritable actions → (stream_actions (stream_text actions) ≡ read_form actions) × (tail_of (stream_text actions) ≡ Begun [])
 writable_lists actions w = stream_says (stream_text actions) (read_form actions) ((back actions).start w)
 
--- behind a stream that leaves nothing unfinished, too
+-- after a stream that leaves nothing unfinished, too
 pub writable_after : (stream : List ℕ) (actions : List StreamAction) → tail_of stream ≡ Begun [] → IsWritable actions
     → (newly_decided_actions stream (stream_text actions) ≡ read_form actions) × (tail_of (stream ++ stream_text actions) ≡ Begun [])
 writable_after stream actions e w = stream_says_after stream (stream_text actions) (read_form actions) e ((back actions).start w)

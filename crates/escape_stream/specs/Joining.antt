@@ -8,7 +8,7 @@ JoinsPair last next true after =
     (is_print last && is_print next ≡ true) × (after ≡ print_string (printed last ++ printed next))
 JoinsPair last next false after = (is_print last && is_print next ≡ false) × (after ≡ last)
 
--- the last action of a list took a print in, or nothing changed, and the action is to stand behind the list
+-- the last action of a list took a print in, or nothing changed, and the action is to follow the list
 abbrev pub JoinsLast : List StreamAction → StreamAction → Bool → List StreamAction → Type 0
 JoinsLast before next true after = after ≡ appended before next
 JoinsLast before next false after = (after ≡ before) × (appended before next ≡ before ++ next ∷ [])

@@ -25,11 +25,11 @@ first_of None [] = None
 first_of None (a ∷ actions) = Some a
 first_of (Some a) actions = Some a
 
--- behind the stream, the bytes decide an action
+-- after the stream, the bytes decide an action
 abbrev pub DecidesAction : List ℕ → List ℕ → Type 0
 DecidesAction stream bytes = newly_decided_actions stream bytes ≢ []
 
--- behind the stream, the bytes decide an action, and no segment is unfinished
+-- after the stream, the bytes decide an action, and no segment is unfinished
 abbrev pub Settles : List ℕ → List ℕ → Type 0
 Settles stream bytes = DecidesAction stream bytes × (tail_of (stream ++ bytes) ≡ Begun [])
 
@@ -43,15 +43,15 @@ pub record IsShortest (P : List ℕ → Type 0) (bytes : List ℕ) (count : ℕ)
 abbrev pub IsNowhere : (List ℕ → Type 0) → List ℕ → Type 0
 IsNowhere P bytes = (count : ℕ) → count ≤ length bytes → P (take count bytes) → ⊥
 
--- behind the stream, the first action of the shortest prefix that decides one, and its length; none where no prefix
+-- after the stream, the first action of the shortest prefix that decides one, and its length; none where no prefix
 -- does
 abbrev pub IsFirst : List ℕ → List ℕ → Option (StreamAction × ℕ) → Type 0
 IsFirst stream bytes None = IsNowhere (DecidesAction stream) bytes
 IsFirst stream bytes (Some found) =
     IsShortest (DecidesAction stream) bytes found.1
-    × ((others : List StreamAction) × (newly_decided_actions stream (take found.1 bytes) ≡ found.0 ∷ others))
+    × ((remaining : List StreamAction) × (newly_decided_actions stream (take found.1 bytes) ≡ found.0 ∷ remaining))
 
--- behind the stream, the actions of the shortest prefix that decides one and after which no segment is unfinished, and
+-- after the stream, the actions of the shortest prefix that decides one and after which no segment is unfinished, and
 -- its length; none where there is no such prefix
 abbrev pub IsFirstSettled : List ℕ → List ℕ → Option (List StreamAction × ℕ) → Type 0
 IsFirstSettled stream bytes None = IsNowhere (Settles stream) bytes

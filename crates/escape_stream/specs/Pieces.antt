@@ -24,7 +24,7 @@ pieces_of_framed (framing.Single d) = map Single (actions_of_dispatch d)
 abbrev pub pieces_of : List Framed → List Piece
 pieces_of items = flat_map pieces_of_framed items
 
--- What a call hands out of these bytes, behind a stream: the actions that the bytes decide, where characters that stand
+-- What a call hands out of these bytes, after a stream: the actions that the bytes decide, where characters that stand
 -- side by side, each wholly of these bytes, are a text.
 abbrev pub pieces : List ℕ → List ℕ → List Piece
 pieces stream bytes = pieces_of (framed (length stream) (placed_from stream bytes))

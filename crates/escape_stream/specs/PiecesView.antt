@@ -32,7 +32,7 @@ lender_of it = it.parser.ghost_name
 abbrev pub parser_of : Pieces → Parsing
 parser_of it = it.parser.now
 
--- the pieces of the bytes that weren't read yet, and before them what is left of a control sequence, in a call behind
+-- the pieces of the bytes that weren't read yet, and before them what is left of a control sequence, in a call after
 -- `start` bytes
 abbrev pub open_pieces : ℕ → Pieces → List Piece
 open_pieces start it =
@@ -63,7 +63,7 @@ pub record SomeTakesMemory (pieces : List Piece) : Type 0 where
   pub whole : pieces ≡ done ++ left
   pub takes : FirstTakesMemory left
 
--- Bytes behind a stream take memory: behind some of them the body of a command or a header is read, or they hand out an
+-- Bytes after a stream take memory: after some of them the body of a command or a header is read, or they hand out an
 -- action that takes memory.
 abbrev pub BytesTakeMemory : List ℕ → List ℕ → Type 0
 BytesTakeMemory stream bytes =
@@ -87,19 +87,19 @@ abbrev pub GivesPiece : List Piece → Option PieceCode → List Piece → Type 
 GivesPiece before None after = before ≡ []
 GivesPiece before (Some p) after = (piece : Piece) × IsPiece piece p × (before ≡ piece ∷ after)
 
--- behind so many of the bytes of its call, those that were read among them, the body of a command or a header is read
-pub record ReadsBody (it : Pieces) (place : ℕ) : Type 0 where
-  pub behind : it.count ≤ place
-  pub within : place ≤ length it.bytes.now
-  pub takes : TakesMemoryAt it.parser.now.held (drop it.count it.bytes.now) (place - it.count)
+-- after so many of the bytes of its call, those that were read among them, the body of a command or a header is read
+pub record ReadsBody (it : Pieces) (offset : ℕ) : Type 0 where
+  pub after : it.count ≤ offset
+  pub within : offset ≤ length it.bytes.now
+  pub takes : TakesMemoryAt it.parser.now.held (drop it.count it.bytes.now) (offset - it.count)
 
 -- memory is taken for a body or a header that is read, or for the next action
 abbrev pub AsksMemory : Pieces → Type 0
-AsksMemory it = ((place : ℕ) × ReadsBody it place) ⊎ ((start : ℕ) → FirstTakesMemory (open_pieces start it))
+AsksMemory it = ((offset : ℕ) × ReadsBody it offset) ⊎ ((start : ℕ) → FirstTakesMemory (open_pieces start it))
 
 -- memory is taken for a body or a header that is read, or for any action that is to come
 abbrev pub AsksMemoryLater : Pieces → Type 0
-AsksMemoryLater it = ((place : ℕ) × ReadsBody it place) ⊎ ((start : ℕ) → SomeTakesMemory (open_pieces start it))
+AsksMemoryLater it = ((offset : ℕ) × ReadsBody it offset) ⊎ ((start : ℕ) → SomeTakesMemory (open_pieces start it))
 
 -- what one call has handed out, and how it goes on
 pub record HasGiven (old : Pieces) (piece : Option PieceCode) (new : Pieces) : Type 0 where
@@ -107,16 +107,16 @@ pub record HasGiven (old : Pieces) (piece : Option PieceCode) (new : Pieces) : T
   pub ready : IsUnderWay new
   pub ends : held_at_end new ≡ held_at_end old
   pub done : piece ≡ None → new.parser.now.held ≡ held_at_end old
-  pub bodies : (place : ℕ) → ReadsBody new place → ReadsBody old place
+  pub bodies : (offset : ℕ) → ReadsBody new offset → ReadsBody old offset
 
 -- the same is left to hand out
 pub record GoesOn (old new : Pieces) : Type 0 where
   pub same : (start : ℕ) → open_pieces start new ≡ open_pieces start old
   pub ready : IsUnderWay new
   pub ends : held_at_end new ≡ held_at_end old
-  pub bodies : (place : ℕ) → ReadsBody new place → ReadsBody old place
+  pub bodies : (offset : ℕ) → ReadsBody new offset → ReadsBody old offset
 
--- what stands at the front was found: the next piece, or nothing yet, and then the same is left to hand out
+-- what stands at the start was found: the next piece, or nothing yet, and then the same is left to hand out
 abbrev pub FindsHere : Pieces → Option PieceCode → Pieces → Type 0
 FindsHere old None new = GoesOn old new
 FindsHere old (Some piece) new = HasGiven old (Some piece) new
@@ -132,14 +132,14 @@ pub record SameBut (old new : Pieces) : Type 0 where
 -- The next action of a control sequence is handed out, unless memory is refused.
 pub record HandsOutOf (old : Pieces) (sequence : Option Sequence) (answer : Result (Option Action) AllocError)
     (new : Pieces) : Type 0 where
-  pub others : SameBut old new
+  pub remaining : SameBut old new
   pub gives : IfOk answer
       (λ next. Gives (actions_left old.parser.now.parameters sequence) next
       (actions_left old.parser.now.parameters new.sequence))
   pub over : IfOk answer (λ next. next ≡ None → new.sequence ≡ None)
   pub memory : OnErr answer (FirstTakes (actions_left old.parser.now.parameters sequence))
 
--- The first action of an event is handed out, unless memory is refused; those of a control sequence go on behind it.
+-- The first action of an event is handed out, unless memory is refused; those of a control sequence go on after it.
 pub record Begins (old : Pieces) (event : Event) (answer : Result (Option Action) AllocError) (new : Pieces) : Type 0
   where
     pub same : lender_of new ≡ lender_of old

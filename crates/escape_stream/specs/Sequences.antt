@@ -36,10 +36,10 @@ abbrev pub FirstTakes : List StreamAction → Type 0
 FirstTakes [] = ⊥
 FirstTakes (action ∷ actions) = ActionTakesMemory action
 
--- the actions of a control sequence from a place on
+-- the actions of a control sequence from a position on
 abbrev pub actions_left : Parameters → Option Sequence → List StreamAction
 actions_left p None = []
-actions_left p (Some s) = map csi (actions_from s.place p.tokens p.truncated s.control)
+actions_left p (Some s) = map csi (actions_from s.offset p.tokens p.truncated s.control)
 
 -- the actions of an event, with what the framer lends
 abbrev pub event_actions : Lending → Event → List StreamAction

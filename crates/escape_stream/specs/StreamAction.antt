@@ -41,13 +41,13 @@ printed (command c) = []
 printed (csi a) = []
 printed (esc e) = []
 
--- an action behind another: a print behind a print is one with it
+-- an action after another: a print after a print is one with it
 abbrev pub joined_pair : StreamAction → StreamAction → List StreamAction
 joined_pair last next =
     if is_print last && is_print next then print_string (printed last ++ printed next) ∷ [] else last ∷ next ∷ []
 
--- an action behind a list of them
+-- an action after a list of them
 abbrev pub appended : List StreamAction → StreamAction → List StreamAction
 appended [] next = next ∷ []
 appended (last ∷ []) next = joined_pair last next
-appended (first ∷ second ∷ others) next = first ∷ appended (second ∷ others) next
+appended (first ∷ second ∷ remaining) next = first ∷ appended (second ∷ remaining) next

@@ -37,7 +37,7 @@ actions_of ds = flat_map actions_of_dispatch ds
 abbrev pub stream_actions : List ℕ → List StreamAction
 stream_actions stream = actions_of (dispatches stream)
 
--- the actions that are decided once more bytes stand behind a stream
+-- the actions that are decided once more bytes follow a stream
 abbrev pub newly_decided_actions : List ℕ → List ℕ → List StreamAction
 newly_decided_actions stream more = actions_of (newly_decided stream more)
 
@@ -46,14 +46,14 @@ abbrev pub placed_actions : List ℕ → List (ℕ × StreamAction)
 placed_actions stream =
     flat_map (λ (p : ℕ × Dispatch). map (λ a. (p.0, a)) (actions_of_dispatch p.1)) (placed_dispatches stream)
 
--- The first bytes of the stream, as many as the place says, decide the action at the index, and fewer don't.
-pub record IsPlacedAction (stream : List ℕ) (index place : ℕ) (action : StreamAction) : Type 0 where
+-- The first bytes of the stream, as many as the position says, decide the action at the index, and fewer don't.
+pub record IsPlacedAction (stream : List ℕ) (index offset : ℕ) (action : StreamAction) : Type 0 where
   -- the stream has so many bytes
-  pub within : place ≤ length stream
-  -- however the stream goes on behind so many bytes, this action is at the index
-  pub decided : (more : List ℕ) → slice_get (stream_actions (take place stream ++ more)) index ≡ Some action
-  -- behind fewer bytes the stream can go on so that it is not
-  pub least : (fewer : ℕ) → fewer < place
+  pub within : offset ≤ length stream
+  -- however the stream goes on after so many bytes, this action is at the index
+  pub decided : (more : List ℕ) → slice_get (stream_actions (take offset stream ++ more)) index ≡ Some action
+  -- after fewer bytes the stream can go on so that it is not
+  pub least : (fewer : ℕ) → fewer < offset
       → ((more : List ℕ) → slice_get (stream_actions (take fewer stream ++ more)) index ≡ Some action) → ⊥
 
 -- The stream can go on so that one action comes next, and so that another does: no further one is decided.

@@ -50,16 +50,16 @@ is_string_terminator exit = false
 is_string_terminator (command c) = false
 is_string_terminator (csi a) = false
 
--- the bytes of an action behind one that closed a string or did not: the terminator is not written twice
+-- the bytes of an action after one that closed a string or did not: the terminator is not written twice
 abbrev pub text_after : Bool → StreamAction → List ℕ
 text_after closed a = if closed && is_string_terminator a then [] else action_text a
 
--- the bytes of actions behind such a one
+-- the bytes of actions after such a one
 abbrev pub texts_after : Bool → List StreamAction → List ℕ
 texts_after closed [] = []
-texts_after closed (a ∷ others) = text_after closed a ++ texts_after (closes_string a) others
+texts_after closed (a ∷ remaining) = text_after closed a ++ texts_after (closes_string a) remaining
 
--- the bytes of a list of actions: their texts joined, a string terminator directly behind an operating system command
+-- the bytes of a list of actions: their texts joined, a string terminator directly after an operating system command
 -- or the end of a device control string once
 abbrev pub stream_text : List StreamAction → List ℕ
 stream_text actions = texts_after false actions
@@ -69,12 +69,12 @@ stream_text actions = texts_after false actions
 -- whether the last action closes a string
 abbrev pub ends_closed : Bool → List StreamAction → Bool
 ends_closed closed [] = closed
-ends_closed closed (a ∷ others) = ends_closed (closes_string a) others
+ends_closed closed (a ∷ remaining) = ends_closed (closes_string a) remaining
 
 -- whether the first action is a string terminator
 abbrev pub begins_terminated : List StreamAction → Bool
 begins_terminated [] = false
-begins_terminated (a ∷ others) = is_string_terminator a
+begins_terminated (a ∷ remaining) = is_string_terminator a
 
 -- the text of two joined lists is their texts joined, unless the first ends in what closes a string and the second
 -- begins with a string terminator

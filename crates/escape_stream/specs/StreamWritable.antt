@@ -33,12 +33,12 @@ pub record IsPrintableText (text : List ℕ) : Type 0 where
   pub some : text ≢ []
   pub printable : All IsPrintable (chars text)
 
--- the text of the CSI action is one sequence and nothing behind it, and its tokens mean that action alone
+-- the text of the CSI action is one sequence and nothing after it, and its tokens mean that action alone
 pub record IsReadBack (a : codec.Action) : Type 0 where
-  pub front : Front
-  pub stands : HasFront (csi_text a) front
-  pub whole : front.rest ≡ []
-  pub action : csi_reading front.params front.truncated front.control ≡ a ∷ []
+  pub prefix : Front
+  pub stands : HasFront (csi_text a) prefix
+  pub whole : prefix.rest ≡ []
+  pub action : csi_reading prefix.params prefix.truncated prefix.control ≡ a ∷ []
 
 -- the ESC pair is the reading of such bytes
 pub record IsReadPair (e : Esc) : Type 0 where
@@ -65,7 +65,7 @@ pub record IsOpening (header : List ℕ) (byte : ℕ) : Type 0 where
   pub low : 64 ≤ byte
   pub high : byte ≤ 126
 
--- a byte of the data behind another: not CAN, SUB or ESC, and with the one before it no C1 control in UTF-8
+-- a byte of the data after another: not CAN, SUB or ESC, and with the one before it no C1 control in UTF-8
 pub record IsDataByte (before byte : ℕ) : Type 0 where
   pub byte_range : byte < 256
   pub not_cancel : byte ≢ 24
@@ -73,16 +73,17 @@ pub record IsDataByte (before byte : ℕ) : Type 0 where
   pub not_escape : byte ≢ 27
   pub not_c1 : is_c1 before byte ≡ false
 
--- actions behind the data byte of a device control string, or outside of one: each device control string stands as its
+-- actions after the data byte of a device control string, or outside of one: each device control string stands as its
 -- opening, its data and its end
 abbrev pub IsWritableAfter : Option ℕ → List StreamAction → Type 0
 IsWritableAfter None [] = Unit {0}
-IsWritableAfter None (enter header byte ∷ others) = IsOpening header byte × IsWritableAfter (Some byte) others
-IsWritableAfter None (a ∷ others) = IsWritableAction a × IsWritableAfter None others
+IsWritableAfter None (enter header byte ∷ remaining) = IsOpening header byte × IsWritableAfter (Some byte) remaining
+IsWritableAfter None (a ∷ remaining) = IsWritableAction a × IsWritableAfter None remaining
 IsWritableAfter (Some before) [] = ⊥
-IsWritableAfter (Some before) (data_byte byte ∷ others) = IsDataByte before byte × IsWritableAfter (Some byte) others
-IsWritableAfter (Some before) (exit ∷ others) = IsWritableAfter None others
-IsWritableAfter (Some before) (a ∷ others) = ⊥
+IsWritableAfter (Some before) (data_byte byte ∷ remaining) =
+    IsDataByte before byte × IsWritableAfter (Some byte) remaining
+IsWritableAfter (Some before) (exit ∷ remaining) = IsWritableAfter None remaining
+IsWritableAfter (Some before) (a ∷ remaining) = ⊥
 
 -- a list of actions that reads back from its bytes
 abbrev pub IsWritable : List StreamAction → Type 0
@@ -105,16 +106,16 @@ characters_of (esc e) = esc e ∷ []
 abbrev pub string_terminator : StreamAction
 string_terminator = esc (pair.Code code.StringTerminator)
 
--- the string terminator that closes a string, where the action behind it is none
+-- the string terminator that closes a string, where the action after it is none
 abbrev pub terminator_before : Bool → Bool → List StreamAction
 terminator_before closed stands = if closed && not stands then string_terminator ∷ [] else []
 
--- a list as its bytes read: prints as characters, and a string terminator behind each operating system command and
+-- a list as its bytes read: prints as characters, and a string terminator after each operating system command and
 -- each end of a device control string that has none
 abbrev pub read_form_after : Bool → List StreamAction → List StreamAction
 read_form_after closed [] = terminator_before closed false
-read_form_after closed (a ∷ others) =
-    terminator_before closed (is_string_terminator a) ++ characters_of a ++ read_form_after (closes_string a) others
+read_form_after closed (a ∷ remaining) =
+    terminator_before closed (is_string_terminator a) ++ characters_of a ++ read_form_after (closes_string a) remaining
 
 abbrev pub read_form : List StreamAction → List StreamAction
 read_form actions = read_form_after false actions
@@ -122,8 +123,8 @@ read_form actions = read_form_after false actions
 -- every text is UTF-8
 abbrev pub HasTexts : List StreamAction → Type 0
 HasTexts [] = Unit {0}
-HasTexts (print_string text ∷ others) = IsUtf8 text × HasTexts others
-HasTexts (a ∷ others) = HasTexts others
+HasTexts (print_string text ∷ remaining) = IsUtf8 text × HasTexts remaining
+HasTexts (a ∷ remaining) = HasTexts remaining
 
 -- a list as its bytes read has the same bytes
 abbrev pub ReadFormsEncodeAlike : Type 0
@@ -139,7 +140,7 @@ WritableListsReadBack =
 abbrev pub WritableListsEndWhole : Type 0
 WritableListsEndWhole = (actions : List StreamAction) → IsWritable actions → tail_of (stream_text actions) ≡ Begun []
 
--- so it is of what the text decides and leaves behind any stream that leaves no segment unfinished
+-- so it is of what the text decides and leaves after any stream that leaves no segment unfinished
 abbrev pub WritableListsReadOn : Type 0
 WritableListsReadOn =
     (stream : List ℕ) (actions : List StreamAction) → tail_of stream ≡ Begun [] → IsWritable actions
@@ -155,7 +156,8 @@ WritableListsEndOn =
 -- each action reads back by itself, but for what is left of modes where the round trip of parameters leaves it out
 abbrev pub EachIsReadBack : List CsiParam → ℕ → List codec.Action → Type 0
 EachIsReadBack ts final [] = Unit {0}
-EachIsReadBack ts final (a ∷ others) = (is_exempt ts final a ≡ false → IsReadBack a) × EachIsReadBack ts final others
+EachIsReadBack ts final (a ∷ remaining) =
+    (is_exempt ts final a ≡ false → IsReadBack a) × EachIsReadBack ts final remaining
 
 -- the actions of a spellable list of no more tokens than are kept, with a final byte from @ to ~, can be written
 abbrev pub ReadSequencesAreWritable : Type 0

@@ -30,7 +30,7 @@ pub record Finds (old : Reading) (answer : Result (Option PieceCode) AllocError)
   pub gives : IfOk answer (λ piece. HasGiven old piece new)
   pub memory : OnErr answer (AsksMemory old)
 
--- an action was found whole at the front, unless memory is refused, or nothing was read
+-- an action was found whole at the start, unless memory is refused, or nothing was read
 pub record FindsWhole (old : Reading) (answer : Option (Result Action AllocError)) (new : Reading) : Type 0 where
   pub same : lender_of new ≡ lender_of old
   pub stage : new.stage ≡ old.stage
@@ -67,7 +67,7 @@ pub record Reaches {P : Type 0} (does : P → Item → P → Type 0) (old : Read
   pub handed : (start : ℕ) → HandsOver done old new start
   pub ready : IsUnderWay new
   pub ends : held_at_end new ≡ held_at_end old
-  pub bodies : (place : ℕ) → ReadsBody new place → ReadsBody old place
+  pub bodies : (offset : ℕ) → ReadsBody new offset → ReadsBody old offset
 
 -- a walk that ended: at the end, or early
 pub record WalksAll {P : Type 0} (does : P → Item → P → Type 0) (old : Reading) (first : P) (new : Reading) (last : P) :

@@ -49,7 +49,7 @@ impl Action {
         }
     }
 
-    /// Appends the action to `dest`. A print behind a print is joined with it as one `PrintString`. Where memory is
+    /// Appends the action to `dest`. A print after a print is joined with it as one `PrintString`. Where memory is
     /// refused, `dest` shows what it showed, and the action is dropped.
     pub fn append_to(self, dest: &mut Vec<Action>) -> Result<(), AllocError>
         ensures ok { OnOk result
@@ -107,7 +107,7 @@ fn join(alloc: Global, last: &mut Action, next: &Action) -> Result<bool, AllocEr
     }
 }
 
-/// The characters that an action prints, behind a text.
+/// The characters that an action prints, after a text.
 fn add_print(text: &mut String, next: &Action) -> Result<(), AllocError>
     ensures ok { OnOk result (string_bytes text.new ≡ string_bytes text.old ++ printed (value_of next.now)) }
     ensures err { OnErr result (string_bytes text.new ≡ string_bytes text.old) }

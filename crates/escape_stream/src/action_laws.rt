@@ -9,10 +9,10 @@ ghost use Rattle.escape_stream.specs.StreamActions.{actions_of, stream_actions, 
 ghost use Rattle.escape_stream.specs.StreamActions.{IsPlacedAction, IsUndecidedAction};
 
 /// The placed actions are the stream's actions, in order, each with the least count of bytes that decides it however
-/// the stream goes on. Bytes behind a stream newly decide the actions whose places lie in them.
+/// the stream goes on. Bytes after a stream newly decide the actions whose positions lie in them.
 pub fn action_places()
-    ensures placed { (stream : List ℕ) (index place : ℕ) (action : StreamAction)
-        → slice_get (placed_actions stream) index ≡ Some (place, action) → IsPlacedAction stream index place action }
+    ensures placed { (stream : List ℕ) (index offset : ℕ) (action : StreamAction)
+        → slice_get (placed_actions stream) index ≡ Some (offset, action) → IsPlacedAction stream index offset action }
     ensures all { (stream : List ℕ)
         → map (λ (p : ℕ × StreamAction). p.1) (placed_actions stream) ≡ stream_actions stream }
     ensures in_pieces { (stream more : List ℕ)
@@ -21,7 +21,7 @@ pub fn action_places()
         (filter (λ (p : ℕ × StreamAction). nat_lt (length stream) p.0) (placed_actions (stream ++ more))) }
 {}
 
-/// An action comes as soon as the bytes so far decide it, since behind those that a stream decides two continuations
+/// An action comes as soon as the bytes so far decide it, since after those that a stream decides two continuations
 /// have different ones.
 pub fn actions_as_soon_as_decided()
     ensures { (stream : List ℕ) → IsUndecidedAction stream }

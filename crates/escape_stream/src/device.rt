@@ -4,7 +4,7 @@ ghost use Rattle.escape_stream.specs.StreamActionView.{device_value};
 
 use std::alloc::{AllocError, Global};
 
-/// What opens a device control string (ECMA-48 8.3.27): the bytes 20h to 3Fh behind `ESC P`, and the final byte, 40h to
+/// What opens a device control string (ECMA-48 8.3.27): the bytes 20h to 3Fh after `ESC P`, and the final byte, 40h to
 /// 7Eh.
 #[derive(Debug, PartialEq, Eq, Drop)]
 pub struct EnterDeviceControlMode {

@@ -10,7 +10,7 @@ use csi_codec::{Esc, EscCode};
 use std::alloc::{AllocError, Global};
 
 /// The bytes of a list of actions: their texts joined (ECMA-48 5.4; prints in UTF-8), where a `StringTerminator`
-/// directly behind an operating system command or the end of a device control string is not written twice, since the
+/// directly after an operating system command or the end of a device control string is not written twice, since the
 /// text of these ends in `ESC \`.
 #[tactic(auto, using(crate::proofs::StreamLemmas::encode_next, crate::proofs::StreamLemmas::encode_end))]
 pub fn encode(alloc: Global, actions: &[Action]) -> Result<Vec<u8>, AllocError>
@@ -42,7 +42,7 @@ fn is_string_terminator(action: &Action) -> bool
     matches!(action, Action::Esc(Esc::Code(EscCode::StringTerminator)))
 }
 
-/// Appends the bytes of an action behind one that closed a string or did not.
+/// Appends the bytes of an action after one that closed a string or did not.
 fn append_after(closed: bool, action: &Action, bytes: &mut Vec<u8>) -> Result<(), AllocError>
     ensures { OnOk result (bytes.new.items ≡ bytes.old.items ++ text_after closed (value_of action.now)) }
 {

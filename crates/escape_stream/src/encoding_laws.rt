@@ -10,7 +10,7 @@ pub fn encoded_lists_join()
     ensures { TextsJoin }
 {}
 
-/// A list of actions whose prints are split into characters, with a `StringTerminator` behind each operating system
+/// A list of actions whose prints are split into characters, with a `StringTerminator` after each operating system
 /// command and each end of a device control string that has none, has the same bytes: so the bytes of a list do not
 /// tell the two apart.
 pub fn read_forms_encode_alike()
@@ -18,14 +18,14 @@ pub fn read_forms_encode_alike()
 {}
 
 /// The bytes of a writable list are read as its actions, with prints split into characters and a `StringTerminator`
-/// behind each operating system command and each end of a device control string that has none; and no bytes of it are
+/// after each operating system command and each end of a device control string that has none; and no bytes of it are
 /// left unfinished. So a parser that reads what `encode` wrote hands these out.
 pub fn writable_lists_read_back()
     ensures actions { WritableListsReadBack }
     ensures whole { WritableListsEndWhole }
 {}
 
-/// Behind any stream of which no bytes are left unfinished: what the bytes of a writable list decide there, and
+/// After any stream of which no bytes are left unfinished: what the bytes of a writable list decide there, and
 /// what they leave, does not hang on the stream. So a parser that has read such a stream, in any pieces, and then reads
 /// what `encode` wrote hands these out.
 pub fn writable_lists_read_on()
@@ -34,7 +34,7 @@ pub fn writable_lists_read_on()
 {}
 
 /// The control sequences that a spellable list of at most 256 parameters means, with a final byte from `@` to `~`, can
-/// be written: each is the one action of its own bytes; but for what is left of modes behind some that stand, where it
+/// be written: each is the one action of its own bytes; but for what is left of modes after some that stand, where it
 /// begins with `?` or stands under `s` or `r`.
 pub fn read_sequences_are_writable()
     ensures { ReadSequencesAreWritable }

@@ -55,7 +55,7 @@ impl<'p, 'a> Reading<'p, 'a> {
         }
     }
 
-    // Reads what stands at the front of the bytes that are left, as the framer does: a piece, or bytes that hand
+    // Reads what stands at the start of the bytes that are left, as the framer does: a piece, or bytes that hand
     // nothing out yet.
     #[inline(always)]
     fn read_event(&mut self) -> Result<Option<Piece<'a>>, AllocError>
@@ -89,7 +89,7 @@ impl<'p, 'a> Reading<'p, 'a> {
         }
     }
 
-    // Reads what stands at the front of the bytes that are left, at once where a shortcut can.
+    // Reads what stands at the start of the bytes that are left, at once where a shortcut can.
     #[inline(always)]
     fn read(&mut self) -> Result<Option<Piece<'a>>, AllocError>
         requires going { IsGoing self.old }

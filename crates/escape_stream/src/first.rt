@@ -104,7 +104,7 @@ impl<'t> Perform<'t> for Kept {
 }
 
 impl Parser {
-    /// Reads the shortest prefix of the bytes that decides an action behind the bytes that were read before, and
+    /// Reads the shortest prefix of the bytes that decides an action after the bytes that were read before, and
     /// answers the first action and the prefix's length, 1 or more; further actions of that prefix are dropped. Where
     /// no prefix decides one, all bytes are read, and the answer is `None`. A call that was refused memory answers
     /// `Memory`, and each later call `Failed`, without reading.
@@ -150,7 +150,7 @@ impl Parser {
         }
     }
 
-    /// Reads the shortest prefix of the bytes that decides an action behind the bytes that were read before and after
+    /// Reads the shortest prefix of the bytes that decides an action after the bytes that were read before and after
     /// which no segment is unfinished, and answers its actions and its length, 1 or more. Where there is no such
     /// prefix, all bytes are read, the actions are dropped, and the answer is `None`. A call that was refused memory
     /// answers `Memory`, and each later call `Failed`, without reading.

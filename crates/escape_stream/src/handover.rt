@@ -74,7 +74,7 @@ impl<'p, 'a> Reading<'p, 'a> {
 }
 
 impl Parser {
-    /// Reads bytes, and hands the texts and actions that they decide behind those that were read before to the
+    /// Reads bytes, and hands the texts and actions that they decide after those that were read before to the
     /// performer, in order. Where it refuses one, or the parser is refused memory, those before it were performed, and
     /// the parser has failed; each later call answers `Failed`, without reading.
     pub fn hand_to<'b, P: Perform<'b>>(
@@ -84,7 +84,7 @@ impl Parser {
     ) -> Result<(), Halted<P::Refusal>>
         requires { P.ready performer.old }
         ensures ready { OnOk result (P.ready performer.new) }
-        // Where a stream has been read, in any pieces, the performer did what these bytes hand out behind it, or a
+        // Where a stream has been read, in any pieces, the performer did what these bytes hand out after it, or a
         // part of it.
         ensures done { OnOk result
             ((stream : List ℕ) → self.old.held ≡ held_of stream

@@ -84,7 +84,7 @@ impl<'t, F: FnMut(Action)> Perform<'t> for Calls<F> {
 // The character of a text that has one.
 fn first_alone(text: &str) -> Option<char>
     ensures one { IfSome result (λ c. chars text.now ≡ c ∷ []) }
-    ensures others { result ≡ None → (c : ℕ) → chars text.now ≡ c ∷ [] → ⊥ }
+    ensures remaining { result ≡ None → (c : ℕ) → chars text.now ≡ c ∷ [] → ⊥ }
 {
     let mut characters = text.chars();
     let first = characters.next()?;
@@ -94,7 +94,7 @@ fn first_alone(text: &str) -> Option<char>
     }
 }
 
-// Appends the characters of a text, a print behind a print as one.
+// Appends the characters of a text, a print after a print as one.
 fn append_text(alloc: Global, text: &str, actions: &mut Vec<Action>) -> Result<(), AllocError>
     ensures { IfOk result
         (λ _. map value_of actions.new.items
@@ -144,7 +144,7 @@ impl<'t> Perform<'t> for Joined {
 }
 
 impl Parser {
-    /// Reads bytes, calls the callback at each action that they decide behind those that were read before, in order,
+    /// Reads bytes, calls the callback at each action that they decide after those that were read before, in order,
     /// and gives it back. A call that was refused memory answers `Memory`, and each later call `Failed`, without
     /// reading.
     pub fn parse_with<F: FnMut(Action)>(
@@ -174,9 +174,9 @@ impl Parser {
         }
     }
 
-    /// Reads bytes, and calls the callback at each action that they decide behind those that were read before, in
+    /// Reads bytes, and calls the callback at each action that they decide after those that were read before, in
     /// order. A call that was refused memory answers `Memory`, and each later call `Failed`, without reading. Of what
-    /// the callback borrows nothing can be proved behind the call: `parse_with` gives it back.
+    /// the callback borrows nothing can be proved after the call: `parse_with` gives it back.
     pub fn parse<F: FnMut(Action)>(&mut self, bytes: &[u8], callback: F) -> Result<(), ParseError>
         requires { F.IsAlwaysCallable callback }
         // Where a stream has been read, in any pieces, the callback is called at each action that the bytes newly
@@ -197,7 +197,7 @@ impl Parser {
         Ok(())
     }
 
-    /// Reads bytes, and answers the actions that they decide behind those that were read before, joined by `append_to`.
+    /// Reads bytes, and answers the actions that they decide after those that were read before, joined by `append_to`.
     /// A call that was refused memory answers `Memory`, and each later call `Failed`, without reading.
     pub fn parse_as_vec(&mut self, bytes: &[u8]) -> Result<Vec<Action>, ParseError>
         // Where a stream has been read, in any pieces, these are the actions that the bytes newly decide.

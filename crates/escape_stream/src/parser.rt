@@ -85,7 +85,7 @@ impl Parser {
         self.failed = true;
     }
 
-    // Reads what stands at the front of the bytes, for pieces, whose parser has failed until they end.
+    // Reads what stands at the start of the bytes, for pieces, whose parser has failed until they end.
     #[inline(always)]
     pub(crate) fn read(&mut self, bytes: &[u8]) -> Result<Read, AllocError>
         requires { self.old.failed ≡ true }
@@ -96,7 +96,7 @@ impl Parser {
         self.framer.next(bytes)
     }
 
-    // The body of the operating system command that stands whole at the front of the bytes, and how many bytes are read
+    // The body of the operating system command that stands whole at the start of the bytes, and how many bytes are read
     // with it.
     #[inline(always)]
     pub(crate) fn whole_command<'b>(&self, bytes: &'b [u8]) -> Option<(&'b [u8], usize)>
@@ -118,7 +118,7 @@ impl Parser {
     // memory of a body, which was lent for it, is given back.
     pub(crate) fn action_of(&mut self, event: Event) -> Result<Option<Action>, AllocError>
         ensures action { IfOk result (λ action. optional_action action ≡ own_actions (lending_in self.old) event) }
-        ensures others { self.new ≡ record self.old { body = self.new.body } }
+        ensures remaining { self.new ≡ record self.old { body = self.new.body } }
         ensures memory { OnErr result (FirstTakes (own_actions (lending_in self.old) event)) }
     {
         let action = event_action(self.alloc, event, self.framer.body())?;
@@ -188,12 +188,12 @@ impl Parser {
         }
     }
 
-    /// Reads bytes, and lends the texts and actions that they decide behind those that were read before, in order. The
+    /// Reads bytes, and lends the texts and actions that they decide after those that were read before, in order. The
     /// parser has failed until these were taken to their first `None`. Where it had failed before, the one item is
     /// `Failed`.
     pub fn pieces<'a>(&'a mut self, bytes: &'a [u8]) -> Pieces<'a>
         ensures same { lender_of result ≡ self.entry.ghost_name }
-        // Where a stream has been read, in any pieces, what is to come is what these bytes hand out behind it.
+        // Where a stream has been read, in any pieces, what is to come is what these bytes hand out after it.
         ensures pieces { (stream : List ℕ) → self.old.held ≡ held_of stream
             → IsUnderWay result × (open_pieces (length stream) result ≡ pieces stream bytes.now)
             × (held_at_end result ≡ held_of (stream ++ bytes.now)) }

@@ -12,7 +12,7 @@ pub trait Perform<'t> {
     /// Why one of them is refused.
     type Refusal: Drop;
 
-    // what has to hold before a call, and holds behind it
+    // what has to hold before a call, and holds after it
     ghost ready: { Self → Type 0 };
 
     // what is done with an item

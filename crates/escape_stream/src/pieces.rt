@@ -52,7 +52,7 @@ fn text_of(bytes: &[u8]) -> &str
     unsafe { str::from_utf8_unchecked(bytes) }
 }
 
-/// So many bytes behind others.
+/// So many bytes after others.
 #[inline(always)]
 pub(crate) fn part(bytes: &[u8], from: usize, count: usize) -> &[u8]
     requires { from + count ≤ length bytes.now }
@@ -81,7 +81,7 @@ impl<'p, 'a> Reading<'p, 'a> {
         &bytes[self.count..]
     }
 
-    // The bytes of a text that was read of those behind so many.
+    // The bytes of a text that was read of those after so many.
     #[inline(always)]
     pub(crate) fn text_at(&self, count: usize, len: usize) -> &'a str
         requires fits { count + len ≤ length self.now.bytes.now }

@@ -12,7 +12,7 @@ use std::alloc::{AllocError, Global};
 /// A control sequence, and how far its actions were read.
 #[derive(Clone, Copy)]
 pub(crate) struct Sequence {
-    place: ParamCursor,
+    offset: ParamCursor,
     control: u8,
 }
 
@@ -24,7 +24,7 @@ impl Sequence {
             → actions_left l.parameters (Some result) ≡ event_actions l (event.ControlSequence control) }
     {
         Sequence {
-            place: ParamCursor::start(),
+            offset: ParamCursor::start(),
             control,
         }
     }
@@ -43,7 +43,7 @@ impl Sequence {
             → OnErr result (FirstTakes (actions_left p (Some self.old))) }
     {
         let control = char::from(self.control);
-        match self.place.next(alloc, parameters, truncated, control) {
+        match self.offset.next(alloc, parameters, truncated, control) {
             Some(Ok(csi)) => Ok(Some(Action::CSI(csi))),
             Some(Err(error)) => Err(error),
             None => Ok(None),
@@ -55,6 +55,6 @@ impl Sequence {
     pub(crate) fn is_over(&self, parameters: &[CsiParam]) -> bool
         ensures { (p : Parameters) → p.tokens ≡ parameters.now → IsTrue result → actions_left p (Some self.now) ≡ [] }
     {
-        self.place.is_end(parameters)
+        self.offset.is_end(parameters)
     }
 }

@@ -4,7 +4,7 @@ use std::alloc::{AllocError, Global};
 use std::fmt::Write;
 use terminal::{ProgramWidth, Terminal, TerminalError};
 
-/// What a dialog writes: its rows, with the title in bold and the first button reversed, and the cursor's place.
+/// What a dialog writes: its rows, with the title in bold and the first button reversed, and the cursor's position.
 const OUTPUT: &[u8] = b"\x1b[2J\
     \x1b[1;1H+------\x1b[1m Quit? \x1b[0m------+\
     \x1b[2;1H| Save your text?   |\

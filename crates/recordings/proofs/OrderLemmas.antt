@@ -16,8 +16,8 @@ use Rattle.recordings.specs.declared.header.Version.TheVariants.{Two, Three}
 record Adds (before after : Reader) : Type 0 where
   pub more : List Event
   pub events : after.events ≡ before.events ++ more
-  -- whatever comes behind them is in order with them
-  pub goes : (others : List Event) → AreFrom after.time others → AreFrom before.time (more ++ others)
+  -- whatever follows them is in order with them
+  pub goes : (remaining : List Event) → AreFrom after.time remaining → AreFrom before.time (more ++ remaining)
 
 later : (early late : ℕ) (events : List Event) → early ≤ late → AreFrom late events → AreFrom early events
 later early late [] h from = tt
@@ -28,7 +28,7 @@ stays : (before after : Reader) → after.events ≡ before.events → before.ti
 stays before after same h = record {
   more = [];
   events = same ∙ sym (append-nil before.events);
-  goes = λ others from. later before.time after.time others h from;
+  goes = λ remaining from. later before.time after.time remaining h from;
 }
 
 acted : (before : Reader) (time : ℕ) (act : Option Act) → before.time ≤ time → Adds before (with_act time act before)
@@ -36,7 +36,7 @@ acted before time None h = stays before (with_act time None before) refl h
 acted before time (Some act) h = record {
   more = record { time = time; act = act } ∷ [];
   events = refl;
-  goes = λ others from. (h, from);
+  goes = λ remaining from. (h, from);
 }
 
 -- a time is not before the one that it comes from
@@ -79,11 +79,11 @@ lines_add : (number : ℕ) (before : Reader) (lines : List (List ℕ)) → Adds 
 lines_add number before [] = stays before before refl (omega arith)
 lines_add number before (line ∷ lines) =
     let first = line_adds number before line in
-    let others = lines_add (number + 1) (line_read number before line) lines in
+    let remaining = lines_add (number + 1) (line_read number before line) lines in
     record {
-      more = first.more ++ others.more;
-      events = others.events ∙ ap (λ es. es ++ others.more) first.events ∙ append_assoc before.events first.more others.more;
-      goes = λ es from. subst (AreFrom before.time) (sym (append_assoc first.more others.more es)) (first.goes (others.more ++ es) (others.goes es from));
+      more = first.more ++ remaining.more;
+      events = remaining.events ∙ ap (λ es. es ++ remaining.more) first.events ∙ append_assoc before.events first.more remaining.more;
+      goes = λ es from. subst (AreFrom before.time) (sym (append_assoc first.more remaining.more es)) (first.goes (remaining.more ++ es) (remaining.goes es from));
     }
 
 lines_in_order : (version : Version) (lines : List (List ℕ)) → AreFrom 0 (lines_read 2 (reading_first version) lines).events

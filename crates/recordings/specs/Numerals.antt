@@ -3,7 +3,7 @@ use Rattle.std.specs.Prelude.{Bool, ℕ, ◌+◌, ◌-◌, ◌*◌, ◌^◌, ◌
 use Rattle.std.specs.Prelude.{option_and_then, take, min, nat_lt, nat_le, if◌then◌else◌}
 use Rattle.fast_float.specs.Text.{Parts, scan, has_digits}
 
--- the number that decimal digits write behind those of another one
+-- the number that decimal digits write after those of another one
 abbrev pub number_after : ℕ → List ℕ → ℕ
 number_after n [] = n
 number_after n (digit ∷ digits) = number_after (n * 10 + (digit - 48)) digits
@@ -26,11 +26,11 @@ micro_point p =
 abbrev pub most_digits : ℕ
 most_digits = 19
 
--- zeros stand behind the last digit that is written
+-- zeros follow the last digit that is written
 abbrev pub zeros : List ℕ
 zeros = 48 ∷ 48 ∷ 48 ∷ 48 ∷ 48 ∷ 48 ∷ 48 ∷ 48 ∷ 48 ∷ 48 ∷ 48 ∷ 48 ∷ 48 ∷ 48 ∷ 48 ∷ 48 ∷ 48 ∷ 48 ∷ 48 ∷ []
 
--- a number of seconds in microseconds; what stands behind their point is cut
+-- a number of seconds in microseconds; what follows their point is cut
 unfoldable pub micros : Parts → ℕ
 micros p = number_of (take (micro_point p) (p.whole ++ (p.fraction ++ zeros)))
 

@@ -71,7 +71,7 @@ abbrev pub is_passed_over : Version → List ℕ → Bool
 is_passed_over Two line = length line == 0
 is_passed_over Three line = (length line == 0) || (slice_index line 0 == 35)
 
--- the time behind an event whose line has a time, from the time before it: of version 2 one at which nothing is done is
+-- the time after an event whose line has a time, from the time before it: of version 2 one at which nothing is done is
 -- passed over, and in version 3 each goes on from the one before it
 abbrev pub time_after : Version → ℕ → ℕ → Bool → Result ℕ Fault
 time_after Two before time false = Ok before
@@ -99,7 +99,7 @@ abbrev pub with_value : ℕ → Option Json → Reader → Reader
 with_value number None reading = with_fault number NotJson reading
 with_value number (Some event) reading = with_entry number (entry_in event) reading
 
--- the line of a number is read; none is behind a fault
+-- the line of a number is read; none is after a fault
 unfoldable pub line_read : ℕ → Reader → List ℕ → Reader
 line_read number reading line =
     if is_some reading.fault || is_passed_over reading.version line then reading
@@ -112,14 +112,14 @@ lines_read number reading (line ∷ lines) = lines_read (number + 1) (line_read 
 
 -- ---- the whole
 
--- the size at first, what happens in turn, and the line that is wrong, behind which nothing was read
+-- the size at first, what happens in turn, and the line that is wrong, after which nothing was read
 pub record Recording : Type 0 where
   pub width : ℕ
   pub height : ℕ
   pub events : List Event
   pub fault : Option BadLine
 
--- the lines of an input, without the line feeds behind them
+-- the lines of an input, without the line feeds after them
 abbrev pub lines_of : List ℕ → List (List ℕ)
 lines_of input = slice_split (λ byte. byte == 10) input
 

@@ -5,7 +5,7 @@ ghost use Rattle.recordings.specs.Numerals.{number_of, size_of, time_of, zeros};
 
 use fast_float::Numeral;
 
-// The number that decimal digits write behind those of another one, or the greatest.
+// The number that decimal digits write after those of another one, or the greatest.
 fn with_digits(value: u64, digits: &[u8]) -> u64
     ensures { result ≡ min (number_after value digits.now) greatest }
 {
@@ -49,10 +49,10 @@ fn micros(numeral: &Numeral<'_>, point: usize) -> u64
     ensures { result ≡ min (micros numeral.now) greatest }
 {
     let (whole, fraction) = (numeral.whole(), numeral.fraction());
-    let behind = point.saturating_sub(whole.len());
+    let after = point.saturating_sub(whole.len());
     let value = with_digits(0, first(whole, point));
-    let value = with_digits(value, first(fraction, behind));
-    with_digits(value, first(&ZEROS, behind.saturating_sub(fraction.len())))
+    let value = with_digits(value, first(fraction, after));
+    with_digits(value, first(&ZEROS, after.saturating_sub(fraction.len())))
 }
 
 const TOO_LATE: u64 = 1 << 63;

@@ -21,7 +21,7 @@ pub(crate) struct Reader {
     /// That of the last event.
     pub(crate) time: u64,
     pub(crate) events: Vec<Event>,
-    /// The line that is wrong, behind which nothing is read.
+    /// The line that is wrong, after which nothing is read.
     pub(crate) fault: Option<BadLine>,
 }
 
@@ -37,7 +37,7 @@ fn is_passed_over(version: Version, line: &[u8]) -> bool
 
 const TOO_LATE: u64 = 1 << 63;
 
-// The time behind an event whose line has a time, from the time before it.
+// The time after an event whose line has a time, from the time before it.
 fn time_after(version: Version, before: u64, time: u64, is_done: bool) -> Result<u64, Fault>
     ensures { result ≡ time_after version before time is_done }
 {

@@ -16,20 +16,20 @@ use std::alloc::{AllocError, Global};
 pub struct Recording {
     /// The size of the terminal at first.
     pub size: Size,
-    /// What happens, one behind another, none at a time before that of the one before it.
+    /// What happens, one after another, none at a time before that of the one before it.
     pub events: Vec<Event>,
-    /// The line that is wrong, if one is; nothing was read of it and behind it.
+    /// The line that is wrong, if one is; nothing was read of it and after it.
     pub fault: Option<BadLine>,
 }
 
-// The lines of an input, without the line feeds behind them.
+// The lines of an input, without the line feeds after them.
 fn lines_of(alloc: Global, input: &[u8]) -> Result<Vec<&[u8]>, AllocError>
     ensures { IfOk result (λ lines. map (λ line. line.now) lines.items ≡ lines_of input.now) }
 {
     input.split(|byte| *byte == b'\n').collect(alloc)
 }
 
-// What the lines behind a header lead to.
+// What the lines after a header lead to.
 fn read_lines(alloc: Global, version: Version, lines: &[&[u8]]) -> Result<Reader, AllocError>
     ensures { IfOk result (λ reading.
         reading_of reading ≡ lines_read 2 (reading_first version) (map (λ line. line.now) lines.now)) }
@@ -95,7 +95,7 @@ fn lines_recording(
 /// size.
 ///
 /// Of a recording its size, its outputs (`o`) and its resizes (`r`) are read; events of other codes and empty lines are
-/// passed over, and in version 3 lines that begin with `#`. Times are decimals, of which the digits behind the
+/// passed over, and in version 3 lines that begin with `#`. Times are decimals, of which the digits after the
 /// microseconds are cut; those of version 3 are from one event, of any code, to the next, and their sums exact. It
 /// takes memory in proportion to the input.
 #[tactic(auto, unfolding(crate::specs::Recordings::recording_of))]
@@ -103,12 +103,12 @@ pub fn read_recording(alloc: Global, size: Size, input: &[u8]) -> Result<Recordi
     ensures { IfOk result (λ recording. recording_value recording ≡ recording_of size.width size.height input.now) }
 {
     let lines = lines_of(alloc, input)?;
-    let Some((first, others)) = lines.split_first() else {
+    let Some((first, remaining)) = lines.split_first() else {
         return bytes_recording(alloc, size, input);
     };
     match read_head(alloc, first)? {
         Head::Bytes => bytes_recording(alloc, size, input),
         Head::Bad(fault) => Ok(bad_recording(alloc, size, fault)),
-        Head::Recorded(version, size) => lines_recording(alloc, version, size, others),
+        Head::Recorded(version, size) => lines_recording(alloc, version, size, remaining),
     }
 }

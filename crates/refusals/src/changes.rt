@@ -86,7 +86,7 @@ fn copies(alloc: Global) -> Outcome {
     Ok(true)
 }
 
-// A sequence behind a text and a position.
+// A sequence after a text and a position.
 fn sequence_of(alloc: Global) -> Result<Plain, Stop> {
     let mut sequence = ChangeSequence::new(alloc, 3, 4, ProgramWidth);
     sequence.add(text_of(alloc, "abcde")?)?;
@@ -125,8 +125,8 @@ fn moved(alloc: Global) -> Outcome {
 }
 
 /// Whether both lists have the same changes.
-pub fn are_equal(changes: &[Change], others: &[Change]) -> bool {
-    changes == others
+pub fn are_equal(changes: &[Change], remaining: &[Change]) -> bool {
+    changes == remaining
 }
 
 // Whether a sequence is that of the text and of the first changes of the list.
@@ -139,8 +139,8 @@ fn has_first(alloc: Global, sequence: Plain) -> Outcome {
         other.add(change_of(alloc, kind)?)?;
     }
     let is_there = other.current_cursor_position() == place && other.render_height() == height;
-    let others = other.consume();
-    Ok(is_there && changes.len() <= CHANGES && are_equal(&changes, &others))
+    let remaining = other.consume();
+    Ok(is_there && changes.len() <= CHANGES && are_equal(&changes, &remaining))
 }
 
 // A list that is added, and a copy; where it is refused, the changes before are added.

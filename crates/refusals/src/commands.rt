@@ -33,7 +33,7 @@ fn is_command(alloc: Global, body: &str) -> Outcome {
     Ok(is_same && text.as_str().strip_prefix("\x1b]") == Some(body_end(alloc, body)?.as_str()))
 }
 
-// A body with the end of a command behind it.
+// A body with the end of a command after it.
 fn body_end(alloc: Global, body: &str) -> Result<String, Stop> {
     let mut text = String::from_str(alloc, body)?;
     text.push_str("\x1b\\")?;

@@ -69,8 +69,13 @@ fn clusters(alloc: Global) -> Outcome {
         }
         width = width.saturating_add(copy.width);
     }
-    let others = CellCluster::make_cluster(alloc, 8, line.visible_cells())?;
-    Ok(clusters.len() == 2 && width == 6 && others.len() == 2 && is_line(&line, "ab c\u{304b}", 2)?)
+    let remaining = CellCluster::make_cluster(alloc, 8, line.visible_cells())?;
+    Ok(
+        clusters.len() == 2
+            && width == 6
+            && remaining.len() == 2
+            && is_line(&line, "ab c\u{304b}", 2)?,
+    )
 }
 
 // Copies of cells that are lent.

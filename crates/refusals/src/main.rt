@@ -1,5 +1,5 @@
 //! Makes calls that take memory, and prints `ok` where each did what it must: either it answered rightly, or it was
-//! refused memory, said so under its own name, and left what stands behind a refusal. To be run with each request for
+//! refused memory, said so under its own name, and left what follows a refusal. To be run with each request for
 //! memory refused in turn.
 //!
 //! With the word `calls` it makes only values and then those calls that need no memory, and with `values` these values

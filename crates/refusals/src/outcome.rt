@@ -19,7 +19,7 @@ pub enum Stop {
 /// Whether all that a check saw was right, or why it ended early.
 pub type Outcome = Result<bool, Stop>;
 
-/// A refusal, behind which stands what must stand, or not.
+/// A refusal, after which stands what must stand, or not.
 pub fn refused(stop: Stop, stands: bool) -> Outcome {
     if stands { Err(stop) } else { Ok(false) }
 }

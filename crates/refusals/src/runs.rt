@@ -1,4 +1,4 @@
-//! `run` and `show`: where the terminal is refused memory, what was written is a front of the whole.
+//! `run` and `show`: where the terminal is refused memory, what was written is a prefix of the whole.
 use crate::outcome::{Outcome, Stop, refused};
 use crate::sink::Sink;
 use crate::tally::Tally;
@@ -8,7 +8,7 @@ use terminal::{ProgramWidth, RunError, Watched, run, show};
 
 const LETTERS: &[u8] = b"abc";
 
-// The updates of three letters with a look behind two of them.
+// The updates of three letters with a look after two of them.
 const UPDATES: &[u8] =
     b"\x1b[?25l\x1b[0m\x1b]8;;\x1b\\\x1b[2J\x1b[1;1H\x1b]2;\x1b\\ab\0\x1b[1;3H\x1b[?25hc\0";
 
@@ -16,7 +16,7 @@ const INPUT: &[u8] = b"w00tfoobaarbaz";
 
 const ROWS: &[u8] = b"foob\naarb\naz  \n";
 
-// Whether a run wrote all of its output, or a front of it and was refused memory.
+// Whether a run wrote all of its output, or a prefix of it and was refused memory.
 fn told(ran: Result<(), RunError>, taken: &[u8], whole: &[u8]) -> Outcome {
     match ran {
         Ok(()) => Ok(taken == whole),

@@ -16,7 +16,7 @@ const PATCH: &[u8] =
 // What the terminal is asked by the first feed.
 const REPLY: &[u8] = b"\x1b[1;3R";
 
-// An answer of the short script: what is asked for, and what must come, behind what is shown.
+// An answer of the short script: what is asked for, and what must come, after what is shown.
 #[derive(Clone, Copy)]
 struct Wanted {
     since: SequenceNo,
@@ -27,7 +27,7 @@ struct Wanted {
     replies: &'static [u8],
 }
 
-// What stands behind an answer of which the bytes were refused: the terminal is as it is behind a look, and gives the
+// What follows an answer of which the bytes were refused: the terminal is as it is after a look, and gives the
 // answer if it is asked again.
 fn again(terminal: &mut Plain, shown: &Plain, wanted: &Wanted) -> Outcome {
     let stands = shows(terminal, wanted.rows)? && terminal.current_number() == wanted.number;
@@ -87,7 +87,7 @@ fn end(alloc: Global, terminal: &mut Plain, shown: &Plain, is_early: bool) -> Ou
     Ok(is_right && replies.as_slice() == replies_left(is_early))
 }
 
-// The short script. The replies are taken behind the first feed, or at the end.
+// The short script. The replies are taken after the first feed, or at the end.
 fn short(alloc: Global, is_early: bool) -> Outcome {
     let mut terminal = Terminal::new(alloc, 4, 2, ProgramWidth)?;
     if let Err(error) = terminal.feed(b"a\x1b]8;id=1;u\x1b\\b\x1b[6n") {
@@ -208,7 +208,7 @@ fn resize(alloc: Global, terminal: &mut Plain) -> Result<(), Stop> {
     }
 }
 
-// A piece of the long script, and an answer that the viewer reads; both become narrower behind the fifth.
+// A piece of the long script, and an answer that the viewer reads; both become narrower after the fifth.
 fn step(
     alloc: Global,
     terminal: &mut Plain,

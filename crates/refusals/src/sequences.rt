@@ -1,4 +1,4 @@
-//! Control sequences: behind a refusal the actions of a list end.
+//! Control sequences: after a refusal the actions of a list end.
 use crate::outcome::{Outcome, Stop, refused};
 use crate::tally::Tally;
 use csi_codec::{
@@ -50,7 +50,7 @@ fn lists_left_whole(alloc: Global) -> Outcome {
     is_list(alloc, &params, 'C', "\x1b[4294967296C")
 }
 
-// Requests, modes and a place.
+// Requests, modes and a position.
 fn other_lists(alloc: Global) -> Outcome {
     let modes = [
         CsiParam::P(b'?'),
@@ -78,14 +78,14 @@ fn rests(alloc: Global) -> Outcome {
     Ok(rest.try_clone()? == rest && text.as_str() == "1;z")
 }
 
-// The sequence at the front of some bytes, and its copy.
+// The sequence at the start of some bytes, and its copy.
 fn fronts(alloc: Global) -> Outcome {
-    let Some(front) = read_csi(alloc, b"\x1b[1;3mx")? else {
+    let Some(prefix) = read_csi(alloc, b"\x1b[1;3mx")? else {
         return Ok(false);
     };
-    let copy = front.try_clone()?;
+    let copy = prefix.try_clone()?;
     let other = matches!(read_csi(alloc, b"x\x1b[1m"), Ok(None));
-    Ok(other && front.params.len() == 3 && front.rest == b"x".as_slice() && copy == front)
+    Ok(other && prefix.params.len() == 3 && prefix.rest == b"x".as_slice() && copy == prefix)
 }
 
 // A list that is cracked, and its copy.

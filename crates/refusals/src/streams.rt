@@ -33,7 +33,7 @@ fn pieces_have_failed(parser: &mut Parser) -> bool {
     is_first && pieces.next().is_none()
 }
 
-// What stands behind a call that was refused.
+// What follows a call that was refused.
 fn ended(error: ParseError, parser: &mut Parser) -> Outcome {
     refused(Stop::from(error), has_failed(parser))
 }
@@ -85,7 +85,7 @@ fn callbacks(alloc: Global) -> Outcome {
     }
 }
 
-// What the pieces of a stream come to: whether the text was lent, or why they ended, and whether nothing came behind.
+// What the pieces of a stream come to: whether the text was lent, or why they ended, and whether nothing followed.
 fn walk(parser: &mut Parser) -> Result<bool, (ParseError, bool)> {
     let mut pieces = parser.pieces(STREAM);
     let mut is_lent = false;
@@ -99,7 +99,7 @@ fn walk(parser: &mut Parser) -> Result<bool, (ParseError, bool)> {
     Ok(is_lent && pieces.next().is_none())
 }
 
-// The pieces of the stream; behind a refusal none comes.
+// The pieces of the stream; after a refusal none comes.
 fn pieces(alloc: Global) -> Outcome {
     let mut parser = Parser::new(alloc);
     match walk(&mut parser) {
@@ -117,7 +117,7 @@ fn first_actions(alloc: Global) -> Outcome {
     }
 }
 
-// The first actions of a stream behind which nothing is unfinished.
+// The first actions of a stream after which nothing is unfinished.
 fn first_lists(alloc: Global) -> Outcome {
     let mut parser = Parser::new(alloc);
     match parser.parse_first_as_vec(b"\x1b]8;;u\x1b\\\x1b[1m") {
@@ -139,7 +139,7 @@ fn is_one_print(list: &[Action]) -> bool {
     list.len() == 1 && matches!(list.first(), Some(Action::Print('a')))
 }
 
-// An action behind a print; where it is refused the list is as it was.
+// An action after a print; where it is refused the list is as it was.
 fn appended(alloc: Global, action: Action, count: usize) -> Outcome {
     let mut list = list_of(alloc, Action::Print('a'))?;
     match action.append_to(&mut list) {
@@ -148,7 +148,7 @@ fn appended(alloc: Global, action: Action, count: usize) -> Outcome {
     }
 }
 
-// Prints and others behind a print.
+// Prints and others after a print.
 fn joined(alloc: Global) -> Outcome {
     let text = String::from_str(alloc, "hellotherehellotherehellothere")?;
     Ok(

@@ -13,7 +13,7 @@ type Plain = Surface<ProgramWidth>;
 
 const ROWS: &str = "abcd\nef  \n    \n";
 
-// A surface of 4x3 behind a text.
+// A surface of 4x3 after a text.
 fn surface_of(alloc: Global, text: &str) -> Result<Plain, Stop> {
     let mut surface = Surface::new(alloc, 4, 3, ProgramWidth)?;
     surface.add_change(text_of(alloc, text)?)?;
@@ -55,7 +55,7 @@ fn has_failed(alloc: Global, surface: &mut Plain, other: &Plain) -> Outcome {
     Ok(added && drawn && is_failed(surface.get_changes(0)) && surface.current_seqno() == number)
 }
 
-// What stands behind a changing call that was refused.
+// What follows a changing call that was refused.
 fn ended(alloc: Global, error: SurfaceError, mut surface: Plain) -> Outcome {
     let other = Surface::new(alloc, 4, 3, ProgramWidth)?;
     let stands = has_failed(alloc, &mut surface, &other)?;
@@ -157,7 +157,7 @@ fn changes_due(alloc: Global) -> Outcome {
     Ok(due(&surface, 1, 0)? && due(&surface, 0, 7)?)
 }
 
-// A difference, or what stands behind one that was refused.
+// A difference, or what follows one that was refused.
 fn is_difference(
     surface: &Plain,
     answer: Result<Vec<Change>, SurfaceError>,

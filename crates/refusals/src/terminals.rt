@@ -1,4 +1,4 @@
-//! Terminals: one whose bytes, look or size were refused memory has failed; one whose answer was is as behind a look.
+//! Terminals: one whose bytes, look or size were refused memory has failed; one whose answer was is as after a look.
 use crate::changes::{CHANGES, change_of};
 use crate::outcome::{Outcome, Stop, refused};
 use crate::tally::Tally;
@@ -68,7 +68,7 @@ fn patch_has_failed(alloc: Global, terminal: &mut Plain) -> Outcome {
     Ok(is_failed(patched(terminal, &other)))
 }
 
-/// What stands behind a feed, a look or another size that was refused.
+/// What follows a feed, a look or another size that was refused.
 pub fn ended(alloc: Global, error: TerminalError, terminal: &mut Plain) -> Outcome {
     let stands = has_failed(terminal) && patch_has_failed(alloc, terminal)?;
     refused(Stop::from(error), stands)
@@ -127,7 +127,7 @@ fn is_same(answer: &Sent, other: &Sent) -> bool {
     answer.0 == other.0 && answer.1.as_slice() == other.1.as_slice()
 }
 
-// Whether a terminal is the one of the stream behind a look.
+// Whether a terminal is the one of the stream after a look.
 fn is_settled(terminal: &mut Plain) -> Outcome {
     let replies = terminal.take_replies();
     Ok(
@@ -153,7 +153,7 @@ fn whole(alloc: Global, shown: &Plain, number: SequenceNo, is_patch: bool) -> Re
     Ok(ask(&mut terminal, shown, number, is_patch)?)
 }
 
-// What stands behind an answer that was refused: where its bytes were, the call gives them if it is asked again.
+// What follows an answer that was refused: where its bytes were, the call gives them if it is asked again.
 fn again(error: TerminalError, terminal: &mut Plain, answer: Answer, whole: &Sent) -> Outcome {
     let is_whole = is_same(&answer?, whole);
     refused(Stop::from(error), is_whole && is_settled(terminal)?)

@@ -1,4 +1,4 @@
-//! Calls that take no memory, on values that are made before: behind these every request may be refused.
+//! Calls that take no memory, on values that are made before: after these every request may be refused.
 use crate::cells::{LONG, linked};
 use crate::lines::line_of;
 use crate::outcome::Stop;

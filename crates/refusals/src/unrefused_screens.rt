@@ -66,7 +66,7 @@ fn is_surface(surface: &Surface<ProgramWidth>) -> bool {
         && surface.screen_lines().len() == 3
 }
 
-/// What is asked of a surface, also behind changes that are dropped.
+/// What is asked of a surface, also after changes that are dropped.
 pub fn is_surface_asked(surface: &mut Surface<ProgramWidth>) -> bool {
     let is_right = is_surface(surface) && surface.has_changes(0) && !surface.has_changes(1);
     surface.flush_changes_older_than(9);

@@ -74,7 +74,7 @@ fn has_colors(attrs: &CellAttributes) -> bool {
             .is_some_and(|link| link.uri() == "v" && !link.is_implicit())
 }
 
-// Whether a copy, which shares the link, is made; what an erased place keeps of it is less.
+// Whether a copy, which shares the link, is made; what an erased position keeps of it is less.
 fn is_copied(attrs: &CellAttributes) -> bool {
     let mut copy = CellAttributes::blank();
     let is_made = copy.copy_from(attrs).is_ok() && copy == *attrs;
@@ -132,7 +132,7 @@ fn are_entries_asked(list: &Cracked) -> bool {
         && list.int(1) == Err(CrackError::NotASpelling)
 }
 
-/// The entries of a list, places, ESC pairs and a new parser.
+/// The entries of a list, positions, ESC pairs and a new parser.
 pub fn is_list_asked(alloc: Global, list: &Cracked) -> bool {
     let other = Esc::Unspecified {
         intermediate: None,

@@ -12,14 +12,14 @@ use Rattle.relay.specs.CommandLine.{HasMistake}
 nothing_appended : (old new : Option (List ℕ)) → Keeps old new → Appends old new []
 nothing_appended None new kept = tt
 nothing_appended (Some bytes) None kept = absurd kept
-nothing_appended (Some bytes) (Some others) kept = kept ∙ sym (append-nil bytes)
+nothing_appended (Some bytes) (Some remaining) kept = kept ∙ sym (append-nil bytes)
 
 -- it has gained the first bytes, none, of what an input gives
 pub none_of : (old new : Option (List ℕ)) (gives : List ℕ → List ℕ) (input : Option (List ℕ)) → Keeps old new
     → IfSome input (λ bytes. AppendsPrefix old new (gives bytes))
 none_of old new gives None kept = tt
 none_of old new gives (Some bytes) kept =
-    record { written = []; others = gives bytes; whole = refl; appends = nothing_appended old new kept }
+    record { written = []; remaining = gives bytes; whole = refl; appends = nothing_appended old new kept }
 
 -- words whose error has one of some kinds are answered with status 2 only where one of these is a mistake
 pub mistake_in : (kinds : Kinds) (error : Error) (status : ℕ) → HasKind kinds error → (kind_of error ≡ kind.OutOfMemory → status ≡ 1)

@@ -105,13 +105,13 @@ short_fault_is : (waiting : Waiting) (rows : List Row) (pending : Option (Text �
 unfolding command_line flags_fault
 short_fault_is waiting rows pending word byte flags x none not_dashes no_long is first = rw (none, not_dashes, no_long, is, first) refl
 
--- nothing stands behind `--`
+-- nothing follows `--`
 trailing_refused : (h : Held) (waiting : Waiting) (word : Text)
     → IsFault (turn_fault line [] (record { held = h; waiting = waiting; position = 1; is_trailing = true; stopped = None }) word)
 unfolding command_line
 trailing_refused h waiting word = some_fault kind.UnknownArgument []
 
--- ---- the word behind an option that takes a number
+-- ---- the word after an option that takes a number
 
 value_walk : (k : Numbered) (rows : List Row) (word : Text) → bytes_eq word (codes "--") ≡ false → long_of word ≡ None → short_of word ≡ None
     → walked line.rules [] (awaiting k rows) word ≡ between rows (Some (name_for k, word ∷ []))
@@ -190,7 +190,7 @@ flag_refused h x rest next = by_test (104 == x) (86 == x) refl refl
         let is : arg_by_short line.rules x ≡ None = rw (e, f) refl in
         subst (λ found. IsFault (short_fault line.rules false found rest h next)) (sym is) (some_fault kind.UnknownArgument [])
 
--- what the words give, behind options that have these rows
+-- what the words give, after options that have these rows
 record GivenAfter (before : List Row) (words : List Text) : Type 0 where
   pub settings : List Setting
   pub give : GiveAll settings words
@@ -198,13 +198,13 @@ record GivenAfter (before : List Row) (words : List Text) : Type 0 where
   pub distinct : IsDistinct bytes_eq (map name_of settings)
   pub new : AllByRecursion (IsNew before) settings
 
--- what is new behind a row is new before it, and is another option
+-- what is new after a row is new before it, and is another option
 older : (s : Setting) (before : List Row) (settings : List Setting) → AllByRecursion (IsNew (before ++ row_for s ∷ [])) settings
     → AllByRecursion (IsNew before) settings × AllByRecursion (λ name. bytes_eq (name_of s) name ≡ false) (map name_of settings)
 older s before [] new = (tt, tt)
-older s before (other ∷ others) new =
+older s before (other ∷ remaining) new =
     let first = had_none (name_of other) before (row_for s) new.0 in
-    let rest = older s before others new.1 in
+    let rest = older s before remaining new.1 in
     ((first.0, rest.0), (ap (λ name. bytes_eq name (name_of other)) (sym (row_named s)) ∙ first.1, rest.1))
 
 given_more : (before : List Row) (s : Setting) (first rest : List Text) → Give s first → IsInRange s → IsNew before s → GivenAfter (before ++ row_for s ∷ []) rest
@@ -224,7 +224,7 @@ given_more before s first rest give range new more =
 abbrev Given : List Row → Option (Text × List Text) → List Text → Type 0
 Given rows pending words = (settling rows pending ≡ []) × GivenAfter (rows_at rows pending) words
 
--- what is to be shown of the words behind the first
+-- what is to be shown of the words after the first
 abbrev More : List Text → Type 0
 More rest = (words : List Text) (rows : List Row) (pending : Option (Text × List Text)) → length words ≤ length rest → Passes (between rows pending) words → Given rows pending words
 
@@ -354,7 +354,7 @@ version_refused (Some text) rows pending = some_fault kind.TooManyValues []
 
 -- ---- all words
 
--- such a word, with the rest behind it
+-- such a word, with the rest after it
 abbrev Passing : List Row → Option (Text × List Text) → List Text → Text → Type 0
 Passing rows pending rest word = Passes (between rows pending) (word ∷ rest)
 
@@ -411,7 +411,7 @@ words_given : (n : ℕ) (words : List Text) (rows : List Row) (pending : Option 
 words_given n [] rows pending small p = (p.settles, nothing_given (rows_at rows pending) [] (inl refl))
 words_given zero (word ∷ rest) rows pending small p = absurd (omega (arith, small))
 words_given (suc n) (word ∷ rest) rows pending small p =
-    word_given word rest rows pending (λ fewer others last less passes. words_given n fewer others last (omega (arith, small, less)) passes) p
+    word_given word rest rows pending (λ fewer remaining last less passes. words_given n fewer remaining last (omega (arith, small, less)) passes) p
 
 -- words that are walked over without a fault give options
 pub walk_gives : (words : List Text) → walk_fault line [] (between [] None) words ≡ [] → settle_fault line.rules false (walked_over (between [] None) words).held ≡ []

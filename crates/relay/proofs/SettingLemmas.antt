@@ -34,7 +34,7 @@ no_default_fault : (rows : List Row) → defaults_fault rows line.rules ≡ []
 unfolding command_line
 no_default_fault rows = defaults_pass line.rules rows (refl, (refl, (refl, (refl, (refl, (refl, tt))))))
 
--- the faults of a walk, and those behind it
+-- the faults of a walk, and those after it
 abbrev faults_after : Held → Option (Text × List Text) → Kinds → Kinds
 faults_after h stopped kinds =
     let app : App = built command_line in
@@ -51,14 +51,14 @@ no_faults words given =
 pub options_given : (words : List Text) → faults_in words ≡ [] → IsCommandLine (drop 1 words)
 unfolding command_line faults_in
 options_given words none =
-    let behind = drop 1 words in
+    let after = drop 1 words in
     let app : App = built command_line in
-    let h : Held = (walk line.rules [] nothing_held behind).held in
-    let stopped = (walk line.rules [] nothing_held behind).stopped in
+    let h : Held = (walk line.rules [] nothing_held after).held in
+    let stopped = (walk line.rules [] nothing_held after).stopped in
     let last = or_else (defaults_fault (settled line.rules h).rows line.rules) (check_fault line (finished line.rules h) (is_some (entered app stopped))) in
-    let first = or_else_nil (walk_fault line [] (between [] None) behind) (or_else (entered_fault app stopped) (or_else (settle_fault line.rules false h) last)) none in
+    let first = or_else_nil (walk_fault line [] (between [] None) after) (or_else (entered_fault app stopped) (or_else (settle_fault line.rules false h) last)) none in
     let second = or_else_nil (entered_fault app stopped) (or_else (settle_fault line.rules false h) last) first.1 in
-    walk_gives behind first.0 (or_else_nil (settle_fault line.rules false h) last second.1).0
+    walk_gives after first.0 (or_else_nil (settle_fault line.rules false h) last second.1).0
 
 -- ---- texts
 
@@ -76,40 +76,40 @@ text_is name words given =
 width_read : (settings : List Setting) → AllByRecursion IsInRange settings → number_or 80 4096 (text_given (codes "width") settings) ≡ width_given settings
 unfolding command_line number_or
 width_read [] range = refl
-width_read (Width text ∷ others) range =
+width_read (Width text ∷ remaining) range =
     let plain = plain_number 4096 text (omega arith) range.0 in
     rw (plain.same, plain.unsigned) refl
-width_read (Height text ∷ others) range = width_read others range.1
-width_read (Every text ∷ others) range = width_read others range.1
-width_read (Show ∷ others) range = width_read others range.1
+width_read (Height text ∷ remaining) range = width_read remaining range.1
+width_read (Every text ∷ remaining) range = width_read remaining range.1
+width_read (Show ∷ remaining) range = width_read remaining range.1
 
 height_read : (settings : List Setting) → AllByRecursion IsInRange settings → number_or 24 4096 (text_given (codes "height") settings) ≡ height_given settings
 unfolding command_line number_or
 height_read [] range = refl
-height_read (Height text ∷ others) range =
+height_read (Height text ∷ remaining) range =
     let plain = plain_number 4096 text (omega arith) range.0 in
     rw (plain.same, plain.unsigned) refl
-height_read (Width text ∷ others) range = height_read others range.1
-height_read (Every text ∷ others) range = height_read others range.1
-height_read (Show ∷ others) range = height_read others range.1
+height_read (Width text ∷ remaining) range = height_read remaining range.1
+height_read (Every text ∷ remaining) range = height_read remaining range.1
+height_read (Show ∷ remaining) range = height_read remaining range.1
 
 every_read : (settings : List Setting) → AllByRecursion IsInRange settings → number_or 4096 4294967295 (text_given (codes "every") settings) ≡ every_given settings
 unfolding command_line number_or
 every_read [] range = refl
-every_read (Every text ∷ others) range =
+every_read (Every text ∷ remaining) range =
     let plain = plain_number 4294967295 text (omega arith) range.0 in
     rw (plain.same, plain.unsigned) refl
-every_read (Width text ∷ others) range = every_read others range.1
-every_read (Height text ∷ others) range = every_read others range.1
-every_read (Show ∷ others) range = every_read others range.1
+every_read (Width text ∷ remaining) range = every_read remaining range.1
+every_read (Height text ∷ remaining) range = every_read remaining range.1
+every_read (Show ∷ remaining) range = every_read remaining range.1
 
 show_read : (settings : List Setting) → is_true (text_given (codes "show") settings) ≡ show_given settings
 unfolding command_line is_true
 show_read [] = refl
-show_read (Show ∷ others) = refl
-show_read (Width text ∷ others) = show_read others
-show_read (Height text ∷ others) = show_read others
-show_read (Every text ∷ others) = show_read others
+show_read (Show ∷ remaining) = refl
+show_read (Width text ∷ remaining) = show_read remaining
+show_read (Height text ∷ remaining) = show_read remaining
+show_read (Every text ∷ remaining) = show_read remaining
 
 pub width_is : (words : List Text) (given : IsCommandLine (drop 1 words)) → width_in words ≡ width_given given.settings
 width_is words given = ap (number_or 80 4096) (text_is (codes "width") words given) ∙ width_read given.settings given.in_range

@@ -1,4 +1,4 @@
--- Rows of the parser's matches: those of options that were given, and defaults behind them.
+-- Rows of the parser's matches: those of options that were given, and defaults after them.
 use Rattle.std.proofs.Common.{◌≡◌, ◌∙◌, ◌||◌, cond, Bool, true, false, List, [], ◌∷◌, ◌++◌, Option, Some, None, is_some, refl, ap, sym, codes}
 use Rattle.std.specs.Prelude.{find, flat_map, fold}
 use Rattle.std.specs.Str.{bytes_eq}
@@ -111,7 +111,7 @@ other_row : (id : Text) (a : Rule) (values : List Text) → bytes_eq a.id id ≡
 other_row id a [] other = refl
 other_row id a (v ∷ vs) other = rw other refl
 
--- a default stands behind what was given
+-- a default follows what was given
 default_found : (id : Text) (rows : List Row) (a : Rule) → find_row id (with_default rows a) ≡ or_row (find_row id rows) (find_row id (default_rows_of a))
 default_found id rows a = by_row (has_row a.id rows) refl
   where
@@ -135,7 +135,7 @@ pub defaults_found : (id : Text) (rules : List Rule) (rows : List Row)
     → find_row id (fold with_default rows rules) ≡ or_row (find_row id rows) (find_row id (flat_map default_rows_of rules))
 defaults_found id [] rows = sym (or_none (find_row id rows))
 defaults_found id (a ∷ rules) rows =
-    let others = find_row id (flat_map default_rows_of rules) in
-    defaults_found id rules (with_default rows a) ∙ ap (λ o. or_row o others) (default_found id rows a)
-    ∙ or_twice (find_row id rows) (find_row id (default_rows_of a)) others
+    let remaining = find_row id (flat_map default_rows_of rules) in
+    defaults_found id rules (with_default rows a) ∙ ap (λ o. or_row o remaining) (default_found id rows a)
+    ∙ or_twice (find_row id rows) (find_row id (default_rows_of a)) remaining
     ∙ ap (or_row (find_row id rows)) (sym (found_after id (default_rows_of a) (flat_map default_rows_of rules)))

@@ -238,31 +238,31 @@ row_named (Height text) = refl
 row_named (Every text) = refl
 row_named Show = refl
 
-still_new : (s : Setting) (rows : List Row) (others : List Setting) → AllByRecursion (λ name. bytes_eq (name_of s) name ≡ false) (map name_of others)
-    → AllByRecursion (IsNew rows) others → AllByRecursion (IsNew (rows ++ row_for s ∷ [])) others
+still_new : (s : Setting) (rows : List Row) (remaining : List Setting) → AllByRecursion (λ name. bytes_eq (name_of s) name ≡ false) (map name_of remaining)
+    → AllByRecursion (IsNew rows) remaining → AllByRecursion (IsNew (rows ++ row_for s ∷ [])) remaining
 still_new s rows [] differ new = tt
-still_new s rows (other ∷ others) differ new =
+still_new s rows (other ∷ remaining) differ new =
     let other_name : bytes_eq (row_for s).id (name_of other) ≡ false = ap (λ name. bytes_eq name (name_of other)) (row_named s) ∙ differ.0 in
-    (has_more (name_of other) rows (row_for s) new.0 other_name, still_new s rows others differ.1 new.1)
+    (has_more (name_of other) rows (row_for s) new.0 other_name, still_new s rows remaining differ.1 new.1)
 
 ends_with : (settings : List Setting) (words : List Text) (rows : List Row) (pending : Option (Text × List Text)) → settling rows pending ≡ []
     → AllByRecursion IsInRange settings → IsDistinct bytes_eq (map name_of settings) → AllByRecursion (IsNew (rows_at rows pending)) settings → GiveAll settings words
     → EndsWith (between rows pending) words (rows_at rows pending ++ map row_for settings)
 unfolding IsDistinct
 ends_with [] words rows pending settles range distinct new give = ends_here words rows pending settles give
-ends_with (s ∷ others) words rows pending settles range distinct new give =
+ends_with (s ∷ remaining) words rows pending settles range distinct new give =
     let before = rows_at rows pending in
     let lead = option_leads s give.0 rows pending settles range.0 new.0 give.3 in
-    let still = subst (λ rs. AllByRecursion (IsNew rs) others) (sym lead.rows_are) (still_new s before others distinct.0 new.1) in
-    let end = ends_with others give.1 lead.rows lead.pending lead.settles range.1 distinct.1 still give.4 in
-    let found = ap (λ rs. rs ++ map row_for others) lead.rows_are ∙ append_assoc before (row_for s ∷ []) (map row_for others) in
+    let still = subst (λ rs. AllByRecursion (IsNew rs) remaining) (sym lead.rows_are) (still_new s before remaining distinct.0 new.1) in
+    let end = ends_with remaining give.1 lead.rows lead.pending lead.settles range.1 distinct.1 still give.4 in
+    let found = ap (λ rs. rs ++ map row_for remaining) lead.rows_are ∙ append_assoc before (row_for s ∷ []) (map row_for remaining) in
     let all = ends_later (between rows pending) give.0 give.1 _ _ lead end in
     subst (EndsWith (between rows pending) words) found
-    (subst (λ ws. EndsWith (between rows pending) ws (rows_at lead.rows lead.pending ++ map row_for others)) (sym give.2) all)
+    (subst (λ ws. EndsWith (between rows pending) ws (rows_at lead.rows lead.pending ++ map row_for remaining)) (sym give.2) all)
 
 all_new : (settings : List Setting) → AllByRecursion (IsNew []) settings
 all_new [] = tt
-all_new (s ∷ others) = (refl, all_new others)
+all_new (s ∷ remaining) = (refl, all_new remaining)
 
 pub walk_ends : (settings : List Setting) (words : List Text) → AllByRecursion IsInRange settings → IsDistinct bytes_eq (map name_of settings) → GiveAll settings words
     → EndsWith (between [] None) words (map row_for settings)

@@ -10,7 +10,7 @@ use Rattle.clap.specs.Walk.{Text, arg_by_long}
 use Rattle.relay.specs.CommandLine.{command_line}
 use Rattle.relay.proofs.SettingWalk.{Numbered, Columns, Rows, Bytes, line, name_for}
 
--- what stands behind the name of an option in its word
+-- what follows the name of an option in its word
 abbrev pub after_name : Option Text → Text
 after_name None = []
 after_name (Some text) = codes "=" ++ text
@@ -32,7 +32,7 @@ is_sign byte = byte == 61
 abbrev text_after : Text → Option Text
 text_after word = cond (has_byte 61 word) (Some (after_first is_sign word)) None
 
--- a word's name, and what stands behind it, are the word
+-- a word's name, and what follows it, are the word
 parts : (word : Text) → word ≡ before_first is_sign word ++ after_name (text_after word)
 parts [] = refl
 parts (byte ∷ rest) = by_test (is_sign byte) refl (parts rest)
@@ -44,8 +44,8 @@ parts (byte ∷ rest) = by_test (is_sign byte) refl (parts rest)
         let n = position_or_len is_sign rest in
         let one : suc n ≡ 1 + n = omega arith in
         let two : suc (n + 1) ≡ 1 + n + 1 = omega arith in
-        let front : byte ∷ rest ≡ take (suc n) (byte ∷ rest) ++ after_name (cond (has_byte 61 rest) (Some (drop (suc (n + 1)) (byte ∷ rest))) None) = ap (λ r. byte ∷ r) more in
-        rw e (front ∙ (λ i. take (one i) (byte ∷ rest) ++ after_name (cond (has_byte 61 rest) (Some (drop (two i) (byte ∷ rest))) None)))
+        let prefix : byte ∷ rest ≡ take (suc n) (byte ∷ rest) ++ after_name (cond (has_byte 61 rest) (Some (drop (suc (n + 1)) (byte ∷ rest))) None) = ap (λ r. byte ∷ r) more in
+        rw e (prefix ∙ (λ i. take (one i) (byte ∷ rest) ++ after_name (cond (has_byte 61 rest) (Some (drop (two i) (byte ∷ rest))) None)))
 
 look_long : (rest : Text) → Look (45 ∷ 45 ∷ rest)
 look_long [] = dashes refl

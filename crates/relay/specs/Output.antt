@@ -6,7 +6,7 @@ use Rattle.terminal.specs.Shown.{rows_shown}
 use Rattle.terminal_viewers.specs.Updates.{updates}
 use Rattle.relay.specs.CommandLine.{width_in, height_in, every_in, show_in}
 
--- of an input the rows, each with a line feed behind it, where these are to be shown, and else the updates
+-- of an input the rows, each with a line feed after it, where these are to be shown, and else the updates
 abbrev pub written : Bool → ℕ → ℕ → ℕ → List ℕ → List ℕ
 written is_show width height every input =
     if is_show then rows_shown program_width width height input else updates program_width width height every input

@@ -30,13 +30,13 @@ Give (Height text) words = GiveNumber (codes "height") text words
 Give (Every text) words = GiveNumber (codes "every") text words
 Give Show words = words ≡ codes "--show" ∷ []
 
--- the words give these options, one after the other; `--` may stand behind them
+-- the words give these options, one after the other; `--` may follow them
 abbrev pub GiveAll : List Setting → List Text → Type 0
 GiveAll [] words = (words ≡ []) ⊎ (words ≡ codes "--" ∷ [])
-GiveAll (setting ∷ others) words =
-    (first : List Text) × (rest : List Text) × (words ≡ first ++ rest) × Give setting first × GiveAll others rest
+GiveAll (setting ∷ remaining) words =
+    (first : List Text) × (rest : List Text) × (words ≡ first ++ rest) × Give setting first × GiveAll remaining rest
 
--- the number that a text writes in decimal digits, which may stand behind a plus sign
+-- the number that a text writes in decimal digits, which may follow a plus sign
 abbrev pub number_of : Text → ℕ
 number_of text = digits_value 10 (without_leading_plus text)
 
@@ -50,7 +50,7 @@ IsInRange (Height text) = IsNumberTo 4096 text
 IsInRange (Every text) = IsNumberTo 4294967295 text
 IsInRange Show = ⊤
 
--- the words, those behind the program's name, are a command line that can be run
+-- the words, those after the program's name, are a command line that can be run
 pub record IsCommandLine (words : List Text) : Type 0 where
   pub settings : List Setting
   pub given : GiveAll settings words
@@ -61,23 +61,23 @@ pub record IsCommandLine (words : List Text) : Type 0 where
 -- the columns of the screen that are given, or the default
 abbrev pub width_given : List Setting → ℕ
 width_given [] = 80
-width_given (Width text ∷ others) = number_of text
-width_given (_ ∷ others) = width_given others
+width_given (Width text ∷ remaining) = number_of text
+width_given (_ ∷ remaining) = width_given remaining
 
 -- its rows
 abbrev pub height_given : List Setting → ℕ
 height_given [] = 24
-height_given (Height text ∷ others) = number_of text
-height_given (_ ∷ others) = height_given others
+height_given (Height text ∷ remaining) = number_of text
+height_given (_ ∷ remaining) = height_given remaining
 
--- behind how many bytes an update is written
+-- after how many bytes an update is written
 abbrev pub every_given : List Setting → ℕ
 every_given [] = 4096
-every_given (Every text ∷ others) = number_of text
-every_given (_ ∷ others) = every_given others
+every_given (Every text ∷ remaining) = number_of text
+every_given (_ ∷ remaining) = every_given remaining
 
 -- whether the rows are to be shown
 abbrev pub show_given : List Setting → Bool
 show_given [] = false
-show_given (Show ∷ others) = true
-show_given (_ ∷ others) = show_given others
+show_given (Show ∷ remaining) = true
+show_given (_ ∷ remaining) = show_given remaining

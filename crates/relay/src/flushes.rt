@@ -5,7 +5,7 @@ use std::io;
 use std::io::{ErrorKind, Write};
 use std::process::Abort;
 
-/// Takes all bytes, and fails behind so many flushes.
+/// Takes all bytes, and fails after so many flushes.
 #[derive(Drop)]
 struct Flushed {
     text: Vec<u8>,
@@ -46,7 +46,7 @@ const BOTH: &[u8] =
 
 const ROWS: &[u8] = b"foob\naarb\naz  \n";
 
-/// On some bytes and a writer that fails behind so many flushes the words have that status, and this is written. With
+/// On some bytes and a writer that fails after so many flushes the words have that status, and this is written. With
 /// status 1 it is told that writing failed.
 fn assert_run<R: Abort + AllocGlobal>(
     rt: &R,

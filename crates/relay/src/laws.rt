@@ -21,7 +21,7 @@ pub fn settings()
 {}
 
 /// A law, which needs no call: without options the screen has 80 columns and 24 rows, an update is
-/// written behind each 4096 bytes, and no rows are shown.
+/// written after each 4096 bytes, and no rows are shown.
 pub fn defaults()
     ensures taken { faults_in (codes "relay" ∷ []) ≡ [] }
     ensures width { width_in (codes "relay" ∷ []) ≡ 80 }
@@ -30,7 +30,7 @@ pub fn defaults()
     ensures show { show_in (codes "relay" ∷ []) ≡ false }
 {}
 
-/// A law, which needs no call: each option has the number that stands behind it, or its default.
+/// A law, which needs no call: each option has the number that follows it, or its default.
 pub fn numbers()
     ensures taken { faults_in
         (codes "relay" ∷ codes "--width" ∷ codes "4" ∷ codes "--height" ∷ codes "0003" ∷ codes "--show" ∷ []) ≡ [] }

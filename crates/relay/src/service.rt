@@ -156,7 +156,7 @@ fn relay<R: Read, T: Write>(
 }
 
 /// The program on its words, of which the first is its name, and on its streams. What the words ask
-/// for is written to `writer`: the updates of what the reader gives, one behind each so many bytes and
+/// for is written to `writer`: the updates of what the reader gives, one after each so many bytes and
 /// one at the end, or with `--show` the rows of the screen at the end; or help, or the version.
 ///
 /// It answers the status: 0; or 1 with one line on `faults`, where reading, writing, memory or numbers
@@ -180,7 +180,7 @@ pub fn serve<S: AsStr, R: Read, T: Write, F: Write>(
     ensures quiet { result ≡ 0 → Keeps (F.contents faults.old) (F.contents faults.new) }
     // Status 2 is for a mistake, and not for words that only ask for help or for the version.
     ensures mistaken { result ≡ BAD_WORDS → HasMistake (faults_in (map S.text words.now)) }
-    // Behind a bad command line nothing was written.
+    // After a bad command line nothing was written.
     ensures refused { result ≡ BAD_WORDS → Keeps (T.contents writer.old) (T.contents writer.new) }
     // A command line that can be run writes the updates of the input, or with `--show` its rows, of its size, where the
     // status is 0, and else the first bytes of them.

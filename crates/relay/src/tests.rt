@@ -74,7 +74,7 @@ const SHOW: [&str; 6] = ["relay", "--width", "4", "--height", "3", "--show"];
 
 const SEND: [&str; 7] = ["relay", "--width", "4", "--height", "1", "--every", "2"];
 
-// The updates of three letters with a look behind two of them.
+// The updates of three letters with a look after two of them.
 const UPDATES: &[u8] =
     b"\x1b[?25l\x1b[0m\x1b]8;;\x1b\\\x1b[2J\x1b[1;1H\x1b]2;\x1b\\ab\0\x1b[1;3H\x1b[?25hc\0";
 
@@ -94,7 +94,7 @@ struct Run {
     told: Vec<u8>,
 }
 
-/// A run of the words on an input and on a writer that takes so many bytes at a time and fails behind so many writes.
+/// A run of the words on an input and on a writer that takes so many bytes at a time and fails after so many writes.
 fn run_of<R: AllocGlobal>(rt: &R, words: &[&str], mut input: Input, writes: (usize, usize)) -> Run {
     let mut output = output_of(rt.alloc(), writes.0, writes.1);
     let mut faults = output_of(rt.alloc(), 100, 100);
@@ -165,7 +165,7 @@ fn tells_of_a_read_that_fails(rt: HostRuntime) {
     }
 }
 
-/// A write fails behind these bytes of the rows.
+/// A write fails after these bytes of the rows.
 fn assert_cut<R: Abort + AllocGlobal>(rt: &R, writes: (usize, usize), text: &[u8]) {
     let told = b"relay: cannot write\n".as_slice();
     assert_run(

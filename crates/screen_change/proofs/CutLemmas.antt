@@ -28,7 +28,7 @@ bytes_of-ones (suc k) = omega (arith, bytes_of-ones k)
 
 -- ---- texts side by side
 
--- bytes behind all cells
+-- bytes after all cells
 pub cut_more : (lens text more : List ℕ) → bytes_of lens ≤ length text → cut_at lens (text ++ more) ≡ cut_at lens text ++ each more
 cut_more [] text more h = map-append (λ byte. byte ∷ []) text more
 cut_more (n ∷ lens) text more h =
@@ -48,7 +48,7 @@ pub cut_ones : (lens text : List ℕ) (k : ℕ) → bytes_of lens + k ≤ length
 cut_ones [] text k h = ones_none k text (omega arith)
 cut_ones (n ∷ lens) text k h = ap (λ (ts : List (List ℕ)). take n text ∷ ts) (cut_ones lens (drop n text) k (omega (arith, length-drop n text)))
 
--- a cell behind all, whose length is kept
+-- a cell after all, whose length is kept
 pub cut_push : (lens text more : List ℕ) (n : ℕ) → bytes_of lens ≡ length text → n ≡ length more → cut_at (lens ++ n ∷ []) (text ++ more) ≡ cut_at lens text ++ more ∷ []
 cut_push [] [] more n h e = let p = take_all n more (omega (arith, e)) in let q = drop_all n more (omega (arith, e)) in λ i. p i ∷ each (q i)
 cut_push [] (byte ∷ text) more n h e = absurd (omega arith)
@@ -109,22 +109,22 @@ pub bytes_end : (text : List ℕ) → length text ≡ 0 → same_texts (grapheme
 bytes_end [] l = ap (λ (ts : List (List ℕ)). same_texts ts []) graphemes-nil
 bytes_end (byte ∷ text) l = absurd (omega (arith, l))
 
--- a plain front
-pub plain_count : (text front : List ℕ) (most : ℕ) → front ≡ take (min most (plain_len text)) text → (length front ≤ most) × ((length front ≤ length text) × (front ≡ take (length front) text))
-plain_count text front most f =
-    let long : length front ≡ min (min most (plain_len text)) (length text) = ap length f ∙ length-take (min most (plain_len text)) text in
+-- a plain prefix
+pub plain_count : (text prefix : List ℕ) (most : ℕ) → prefix ≡ take (min most (plain_len text)) text → (length prefix ≤ most) × ((length prefix ≤ length text) × (prefix ≡ take (length prefix) text))
+plain_count text prefix most f =
+    let long : length prefix ≡ min (min most (plain_len text)) (length text) = ap length f ∙ length-take (min most (plain_len text)) text in
     (omega (arith, long), (omega (arith, long), f ∙ sym (take_min (min most (plain_len text)) text) ∙ ap (λ k. take k text) (sym long)))
 
-pub plain_rest : (text front rest : List ℕ) (most : ℕ) → front ≡ take (min most (plain_len text)) text → rest ≡ drop (min most (plain_len text)) text → rest ≡ drop (length front) text
-plain_rest text front rest most f r =
-    let long : length front ≡ min (min most (plain_len text)) (length text) = ap length f ∙ length-take (min most (plain_len text)) text in
+pub plain_rest : (text prefix rest : List ℕ) (most : ℕ) → prefix ≡ take (min most (plain_len text)) text → rest ≡ drop (min most (plain_len text)) text → rest ≡ drop (length prefix) text
+plain_rest text prefix rest most f r =
+    let long : length prefix ≡ min (min most (plain_len text)) (length text) = ap length f ∙ length-take (min most (plain_len text)) text in
     r ∙ sym (drop_min (min most (plain_len text)) text) ∙ ap (λ k. drop k text) (sym long)
 
-pub following_bytes : (text front rest : List ℕ) (k : ℕ) → front ≡ take k text → rest ≡ drop k text → graphemes true text ≡ each front ++ graphemes true rest
+pub following_bytes : (text prefix rest : List ℕ) (k : ℕ) → prefix ≡ take k text → rest ≡ drop k text → graphemes true text ≡ each prefix ++ graphemes true rest
     → same_texts (graphemes true rest) (each rest) ≡ same_texts (graphemes true text) (each text)
-following_bytes text front rest k f r g =
-    let whole : each text ≡ each front ++ each rest = ap each (sym (take-append-drop k text)) ∙ map-append (λ byte. byte ∷ []) (take k text) (drop k text) ∙ (λ i. each (sym f i) ++ each (sym r i)) in
-    sym (same_front (each front) (graphemes true rest) (each rest)) ∙ (λ i. same_texts (sym g i) (sym whole i))
+following_bytes text prefix rest k f r g =
+    let whole : each text ≡ each prefix ++ each rest = ap each (sym (take-append-drop k text)) ∙ map-append (λ byte. byte ∷ []) (take k text) (drop k text) ∙ (λ i. each (sym f i) ++ each (sym r i)) in
+    sym (same_front (each prefix) (graphemes true rest) (each rest)) ∙ (λ i. same_texts (sym g i) (sym whole i))
 
 -- ---- cells that are clusters
 
@@ -134,7 +134,7 @@ one_is len k lens h =
     (λ t. (eqb-true len 1 t, let e = ap (λ b. cond b (1 + prefix_len (λ n. n == 1) lens) 0) t in omega (arith, e)))
     (λ t. let e = ap (λ b. cond b (1 + prefix_len (λ n. n == 1) lens) 0) t in absurd (omega (arith, e)))
 
--- ones among the first few lengths are ones at the front
+-- ones among the first few lengths are ones at the start
 pub ones_few : (lens first : List ℕ) (count few : ℕ) → first ≡ take few lens → count ≡ prefix_len (λ n. n == 1) first → count ≤ prefix_len (λ n. n == 1) lens
 ones_few lens first count few f c = let e = ap (prefix_len (λ n. n == 1)) f in omega (arith, e, prefix_taken (λ n. n == 1) few lens)
 
@@ -152,7 +152,7 @@ bytes_front zero lens p = omega arith
 bytes_front (suc k) [] p = absurd (omega (arith, p))
 bytes_front (suc k) (len ∷ lens) p = let one = one_is len k lens p in omega (arith, one.0, bytes_front k lens one.1)
 
--- what is left at a place, cell by cell
+-- what is left at a position, cell by cell
 left_first : (lens : List ℕ) (at n d : ℕ) → at < length lens → n ≡ get_or lens at d → drop at lens ≡ n ∷ drop (at + 1) lens
 left_first lens at n d l e = drop-cons lens at d l ∙ (λ i. sym e i ∷ drop (sym (add-one at) i) lens)
 
@@ -166,9 +166,9 @@ bytes_first lens at n d l e = ap bytes_of (left_first lens at n d l e)
 pub left_utf8 : (lens text : List ℕ) (at n d : ℕ) → at < length lens → n ≡ get_or lens at d → list_all is_utf8 (cut_at (drop at lens) text) ≡ true → (is_utf8 (take n text) && list_all is_utf8 (cut_at (drop (at + 1) lens) (drop n text))) ≡ true
 left_utf8 lens text at n d l e p = sym (ap (list_all is_utf8) (cut_first lens text at n d l e)) ∙ p
 
--- plain cells at the front
-pub cells_after : (lens text front rest left : List ℕ) (k : ℕ) → k ≤ prefix_len (λ n. n == 1) lens → k ≤ length text → front ≡ take k text → rest ≡ drop k text → left ≡ drop k lens
-    → graphemes true text ≡ each front ++ graphemes true rest → same_texts (graphemes true rest) (cut_at left rest) ≡ same_texts (graphemes true text) (cut_at lens text)
-cells_after lens text front rest left k p l f r d g =
-    let whole : cut_at lens text ≡ each front ++ cut_at left rest = cut_prefix k lens text p l ∙ (λ i. each (sym f i) ++ cut_at (sym d i) (sym r i)) in
-    sym (same_front (each front) (graphemes true rest) (cut_at left rest)) ∙ (λ i. same_texts (sym g i) (sym whole i))
+-- plain cells at the start
+pub cells_after : (lens text prefix rest left : List ℕ) (k : ℕ) → k ≤ prefix_len (λ n. n == 1) lens → k ≤ length text → prefix ≡ take k text → rest ≡ drop k text → left ≡ drop k lens
+    → graphemes true text ≡ each prefix ++ graphemes true rest → same_texts (graphemes true rest) (cut_at left rest) ≡ same_texts (graphemes true text) (cut_at lens text)
+cells_after lens text prefix rest left k p l f r d g =
+    let whole : cut_at lens text ≡ each prefix ++ cut_at left rest = cut_prefix k lens text p l ∙ (λ i. each (sym f i) ++ cut_at (sym d i) (sym r i)) in
+    sym (same_front (each prefix) (graphemes true rest) (cut_at left rest)) ∙ (λ i. same_texts (sym g i) (sym whole i))

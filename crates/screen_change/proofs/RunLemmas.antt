@@ -48,7 +48,7 @@ stands : (cell : CellContent) (run : CellRun) (runs : List CellRun) → same_att
 unfolding alone longer
 stands cell run runs e = ap (λ t. if t then longer cell run ∷ runs else alone cell ∷ run ∷ runs) e
 
--- ---- runs behind texts that are open
+-- ---- runs after texts that are open
 
 abbrev open_written : Attributes → List (List ℕ) → List CellRun → List ChangeValue
 open_written pen cells [] = texts_of cells

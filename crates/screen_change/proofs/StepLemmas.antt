@@ -39,7 +39,7 @@ empty_is text lens m n none p q e f =
 pub filled_is : (text lens : List ℕ) (m : ℕ) (none : Bool) → m ≡ length text → none ≡ false → false ≡ (m == 0) → IsTrue none ↔ (cut_at lens text ≡ [])
 filled_is text lens m none p n e = (λ t. absurd (false≢true (sym n ∙ t)), λ t. absurd (false≢true (e ∙ eq-eqb m 0 (p ∙ (cut_none lens text t).0))))
 
--- ---- bytes behind all cells
+-- ---- bytes after all cells
 
 -- printable characters are UTF-8, each by itself
 pub printable_utf8 : (text : List ℕ) → list_all is_printable text ≡ true → list_all is_utf8 (each text) ≡ true

@@ -23,7 +23,7 @@ runs_written pen (run ∷ runs) =
 abbrev pub cells_written : Attributes → List CellContent → List ChangeValue
 cells_written pen cells = runs_written pen (cell_runs cells)
 
--- the pen behind them: the last one's attributes
+-- the pen after them: the last one's attributes
 abbrev pub last_pen : Attributes → List CellContent → Attributes
 last_pen pen cells = fold (λ _ cell. cell.attributes) pen cells
 
@@ -32,7 +32,7 @@ abbrev pub clear_due : ColorAttribute → List ChangeValue
 clear_due Default = []
 clear_due color = ClearToEndOfLine color ∷ []
 
--- the changes of cells and of the blanks behind them; the attributes of the blanks are said unless they are the only
+-- the changes of cells and of the blanks after them; the attributes of the blanks are said unless they are the only
 -- cells
 abbrev pub cleared_written : Attributes → List CellContent → Option ColorAttribute → List ChangeValue
 cleared_written pen cells None = cells_written pen cells

@@ -13,7 +13,7 @@ pub record CellRun : Type 0 where
   pub attributes : Attributes
   pub cells : List (List ℕ)
 
--- the cell joins the run behind it where its attributes are the same
+-- the cell joins the run after it where its attributes are the same
 abbrev pub before_runs : CellContent → List CellRun → List CellRun
 before_runs cell [] = record { attributes = cell.attributes; cells = cell.text ∷ [] } ∷ []
 before_runs cell (run ∷ runs) =

@@ -2,7 +2,7 @@
 use Rattle.std.specs.Prelude.{ℕ, ◌+◌, List, [], ◌∷◌, take, drop}
 use Rattle.text_clusters.specs.Plain.{each}
 
--- the texts of the cells: the first ones have these lengths, and behind them each byte is one
+-- the texts of the cells: the first ones have these lengths, and after them each byte is one
 abbrev pub cut_at : List ℕ → List ℕ → List (List ℕ)
 cut_at [] text = each text
 cut_at (len ∷ lens) text = take len text ∷ cut_at lens (drop len text)

@@ -6,7 +6,7 @@ use Rattle.cell_base.specs.SameAttributes.{same_attributes}
 use Rattle.screen_change.specs.ChangeValue.{ChangeValue, AllAttributes, Text}
 use Rattle.screen_change.specs.Texts.{texts}
 
--- the changes so far, the pen behind them, and the texts of the cells whose run may go on
+-- the changes so far, the pen after them, and the texts of the cells whose run may go on
 pub record Written : Type 0 where
   pub changes : List ChangeValue
   pub pen : Attributes
@@ -20,7 +20,7 @@ begun pen = record { changes = []; pen = pen; cells = [] }
 abbrev pub finished : Written → List ChangeValue
 finished written = written.changes ++ map Text (texts written.cells)
 
--- another change, behind the texts
+-- another change, after the texts
 abbrev pub with_change : ChangeValue → Written → Written
 with_change change written = record written { changes = finished written ++ change ∷ []; cells = [] }
 

@@ -91,7 +91,7 @@ impl<'a> CellWriter<'a> {
         Ok(())
     }
 
-    /// Another change, behind the cells that were written. Text behind it is not joined to theirs.
+    /// Another change, after the cells that were written. Text after it is not joined to theirs.
     pub fn push_change(&mut self, change: Change) -> Result<(), AllocError>
         ensures { OnOk result (self.new ≡ with_change (value_of change) self.old) }
     {
@@ -100,7 +100,7 @@ impl<'a> CellWriter<'a> {
         Ok(())
     }
 
-    /// A change that gives the pen these attributes, as a clear does, behind the cells that were
+    /// A change that gives the pen these attributes, as a clear does, after the cells that were
     /// written.
     pub fn push_clear(&mut self, change: Change, pen: &'a CellAttributes) -> Result<(), AllocError>
         ensures { OnOk result (self.new ≡ record (with_change (value_of change) self.old) { pen = pen.now }) }

@@ -9,7 +9,7 @@ use cell_base::{
 };
 use std::alloc::{AllocError, Global};
 
-/// What is asked of a screen. Columns and rows count from 0; a colour is that behind the blanks that
+/// What is asked of a screen. Columns and rows count from 0; a colour is that after the blanks that
 /// a clear leaves.
 #[derive(Debug, Drop, PartialEq, Eq)]
 pub enum Change {
@@ -27,7 +27,7 @@ pub enum Change {
     ClearToEndOfLine(ColorAttribute),
     /// The columns from the cursor to the end of its row, and all rows below, become blanks.
     ClearToEndOfScreen(ColorAttribute),
-    /// The cursor's place.
+    /// The cursor's position.
     CursorPosition {
         x: Position,
         y: Position,

@@ -14,7 +14,7 @@ use crate::texts::{has_clusters, push_each};
 use std::alloc::{AllocError, Global};
 use std::mem;
 
-// The joined text of cells, and the lengths of the first ones; behind these each byte is a cell.
+// The joined text of cells, and the lengths of the first ones; after these each byte is a cell.
 #[derive(Drop)]
 pub(crate) struct CutCells {
     text: String,
@@ -46,7 +46,7 @@ impl CutCells {
         self.text.is_empty() && self.lens.is_empty()
     }
 
-    // A cell for each byte of a text comes behind.
+    // A cell for each byte of a text follows.
     #[inline(always)]
     pub(crate) fn push_bytes(&mut self, text: &str) -> Result<(), AllocError>
         requires { list_all is_utf8 (each text.now) ≡ true }
@@ -68,7 +68,7 @@ impl CutCells {
         Ok(())
     }
 
-    // A cell comes behind, whose length is kept.
+    // A cell follows, whose length is kept.
     fn push_sized(&mut self, text: &str) -> Result<(), AllocError>
         ensures { OnOk result (cells_of self.new ≡ cells_of self.old ++ text.now ∷ []) }
     {
@@ -80,7 +80,7 @@ impl CutCells {
         Ok(())
     }
 
-    // A cell comes behind.
+    // A cell follows.
     #[inline(always)]
     pub(crate) fn push(&mut self, text: &str) -> Result<(), AllocError>
         ensures { OnOk result (cells_of self.new ≡ cells_of self.old ++ text.now ∷ []) }

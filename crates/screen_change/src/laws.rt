@@ -18,8 +18,8 @@ pub fn joined_texts_show_the_cells()
         → flat_map (graphemes true) (texts cells) ≡ cells }
 {}
 
-/// What a writer makes of cells that are pushed one behind another, with nothing open before them:
-/// the changes that write the cells by their runs, behind those that were there; and the pen behind
+/// What a writer makes of cells that are pushed one after another, with nothing open before them:
+/// the changes that write the cells by their runs, after those that were there; and the pen after
 /// them is that of the last cell.
 pub fn pushed_cells_are_written_by_runs()
     ensures changes { (written : Written) (cells : List CellContent) → written.cells ≡ []

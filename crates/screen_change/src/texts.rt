@@ -14,7 +14,7 @@ use crate::change::Change;
 use std::alloc::{AllocError, Global};
 use text_clusters::{split_first_cluster, split_plain};
 
-// What stands behind the first cluster of a text, where that has so many bytes.
+// What follows the first cluster of a text, where that has so many bytes.
 fn after_cluster(text: &str, len: usize) -> Option<&str>
     requires { len ≤ length text.now }
     ensures rest { IfSome result (λ rest. rest.now ≡ drop len text.now) }
@@ -38,7 +38,7 @@ fn are_bytes(text: &str) -> bool
     while !rest.is_empty() {
         match after_cluster(rest, 1) {
             None => return false,
-            Some(behind) => rest = behind,
+            Some(after) => rest = after,
         }
     }
     true
@@ -62,7 +62,7 @@ fn ones(lens: &[usize]) -> usize
     lens.iter().take_while(|len| **len == 1).count()
 }
 
-// A text and the lengths of its first cells without some plain cells at its front: all, or the first few.
+// A text and the lengths of its first cells without some plain cells at its start: all, or the first few.
 fn after_plain<'a>(text: &'a str, lens: &'a [usize]) -> (&'a str, &'a [usize])
     requires { bytes_of lens.now ≤ length text.now }
     ensures fewer { length result.1.now ≤ length lens.now }
@@ -70,8 +70,8 @@ fn after_plain<'a>(text: &'a str, lens: &'a [usize]) -> (&'a str, &'a [usize])
     ensures same { same_texts (graphemes true result.0.now) (cut_at result.1.now result.0.now)
         ≡ same_texts (graphemes true text.now) (cut_at lens.now text.now) }
 {
-    let (front, rest) = split_plain(text, ones(first_few(lens)));
-    let (_, left) = lens.split_at(front.len());
+    let (prefix, rest) = split_plain(text, ones(first_few(lens)));
+    let (_, left) = lens.split_at(prefix.len());
     (rest, left)
 }
 
@@ -81,11 +81,11 @@ pub(crate) fn has_clusters(text: &str, lens: &[usize]) -> bool
     ensures { result ≡ same_texts (graphemes true text.now) (cut_at lens.now text.now) }
 {
     let (mut rest, mut left) = after_plain(text, lens);
-    while let Some((len, others)) = left.split_first() {
-        let Some(behind) = after_cluster(rest, *len) else {
+    while let Some((len, remaining)) = left.split_first() {
+        let Some(after) = after_cluster(rest, *len) else {
             return false;
         };
-        let (next_rest, next_left) = after_plain(behind, others);
+        let (next_rest, next_left) = after_plain(after, remaining);
         rest = next_rest;
         left = next_left;
     }
@@ -106,9 +106,9 @@ pub(crate) fn push_each(
 {
     let mut rest = text;
     for len in lens {
-        let (cell, behind) = rest.split_at(*len);
+        let (cell, after) = rest.split_at(*len);
         changes.push(Change::Text(String::from_str(alloc, cell)?))?;
-        rest = behind;
+        rest = after;
     }
     Ok(())
 }

@@ -47,19 +47,19 @@ after_all f g m e = ap (λ n. drop n (f ++ g)) (sym e) ∙ at f
     at [] = refl
     at (x ∷ f) = at f
 
--- the columns from one in front of the seam on and before one behind it
+-- the columns from one before the seam on and before one after it
 across : (a b : ℕ) (f g : Row) → a ≤ length f → length f ≤ b → closed_end f ≡ f → closed_start g ≡ g → columns_from a (b - a) (f ++ g) ≡ closed_start (drop a f) ++ closed_end (take (b - length f) g)
 across a b f g h k e s =
     let long = length-closed_start (drop a f) in
-    let front = length-drop a f in
-    let count : b - a ≡ length (closed_start (drop a f)) + (b - length f) = omega (arith, h, k, long, front) in
+    let prefix = length-drop a f in
+    let count : b - a ≡ length (closed_start (drop a f)) + (b - length f) = omega (arith, h, k, long, prefix) in
     ap (λ (r : Row). closed_end (take (b - a) (closed_start r))) (drop-append-le a f g h)
     ∙ ap (λ (r : Row). closed_end (take (b - a) r)) (start_joined (drop a f) g s)
     ∙ ap (λ n. closed_end (take n (closed_start (drop a f) ++ g))) count
     ∙ ap closed_end (take-append-add (closed_start (drop a f)) g (b - length f))
     ∙ end_joined (closed_start (drop a f)) (take (b - length f) g) (ends_started (drop a f) (ends_after a f e))
 
--- those before the seam, and those behind it
+-- those before the seam, and those after it
 before_seam : (a m : ℕ) (f g : Row) → length f ≡ m → a ≤ m → closed_end f ≡ f → closed_start g ≡ g → columns_from a (m - a) (f ++ g) ≡ closed_start (drop a f)
 before_seam a m f g l h e s =
     let none : m - length f ≡ 0 = omega (arith, l) in
@@ -70,7 +70,7 @@ before_seam a m f g l h e s =
 after_seam : (m b : ℕ) (f g : Row) → length f ≡ m → closed_start g ≡ g → columns_from m (b - m) (f ++ g) ≡ closed_end (take (b - m) g)
 after_seam m b f g l s = ap (λ (r : Row). closed_end (take (b - m) (closed_start r))) (after_all f g m l) ∙ ap (λ (r : Row). closed_end (take (b - m) r)) s
 
--- columns before one are those of the row's front
+-- columns before one are those of the row's prefix
 start_taken : (n : ℕ) (r : Row) → take n (closed_start r) ≡ closed_start (take n r)
 start_taken zero r = refl
 start_taken (suc n) [] = refl
@@ -95,7 +95,7 @@ fresh-append olds (v ∷ xs) ys =
 none_of_same : (cells : List VisibleCell) → fresh cells cells ≡ []
 none_of_same cells = ap (λ (olds : List VisibleCell). fresh olds cells) (sym (append-nil cells)) ∙ all_shown [] cells []
 
--- old cells in front of all new ones are of no concern
+-- old cells before all new ones are of no concern
 skip_old : (o : VisibleCell) (olds news : List VisibleCell) → AreInOrder (o.column + 1) news → fresh (o ∷ olds) news ≡ fresh olds news
 skip_old o olds [] p = refl
 skip_old o olds (v ∷ news) p =
@@ -103,58 +103,58 @@ skip_old o olds (v ∷ news) p =
     let rest : fresh (o ∷ olds) news ≡ fresh olds news = skip_old o olds news (from_lower (o.column + 1) (v.column + 1) news (omega (arith, q)) p.1) in
     (λ i. if not (not_here o olds v (inl (omega (arith, q))) i) then v ∷ rest i else rest i)
 
-front_old : (a : ℕ) (front olds : Row) (news : List VisibleCell) → AreInOrder (a + length front) news → fresh (visible_from a (front ++ olds)) news ≡ fresh (visible_from (a + length front) olds) news
+front_old : (a : ℕ) (prefix olds : Row) (news : List VisibleCell) → AreInOrder (a + length prefix) news → fresh (visible_from a (prefix ++ olds)) news ≡ fresh (visible_from (a + length prefix) olds) news
 front_old a [] olds news p = let e : a ≡ a + 0 = omega arith in ap (λ n. fresh (visible_from n olds) news) e
-front_old a (Narrow t b ∷ front) olds news p =
-    let e : a + 1 + length front ≡ a + suc (length front) = omega arith in
-    skip_old (visible_at a t 1 b) (visible_from (a + 1) (front ++ olds)) news (from_lower (a + 1) (a + suc (length front)) news (omega arith) p)
-    ∙ front_old (a + 1) front olds news (subst (λ n. AreInOrder n news) (sym e) p) ∙ ap (λ n. fresh (visible_from n olds) news) e
-front_old a (LeftHalf t b ∷ front) olds news p =
-    let e : a + 1 + length front ≡ a + suc (length front) = omega arith in
-    skip_old (visible_at a t 2 b) (visible_from (a + 1) (front ++ olds)) news (from_lower (a + 1) (a + suc (length front)) news (omega arith) p)
-    ∙ front_old (a + 1) front olds news (subst (λ n. AreInOrder n news) (sym e) p) ∙ ap (λ n. fresh (visible_from n olds) news) e
-front_old a (RightHalf b ∷ front) olds news p =
-    let e : a + 1 + length front ≡ a + suc (length front) = omega arith in
-    front_old (a + 1) front olds news (subst (λ n. AreInOrder n news) (sym e) p) ∙ ap (λ n. fresh (visible_from n olds) news) e
+front_old a (Narrow t b ∷ prefix) olds news p =
+    let e : a + 1 + length prefix ≡ a + suc (length prefix) = omega arith in
+    skip_old (visible_at a t 1 b) (visible_from (a + 1) (prefix ++ olds)) news (from_lower (a + 1) (a + suc (length prefix)) news (omega arith) p)
+    ∙ front_old (a + 1) prefix olds news (subst (λ n. AreInOrder n news) (sym e) p) ∙ ap (λ n. fresh (visible_from n olds) news) e
+front_old a (LeftHalf t b ∷ prefix) olds news p =
+    let e : a + 1 + length prefix ≡ a + suc (length prefix) = omega arith in
+    skip_old (visible_at a t 2 b) (visible_from (a + 1) (prefix ++ olds)) news (from_lower (a + 1) (a + suc (length prefix)) news (omega arith) p)
+    ∙ front_old (a + 1) prefix olds news (subst (λ n. AreInOrder n news) (sym e) p) ∙ ap (λ n. fresh (visible_from n olds) news) e
+front_old a (RightHalf b ∷ prefix) olds news p =
+    let e : a + 1 + length prefix ≡ a + suc (length prefix) = omega arith in
+    front_old (a + 1) prefix olds news (subst (λ n. AreInOrder n news) (sym e) p) ∙ ap (λ n. fresh (visible_from n olds) news) e
 
--- cells in front that both rows have aren't fresh
-fresh_front : (a m : ℕ) (front olds news : Row) → a + length front ≡ m → fresh (visible_from a (front ++ olds)) (visible_from a (front ++ news)) ≡ fresh (visible_from m olds) (visible_from m news)
-fresh_front a m front olds news e =
-    let n = a + length front in
-    let all : List VisibleCell = visible_from a (front ++ olds) in
-    ap (fresh all) (visible-append a front news)
-    ∙ fresh-append all (visible_from a front) (visible_from n news)
-    ∙ ap (λ (vs : List VisibleCell). vs ++ fresh all (visible_from n news)) (ap (λ (cells : List VisibleCell). fresh cells (visible_from a front)) (visible-append a front olds) ∙ all_shown [] (visible_from a front) (visible_from n olds))
-    ∙ front_old a front olds (visible_from n news) (in_order n news)
+-- cells before that both rows have aren't fresh
+fresh_front : (a m : ℕ) (prefix olds news : Row) → a + length prefix ≡ m → fresh (visible_from a (prefix ++ olds)) (visible_from a (prefix ++ news)) ≡ fresh (visible_from m olds) (visible_from m news)
+fresh_front a m prefix olds news e =
+    let n = a + length prefix in
+    let all : List VisibleCell = visible_from a (prefix ++ olds) in
+    ap (fresh all) (visible-append a prefix news)
+    ∙ fresh-append all (visible_from a prefix) (visible_from n news)
+    ∙ ap (λ (vs : List VisibleCell). vs ++ fresh all (visible_from n news)) (ap (λ (cells : List VisibleCell). fresh cells (visible_from a prefix)) (visible-append a prefix olds) ∙ all_shown [] (visible_from a prefix) (visible_from n olds))
+    ∙ front_old a prefix olds (visible_from n news) (in_order n news)
     ∙ ap (λ k. fresh (visible_from k olds) (visible_from k news)) e
 
--- old cells behind all new ones are of no concern
-shown_before : (olds behind : List VisibleCell) (v : VisibleCell) → is_shown behind v ≡ false → is_shown (olds ++ behind) v ≡ is_shown olds v
-shown_before [] behind v e = e
-shown_before (o ∷ olds) behind v e = ap (λ b. (o.column == v.column && same_cell o.cell v.cell) || b) (shown_before olds behind v e)
+-- old cells after all new ones are of no concern
+shown_before : (olds after : List VisibleCell) (v : VisibleCell) → is_shown after v ≡ false → is_shown (olds ++ after) v ≡ is_shown olds v
+shown_before [] after v e = e
+shown_before (o ∷ olds) after v e = ap (λ b. (o.column == v.column && same_cell o.cell v.cell) || b) (shown_before olds after v e)
 
-after_old : (olds behind : List VisibleCell) (at : ℕ) (news : Row) → ((v : VisibleCell) → v.column < at + length news → is_shown (olds ++ behind) v ≡ is_shown olds v) → fresh (olds ++ behind) (visible_from at news) ≡ fresh olds (visible_from at news)
-after_old olds behind at [] same = refl
-after_old olds behind at (Narrow t a ∷ news) same =
+after_old : (olds after : List VisibleCell) (at : ℕ) (news : Row) → ((v : VisibleCell) → v.column < at + length news → is_shown (olds ++ after) v ≡ is_shown olds v) → fresh (olds ++ after) (visible_from at news) ≡ fresh olds (visible_from at news)
+after_old olds after at [] same = refl
+after_old olds after at (Narrow t a ∷ news) same =
     let v : VisibleCell = visible_at at t 1 a in
-    let rest : fresh (olds ++ behind) (visible_from (at + 1) news) ≡ fresh olds (visible_from (at + 1) news) = after_old olds behind (at + 1) news (λ w h. same w (omega (arith, h))) in
+    let rest : fresh (olds ++ after) (visible_from (at + 1) news) ≡ fresh olds (visible_from (at + 1) news) = after_old olds after (at + 1) news (λ w h. same w (omega (arith, h))) in
     (λ i. if not (same v (omega arith) i) then v ∷ rest i else rest i)
-after_old olds behind at (LeftHalf t a ∷ news) same =
+after_old olds after at (LeftHalf t a ∷ news) same =
     let v : VisibleCell = visible_at at t 2 a in
-    let rest : fresh (olds ++ behind) (visible_from (at + 1) news) ≡ fresh olds (visible_from (at + 1) news) = after_old olds behind (at + 1) news (λ w h. same w (omega (arith, h))) in
+    let rest : fresh (olds ++ after) (visible_from (at + 1) news) ≡ fresh olds (visible_from (at + 1) news) = after_old olds after (at + 1) news (λ w h. same w (omega (arith, h))) in
     (λ i. if not (same v (omega arith) i) then v ∷ rest i else rest i)
-after_old olds behind at (RightHalf a ∷ news) same = after_old olds behind (at + 1) news (λ w h. same w (omega (arith, h)))
+after_old olds after at (RightHalf a ∷ news) same = after_old olds after (at + 1) news (λ w h. same w (omega (arith, h)))
 
--- cells behind that both rows have aren't fresh
+-- cells after that both rows have aren't fresh
 fresh_back : (a : ℕ) (olds news back : Row) → length olds ≡ length news → fresh (visible_from a (olds ++ back)) (visible_from a (news ++ back)) ≡ fresh (visible_from a olds) (visible_from a news)
 fresh_back a olds news back e =
     let n = a + length olds in
     let first : List VisibleCell = visible_from a olds in
-    let behind : List VisibleCell = visible_from n back in
+    let after : List VisibleCell = visible_from n back in
     let seam : a + length news ≡ n = omega (arith, e) in
     (λ i. fresh (visible-append a olds back i) ((visible-append a news back ∙ ap (λ k. visible_from a news ++ visible_from k back) seam) i))
-    ∙ fresh-append (first ++ behind) (visible_from a news) behind
-    ∙ (λ i. after_old first behind a news (λ v h. shown_before first behind v (none_later n behind v (omega (arith, h, e)) (in_order n back))) i ++ (ap (λ (olds : List VisibleCell). fresh olds behind) (ap (λ (vs : List VisibleCell). first ++ vs) (sym (append-nil behind))) ∙ all_shown first behind []) i)
+    ∙ fresh-append (first ++ after) (visible_from a news) after
+    ∙ (λ i. after_old first after a news (λ v h. shown_before first after v (none_later n after v (omega (arith, h, e)) (in_order n back))) i ++ (ap (λ (olds : List VisibleCell). fresh olds after) (ap (λ (vs : List VisibleCell). first ++ vs) (sym (append-nil after))) ∙ all_shown first after []) i)
     ∙ append-nil (fresh first (visible_from a news))
 
 -- ---- parts of rows that are the same around some columns
@@ -207,15 +207,15 @@ module _ (m : ℕ) (row : Row) (w : IsWholeAt m row) where
   row_after : (b : ℕ) → m ≤ length row → columns_from m (b - m) row ≡ closed_end (take (b - m) (drop m row))
   row_after b l = ap (λ (r : Row). columns_from m (b - m) r) (sym in_two) ∙ after_seam m b (take m row) (drop m row) (length-take-le m row l) w.beginning
 
--- columns in front of the first one that differs may be left out
+-- columns before the first one that differs may be left out
 less_front : (a m b : ℕ) (old new : Row) → a ≤ m → m ≤ b → m ≤ length old → m ≤ length new → IsWholeAt m old → IsWholeAt m new → take m old ≡ take m new → between m b old new ≡ between a b old new
 less_front a m b old new h k l g w v e =
-    let front : Row = closed_start (drop a (take m old)) in
-    let long : length front ≡ m - a = length-closed_start (drop a (take m old)) ∙ length-drop a (take m old) ∙ ap (λ n. n - a) (length-take-le m old l) in
-    let other : columns_from a (b - a) new ≡ front ++ columns_from m (b - m) new = row_across m new v a b h k g ∙ ap (λ (r : Row). closed_start (drop a r) ++ columns_from m (b - m) new) (sym e) in
-    sym ((λ i. fresh (visible_from a (row_across m old w a b h k l i)) (visible_from a (other i))) ∙ fresh_front a m front (columns_from m (b - m) old) (columns_from m (b - m) new) (omega (arith, long, h)))
+    let prefix : Row = closed_start (drop a (take m old)) in
+    let long : length prefix ≡ m - a = length-closed_start (drop a (take m old)) ∙ length-drop a (take m old) ∙ ap (λ n. n - a) (length-take-le m old l) in
+    let other : columns_from a (b - a) new ≡ prefix ++ columns_from m (b - m) new = row_across m new v a b h k g ∙ ap (λ (r : Row). closed_start (drop a r) ++ columns_from m (b - m) new) (sym e) in
+    sym ((λ i. fresh (visible_from a (row_across m old w a b h k l i)) (visible_from a (other i))) ∙ fresh_front a m prefix (columns_from m (b - m) old) (columns_from m (b - m) new) (omega (arith, long, h)))
 
--- and so may those behind the last one
+-- and so may those after the last one
 less_back : (a m b : ℕ) (old new : Row) → a ≤ m → m ≤ b → m ≤ length old → m ≤ length new → IsWholeAt m old → IsWholeAt m new → drop m old ≡ drop m new → between a m old new ≡ between a b old new
 less_back a m b old new h k l g w v e =
     let first : Row = closed_start (drop a (take m old)) in
@@ -236,14 +236,14 @@ module _ (x close start stop from to : ℕ) (old new : Row) (p : AreEqualAround 
     | inl less ↦ elim (cases_lt x start) [
       | inl inside ↦ (
           let is : from ≡ start = omega (arith, f, o, less, inside) in
-          ap (λ n. between n close old new) is ∙ less_front x start close old new (omega (arith, inside)) (omega (arith, less)) (omega (arith, less, l)) (omega (arith, less, g)) p.first p.other_first p.front)
+          ap (λ n. between n close old new) is ∙ less_front x start close old new (omega (arith, inside)) (omega (arith, less)) (omega (arith, less, l)) (omega (arith, less, g)) p.first p.other_first p.prefix)
       | inr before ↦ (
           let is : from ≡ x = omega (arith, f, o, before) in
           ap (λ n. between n close old new) is)
     ]
     | inr past ↦ (
         let is : from ≡ close = omega (arith, f, o, past) in
-        ap (λ n. between n close old new) is ∙ none_between close old new ∙ sym (same_in_front x close start old new o past p.front))
+        ap (λ n. between n close old new) is ∙ none_between close old new ∙ sym (same_in_front x close start old new o past p.prefix))
   ]
 
   to_last : between from to old new ≡ between from close old new
@@ -256,10 +256,10 @@ module _ (x close start stop from to : ℕ) (old new : Row) (p : AreEqualAround 
           let is : to ≡ close = omega (arith, t, f, o, past, inside) in
           ap (λ n. between from n old new) is)
     ]
-    | inr behind ↦ (
+    | inr after ↦ (
         let order = p.order in
-        let is : to ≡ from = omega (arith, t, f, o, behind, order) in
-        ap (λ n. between from n old new) is ∙ none_between from old new ∙ sym (same_after from close stop old new behind p.back))
+        let is : to ≡ from = omega (arith, t, f, o, after, order) in
+        ap (λ n. between from n old new) is ∙ none_between from old new ∙ sym (same_after from close stop old new after p.back))
   ]
 
 -- a part whose first columns are skipped, and of which so many are then left

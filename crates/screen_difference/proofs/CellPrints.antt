@@ -35,30 +35,30 @@ count_of wide = if wide then 2 else 1
 abbrev pub text_width : (List ℕ → ℕ) → List ℕ → ℕ
 text_width width_of text = count_of (nat_le 2 (width_of text))
 
--- texts in a row, each at the column where the last one ends, and the column behind them
+-- texts in a row, each at the column where the last one ends, and the column after them
 abbrev pub beside : (List ℕ → ℕ) → ℕ → ℕ → List (List ℕ) → List PlacedText
 beside width_of row column [] = []
 beside width_of row column (text ∷ texts) = record { row = row; column = column; text = text } ∷ beside width_of row (column + text_width width_of text) texts
 
-abbrev pub behind : (List ℕ → ℕ) → ℕ → List (List ℕ) → ℕ
-behind width_of column [] = column
-behind width_of column (text ∷ texts) = behind width_of (column + text_width width_of text) texts
+abbrev pub after : (List ℕ → ℕ) → ℕ → List (List ℕ) → ℕ
+after width_of column [] = column
+after width_of column (text ∷ texts) = after width_of (column + text_width width_of text) texts
 
--- the cursor goes behind them
+-- the cursor goes after them
 abbrev pub gone_after : (List ℕ → ℕ) → List (List ℕ) → Stand → Stand
-gone_after width_of texts at = record at { column = behind width_of at.column texts }
+gone_after width_of texts at = record at { column = after width_of at.column texts }
 
 module _ (width_of : List ℕ → ℕ) where
-  after_grows : (ts : List (List ℕ)) (column : ℕ) → column ≤ behind width_of column ts
+  after_grows : (ts : List (List ℕ)) (column : ℕ) → column ≤ after width_of column ts
   after_grows [] column = omega arith
   after_grows (t ∷ ts) column = omega (arith, after_grows ts (column + text_width width_of t))
 
-  after_both : (ts us : List (List ℕ)) (column : ℕ) → behind width_of column (ts ++ us) ≡ behind width_of (behind width_of column ts) us
+  after_both : (ts us : List (List ℕ)) (column : ℕ) → after width_of column (ts ++ us) ≡ after width_of (after width_of column ts) us
   after_both [] us column = refl
   after_both (t ∷ ts) us column = after_both ts us (column + text_width width_of t)
 
   beside_both : (ts us : List (List ℕ)) (row column : ℕ)
-      → beside width_of row column (ts ++ us) ≡ beside width_of row column ts ++ beside width_of row (behind width_of column ts) us
+      → beside width_of row column (ts ++ us) ≡ beside width_of row column ts ++ beside width_of row (after width_of column ts) us
   beside_both [] us row column = refl
   beside_both (t ∷ ts) us row column =
       let first : PlacedText = record { row = row; column = column; text = t } in
@@ -70,7 +70,7 @@ module _ (width_of : List ℕ → ℕ) where
 
 -- ---- one cluster that fits in the row
 
--- what strokes print, that none of them scrolls, and what stands behind them
+-- what strokes print, that none of them scrolls, and what follows them
 record StrokesPrint (width_of : List ℕ → ℕ) (s : Screen) (ss : List Stroke) (ts : List PlacedText) (after : Stand) : Type 0 where
   prints : strokes_print width_of s ss ≡ ts
   still : strokes_scroll width_of s ss ≡ false
@@ -129,7 +129,7 @@ module _ (width_of : List ℕ → ℕ) where
 
   -- ---- clusters, and a text of them
 
-  clusters_print : (ts : List (List ℕ)) (s : Screen) (at : Stand) → stand_of s ≡ at → behind width_of at.column ts ≤ at.width
+  clusters_print : (ts : List (List ℕ)) (s : Screen) (at : Stand) → stand_of s ≡ at → after width_of at.column ts ≤ at.width
       → StrokesPrint width_of s (map Cluster ts) (beside width_of at.row at.column ts) (gone_after width_of ts at)
   clusters_print [] s at e fits = record { prints = refl; still = refl; leaves = e }
   clusters_print (t ∷ ts) s at e fits =
@@ -177,7 +177,7 @@ module _ (width_of : List ℕ → ℕ) where
   abbrev pub PrintsBeside : Display → Stand → List ChangeValue → List (List ℕ) → Type 0
   PrintsBeside d at changes ts = Prints width_of d changes (beside width_of at.row at.column ts) (gone_after width_of ts at)
 
-  text_prints : (text : List ℕ) (ts : List (List ℕ)) (d : Display) (at : Stand) → strokes text ≡ map Cluster ts → stand_of d.screen ≡ at → behind width_of at.column ts ≤ at.width
+  text_prints : (text : List ℕ) (ts : List (List ℕ)) (d : Display) (at : Stand) → strokes text ≡ map Cluster ts → stand_of d.screen ≡ at → after width_of at.column ts ≤ at.width
       → PrintsBeside d at (Text text ∷ []) ts
   text_prints text ts d at is e fits =
       let p = clusters_print width_of ts d.screen at e fits in
@@ -187,7 +187,7 @@ module _ (width_of : List ℕ → ℕ) where
         leaves = ap stand_of (screen_is (strokes text) d ∙ ap (λ (ss : List Stroke). fold (stroke_on width_of) d.screen ss) is) ∙ p.leaves;
       }
 
-  each_prints : (ts : List (List ℕ)) (d : Display) (at : Stand) → AreTexts ts → stand_of d.screen ≡ at → behind width_of at.column ts ≤ at.width
+  each_prints : (ts : List (List ℕ)) (d : Display) (at : Stand) → AreTexts ts → stand_of d.screen ≡ at → after width_of at.column ts ≤ at.width
       → PrintsBeside d at (map Text ts) ts
   each_prints [] d at p e fits = Prints-nothing e
   each_prints (t ∷ ts) d at p e fits =
@@ -195,7 +195,7 @@ module _ (width_of : List ℕ → ℕ) where
       Prints-join (text_prints t (t ∷ []) d at (strokes_are t (t ∷ []) p.0.alone (p.0, tt) p.0.printed) e within) (λ x f. each_prints ts x (gone_after width_of (t ∷ []) at) p.1 f fits)
 
   -- joined, or one by one
-  pub texts_print : (ts : List (List ℕ)) (d : Display) (at : Stand) → AreTexts ts → stand_of d.screen ≡ at → behind width_of at.column ts ≤ at.width
+  pub texts_print : (ts : List (List ℕ)) (d : Display) (at : Stand) → AreTexts ts → stand_of d.screen ≡ at → after width_of at.column ts ≤ at.width
       → PrintsBeside d at (map Text (texts ts)) ts
   texts_print [] d at p e fits = subst (λ (all : List (List ℕ)). PrintsBeside d at (map Text all) []) (sym no_texts) (Prints-nothing e)
   texts_print (t ∷ ts) d at p e fits =
@@ -239,7 +239,7 @@ module _ (width_of : List ℕ → ℕ) where
       subst (λ b. Prints width_of d (due_if a b) [] (with_pen_of a at)) (sym q) (Prints-nothing (e ∙ (λ i. with_pen_of (is i) at))))
       (λ q. subst (λ b. Prints width_of d (due_if a b) [] (with_pen_of a at)) (sym q) (pen_prints a d at e))
 
-  runs_print : (runs : List CellRun) (d : Display) (at : Stand) → AreTexts (run_texts runs) → stand_of d.screen ≡ at → behind width_of at.column (run_texts runs) ≤ at.width
+  runs_print : (runs : List CellRun) (d : Display) (at : Stand) → AreTexts (run_texts runs) → stand_of d.screen ≡ at → after width_of at.column (run_texts runs) ≤ at.width
       → Prints width_of d (runs_written at.pen runs) (beside width_of at.row at.column (run_texts runs)) (with_pen_of (runs_pen at.pen runs) (gone_after width_of (run_texts runs) at))
   runs_print [] d at p e fits = Prints-nothing e
   runs_print (run ∷ runs) d at p e fits =
@@ -248,7 +248,7 @@ module _ (width_of : List ℕ → ℕ) where
       let mid : Stand = gone_after width_of run.cells penned in
       let two = both_texts width_of run.cells (run_texts runs) p in
       let far = after_both width_of run.cells (run_texts runs) at.column in
-      let rest_fits : behind width_of mid.column (run_texts runs) ≤ at.width = subst (λ n. n ≤ at.width) far fits in
+      let rest_fits : after width_of mid.column (run_texts runs) ≤ at.width = subst (λ n. n ≤ at.width) far fits in
       let own_fits : mid.column ≤ at.width = omega (arith, after_grows width_of (run_texts runs) mid.column, rest_fits) in
       Prints-as
       (Prints-join (Prints-join (due_prints a d at e) (λ x f. texts_print width_of run.cells x penned two.0 f own_fits)) (λ x f. runs_print runs x mid two.1 f rest_fits))
@@ -257,12 +257,12 @@ module _ (width_of : List ℕ → ℕ) where
 
   -- ---- cells
 
-  pub cells_print : (cells : List CellContent) (d : Display) (at : Stand) → AreTexts (map (λ c. c.text) cells) → stand_of d.screen ≡ at → behind width_of at.column (map (λ c. c.text) cells) ≤ at.width
+  pub cells_print : (cells : List CellContent) (d : Display) (at : Stand) → AreTexts (map (λ c. c.text) cells) → stand_of d.screen ≡ at → after width_of at.column (map (λ c. c.text) cells) ≤ at.width
       → Prints width_of d (cells_written at.pen cells) (beside width_of at.row at.column (map (λ c. c.text) cells)) (with_pen_of (last_pen at.pen cells) (gone_after width_of (map (λ c. c.text) cells) at))
   cells_print cells d at p e fits =
       let is = runs_texts cells in
       let are : AreTexts (run_texts (cell_runs cells)) = subst AreTexts (sym is) p in
-      let fit : behind width_of at.column (run_texts (cell_runs cells)) ≤ at.width = subst (λ (ts : List (List ℕ)). behind width_of at.column ts ≤ at.width) (sym is) fits in
+      let fit : after width_of at.column (run_texts (cell_runs cells)) ≤ at.width = subst (λ (ts : List (List ℕ)). after width_of at.column ts ≤ at.width) (sym is) fits in
       Prints-as
       (runs_print (cell_runs cells) d at are e fit)
       (ap (λ (ts : List (List ℕ)). beside width_of at.row at.column ts) is)

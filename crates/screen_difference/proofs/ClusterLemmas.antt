@@ -108,8 +108,8 @@ printed_stretches : (pen : Option Attributes) (ss : List Stretch) → AllAlone s
 unfolding cells_of_stretches
 printed_stretches pen [] p = refl
 printed_stretches pen (s ∷ ss) p =
-    let behind : Option Attributes = Some (last_pen s.first.attributes s.others) in
-    flat_map-append clusters_of (stretch_written pen s) (stretches_written behind ss) ∙ (λ i. printed_stretch pen s p.0 i ++ printed_stretches behind ss p.1 i)
+    let after : Option Attributes = Some (last_pen s.first.attributes s.remaining) in
+    flat_map-append clusters_of (stretch_written pen s) (stretches_written after ss) ∙ (λ i. printed_stretch pen s p.0 i ++ printed_stretches after ss p.1 i)
 
 before_texts : (c : PlacedCell) (ss : List Stretch) → cells_of_stretches (before_stretches c ss) ≡ c.cell.text ∷ cells_of_stretches ss
 unfolding cells_of_stretches texts_of

@@ -18,7 +18,7 @@ use Rattle.screen_effects.specs.Display.{Display}
 use Rattle.screen_effects.specs.Positions.{column_place}
 use Rattle.screen_effects.proofs.WrittenLemmas.{AreTexts}
 use Rattle.screen_difference.specs.Prints.{PlacedText, text_of}
-use Rattle.screen_difference.proofs.CellPrints.{behind, beside, cells_print, count_of, pen_prints, text_width}
+use Rattle.screen_difference.proofs.CellPrints.{after, beside, cells_print, count_of, pen_prints, text_width}
 use Rattle.screen_difference.proofs.JoinLemmas.{Prints, Prints-as, Prints-join, Prints-nothing, Stand, stand_of}
 
 -- ---- the cells of stretches
@@ -66,17 +66,17 @@ module _ (width_of : List ℕ → ℕ) (width rows : ℕ) where
       (λ e. ap count_of (p.sound.width ∙ e) ∙ grind (arith, nat_tests))
       (λ e. ap count_of (p.sound.width ∙ e) ∙ grind (arith, nat_tests))
 
-  -- cells side by side that have their places: their texts, the column behind them, and what they print
+  -- cells side by side that have their places: their texts, the column after them, and what they print
   placed_texts : (cells : List CellContent) (row column : ℕ) → HavePlaces width_of width rows (placed_beside row column cells) → AreTexts (map (λ c. c.text) cells)
   placed_texts [] row column p = tt
   placed_texts (cell ∷ cells) row column p = (p.0.sound.stands, placed_texts cells row (column + cell.width) p.1)
 
   placed_fit : (cells : List CellContent) (row column : ℕ) → column ≤ width → HavePlaces width_of width rows (placed_beside row column cells)
-      → behind width_of column (map (λ c. c.text) cells) ≤ width
+      → after width_of column (map (λ c. c.text) cells) ≤ width
   placed_fit [] row column h p = h
   placed_fit (cell ∷ cells) row column h p =
       let is = width_is (record { row = row; column = column; cell = cell }) p.0 in
-      subst (λ n. behind width_of (column + n) (map (λ c. c.text) cells) ≤ width) (sym is) (placed_fit cells row (column + cell.width) p.0.in_columns p.1)
+      subst (λ n. after width_of (column + n) (map (λ c. c.text) cells) ≤ width) (sym is) (placed_fit cells row (column + cell.width) p.0.in_columns p.1)
 
   placed_are : (cells : List CellContent) (row column : ℕ) → HavePlaces width_of width rows (placed_beside row column cells)
       → beside width_of row column (map (λ c. c.text) cells) ≡ map text_of (placed_beside row column cells)
@@ -87,15 +87,15 @@ module _ (width_of : List ℕ → ℕ) (width rows : ℕ) where
       (λ i. first ∷ beside width_of row (column + is i) (map (λ c. c.text) cells))
       ∙ ap (λ (ts : List PlacedText). first ∷ ts) (placed_are cells row (column + cell.width) p.1)
 
--- ---- stretches, each behind its place
+-- ---- stretches, each after its place
 
 abbrev moved_to : ℕ → ℕ → Stand → Stand
 moved_to row column at = record at { row = row; column = column }
 
 module _ (width_of : List ℕ → ℕ) where
-  -- what stands behind a stretch
+  -- what follows a stretch
   abbrev stretch_after : Stand → Stretch → Stand
-  stretch_after at s = record at { row = s.row; column = behind width_of s.column (map (λ c. c.text) (cells_of s)); pen = last_pen s.first.attributes s.others }
+  stretch_after at s = record at { row = s.row; column = after width_of s.column (map (λ c. c.text) (cells_of s)); pen = last_pen s.first.attributes s.remaining }
 
   -- a position prints nothing, and the cursor stands there
   position_prints : (d : Display) (column row : ℕ) → column < d.screen.width → row < height d.screen
@@ -115,7 +115,7 @@ module _ (width_of : List ℕ → ℕ) where
       let fits = p.0.in_columns in
       subst (λ (x : Stand). s.column < x.width → s.row < x.rows → Prints width_of d (position s.column s.row ∷ []) [] (moved_to s.row s.column x)) e (position_prints d s.column s.row) (omega arith) p.0.in_rows
 
-  -- the cells of a stretch, behind its place
+  -- the cells of a stretch, after its place
   stretch_cells : (d : Display) (at : Stand) (s : Stretch) → stand_of d.screen ≡ moved_to s.row s.column at → HavePlaces width_of at.width at.rows (placed_of s)
       → Prints width_of d (cells_written at.pen (cells_of s)) (map text_of (placed_of s)) (stretch_after at s)
   stretch_cells d at s e p =
@@ -135,13 +135,13 @@ module _ (width_of : List ℕ → ℕ) where
       let a : Attributes = s.first.attributes in
       Prints-join (moved_prints d at s e p) (λ x f. Prints-join (pen_prints width_of a x (moved_to s.row s.column at) f) (λ y g. stretch_cells y (record at { pen = a }) s g p))
 
-  -- a stretch, and others behind it
+  -- a stretch, and others after it
   one_more : (d : Display) (pen : Option Attributes) (s : Stretch) (ss : List Stretch) (mid after : Stand) → Prints width_of d (stretch_written pen s) (map text_of (placed_of s)) mid
-      → ((e : Display) → stand_of e.screen ≡ mid → Prints width_of e (stretches_written (Some (last_pen s.first.attributes s.others)) ss) (map text_of (all_placed ss)) after)
+      → ((e : Display) → stand_of e.screen ≡ mid → Prints width_of e (stretches_written (Some (last_pen s.first.attributes s.remaining)) ss) (map text_of (all_placed ss)) after)
       → Prints width_of d (stretches_written pen (s ∷ ss)) (map text_of (all_placed (s ∷ ss))) after
   one_more d pen s ss mid after p q = Prints-as (Prints-join p q) (sym (map-append text_of (placed_of s) (all_placed ss))) refl
 
-  -- the stretches behind the first one, and all of them
+  -- the stretches after the first one, and all of them
   others_print : (ss : List Stretch) (d : Display) (at : Stand) → stand_of d.screen ≡ at → HavePlaces width_of at.width at.rows (all_placed ss)
       → Prints width_of d (stretches_written (Some at.pen) ss) (map text_of (all_placed ss)) (fold stretch_after at ss)
   others_print [] d at e p = Prints-nothing e

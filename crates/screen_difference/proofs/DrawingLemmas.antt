@@ -10,7 +10,7 @@ use Rattle.screen_difference.specs.Difference.{position}
 use Rattle.screen_difference.specs.Drawing.{Drawing, moved_to, with_all}
 use Rattle.screen_difference.specs.FreshCells.{placed}
 
--- the last cell ends at a place
+-- the last cell ends at a position
 abbrev pub ends_at : Written → ℕ → ℕ → Drawing
 ends_at w row column = record { written = w; has_begun = true; row = row; column = column }
 
@@ -23,7 +23,7 @@ each_after w row column (b ∷ text) a =
     ∙ each_after (with_cell (b ∷ []) a w) row (column + 1) text a
     ∙ ap (ends_at (with_each text a (with_cell (b ∷ []) a w)) row) e
 
--- the first one finds its place, and the others stand behind it
+-- the first one finds its place, and the others follow it
 pub each_placed : (d : Drawing) (row column : ℕ) (text : List ℕ) (a : Attributes) → 0 < length text
     → with_all d (placed row (visible_each column text a)) ≡ record { written = with_each text a (moved_to row column a d); has_begun = true; row = row; column = column + length text }
 each_placed d row column [] a h = absurd (omega arith)

@@ -32,7 +32,7 @@ abbrev placed_at : ℕ → ℕ → Screen → Screen
 placed_at column row s = record s { column = column; row = row }
 
 abbrev stretch_drawn : Screen → Stretch → Screen
-stretch_drawn s t = with_pen (last_pen t.first.attributes t.others) (write_columns (joined_columns (cells_of t)) (placed_at t.column t.row s))
+stretch_drawn s t = with_pen (last_pen t.first.attributes t.remaining) (write_columns (joined_columns (cells_of t)) (placed_at t.column t.row s))
 
 record StretchFits (width_of : List ℕ → ℕ) (width rows : ℕ) (t : Stretch) : Type 0 where
   in_columns : t.column + length (joined_columns (cells_of t)) ≤ width
@@ -60,7 +60,7 @@ module _ (width_of : List ℕ → ℕ) where
   stretch_is : (d : Display) (t : Stretch) → IsDisplay d → StretchFits width_of d.screen.width (height d.screen) t
       → replay width_of d (stretch_written (Some d.screen.pen) t) ≡ on_screen (λ s. stretch_drawn s t) d
   stretch_is d t h p =
-      let some = some_columns t.first (joined_columns t.others) in
+      let some = some_columns t.first (joined_columns t.remaining) in
       let fits = p.in_columns in
       let there = position_is d t.column t.row (omega arith) p.in_rows in
       let lawful : IsDisplay (on_screen (placed_at t.column t.row) d) = subst IsDisplay there (effect_is width_of d (position t.column t.row) h) in
@@ -71,7 +71,7 @@ module _ (width_of : List ℕ → ℕ) where
       → replay width_of d (stretch_written None t) ≡ on_screen (λ s. stretch_drawn s t) d
   first_is d t h p =
       let a = t.first.attributes in
-      let some = some_columns t.first (joined_columns t.others) in
+      let some = some_columns t.first (joined_columns t.remaining) in
       let fits = p.in_columns in
       let there = position_is d t.column t.row (omega arith) p.in_rows in
       let lawful : IsDisplay (on_screen (placed_at t.column t.row) d) = subst IsDisplay there (effect_is width_of d (position t.column t.row) h) in
@@ -129,7 +129,7 @@ module _ (width_of : List ℕ → ℕ) where
       let column : t.column ≡ c.column + length (cell_columns c.cell) = sym ((unsigned_Decides (c.column + c.cell.width) t.column).0 both.1) ∙ ap (λ n. c.column + n) (sym count) in
       let start : Screen = placed_at c.column c.row s in
       let fits = p.in_columns in
-      let pen = last_pen t.first.attributes t.others in
+      let pen = last_pen t.first.attributes t.remaining in
       (λ i. with_pen pen (write_columns (joined_columns (cells_of t)) (placed_at (column i) (row i) (drawn s c))))
       ∙ ap (with_pen pen) (write_again start (cell_columns c.cell) (joined_columns (cells_of t)) (placed_screen s c.column c.row h (omega arith) p.in_rows) (whole_columns c.cell.text (nat_le 2 c.cell.width) c.cell.attributes) (omega arith))
 

@@ -13,7 +13,7 @@ use Rattle.cell_edits.specs.RowEdits.{cut, cut_prefix}
 use Rattle.cell_edits.specs.VisibleCells.{VisibleCell, visible_from}
 use Rattle.cell_views.proofs.KeptLemmas.{AreInOrder, in_order}
 use Rattle.cell_base.specs.WholeRow.{IsWhole}
-use Rattle.cell_base.proofs.RowLemmas.{length-closed_end, length-closed_start, whole-front, whole-behind}
+use Rattle.cell_base.proofs.RowLemmas.{length-closed_end, length-closed_start, whole-prefix, whole-after}
 use Rattle.screen_difference.specs.FreshCells.{columns_from, fresh, is_shown, row_fresh, rows_fresh, rows_of, shared_width}
 use Rattle.screen_difference.specs.ShownCells.{begins_with, from_column, passed_fresh, side_by_side, HaveRoom}
 use Rattle.screen_difference.proofs.SideLemmas.{differs, room_visible, side_visible}
@@ -27,7 +27,7 @@ or_false false = refl
 pub not_here : (o : VisibleCell) (olds : List VisibleCell) (v : VisibleCell) → (o.column < v.column) ⊎ (v.column < o.column) → is_shown (o ∷ olds) v ≡ is_shown olds v
 not_here o olds v h = ap (λ t. (t && same_cell o.cell v.cell) || is_shown olds v) (differs o.column v.column h)
 
--- passing cells before a column takes none that stands at one behind
+-- passing cells before a column takes none that stands at one after
 shown_from : (column : ℕ) (olds : List VisibleCell) (v : VisibleCell) → column ≤ v.column → is_shown (from_column column olds) v ≡ is_shown olds v
 shown_from column [] v h = refl
 shown_from column (o ∷ olds) v h =
@@ -81,20 +81,20 @@ passed_is_fresh at bt olds [] p q = refl
 passed_is_fresh at bt olds (v ∷ news) p q =
     let rest : List VisibleCell = from_column v.column olds in
     let same : begins_with rest v.column v.cell ≡ is_shown olds v = sym (first_shown at olds v p) ∙ shown_from v.column olds v (omega arith) in
-    let others : passed_fresh rest news ≡ fresh olds news =
+    let remaining : passed_fresh rest news ≡ fresh olds news =
     passed_is_fresh at (v.column + 1) rest news (rest_in_order at v.column olds p) q.1
     ∙ same_fresh v.column olds news (from_lower v.column (v.column + 1) news (omega arith) q.1) in
     by_test (is_shown olds v)
-    (λ e. ap (λ t. if t then passed_fresh rest news else v ∷ passed_fresh rest news) (same ∙ e) ∙ others ∙ sym (ap (λ t. if not t then v ∷ fresh olds news else fresh olds news) e))
+    (λ e. ap (λ t. if t then passed_fresh rest news else v ∷ passed_fresh rest news) (same ∙ e) ∙ remaining ∙ sym (ap (λ t. if not t then v ∷ fresh olds news else fresh olds news) e))
     (λ e.
     ap (λ t. if t then passed_fresh rest news else v ∷ passed_fresh rest news) (same ∙ e)
-    ∙ ap (λ (vs : List VisibleCell). v ∷ vs) others
+    ∙ ap (λ (vs : List VisibleCell). v ∷ vs) remaining
     ∙ sym (ap (λ t. if not t then v ∷ fresh olds news else fresh olds news) e))
 
 -- ---- columns of the new side, where they stand on the old one
 
 pub whole_part : (x n : ℕ) (r : Row) → IsWhole r → IsWhole (columns_from x n r)
-whole_part x n r p = whole-front n (closed_start (drop x r)) (whole-behind x r p)
+whole_part x n r p = whole-prefix n (closed_start (drop x r)) (whole-after x r p)
 
 region_is : (start count : ℕ) (row : Row) → region start (start + count) row ≡ visible_from start (columns_from start count row)
 region_is start count row = let e : start + count - start ≡ count = omega arith in ap (λ n. visible_from start (cut n (cut_prefix start row))) e
@@ -103,8 +103,8 @@ region_is start count row = let e : start + count - start ≡ count = omega arit
 pub region_room : (x other_x count : ℕ) (row : Row) → IsWhole row → other_x + count ≤ length row → x + count < 2 ^ 64 → HaveRoom x (region other_x (other_x + count) row)
 region_room x other_x count row w h l =
     let part : Row = columns_from other_x count row in
-    let behind = length-drop other_x row in
-    let front = length-closed_start (drop other_x row) in
+    let after = length-drop other_x row in
+    let prefix = length-closed_start (drop other_x row) in
     let taken = length-take-le count (closed_start (drop other_x row)) (omega arith) in
     let all = length-closed_end (take count (closed_start (drop other_x row))) in
     subst (HaveRoom x) (sym (region_is other_x count row)) (room_visible other_x x part (whole_part other_x count row w) (omega arith))

@@ -63,7 +63,7 @@ end_append [] x r = refl
 end_append (y ∷ []) x r = refl
 end_append (y ∷ z ∷ l) x r = ap (λ (s : Row). y ∷ s) (end_append (z ∷ l) x r)
 
--- columns behind whole ones
+-- columns after whole ones
 end_after : (l a b : Row) → IsWhole a → 0 < length a → closed_end ((l ++ a) ++ b) ≡ (l ++ a) ++ closed_end b
 end_after l [] b p h = absurd (omega arith)
 end_after l (x ∷ a) [] p h =
@@ -89,12 +89,12 @@ dropped_front x k row = drop-take x k row
 
 set_after : (x k : ℕ) (row cols : Row) → x + k ≤ length row → drop x (set_columns row (x + k) cols) ≡ set_columns (drop x row) k cols
 set_after x k row cols h =
-    let front : Row = closed_end (take (x + k) row) in
+    let prefix : Row = closed_end (take (x + k) row) in
     let back : Row = closed_start (drop (x + k + length cols) row) in
-    let count : length front ≡ x + k = length-closed_end (take (x + k) row) ∙ length-take-le (x + k) row h in
-    let more = length-append front cols in
-    drop-append-le x (front ++ cols) back (omega arith)
-    ∙ ap (λ (r : Row). r ++ back) (drop-append-le x front cols (omega arith))
+    let count : length prefix ≡ x + k = length-closed_end (take (x + k) row) ∙ length-take-le (x + k) row h in
+    let more = length-append prefix cols in
+    drop-append-le x (prefix ++ cols) back (omega arith)
+    ∙ ap (λ (r : Row). r ++ back) (drop-append-le x prefix cols (omega arith))
     ∙ ap (λ (r : Row). (r ++ cols) ++ back) (drop_end x (take (x + k) row) ∙ ap closed_end (dropped_front x k row))
     ∙ ap (λ (r : Row). (closed_end (take k (drop x row)) ++ cols) ++ closed_start r) (
     let e : x + k + length cols ≡ x + (k + length cols) = omega arith in
@@ -107,24 +107,24 @@ set_started zero row cols p h =
 set_started (suc k) [] cols p h =
     whole_begins cols (closed_start (drop (suc k + length cols) [])) p h
 set_started (suc k) (x ∷ row) cols p h =
-    let front : Row = closed_end (x ∷ take k row) in
+    let prefix : Row = closed_end (x ∷ take k row) in
     let back : Row = closed_start (drop (suc k + length cols) (x ∷ row)) in
     let count = length-closed_end (x ∷ take k row) in
-    let more = length-append front cols in
-    start_append (front ++ cols) back (omega arith)
-    ∙ ap (λ (r : Row). r ++ back) (start_append front cols (omega arith))
+    let more = length-append prefix cols in
+    start_append (prefix ++ cols) back (omega arith)
+    ∙ ap (λ (r : Row). r ++ back) (start_append prefix cols (omega arith))
     ∙ (λ i. (both_ends (x ∷ take k row) i ++ cols) ++ sym (start_dropped (suc k + length cols) (x ∷ row)) i)
 
 set_cut : (n k m : ℕ) (row cols : Row) → k + length cols + m ≡ n → n ≤ length row → IsWhole cols → 0 < length cols → closed_end (take n (set_columns row k cols)) ≡ set_columns (closed_end (take n row)) k cols
 set_cut n k m row cols e w p h =
-    let front : Row = closed_end (take k row) in
+    let prefix : Row = closed_end (take k row) in
     let back : Row = closed_start (drop (k + length cols) row) in
-    let count : length front ≡ k = length-closed_end (take k row) ∙ length-take-le k row (omega arith) in
-    let more : length (front ++ cols) + m ≡ n = omega (arith, length-append front cols) in
+    let count : length prefix ≡ k = length-closed_end (take k row) ∙ length-take-le k row (omega arith) in
+    let more : length (prefix ++ cols) + m ≡ n = omega (arith, length-append prefix cols) in
     let taken : length (take n row) ≡ n = length-take-le n row w in
-    ap (λ j. closed_end (take j ((front ++ cols) ++ back))) (sym more)
-    ∙ ap closed_end (take-append-add (front ++ cols) back m)
-    ∙ end_after front cols (take m back) p h
+    ap (λ j. closed_end (take j ((prefix ++ cols) ++ back))) (sym more)
+    ∙ ap closed_end (take-append-add (prefix ++ cols) back m)
+    ∙ end_after prefix cols (take m back) p h
     ∙ (λ i. (closed_end (sym (take_end k (take n row) (omega arith) ∙ take_less k n row (omega arith)) i) ++ cols)
     ++ (ap closed_end (take_start m (drop (k + length cols) row)) ∙ sym (both_ends (take m (drop (k + length cols) row)))
     ∙ ap closed_start (ap closed_end (sym (dropped_front (k + length cols) m row) ∙ ap (λ j. drop (k + length cols) (take j row)) e) ∙ sym (drop_end (k + length cols) (take n row)))) i)
@@ -139,38 +139,38 @@ set_in_part x n k row cols f h p s =
     ∙ ap (λ (r : Row). closed_end (take n r)) (set_started k (drop x row) cols p s)
     ∙ set_cut n k (n - (k + length cols)) (closed_start (drop x row)) cols e (omega arith) p s
 
--- ---- what stands before and behind them
+-- ---- what stands before and after them
 
--- the columns before a place stay, but for a half that is left alone there
+-- the columns before a position stay, but for a half that is left alone there
 pub set_front : (x k : ℕ) (row cols : Row) → x + k ≤ length row → (take x (set_columns row (x + k) cols) ≡ take x row) ⊎ (take x (set_columns row (x + k) cols) ≡ closed_end (take x row))
 set_front x zero row cols h =
     let e : x + zero ≡ x = omega arith in
-    let front : Row = closed_end (take x row) in
+    let prefix : Row = closed_end (take x row) in
     let back : Row = closed_start (drop (x + length cols) row) in
-    let count : length front ≡ x = length-closed_end (take x row) ∙ length-take-le x row (omega arith) in
-    inr (ap (λ n. take x (set_columns row n cols)) e ∙ ap (take x) (append_assoc front cols back) ∙ take_at front (cols ++ back) x count)
+    let count : length prefix ≡ x = length-closed_end (take x row) ∙ length-take-le x row (omega arith) in
+    inr (ap (λ n. take x (set_columns row n cols)) e ∙ ap (take x) (append_assoc prefix cols back) ∙ take_at prefix (cols ++ back) x count)
 set_front x (suc k) row cols h =
-    let front : Row = closed_end (take (x + suc k) row) in
+    let prefix : Row = closed_end (take (x + suc k) row) in
     let back : Row = closed_start (drop (x + suc k + length cols) row) in
     let taken : length (take (x + suc k) row) ≡ x + suc k = length-take-le (x + suc k) row h in
-    let count : length front ≡ x + suc k = length-closed_end (take (x + suc k) row) ∙ taken in
+    let count : length prefix ≡ x + suc k = length-closed_end (take (x + suc k) row) ∙ taken in
     inl (
-    ap (take x) (append_assoc front cols back)
-    ∙ take-append-le x front (cols ++ back) (omega arith)
+    ap (take x) (append_assoc prefix cols back)
+    ∙ take-append-le x prefix (cols ++ back) (omega arith)
     ∙ take_end x (take (x + suc k) row) (omega arith)
     ∙ take_less x (x + suc k) row (omega arith))
 
--- and the columns from one on behind them
+-- and the columns from one on after them
 pub set_back : (at m : ℕ) (row cols : Row) → at + length cols + m ≤ length row
     → (drop (at + length cols + m) (set_columns row at cols) ≡ drop (at + length cols + m) row) ⊎ (drop (at + length cols + m) (set_columns row at cols) ≡ closed_start (drop (at + length cols + m) row))
 set_back at m row cols h =
-    let front : Row = closed_end (take at row) in
+    let prefix : Row = closed_end (take at row) in
     let back : Row = closed_start (drop (at + length cols) row) in
-    let count : length front ≡ at = length-closed_end (take at row) ∙ length-take-le at row (omega arith) in
-    let both : at + length cols + m ≡ length (front ++ cols) + m = omega (arith, length-append front cols) in
-    let behind : drop (at + length cols + m) (set_columns row at cols) ≡ drop m back =
-    ap (λ n. drop n ((front ++ cols) ++ back)) both ∙ drop-append-add (front ++ cols) back m in
-    rest m behind
+    let count : length prefix ≡ at = length-closed_end (take at row) ∙ length-take-le at row (omega arith) in
+    let both : at + length cols + m ≡ length (prefix ++ cols) + m = omega (arith, length-append prefix cols) in
+    let after : drop (at + length cols + m) (set_columns row at cols) ≡ drop m back =
+    ap (λ n. drop n ((prefix ++ cols) ++ back)) both ∙ drop-append-add (prefix ++ cols) back m in
+    rest m after
   where
     rest : (j : ℕ) → drop (at + length cols + j) (set_columns row at cols) ≡ drop j (closed_start (drop (at + length cols) row))
         → (drop (at + length cols + j) (set_columns row at cols) ≡ drop (at + length cols + j) row) ⊎ (drop (at + length cols + j) (set_columns row at cols) ≡ closed_start (drop (at + length cols + j) row))

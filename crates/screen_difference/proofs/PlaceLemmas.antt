@@ -59,7 +59,7 @@ length_part x n r h =
     let start = length-closed_start (drop x r) in
     length-closed_end (take n (closed_start (drop x r))) ∙ length-take-le n (closed_start (drop x r)) (omega arith)
 
--- ---- cells with places in some columns
+-- ---- cells with positions in some columns
 
 record Stands (width_of : List ℕ → ℕ) (start «end» : ℕ) (v : VisibleCell) : Type 0 where
   from : start ≤ v.column
@@ -116,15 +116,15 @@ kept_on closed again a b c (inl p) (inr q) = inr (q ∙ ap closed p)
 kept_on closed again a b c (inr p) (inl q) = inr (q ∙ p)
 kept_on closed again a b c (inr p) (inr q) = inr (q ∙ ap closed p ∙ again a)
 
--- the part, what stands before and behind it, and the length
+-- the part, what stands before and after it, and the length
 record Leaves (x n : ℕ) (cells : List VisibleCell) (row after : Row) : Type 0 where
   part : columns_from x n after ≡ fold (λ r v. set_columns r (v.column - x) (cell_columns v.cell)) (columns_from x n row) cells
-  front : IsKept closed_end (take x row) (take x after)
+  prefix : IsKept closed_end (take x row) (take x after)
   back : IsKept closed_start (drop (x + n) row) (drop (x + n) after)
   width : length after ≡ length row
 
 all_leave : (width_of : List ℕ → ℕ) (x n : ℕ) (cells : List VisibleCell) (row : Row) → x + n ≤ length row → AllStand width_of x (x + n) cells → Leaves x n cells row (fold set_visible row cells)
-all_leave width_of x n [] row h p = record { part = refl; front = inl refl; back = inl refl; width = refl }
+all_leave width_of x n [] row h p = record { part = refl; prefix = inl refl; back = inl refl; width = refl }
 all_leave width_of x n (v ∷ cells) row h p =
     let cols : Row = cell_columns v.cell in
     let count = count_is width_of x (x + n) v p.0 in
@@ -139,11 +139,11 @@ all_leave width_of x n (v ∷ cells) row h p =
     let rest = all_leave width_of x n cells (set_visible row v) (omega arith) p.1 in
     let one : columns_from x n (set_visible row v) ≡ set_columns (columns_from x n row) k cols =
     ap (λ c. columns_from x n (set_columns row c cols)) (sym at) ∙ set_in_part x n k row cols (omega arith) h (whole_columns v.cell.text (nat_le 2 v.cell.width) v.cell.attributes) (omega arith) in
-    let front : IsKept closed_end (take x row) (take x (set_visible row v)) = subst (λ c. IsKept closed_end (take x row) (take x (set_columns row c cols))) at (set_front x k row cols (omega arith)) in
+    let prefix : IsKept closed_end (take x row) (take x (set_visible row v)) = subst (λ c. IsKept closed_end (take x row) (take x (set_columns row c cols))) at (set_front x k row cols (omega arith)) in
     let back : IsKept closed_start (drop (x + n) row) (drop (x + n) (set_visible row v)) = subst (λ c. IsKept closed_start (drop c row) (drop c (set_visible row v))) stop (set_back v.column m row cols (omega arith)) in
     record {
       part = rest.part ∙ ap (λ (r : Row). fold (λ q w. set_columns q (w.column - x) (cell_columns w.cell)) r cells) one;
-      front = kept_on closed_end end_again (take x row) (take x (set_visible row v)) (take x (fold set_visible (set_visible row v) cells)) front rest.front;
+      prefix = kept_on closed_end end_again (take x row) (take x (set_visible row v)) (take x (fold set_visible (set_visible row v) cells)) prefix rest.prefix;
       back = kept_on closed_start start_again (drop (x + n) row) (drop (x + n) (set_visible row v)) (drop (x + n) (fold set_visible (set_visible row v) cells)) back rest.back;
       width = rest.width ∙ same;
     }
@@ -168,14 +168,14 @@ module _ (width_of : List ℕ → ℕ) (blank_is : IsSoundText width_of space fa
       let old_count : length olds ≡ n = length_part x n old f in
       let left = all_leave width_of x n cells old f (fresh_stand x other_x n old new h w s) in record {
         within = ap (λ m. columns_from x m (fold set_visible old cells)) count ∙ left.part ∙ fresh_drawn x olds part (whole_part x n old o) (whole_part other_x n new w) (omega arith);
-        front = left.front;
+        prefix = left.prefix;
         back = subst (λ m. IsKept closed_start (drop (x + m) old) (drop (x + m) (fold set_visible old cells))) (sym count) left.back;
         width = left.width;
       }
 
   none_shown : (x other_x n : ℕ) (old new : Row) → n ≡ 0 → ShowsPart x (columns_from other_x n new) old (fold set_visible old (fresh (visible_from x (columns_from x n old)) (visible_from x (columns_from other_x n new))))
   none_shown x other_x n old new e =
-      let zero_shown : ShowsPart x [] old old = record { within = refl; front = inl refl; back = inl refl; width = refl } in
+      let zero_shown : ShowsPart x [] old old = record { within = refl; prefix = inl refl; back = inl refl; width = refl } in
       subst (λ m. ShowsPart x (columns_from other_x m new) old (fold set_visible old (fresh (visible_from x (columns_from x m old)) (visible_from x (columns_from other_x m new))))) (sym e) zero_shown
 
   -- a row in which its fresh cells are drawn shows the new one

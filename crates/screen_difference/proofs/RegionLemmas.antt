@@ -147,10 +147,10 @@ module _ (width_of : List ℕ → ℕ) (blank_is : IsSoundText width_of space fa
       let l : length s.rows ≤ y = grind (arith, nat_tests) in
       subst (λ (rs : List Row). HavePlaces width_of s.width (height s) (rows_fresh compared y rs news)) (sym (none_after y n s.rows l)) tt)
 
-  -- the rows above stay, and those behind are redrawn
+  -- the rows above stay, and those after are redrawn
   record Redraws (y n : ℕ) (news before after : List Row) : Type 0 where
     above : take y after ≡ take y before
-    behind : drop y after ≡ redrawn compared (take n (drop y before)) news ++ drop n (drop y before)
+    rest : drop y after ≡ redrawn compared (take n (drop y before)) news ++ drop n (drop y before)
 
   cells_redraw : (rows news : List Row) (y n : ℕ) → Redraws y n news rows (fold row_drawn rows (rows_fresh compared y (take n (drop y rows)) news))
   unfolding redrawn
@@ -166,14 +166,14 @@ module _ (width_of : List ℕ → ℕ) (blank_is : IsSoundText width_of space fa
       let is : fold row_drawn rows cells ≡ take y rows ++ (redrawn compared olds news ++ below) =
       ap (λ (rs : List Row). fold row_drawn rs cells) split ∙ many_rows compared olds news (take y rows) below y count in record {
         above = ap (take y) is ∙ take_at (take y rows) (redrawn compared olds news ++ below) y count;
-        behind = ap (drop y) is ∙ drop_at (take y rows) (redrawn compared olds news ++ below) y count;
+        rest = ap (drop y) is ∙ drop_at (take y rows) (redrawn compared olds news ++ below) y count;
       })
       (λ e.
       let l : length rows ≤ y = grind (arith, nat_tests) in
       let none : olds ≡ [] = none_after y n rows l in
       let is : fold row_drawn rows cells ≡ rows = ap (λ (rs : List Row). fold row_drawn rows (rows_fresh compared y rs news)) none in record {
         above = ap (take y) is;
-        behind = ap (drop y) is ∙ drop_all y rows l ∙ sym (ap (λ (rs : List Row). redrawn compared rs news ++ below) none ∙ ap (drop n) (drop_all y rows l) ∙ drop_none n);
+        rest = ap (drop y) is ∙ drop_all y rows l ∙ sym (ap (λ (rs : List Row). redrawn compared rs news ++ below) none ∙ ap (drop n) (drop_all y rows l) ∙ drop_none n);
       })
 
   replay_redraws : (d : Display) (news : List Row) (y n : ℕ) → IsDisplay d → All IsWhole news → All (IsSoundRow width_of) news
@@ -201,8 +201,8 @@ module _ (width_of : List ℕ → ℕ) (blank_is : IsSoundText width_of space fa
       let r = replay_redraws d news y n h w p in
       let whole : All IsWhole olds = All-take IsWhole n (drop y rows) (All-drop IsWhole y rows h.whole) in record {
         above = r.above;
-        within = subst (RowsShow shows news olds) (sym (ap (take n) r.behind ∙ take_back n (drop y rows) new count)) (rows_shown olds news whole w p);
-        below = sym (drop-drop n y after) ∙ ap (drop n) r.behind ∙ drop_back n (drop y rows) new count ∙ drop-drop n y rows;
+        within = subst (RowsShow shows news olds) (sym (ap (take n) r.rest ∙ take_back n (drop y rows) new count)) (rows_shown olds news whole w p);
+        below = sym (drop-drop n y after) ∙ ap (drop n) r.rest ∙ drop_back n (drop y rows) new count ∙ drop-drop n y rows;
       }
 
 pub region_is_shown : (width_of : List ℕ → ℕ) (d : Display) (x y width height : ℕ) (news : List Row) (other_x other_y : ℕ) → IsSoundText width_of space false → IsDisplay d → All IsWhole news → All (IsSoundRow width_of) news
@@ -223,13 +223,13 @@ lines_are_shown width_of d y news b h w p =
     let whole : All IsWhole (drop y rows) = All-drop IsWhole y rows h.whole in
     let above : take y (replay width_of d (difference (rows_fresh lines y (drop y rows) news))).screen.rows ≡ take y rows =
     subst (λ (olds : List Row). take y (replay width_of d (difference (rows_fresh lines y olds news))).screen.rows ≡ take y rows) all r.above in
-    let behind : drop y (replay width_of d (difference (rows_fresh lines y (drop y rows) news))).screen.rows ≡ redrawn lines (drop y rows) news =
-    subst (λ (olds : List Row). drop y (replay width_of d (difference (rows_fresh lines y olds news))).screen.rows ≡ redrawn lines olds news ++ drop n (drop y rows)) all r.behind
+    let rest : drop y (replay width_of d (difference (rows_fresh lines y (drop y rows) news))).screen.rows ≡ redrawn lines (drop y rows) news =
+    subst (λ (olds : List Row). drop y (replay width_of d (difference (rows_fresh lines y olds news))).screen.rows ≡ redrawn lines olds news ++ drop n (drop y rows)) all r.rest
     ∙ ap (λ (rs : List Row). redrawn lines (drop y rows) news ++ rs) none
     ∙ append-nil (redrawn lines (drop y rows) news) in
     record {
       above = above;
-      within = subst (RowsShow (λ new. ShowsRow 0 0 (length new) new) news (drop y rows)) (sym behind) (rows_shown width_of b 0 0 length (drop y rows) news whole w p);
+      within = subst (RowsShow (λ new. ShowsRow 0 0 (length new) new) news (drop y rows)) (sym rest) (rows_shown width_of b 0 0 length (drop y rows) news whole w p);
     }
 
 pub region_places : (width_of : List ℕ → ℕ) (s : Screen) (x y width rows : ℕ) (news : List Row) (other_x other_y : ℕ) → IsSoundText width_of space false → IsScreen s → All IsWhole news → All (IsSoundRow width_of) news
@@ -275,7 +275,7 @@ screen_is_shown width_of d new b h g e f w p =
     let r = replay_redraws width_of b 0 0 (λ _. d.screen.width) d new.rows 0 n h w p in
     let lines : Row → Row → List VisibleCell = λ old row. row_fresh 0 0 d.screen.width old row in
     let even : All (λ row. length row ≡ d.screen.width) new.rows = subst (λ m. All (λ row. length row ≡ m) new.rows) e g.even in
-    r.behind
+    r.rest
     ∙ (λ i. redrawn lines (take_all n rows (omega arith) i) new.rows ++ drop_all n rows (omega arith) i)
     ∙ append-nil (redrawn lines rows new.rows)
     ∙ rows_become d.screen.width rows new.rows (sym f) h.lawful.even even h.whole w

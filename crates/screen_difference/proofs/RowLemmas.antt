@@ -13,7 +13,7 @@ use Rattle.cell_edits.specs.CellList.{cell_columns}
 use Rattle.cell_edits.specs.VisibleCells.{VisibleCell, visible_at, visible_from}
 use Rattle.cell_views.proofs.KeptLemmas.{in_order}
 use Rattle.cell_base.specs.WholeRow.{IsWhole}
-use Rattle.cell_base.proofs.RowLemmas.{length-closed_start, whole_ends, whole-append, whole-behind}
+use Rattle.cell_base.proofs.RowLemmas.{length-closed_start, whole_ends, whole-append, whole-after}
 use Rattle.screen_difference.specs.FreshCells.{fresh, is_shown}
 use Rattle.screen_difference.proofs.FreshLemmas.{none_later, not_here, or_false}
 
@@ -116,7 +116,7 @@ still_agree draws at (RightHalf b ∷ news) (RightHalf a ∷ olds) w p = absurd 
 abbrev set_cell : ℕ → Row → VisibleCell → Row
 set_cell x row v = set_columns row (v.column - x) (cell_columns v.cell)
 
--- columns behind whole ones are set
+-- columns after whole ones are set
 set_there : (done olds cols : Row) (at : ℕ) → at ≡ length done → IsWhole done → set_columns (done ++ olds) at cols ≡ (done ++ cols) ++ closed_start (drop (length cols) olds)
 set_there done olds cols at e w =
     ap (λ n. set_columns (done ++ olds) n cols) e
@@ -139,15 +139,15 @@ not_drawn : {b : Bool} {P : Type 0} → b ≡ false → (b ≡ true) ⊎ P → P
 not_drawn f (inl t) = absurd (false≢true (sym f ∙ t))
 not_drawn f (inr p) = p
 
--- behind a left half stands its right half
+-- after a left half stands its right half
 pair_of : (t : List ℕ) (a : Attributes) (z : Column) (olds : Row) → IsWhole (LeftHalf t a ∷ z ∷ olds) → (z ≡ RightHalf a) × IsWhole olds
 pair_of t a (Narrow u b) olds w = absurd w
 pair_of t a (LeftHalf u b) olds w = absurd w
 pair_of t a (RightHalf b) olds w = (ap RightHalf w.0, w.1)
 
--- ---- the new columns, one behind the other
+-- ---- the new columns, one after the other
 
--- each cell that isn't drawn stands there already, and each that is drawn leaves the columns behind it, less a half
+-- each cell that isn't drawn stands there already, and each that is drawn leaves the columns after it, less a half
 drawn_all : (x at : ℕ) (draws : VisibleCell → Bool) (done news olds : Row) → at ≡ x + length done → IsWhole done → IsWhole news → IsWhole olds → length news ≡ length olds → AllAgree draws at news olds
     → fold (set_cell x) (done ++ olds) (filter draws (visible_from at news)) ≡ done ++ news
 drawn_all x at draws done [] [] e d n o l p = refl
@@ -168,7 +168,7 @@ drawn_all x at draws done (Narrow t a ∷ news) (y ∷ olds) e d n o l p =
     (λ f.
     let rest : Row = closed_start olds in
     let all : fold (set_cell x) (next ++ rest) (filter draws (visible_from (at + 1) news)) ≡ next ++ news =
-    drawn_all x (at + 1) draws next news rest count (whole_one t a done d) n (whole-behind 1 (y ∷ olds) o) (omega (arith, length-closed_start olds)) (still_agree draws (at + 1) news olds n p.1) in
+    drawn_all x (at + 1) draws next news rest count (whole_one t a done d) n (whole-after 1 (y ∷ olds) o) (omega (arith, length-closed_start olds)) (still_agree draws (at + 1) news olds n p.1) in
     draw_first x draws v (visible_from (at + 1) news) (done ++ y ∷ olds) f
     ∙ ap (λ (r : Row). fold (set_cell x) r (filter draws (visible_from (at + 1) news))) (set_there done (y ∷ olds) (Narrow t a ∷ []) (at - x) there d)
     ∙ all
@@ -193,7 +193,7 @@ drawn_all x at draws done (LeftHalf t a ∷ RightHalf b ∷ news) (y ∷ z ∷ o
     (λ f.
     let rest : Row = closed_start olds in
     let all : fold (set_cell x) (next ++ rest) (filter draws (visible_from (at + 1 + 1) news)) ≡ next ++ news =
-    drawn_all x (at + 1 + 1) draws next news rest count (whole_two t a b done n.0 d) n.1 (whole-behind 2 (y ∷ z ∷ olds) o) (omega (arith, length-closed_start olds)) (still_agree draws (at + 1 + 1) news olds n.1 p.1.1) in
+    drawn_all x (at + 1 + 1) draws next news rest count (whole_two t a b done n.0 d) n.1 (whole-after 2 (y ∷ z ∷ olds) o) (omega (arith, length-closed_start olds)) (still_agree draws (at + 1 + 1) news olds n.1 p.1.1) in
     draw_first x draws v (visible_from (at + 1 + 1) news) (done ++ y ∷ z ∷ olds) f
     ∙ ap (λ (r : Row). fold (set_cell x) r (filter draws (visible_from (at + 1 + 1) news))) (set_there done (y ∷ z ∷ olds) (LeftHalf t a ∷ RightHalf a ∷ []) (at - x) there d ∙ ap (λ (r : Row). (done ++ r) ++ rest) attributes)
     ∙ all

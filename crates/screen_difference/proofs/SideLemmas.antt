@@ -22,7 +22,7 @@ use Rattle.screen_difference.specs.ShownCells.{begins_with, differing, from_colu
 pub differs : (a b : ℕ) → (a < b) ⊎ (b < a) → (a == b) ≡ false
 differs a b h = by_test (a == b) (λ t. let e = (unsigned_Decides a b).0 t in elim h [ inl p ↦ absurd (omega arith) | inr p ↦ absurd (omega arith) ]) (λ f. f)
 
--- ---- cells of a text at the front
+-- ---- cells of a text at the start
 
 pub side_each : (at c : ℕ) (text : List ℕ) (a : Attributes) (rest : List VisibleCell) → side_by_side at (visible_each c text a ++ rest) ≡ visible_each at text a ++ side_by_side (at + length text) rest
 side_each at c [] a rest = let e : at ≡ at + 0 = omega arith in ap (λ n. side_by_side n rest) e
@@ -50,7 +50,7 @@ each_joined at (suc n) (b ∷ text) a h =
 
 -- ---- cells that are passed
 
--- the first of the cells begins at a column or behind it
+-- the first of the cells begins at a column or after it
 abbrev Later : ℕ → List VisibleCell → Type 0
 Later k [] = ⊤
 Later k (v ∷ cells) = k ≤ v.column
@@ -95,7 +95,7 @@ passed_later k olds [] h = refl
 passed_later k olds (v ∷ news) h =
     ap (λ (rest : List VisibleCell). if begins_with rest v.column v.cell then passed_fresh rest news else v ∷ passed_fresh rest news) (from_twice k v.column olds h)
 
--- a cell, and those behind it
+-- a cell, and those after it
 passed_cell : (olds : List VisibleCell) (v : VisibleCell) (news : List VisibleCell) → Later (v.column + 1) news → passed_fresh olds (v ∷ news) ≡ passed_fresh olds (v ∷ []) ++ passed_fresh (from_column (v.column + 1) olds) news
 passed_cell olds v news h =
     let rest : List VisibleCell = from_column v.column olds in
@@ -106,18 +106,18 @@ passed_cell olds v news h =
       | false ↦ ap (λ (vs : List VisibleCell). v ∷ vs) e
     ]
 
--- cells of a text, and those behind it
+-- cells of a text, and those after it
 passed_split : (olds : List VisibleCell) (at : ℕ) (text : List ℕ) (a : Attributes) (m : ℕ) (news : List VisibleCell) → m ≡ at + length text → Later m news
     → passed_fresh olds (visible_each at text a ++ news) ≡ passed_fresh olds (visible_each at text a) ++ passed_fresh (from_column m olds) news
 passed_split olds at [] a m news e h = sym (passed_later m olds news h)
 passed_split olds at (b ∷ text) a m news e h =
     let v : VisibleCell = visible_at at (b ∷ []) 1 a in
     let rest : List VisibleCell = from_column at olds in
-    let others : List VisibleCell = visible_each (at + 1) text a in
+    let remaining : List VisibleCell = visible_each (at + 1) text a in
     let next : List VisibleCell = passed_fresh (from_column m olds) news in
-    let on : passed_fresh rest (others ++ news) ≡ passed_fresh rest others ++ next =
-    passed_split rest (at + 1) text a m news (omega arith) h ∙ ap (λ (os : List VisibleCell). passed_fresh rest others ++ passed_fresh os news) (from_twice at m olds (omega arith)) in
-    elim (begins_with rest at v.cell) as (λ t. (if t then passed_fresh rest (others ++ news) else v ∷ passed_fresh rest (others ++ news)) ≡ (if t then passed_fresh rest others else v ∷ passed_fresh rest others) ++ next) [
+    let on : passed_fresh rest (remaining ++ news) ≡ passed_fresh rest remaining ++ next =
+    passed_split rest (at + 1) text a m news (omega arith) h ∙ ap (λ (os : List VisibleCell). passed_fresh rest remaining ++ passed_fresh os news) (from_twice at m olds (omega arith)) in
+    elim (begins_with rest at v.cell) as (λ t. (if t then passed_fresh rest (remaining ++ news) else v ∷ passed_fresh rest (remaining ++ news)) ≡ (if t then passed_fresh rest remaining else v ∷ passed_fresh rest remaining) ++ next) [
       | true ↦ on
       | false ↦ ap (λ (vs : List VisibleCell). v ∷ vs) on
     ]
@@ -133,9 +133,9 @@ all_fresh at oc [] a cells h = refl
 all_fresh at oc (b ∷ text) a cells h =
     let v : VisibleCell = visible_at at (b ∷ []) 1 a in
     let olds : List VisibleCell = side_by_side oc cells in
-    let others : List VisibleCell = visible_each (at + 1) text a in
-    ap (λ (rest : List VisibleCell). if begins_with rest at v.cell then passed_fresh rest others else v ∷ passed_fresh rest others) (from_side at oc cells (omega arith))
-    ∙ ap (λ t. if t then passed_fresh olds others else v ∷ passed_fresh olds others) (none_there at oc cells v.cell (omega arith))
+    let remaining : List VisibleCell = visible_each (at + 1) text a in
+    ap (λ (rest : List VisibleCell). if begins_with rest at v.cell then passed_fresh rest remaining else v ∷ passed_fresh rest remaining) (from_side at oc cells (omega arith))
+    ∙ ap (λ t. if t then passed_fresh olds remaining else v ∷ passed_fresh olds remaining) (none_there at oc cells v.cell (omega arith))
     ∙ ap (λ (vs : List VisibleCell). v ∷ vs) (all_fresh (at + 1) oc text a cells (omega arith))
 
 -- a cell where another stands
@@ -145,10 +145,10 @@ on_cell at o v olds news h =
     let old : VisibleCell = record { column = at; cell = o } in
     let new : VisibleCell = record { column = at; cell = v } in
     let place : (at == at) ≡ true = (unsigned_Decides at at).1 refl in
-    let others : passed_fresh (old ∷ olds) news ≡ passed_fresh olds news =
+    let remaining : passed_fresh (old ∷ olds) news ≡ passed_fresh olds news =
     sym (passed_later (at + 1) (old ∷ olds) news h) ∙ ap (λ (os : List VisibleCell). passed_fresh os news) (from_next (at + 1) old olds (omega arith)) ∙ passed_later (at + 1) olds news h in
     ap (λ (rest : List VisibleCell). if begins_with rest at v then passed_fresh rest news else new ∷ passed_fresh rest news) (from_later at (old ∷ olds) (omega arith))
-    ∙ (λ i. if place i && same_cell o v then others i else new ∷ others i)
+    ∙ (λ i. if place i && same_cell o v then remaining i else new ∷ remaining i)
 
 abbrev byte_cell : ℕ → Attributes → CellContent
 byte_cell b a = record { text = b ∷ []; width = 1; attributes = a }
@@ -233,7 +233,7 @@ first_begins at v cells cell = ap (λ t. t && same_cell v.cell cell) ((unsigned_
 pub first_passed : (at : ℕ) (v : VisibleCell) (cells : List VisibleCell) → 1 ≤ v.cell.width → from_column (at + 1) (side_by_side at (v ∷ cells)) ≡ side_by_side (at + v.cell.width) cells
 first_passed at v cells h = from_next (at + 1) (record v { column = at }) (side_by_side (at + v.cell.width) cells) (omega arith) ∙ from_side (at + 1) (at + v.cell.width) cells (omega arith)
 
--- ---- what a step passes, by where the cells begin behind it
+-- ---- what a step passes, by where the cells begin after it
 
 pub none_begins : (at oc : ℕ) (olds cells : List VisibleCell) (cell : CellContent) → side_by_side oc cells ≡ from_column at olds → at < oc → false ≡ begins_with (from_column at olds) at cell
 none_begins at oc olds cells cell e h = sym (none_there at oc cells cell h) ∙ ap (λ (os : List VisibleCell). begins_with os at cell) e
@@ -246,17 +246,17 @@ on_passed at to oc n olds cells news e h k p = p ∙ (λ i. from_column (k i) (e
 
 -- ---- steps of the walk, and what they write
 
--- the cells of a text's front, and then those behind it
+-- the cells of a text's prefix, and then those after it
 front_written : (d next : Drawing) (row : ℕ) (olds left : List VisibleCell) (at n : ℕ) (text : List ℕ) (a : Attributes) → n ≤ length text
     → next ≡ with_all d (placed row (passed_fresh olds (visible_each at (take n text) a))) → left ≡ from_column (at + n) olds
     → with_all next (placed row (passed_fresh left (visible_each (at + n) (drop n text) a))) ≡ with_all d (placed row (passed_fresh olds (visible_each at text a)))
 front_written d next row olds left at n text a h e p =
-    let front : List VisibleCell = visible_each at (take n text) a in
-    let behind : List VisibleCell = visible_each (at + n) (drop n text) a in
+    let prefix : List VisibleCell = visible_each at (take n text) a in
+    let after : List VisibleCell = visible_each (at + n) (drop n text) a in
     let count = length-take-le n text h in
-    (λ i. with_all (e i) (placed row (passed_fresh (p i) behind)))
-    ∙ written_more d row (passed_fresh olds front) (passed_fresh (from_column (at + n) olds) behind)
-    ∙ ap (λ (vs : List VisibleCell). with_all d (placed row vs)) (sym (ap (passed_fresh olds) (each_joined at n text a h) ∙ passed_split olds at (take n text) a (at + n) behind (omega arith) (later_each (at + n) (at + n) (drop n text) a (omega arith))))
+    (λ i. with_all (e i) (placed row (passed_fresh (p i) after)))
+    ∙ written_more d row (passed_fresh olds prefix) (passed_fresh (from_column (at + n) olds) after)
+    ∙ ap (λ (vs : List VisibleCell). with_all d (placed row vs)) (sym (ap (passed_fresh olds) (each_joined at n text a h) ∙ passed_split olds at (take n text) a (at + n) after (omega arith) (later_each (at + n) (at + n) (drop n text) a (omega arith))))
 
 pub text_written : (d next : Drawing) (row : ℕ) (olds left cells rest : List VisibleCell) (at c : ℕ) (text : List ℕ) (a : Attributes)
     → cells ≡ visible_each c text a ++ rest
@@ -264,12 +264,12 @@ pub text_written : (d next : Drawing) (row : ℕ) (olds left cells rest : List V
     → with_all next (placed row (passed_fresh left (side_by_side (at + length text) rest))) ≡ with_all d (placed row (passed_fresh olds (side_by_side at cells)))
 text_written d next row olds left cells rest at c text a g e p =
     let to = at + length text in
-    let front : List VisibleCell = visible_each at text a in
-    let behind : List VisibleCell = side_by_side to rest in
-    let later : Later to behind = later_side to to rest (omega arith) in
-    (λ i. with_all (e i) (placed row ((sym (passed_later to left behind later) ∙ ap (λ (os : List VisibleCell). passed_fresh os behind) p) i)))
-    ∙ written_more d row (passed_fresh olds front) (passed_fresh (from_column to olds) behind)
-    ∙ ap (λ (vs : List VisibleCell). with_all d (placed row vs)) (sym (ap (λ (vs : List VisibleCell). passed_fresh olds (side_by_side at vs)) g ∙ ap (passed_fresh olds) (side_each at c text a rest) ∙ passed_split olds at text a to behind (omega arith) later))
+    let prefix : List VisibleCell = visible_each at text a in
+    let after : List VisibleCell = side_by_side to rest in
+    let later : Later to after = later_side to to rest (omega arith) in
+    (λ i. with_all (e i) (placed row ((sym (passed_later to left after later) ∙ ap (λ (os : List VisibleCell). passed_fresh os after) p) i)))
+    ∙ written_more d row (passed_fresh olds prefix) (passed_fresh (from_column to olds) after)
+    ∙ ap (λ (vs : List VisibleCell). with_all d (placed row vs)) (sym (ap (λ (vs : List VisibleCell). passed_fresh olds (side_by_side at vs)) g ∙ ap (passed_fresh olds) (side_each at c text a rest) ∙ passed_split olds at text a to after (omega arith) later))
 
 pub cell_written : (d next : Drawing) (row : ℕ) (olds left cells rest : List VisibleCell) (at n : ℕ) (v : VisibleCell) → 1 ≤ v.cell.width → n ≡ v.cell.width
     → cells ≡ v ∷ rest
@@ -277,10 +277,10 @@ pub cell_written : (d next : Drawing) (row : ℕ) (olds left cells rest : List V
     → with_all next (placed row (passed_fresh left (side_by_side (at + n) rest))) ≡ with_all d (placed row (passed_fresh olds (side_by_side at cells)))
 cell_written d next row olds left cells rest at n v h w g e p =
     let there : VisibleCell = record v { column = at } in
-    let behind : List VisibleCell = side_by_side (at + v.cell.width) rest in
+    let after : List VisibleCell = side_by_side (at + v.cell.width) rest in
     (λ i. with_all (e i) (placed row (passed_fresh (p i) (side_by_side (at + w i) rest))))
-    ∙ written_more d row (passed_fresh olds (there ∷ [])) (passed_fresh (from_column (at + 1) olds) behind)
-    ∙ ap (λ (vs : List VisibleCell). with_all d (placed row vs)) (sym (ap (λ (vs : List VisibleCell). passed_fresh olds (side_by_side at vs)) g ∙ passed_cell olds there behind (later_side (at + 1) (at + v.cell.width) rest (omega arith))))
+    ∙ written_more d row (passed_fresh olds (there ∷ [])) (passed_fresh (from_column (at + 1) olds) after)
+    ∙ ap (λ (vs : List VisibleCell). with_all d (placed row vs)) (sym (ap (λ (vs : List VisibleCell). passed_fresh olds (side_by_side at vs)) g ∙ passed_cell olds there after (later_side (at + 1) (at + v.cell.width) rest (omega arith))))
 
 -- a text before the old cells that are left
 pub gap_fresh : (at oc : ℕ) (olds cells : List VisibleCell) (text : List ℕ) (a : Attributes) → side_by_side oc cells ≡ from_column at olds → at + length text ≤ oc → passed_fresh olds (visible_each at text a) ≡ visible_each at text a
@@ -295,7 +295,7 @@ left_fresh at olds left text a e = ap (λ (os : List VisibleCell). passed_fresh 
 pub run_passed : (at oc to : ℕ) (olds cells : List VisibleCell) (text : List ℕ) (a : Attributes) → olds ≡ visible_each at text a ++ side_by_side oc cells → at + length text ≤ to → to ≤ oc → side_by_side oc cells ≡ from_column to olds
 run_passed at oc to olds cells text a e h k = sym (ap (from_column to) e ∙ from_each to at text a (side_by_side oc cells) h ∙ from_side to oc cells k)
 
--- the next ones of a text's cells, and then those behind them
+-- the next ones of a text's cells, and then those after them
 pub next_written : (d next : Drawing) (row : ℕ) (olds left : List VisibleCell) (column at n : ℕ) (text part : List ℕ) (a : Attributes) → part ≡ drop at text → n ≤ length part
     → next ≡ with_all d (placed row (passed_fresh olds (visible_each (column + at) (take n part) a))) → left ≡ from_column (column + at + n) olds
     → with_all next (placed row (passed_fresh left (visible_each (column + (at + n)) (drop (at + n) text) a))) ≡ with_all d (placed row (passed_fresh olds (visible_each (column + at) (drop at text) a)))
@@ -311,5 +311,5 @@ pub fewer_each : (c : ℕ) (text : List ℕ) (a : Attributes) (cells rest : List
 fewer_each c [] a cells rest e h = absurd (omega arith)
 fewer_each c (b ∷ text) a cells rest e h =
     let all = ap length e in
-    let front = length-append (visible_each (c + 1) text a) rest in
+    let prefix = length-append (visible_each (c + 1) text a) rest in
     omega arith

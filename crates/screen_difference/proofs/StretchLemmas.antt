@@ -17,7 +17,7 @@ use Rattle.screen_difference.specs.FreshCells.{PlacedCell}
 
 -- ---- cells that are pushed, by stretches
 
--- a stretch behind what is written
+-- a stretch after what is written
 abbrev stretch_done : Written → Stretch → Drawing
 stretch_done w s = record { written = with_cells w (cells_of s); has_begun = true; row = s.row; column = fold (λ n c. n + c.width) s.column (cells_of s) }
 
@@ -57,7 +57,7 @@ by_stretches d (c ∷ cells) = by_stretches (with_placed d c) cells ∙ one_more
 
 -- ---- what stretches write
 
--- cells behind a change
+-- cells after a change
 after_change : (change : ChangeValue) (w : Written) (cells : List CellContent) → finished (with_cells (with_change change w) cells) ≡ finished w ++ change ∷ cells_written w.pen cells
 after_change change w cells = cells_are_written (with_change change w) cells refl ∙ append_assoc (finished w) (change ∷ []) (cells_written w.pen cells)
 
@@ -67,7 +67,7 @@ all_apart d (s ∷ ss) =
     let w : Written = with_change (position s.column s.row) d.written in
     all_apart (apart d s) ss
     ∙ (λ i. after_change (position s.column s.row) d.written (cells_of s) i ++ stretches_written (Some (pen_is_after w (cells_of s) i)) ss)
-    ∙ append_assoc (finished d.written) (position s.column s.row ∷ cells_written d.written.pen (cells_of s)) (stretches_written (Some (last_pen s.first.attributes s.others)) ss)
+    ∙ append_assoc (finished d.written) (position s.column s.row ∷ cells_written d.written.pen (cells_of s)) (stretches_written (Some (last_pen s.first.attributes s.remaining)) ss)
 
 -- nothing, and then the first stretch
 first_written : (s : Stretch) → finished (with_cells (first_moved s.row s.column s.first.attributes) (cells_of s)) ≡ position s.column s.row ∷ AllAttributes s.first.attributes ∷ cells_written s.first.attributes (cells_of s)

@@ -37,7 +37,7 @@ each_more at (suc n) (x ∷ text) a b h g =
     let e : at + 1 + n ≡ at + suc n = omega arith in
     ap (λ (vs : List VisibleCell). visible_at at (x ∷ []) 1 a ∷ vs) (each_more (at + 1) n text a b (omega arith) g ∙ ap (λ k. visible_each (at + 1) (take n text) a ++ visible_at k (b ∷ []) 1 a ∷ []) e)
 
--- those from one on and before another are written, and those behind it compared
+-- those from one on and before another are written, and those after it compared
 abbrev pub mixed : ℕ → ℕ → ℕ → List ℕ → List ℕ → Attributes → List VisibleCell
 mixed column from at olds news a = visible_each (column + from) (take (at - from) (drop from news)) a ++ differing (column + at) (drop at olds) (drop at news) a
 
@@ -66,17 +66,17 @@ mixed_other : (column from at : ℕ) (olds news : List ℕ) (a : Attributes) →
 mixed_other column from at olds news a le h e n =
     let b = get_or news at 0 in
     let other : (get_or olds at 0 == b) ≡ false = by_test (get_or olds at 0 == b) (λ t. absurd (n ((unsigned_Decides (get_or olds at 0) b).0 t))) (λ f. f) in
-    let behind = length-drop from news in
+    let after = length-drop from news in
     let count : at + 1 - from ≡ suc (at - from) = omega arith in
     let place : column + from + (at - from) ≡ column + at = omega arith in
     let index : from + (at - from) ≡ at = omega arith in
     let there : get_or (drop from news) (at - from) 0 ≡ b = get_or-drop from news (at - from) 0 ∙ ap (λ k. get_or news k 0) index in
     let rest : List VisibleCell = differing (column + (at + 1)) (drop (at + 1) olds) (drop (at + 1) news) a in
-    let front : List VisibleCell = visible_each (column + from) (take (at - from) (drop from news)) a in
+    let prefix : List VisibleCell = visible_each (column + from) (take (at - from) (drop from news)) a in
     ap (λ k. visible_each (column + from) (take k (drop from news)) a ++ rest) count
     ∙ ap (λ (vs : List VisibleCell). vs ++ rest) (each_more (column + from) (at - from) (drop from news) a b (omega arith) there)
-    ∙ append_assoc front (visible_at (column + from + (at - from)) (b ∷ []) 1 a ∷ []) rest
-    ∙ ap (λ (vs : List VisibleCell). front ++ vs) (ap (λ k. visible_at k (b ∷ []) 1 a ∷ rest) place ∙ sym (compared column at olds news a h e ∙ ap (λ t. if t then rest else visible_at (column + at) (b ∷ []) 1 a ∷ rest) other))
+    ∙ append_assoc prefix (visible_at (column + from + (at - from)) (b ∷ []) 1 a ∷ []) rest
+    ∙ ap (λ (vs : List VisibleCell). prefix ++ vs) (ap (λ k. visible_at k (b ∷ []) 1 a ∷ rest) place ∙ sym (compared column at olds news a h e ∙ ap (λ t. if t then rest else visible_at (column + at) (b ∷ []) 1 a ∷ rest) other))
 
 -- where the next character is the same, those that wait are written
 same_written : (d next : Drawing) (row column from at : ℕ) (olds news part : List ℕ) (a : Attributes) → at < length news → length olds ≡ length news → get_or olds at 0 ≡ get_or news at 0

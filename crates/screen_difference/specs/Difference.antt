@@ -12,19 +12,19 @@ pub record Stretch : Type 0 where
   pub row : ℕ
   pub column : ℕ
   pub first : CellContent
-  pub others : List CellContent
+  pub remaining : List CellContent
 
 abbrev pub cells_of : Stretch → List CellContent
-cells_of stretch = stretch.first ∷ stretch.others
+cells_of stretch = stretch.first ∷ stretch.remaining
 
 -- a cell alone, and a cell before a stretch
 abbrev pub alone : PlacedCell → Stretch
-alone c = record { row = c.row; column = c.column; first = c.cell; others = [] }
+alone c = record { row = c.row; column = c.column; first = c.cell; remaining = [] }
 
 abbrev pub longer : PlacedCell → Stretch → Stretch
-longer c stretch = record { row = c.row; column = c.column; first = c.cell; others = cells_of stretch }
+longer c stretch = record { row = c.row; column = c.column; first = c.cell; remaining = cells_of stretch }
 
--- the cell joins the stretch behind it where that begins in its row, at the column behind it
+-- the cell joins the stretch after it where that begins in its row, at the column after it
 abbrev pub before_stretches : PlacedCell → List Stretch → List Stretch
 before_stretches c [] = alone c ∷ []
 before_stretches c (stretch ∷ stretches) =
@@ -51,7 +51,8 @@ stretch_written (Some pen) stretch = position stretch.column stretch.row ∷ cel
 abbrev pub stretches_written : Option Attributes → List Stretch → List ChangeValue
 stretches_written pen [] = []
 stretches_written pen (stretch ∷ stretches) =
-    stretch_written pen stretch ++ stretches_written (Some (last_pen stretch.first.attributes stretch.others)) stretches
+    stretch_written pen stretch
+    ++ stretches_written (Some (last_pen stretch.first.attributes stretch.remaining)) stretches
 
 -- the changes that write the cells: each stretch with a position before it, and attributes wherever they aren't the
 -- last ones written

@@ -6,7 +6,7 @@ use Rattle.screen_change.specs.Written.{Written, begun, with_change, with_cell}
 use Rattle.screen_difference.specs.Difference.{position}
 use Rattle.screen_difference.specs.FreshCells.{PlacedCell}
 
--- what is written so far, whether that is anything, and the row and the column behind the last cell
+-- what is written so far, whether that is anything, and the row and the column after the last cell
 pub record Drawing : Type 0 where
   pub written : Written
   pub has_begun : Bool

@@ -9,7 +9,7 @@ use Rattle.screen_difference.specs.FreshCells.{PlacedCell}
 use Rattle.screen_effects.specs.Effect.{with_pen}
 use Rattle.screen_effects.specs.WrittenCells.{IsSoundText}
 
--- the cell stands at its place, the cursor behind it, and the pen has its attributes
+-- the cell stands at its place, the cursor after it, and the pen has its attributes
 abbrev pub drawn : Screen → PlacedCell → Screen
 drawn screen c =
     with_pen c.cell.attributes (write_columns (cell_columns c.cell) (record screen { column = c.column; row = c.row }))

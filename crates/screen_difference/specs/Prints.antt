@@ -43,13 +43,13 @@ stroke_prints width_of screen (Cluster text) = print_of width_of screen text ∷
 -- moves and clusters in turn: what they print, and whether one of them scrolls
 abbrev pub strokes_print : (List ℕ → ℕ) → Screen → List Stroke → List PlacedText
 strokes_print width_of screen [] = []
-strokes_print width_of screen (stroke ∷ others) =
-    stroke_prints width_of screen stroke ++ strokes_print width_of (stroke_on width_of screen stroke) others
+strokes_print width_of screen (stroke ∷ remaining) =
+    stroke_prints width_of screen stroke ++ strokes_print width_of (stroke_on width_of screen stroke) remaining
 
 abbrev pub strokes_scroll : (List ℕ → ℕ) → Screen → List Stroke → Bool
 strokes_scroll width_of screen [] = false
-strokes_scroll width_of screen (stroke ∷ others) =
-    scrolls width_of screen stroke || strokes_scroll width_of (stroke_on width_of screen stroke) others
+strokes_scroll width_of screen (stroke ∷ remaining) =
+    scrolls width_of screen stroke || strokes_scroll width_of (stroke_on width_of screen stroke) remaining
 
 -- the moves and clusters of a change's text; any other change has none
 abbrev pub change_strokes : ChangeValue → List Stroke

@@ -8,11 +8,11 @@ use Rattle.screen_effects.specs.Display.{Display}
 abbrev pub IsKept : (Row → Row) → Row → Row → Type 0
 IsKept closed before after = (after ≡ before) ⊎ (after ≡ closed before)
 
--- from a column on a row shows these columns, where a cell that an edge cuts counts as a blank; before and behind them
+-- from a column on a row shows these columns, where a cell that an edge cuts counts as a blank; before and after them
 -- it is as it was, but that of a wide cell which straddles the edge the half outside may have become a blank
 pub record ShowsPart (start : ℕ) (columns before after : Row) : Type 0 where
   pub within : columns_from start (length columns) after ≡ columns
-  pub front : IsKept closed_end (take start before) (take start after)
+  pub prefix : IsKept closed_end (take start before) (take start after)
   pub back : IsKept closed_start (drop (start + length columns) before) (drop (start + length columns) after)
   pub width : length after ≡ length before
 
@@ -43,7 +43,7 @@ pub record ShowsLines (y : ℕ) (news before after : List Row) : Type 0 where
   pub above : take y after ≡ take y before
   pub within : RowsShow (λ new. ShowsRow 0 0 (length new) new) news (drop y before) (drop y after)
 
--- nothing but rows, the cursor's place and the pen has changed
+-- nothing but rows, the cursor's position and the pen has changed
 pub record KeepsOthers (before after : Display) : Type 0 where
   pub width : after.screen.width ≡ before.screen.width
   pub visible : after.screen.visible ≡ before.screen.visible

@@ -36,7 +36,7 @@ impl<'a> Model for DifferenceWriter<'a> {
     ghost view = { drawing_of };
 }
 
-// The change that moves the cursor to a place.
+// The change that moves the cursor to a position.
 fn position(column: usize, row: usize) -> Change
     ensures { value_of result ≡ position column row }
 {
@@ -60,7 +60,7 @@ impl<'a> DifferenceWriter<'a> {
         }
     }
 
-    // The place and the attributes of the first cell.
+    // The position and the attributes of the first cell.
     fn begin(
         &mut self,
         row: usize,
@@ -96,7 +96,7 @@ impl<'a> DifferenceWriter<'a> {
         Ok(())
     }
 
-    /// Writes a cell at a place.
+    /// Writes a cell at a position.
     pub(crate) fn push(
         &mut self,
         row: usize,

@@ -9,7 +9,7 @@ ghost use Rattle.screen_difference.specs.FreshCells.{placed};
 ghost use Rattle.screen_difference.specs.ShownCells.{differing, from_column, passed_fresh, shown_left, Fits};
 
 use crate::difference_writer::DifferenceWriter;
-use crate::plain_text::{behind, front, part};
+use crate::plain_text::{after, part, prefix};
 use crate::shown_cells::ShownCells;
 use cell_base::CellAttributes;
 use cell_line::CellRef;
@@ -39,7 +39,7 @@ fn write_differing<'a>(
             from = at + 1;
         }
     }
-    writer.push_plain(row, column + from, behind(text, from), attrs)
+    writer.push_plain(row, column + from, after(text, from), attrs)
 }
 
 // Writes the fresh ones of plain cells where as many old ones stand.
@@ -54,8 +54,8 @@ fn write_run<'a>(
     requires same { length old.0.now ≡ length text.now }
     requires printable { list_all is_printable text.now ≡ true }
     requires room { column + length text.now < 2 ^ 64 }
-    ensures { OnOk result ((others : List VisibleCell) → writer.new ≡ with_all writer.old (placed row (passed_fresh
-        (visible_each column old.entry.0.now old.entry.1.now ++ others) (visible_each column text.now attrs.now)))) }
+    ensures { OnOk result ((remaining : List VisibleCell) → writer.new ≡ with_all writer.old (placed row (passed_fresh
+        (visible_each column old.entry.0.now old.entry.1.now ++ remaining) (visible_each column text.now attrs.now)))) }
 {
     let (old_text, old_attrs) = old;
     if *old_attrs == *attrs {
@@ -87,7 +87,7 @@ pub(crate) fn write_cell<'a>(
     writer.push(row, column, cell)
 }
 
-// Writes the fresh ones of plain cells at the front of a text, where no old cell begins before them. Returns how many
+// Writes the fresh ones of plain cells at the start of a text, where no old cell begins before them. Returns how many
 // were compared.
 fn write_there<'a>(
     writer: &mut DifferenceWriter<'a>,
@@ -111,12 +111,12 @@ fn write_there<'a>(
 {
     if let Some(old) = olds.pass_plain(text.len()) {
         let count = old.0.len();
-        write_run(writer, row, column, old, front(text, count), attrs)?;
+        write_run(writer, row, column, old, prefix(text, count), attrs)?;
         return Ok(count);
     }
     let cell = CellRef::ClusterRef {
         cell_index: column,
-        text: front(text, 1),
+        text: prefix(text, 1),
         width: 1,
         attrs,
     };
@@ -124,7 +124,7 @@ fn write_there<'a>(
     Ok(1)
 }
 
-// Writes the fresh ones of plain cells at the front of a text. Returns how many were compared.
+// Writes the fresh ones of plain cells at the start of a text. Returns how many were compared.
 fn write_stretch<'a>(
     writer: &mut DifferenceWriter<'a>,
     row: usize,
@@ -147,7 +147,7 @@ fn write_stretch<'a>(
     olds.pass(column);
     let count = olds.gap(column).min(text.len());
     if count > 0 {
-        writer.push_plain(row, column, front(text, count), attrs)?;
+        writer.push_plain(row, column, prefix(text, count), attrs)?;
         return Ok(count);
     }
     let compared = write_there(writer, row, column, olds, text, attrs)?;
@@ -175,7 +175,7 @@ pub(crate) fn write_plain<'a>(
 {
     let mut at = 0;
     while at < text.len() {
-        let count = write_stretch(writer, row, column + at, olds, behind(text, at), attrs)?;
+        let count = write_stretch(writer, row, column + at, olds, after(text, at), attrs)?;
         at += count;
     }
     Ok(())

@@ -13,13 +13,13 @@ ghost use Rattle.screen_effects.specs.Effect.{on_screen, replay};
 ghost use Rattle.screen_effects.specs.WrittenCells.{IsSoundRow};
 
 /// The changes that write cells draw each of them at its place, in turn, and change nothing but
-/// rows, the cursor's place and the pen. The fresh cells of rows whose texts are sound have their
-/// places.
+/// rows, the cursor's position and the pen. The fresh cells of rows whose texts are sound have their
+/// positions.
 pub fn differences_draw_their_cells()
     ensures drawn { (width_of : List ℕ → ℕ) (display : Display) (cells : List PlacedCell) → IsDisplay display
         → HavePlaces width_of display.screen.width (height display.screen) cells
         → replay width_of display (difference cells) ≡ on_screen (all_drawn cells) display }
-    ensures others { (width_of : List ℕ → ℕ) (display : Display) (cells : List PlacedCell) → IsDisplay display
+    ensures remaining { (width_of : List ℕ → ℕ) (display : Display) (cells : List PlacedCell) → IsDisplay display
         → HavePlaces width_of display.screen.width (height display.screen) cells
         → KeepsOthers display (replay width_of display (difference cells)) }
     ensures region { (width_of : List ℕ → ℕ) (screen : Screen) (x : ℕ) (y : ℕ) (width : ℕ) (rows : ℕ) (news : List Row)

@@ -4,7 +4,7 @@ ghost use Rattle.std.specs.List.{list_all};
 ghost use Rattle.text_clusters.specs.Plain.{is_printable};
 
 /// The characters from one on.
-pub(crate) fn behind(text: &str, start: usize) -> &str
+pub(crate) fn after(text: &str, start: usize) -> &str
     requires printable { list_all is_printable text.now ≡ true }
     requires within { start ≤ length text.now }
     ensures part { result.now ≡ drop start text.now }
@@ -13,8 +13,8 @@ pub(crate) fn behind(text: &str, start: usize) -> &str
     &text[start..]
 }
 
-/// So many characters at the front.
-pub(crate) fn front(text: &str, count: usize) -> &str
+/// So many characters at the start.
+pub(crate) fn prefix(text: &str, count: usize) -> &str
     requires printable { list_all is_printable text.now ≡ true }
     requires within { count ≤ length text.now }
     ensures part { result.now ≡ take count text.now }
@@ -31,5 +31,5 @@ pub(crate) fn part(text: &str, start: usize, stop: usize) -> &str
     ensures part { result.now ≡ take (stop - start) (drop start text.now) }
     ensures printable { list_all is_printable result.now ≡ true }
 {
-    front(behind(text, start), stop - start)
+    prefix(after(text, start), stop - start)
 }

@@ -72,13 +72,13 @@ fn region_changes<'a>(
     y: usize,
     width: usize,
     height: usize,
-    others: &'a [Line],
+    remaining: &'a [Line],
     other_x: usize,
     other_y: usize,
 ) -> Result<Vec<Change>, AllocError>
     ensures { IfOk result
         (λ changes. map value_of changes.items
-        ≡ difference (region_fresh (rows_of lines.now) x y width height (rows_of others.now) other_x other_y)) }
+        ≡ difference (region_fresh (rows_of lines.now) x y width height (rows_of remaining.now) other_x other_y)) }
 {
     let mut writer = DifferenceWriter::new(alloc, attrs);
     let olds = lines_from(lines, y);
@@ -89,7 +89,7 @@ fn region_changes<'a>(
         x,
         olds,
         other_x,
-        lines_from(others, other_y),
+        lines_from(remaining, other_y),
         width,
     )?;
     let changes = writer.finish()?;
@@ -106,17 +106,17 @@ pub fn diff_region(
     y: usize,
     width: usize,
     height: usize,
-    others: &[Line],
+    remaining: &[Line],
     other_x: usize,
     other_y: usize,
 ) -> Result<Vec<Change>, AllocError>
     ensures { IfOk result
         (λ changes. map value_of changes.items
-        ≡ difference (region_fresh (rows_of lines.now) x y width height (rows_of others.now) other_x other_y)) }
+        ≡ difference (region_fresh (rows_of lines.now) x y width height (rows_of remaining.now) other_x other_y)) }
 {
     let attrs = CellAttributes::blank();
     let changes = region_changes(
-        alloc, &attrs, lines, x, y, width, height, others, other_x, other_y,
+        alloc, &attrs, lines, x, y, width, height, remaining, other_x, other_y,
     )?;
     Ok(changes)
 }
@@ -126,14 +126,14 @@ fn line_changes<'a>(
     alloc: Global,
     attrs: &'a CellAttributes,
     lines: &[Line],
-    others: &'a [&'a Line],
+    remaining: &'a [&'a Line],
 ) -> Result<Vec<Change>, AllocError>
     ensures { IfOk result
         (λ changes. map value_of changes.items
-        ≡ difference (lines_fresh (rows_of lines.now) 0 (rows_of (map (λ line. line.now) others.now)))) }
+        ≡ difference (lines_fresh (rows_of lines.now) 0 (rows_of (map (λ line. line.now) remaining.now)))) }
 {
     let mut writer = DifferenceWriter::new(alloc, attrs);
-    write_lines(&mut writer, 0, lines, others)?;
+    write_lines(&mut writer, 0, lines, remaining)?;
     let changes = writer.finish()?;
     Ok(changes)
 }
@@ -142,14 +142,14 @@ fn line_changes<'a>(
 pub fn diff_lines(
     alloc: Global,
     lines: &[Line],
-    others: &[&Line],
+    remaining: &[&Line],
 ) -> Result<Vec<Change>, AllocError>
     ensures { IfOk result
         (λ changes. map value_of changes.items
-        ≡ difference (lines_fresh (rows_of lines.now) 0 (rows_of (map (λ line. line.now) others.now)))) }
+        ≡ difference (lines_fresh (rows_of lines.now) 0 (rows_of (map (λ line. line.now) remaining.now)))) }
 {
     let attrs = CellAttributes::blank();
-    let changes = line_changes(alloc, &attrs, lines, others)?;
+    let changes = line_changes(alloc, &attrs, lines, remaining)?;
     Ok(changes)
 }
 
@@ -194,11 +194,11 @@ pub fn diff_screens(
     alloc: Global,
     width: usize,
     lines: &[Line],
-    others: &[Line],
+    remaining: &[Line],
 ) -> Result<Vec<Change>, AllocError>
     ensures { IfOk result
         (λ changes. map value_of changes.items
-        ≡ difference (region_fresh (rows_of lines.now) 0 0 width (length lines.now) (rows_of others.now) 0 0)) }
+        ≡ difference (region_fresh (rows_of lines.now) 0 0 width (length lines.now) (rows_of remaining.now) 0 0)) }
 {
-    diff_region(alloc, lines, 0, 0, width, lines.len(), others, 0, 0)
+    diff_region(alloc, lines, 0, 0, width, lines.len(), remaining, 0, 0)
 }

@@ -83,8 +83,8 @@ fn unequal_part(x: usize, old: &Line, other_x: usize, new: &Line, count: usize) 
     }
     let (start, stop) = old.unequal_columns(new);
     let passed = start.saturating_sub(x).min(count);
-    let behind = stop.saturating_sub(x).min(count);
-    (passed, behind - passed)
+    let after = stop.saturating_sub(x).min(count);
+    (passed, after - passed)
 }
 
 // Writes the fresh cells of so many columns of a line, from `other_x` on, against those of the old line from `x` on.

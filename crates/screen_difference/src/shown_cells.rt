@@ -55,7 +55,7 @@ impl<'a> ShownCells<'a> {
         next.same_contents(cell)
     }
 
-    // Passes some of the first cells, none that begins at a column or behind it.
+    // Passes some of the first cells, none that begins at a column or after it.
     fn pass_some(&mut self, column: usize)
         requires before { self.old.column < column }
         requires fits { Fits self.old }

@@ -13,7 +13,7 @@ use Rattle.cell_base.specs.Row.{Row, blank, plain_row, closed_end}
 use Rattle.cell_base.specs.Screen.{Screen, IsScreen, height}
 use Rattle.screen_change.specs.ChangeValue.{ChangeValue, Attribute, AllAttributes, Text, ClearScreen, ClearToEndOfLine, ClearToEndOfScreen, CursorPosition, CursorColor, CursorShape, CursorVisibility, LineAttribute, ScrollRegionUp, ScrollRegionDown, Title}
 use Rattle.cell_base.specs.WholeRow.{IsWhole}
-use Rattle.cell_base.proofs.RowLemmas.{length-closed_end, length-set_columns, whole-append, whole-front, whole-blanks, whole-set_columns}
+use Rattle.cell_base.proofs.RowLemmas.{length-closed_end, length-set_columns, whole-append, whole-prefix, whole-blanks, whole-set_columns}
 use Rattle.screen_effects.specs.Display.{Display, IsDisplay}
 use Rattle.screen_effects.specs.Effect.{on_screen, blank_row, cursor_row, cleared_after, cleared_screen, cleared_line, cleared_below, scrolled_up, scrolled_down, effect, replay}
 use Rattle.screen_effects.specs.Positions.{place, column_place}
@@ -88,18 +88,18 @@ line_cleared_is color d h =
     }
 
 -- a row between others
-between : (P : Row → Type 0) (before behind : List Row) (x : Row) → All P before → P x → All P behind → All P (before ++ x ∷ behind)
-between P before behind x p q r = All-append P before (x ∷ behind) p first
+between : (P : Row → Type 0) (before after : List Row) (x : Row) → All P before → P x → All P after → All P (before ++ x ∷ after)
+between P before after x p q r = All-append P before (x ∷ after) p first
   where
-    first : All P (x ∷ behind)
+    first : All P (x ∷ after)
     first zero d h = q
     first (suc k) d h = r k d (omega arith)
 
 pub below_height : (color : ColorAttribute) (s : Screen) → IsScreen s → length (cleared_below color s).rows ≡ length s.rows
 below_height color s h =
     let g = h.row_in in
-    let front = length-take s.row s.rows in
-    let behind = length-replicate (height s - (s.row + 1)) (blank_row s.width color) in
+    let prefix = length-take s.row s.rows in
+    let after = length-replicate (height s - (s.row + 1)) (blank_row s.width color) in
     let both = length-append (take s.row s.rows) (cleared_after s.column color (cursor_row s) ∷ replicate (height s - (s.row + 1)) (blank_row s.width color)) in
     omega arith
 
@@ -193,7 +193,7 @@ down_is first size count d h =
 
 -- ---- all changes
 
--- the rows and the cursor's place are as they were
+-- the rows and the cursor's position are as they were
 other_fields : (d : Display) (new : Screen) → IsDisplay d → new.width ≡ d.screen.width → new.rows ≡ d.screen.rows → new.column ≡ d.screen.column → new.row ≡ d.screen.row → IsDisplay (record d { screen = new })
 other_fields d new h w r c y = record {
   lawful = record {
@@ -240,7 +240,7 @@ replay_is width_of (change ∷ changes) d h = replay_is width_of changes (effect
 
 fitted_length : {A : Type 0} (other : A) (size : ℕ) (xs : List A) → length (fitted other size xs) ≡ size
 fitted_length other size xs =
-    let front = length-take size xs in
+    let prefix = length-take size xs in
     let more = length-replicate (size - length xs) other in
     let both = length-append (take size xs) (replicate (size - length xs) other) in
     omega arith
@@ -250,14 +250,14 @@ fitted_all P other size xs q p = All-append P (take size xs) (replicate (size - 
 
 pub resized_width : (width : ℕ) (row : Row) → length (resized_row width row) ≡ width
 resized_width width row =
-    let front = length-closed_end (take width row) in
+    let prefix = length-closed_end (take width row) in
     let cut = length-take width row in
     let more = length-replicate (width - length row) (blank plain) in
     let both = length-append (closed_end (take width row)) (plain_row (width - length row)) in
     omega arith
 
 resized_whole : (width : ℕ) (row : Row) → IsWhole row → IsWhole (resized_row width row)
-resized_whole width row w = whole-append (closed_end (take width row)) (plain_row (width - length row)) (whole-front width row w) (whole_blank_row (width - length row))
+resized_whole width row w = whole-append (closed_end (take width row)) (plain_row (width - length row)) (whole-prefix width row w) (whole_blank_row (width - length row))
 
 pub resized_is : (width rows : ℕ) (d : Display) → 0 < width → 0 < rows → IsDisplay d → IsDisplay (resized width rows d)
 resized_is width rows d p q h =

@@ -24,37 +24,37 @@ by_test : {P : Type 0} (b : Bool) → (b ≡ true → P) → (b ≡ false → P)
 by_test true p q = p refl
 by_test false p q = q refl
 
--- ---- the front without controls, and what stands behind it
+-- ---- the prefix without controls, and what follows it
 
-front : List ℕ → List ℕ
-front [] = []
-front (b ∷ text) = if is_ascii_control b then [] else b ∷ front text
+prefix : List ℕ → List ℕ
+prefix [] = []
+prefix (b ∷ text) = if is_ascii_control b then [] else b ∷ prefix text
 
-behind : List ℕ → List ℕ
-behind [] = []
-behind (b ∷ text) = if is_ascii_control b then b ∷ text else behind text
+after : List ℕ → List ℕ
+after [] = []
+after (b ∷ text) = if is_ascii_control b then b ∷ text else after text
 
 abbrev plain_len : List ℕ → ℕ
 plain_len text = prefix_len (λ byte. not (is_ascii_control byte)) text
 
-front_is : (text : List ℕ) → take (plain_len text) text ≡ front text
-unfolding front
+front_is : (text : List ℕ) → take (plain_len text) text ≡ prefix text
+unfolding prefix
 front_is [] = refl
-front_is (b ∷ text) = elim (is_ascii_control b) as (λ x. take (cond (not x) (1 + plain_len text) 0) (b ∷ text) ≡ (if x then [] else b ∷ front text)) [
+front_is (b ∷ text) = elim (is_ascii_control b) as (λ x. take (cond (not x) (1 + plain_len text) 0) (b ∷ text) ≡ (if x then [] else b ∷ prefix text)) [
   | true ↦ refl
   | false ↦ let e : 1 + plain_len text ≡ suc (plain_len text) = omega arith in ap (λ n. take n (b ∷ text)) e ∙ ap (λ (t : List ℕ). b ∷ t) (front_is text)
 ]
 
-after_is : (text : List ℕ) → drop (plain_len text) text ≡ behind text
-unfolding behind
+after_is : (text : List ℕ) → drop (plain_len text) text ≡ after text
+unfolding after
 after_is [] = refl
-after_is (b ∷ text) = elim (is_ascii_control b) as (λ x. drop (cond (not x) (1 + plain_len text) 0) (b ∷ text) ≡ (if x then b ∷ text else behind text)) [
+after_is (b ∷ text) = elim (is_ascii_control b) as (λ x. drop (cond (not x) (1 + plain_len text) 0) (b ∷ text) ≡ (if x then b ∷ text else after text)) [
   | true ↦ refl
   | false ↦ let e : 1 + plain_len text ≡ suc (plain_len text) = omega arith in ap (λ n. drop n (b ∷ text)) e ∙ after_is text
 ]
 
-at_control : (text : List ℕ) → IsAtControl (behind text)
-unfolding behind
+at_control : (text : List ℕ) → IsAtControl (after text)
+unfolding after
 at_control [] = tt
 at_control (b ∷ text) = by_test (is_ascii_control b) (λ e. rw e e) (λ e. rw e (at_control text))
 
@@ -66,38 +66,38 @@ module _ (b : ℕ) (text : List ℕ) where
   parts_with : Bool → List TextPart
   parts_with x = if x then Control b ∷ text_parts text else with_byte b (text_parts text)
 
-  front_with : is_ascii_control b ≡ true → front (b ∷ text) ≡ []
-  unfolding front
-  front_with e = ap (λ x. if x then [] else b ∷ front text) e
+  front_with : is_ascii_control b ≡ true → prefix (b ∷ text) ≡ []
+  unfolding prefix
+  front_with e = ap (λ x. if x then [] else b ∷ prefix text) e
 
-  after_with : is_ascii_control b ≡ true → behind (b ∷ text) ≡ b ∷ text
-  unfolding behind
-  after_with e = ap (λ x. if x then b ∷ text else behind text) e
+  after_with : is_ascii_control b ≡ true → after (b ∷ text) ≡ b ∷ text
+  unfolding after
+  after_with e = ap (λ x. if x then b ∷ text else after text) e
 
-  front_on : is_ascii_control b ≡ false → front (b ∷ text) ≡ b ∷ front text
-  unfolding front
-  front_on e = ap (λ x. if x then [] else b ∷ front text) e
+  front_on : is_ascii_control b ≡ false → prefix (b ∷ text) ≡ b ∷ prefix text
+  unfolding prefix
+  front_on e = ap (λ x. if x then [] else b ∷ prefix text) e
 
-  after_on : is_ascii_control b ≡ false → behind (b ∷ text) ≡ behind text
-  unfolding behind
-  after_on e = ap (λ x. if x then b ∷ text else behind text) e
+  after_on : is_ascii_control b ≡ false → after (b ∷ text) ≡ after text
+  unfolding after
+  after_on e = ap (λ x. if x then b ∷ text else after text) e
 
   parts_on : is_ascii_control b ≡ false → text_parts (b ∷ text) ≡ with_byte b (text_parts text)
   unfolding parts_with
   parts_on e = ap parts_with e
 
-  at_first : is_ascii_control b ≡ true → text_parts (b ∷ text) ≡ plain_part (front (b ∷ text)) ++ text_parts (behind (b ∷ text))
+  at_first : is_ascii_control b ≡ true → text_parts (b ∷ text) ≡ plain_part (prefix (b ∷ text)) ++ text_parts (after (b ∷ text))
   at_first e = sym (λ i. plain_part (front_with e i) ++ text_parts (after_with e i))
 
-parts_are : (text : List ℕ) → text_parts text ≡ plain_part (front text) ++ text_parts (behind text)
-unfolding front behind
+parts_are : (text : List ℕ) → text_parts text ≡ plain_part (prefix text) ++ text_parts (after text)
+unfolding prefix after
 parts_are [] = refl
 parts_are (b ∷ []) = by_test (is_ascii_control b) (at_first b []) (λ e. parts_on b [] e ∙ sym (λ i. plain_part (front_on b [] e i) ++ text_parts (after_on b [] e i)))
 parts_are (b ∷ x ∷ text) = by_test (is_ascii_control b) (at_first b (x ∷ text))
     (λ e. parts_on b (x ∷ text) e
     ∙ by_test (is_ascii_control x)
     (λ k. single b x text k ∙ sym (λ i. plain_part (b ∷ front_with x text k i) ++ text_parts (after_with x text k i)))
-    (λ k. ap (with_byte b) (parts_are (x ∷ text)) ∙ ap (λ f. with_byte b (plain_part f ++ text_parts (behind (x ∷ text)))) (front_on x text k) ∙ ap (λ f. plain_part (b ∷ f) ++ text_parts (behind (x ∷ text))) (sym (front_on x text k)))
+    (λ k. ap (with_byte b) (parts_are (x ∷ text)) ∙ ap (λ f. with_byte b (plain_part f ++ text_parts (after (x ∷ text)))) (front_on x text k) ∙ ap (λ f. plain_part (b ∷ f) ++ text_parts (after (x ∷ text))) (sym (front_on x text k)))
     ∙ sym (λ i. plain_part (front_on b (x ∷ text) e i) ++ text_parts (after_on b (x ∷ text) e i)))
 
 pub parts_cut : (text : List ℕ) → text_parts text ≡ plain_part (take (plain_len text) text) ++ text_parts (drop (plain_len text) text)
@@ -106,10 +106,10 @@ parts_cut text = parts_are text ∙ (λ i. plain_part (sym (front_is text) i) ++
 pub control_next : (text : List ℕ) → IsAtControl (drop (plain_len text) text)
 control_next text = subst IsAtControl (sym (after_is text)) (at_control text)
 
-front_plain : (text : List ℕ) → list_all is_plain (front text) ≡ true
-unfolding front is_plain
+front_plain : (text : List ℕ) → list_all is_plain (prefix text) ≡ true
+unfolding prefix is_plain
 front_plain [] = refl
-front_plain (b ∷ text) = by_test (is_ascii_control b) (λ e. ap (list_all is_plain) (front_with b text e)) (λ e. ap (list_all is_plain) (front_on b text e) ∙ and_from (is_plain b) (list_all is_plain (front text)) (ap not e) (front_plain text))
+front_plain (b ∷ text) = by_test (is_ascii_control b) (λ e. ap (list_all is_plain) (front_with b text e)) (λ e. ap (list_all is_plain) (front_on b text e) ∙ and_from (is_plain b) (list_all is_plain (prefix text)) (ap not e) (front_plain text))
 
 -- ---- each cluster of a text without controls can stand
 

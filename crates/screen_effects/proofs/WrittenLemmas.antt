@@ -73,14 +73,14 @@ module _ (width_of : List ℕ → ℕ) where
       ap (λ (c : Row). s.row + 1 == height s && nat_lt s.width (s.column + length c)) is ∙ ap (λ b. s.row + 1 == height s && b) stays ∙ and_false (s.row + 1 == height s) in
       λ i. record d { screen = put_is s text fits i; sizes = if test i then drop 1 d.sizes ++ SingleWidthLine ∷ [] else d.sizes }
 
--- ---- columns behind columns
+-- ---- columns after columns
 
 set_set : {A : Type 0} (xs : List A) (i : ℕ) (x y : A) → set (set xs i x) i y ≡ set xs i y
 set_set [] i x y = refl
 set_set (z ∷ xs) zero x y = refl
 set_set {A} (z ∷ xs) (suc i) x y = ap (λ (l : List A). z ∷ l) (set_set xs i x y)
 
--- columns that are written behind others are written with them
+-- columns that are written after others are written with them
 pub write_again : (s : Screen) (a b : Row) → IsScreen s → IsWhole a → s.column + length a ≤ s.width → write_columns b (write_columns a s) ≡ write_columns (a ++ b) s
 write_again s a b h p fits =
     let row : Row = get_or s.rows s.row [] in
@@ -114,7 +114,7 @@ read_again (t ∷ ts) p =
     let one : is_cluster t ≡ true = ap (λ (g : List (List ℕ)). length g == 1) p.0.alone in
     (λ i. (if one i then t else replacement_bytes) ∷ read_again ts p.1 i)
 
--- ---- runs, and the pen behind them
+-- ---- runs, and the pen after them
 
 pub joined : (cell : CellContent) (run : CellRun) (runs : List CellRun) → same_attributes cell.attributes run.attributes ≡ true → before_runs cell (run ∷ runs) ≡ record run { cells = cell.text ∷ run.cells } ∷ runs
 joined cell run runs e = ap (λ b. if b then record run { cells = cell.text ∷ run.cells } ∷ runs else record { attributes = cell.attributes; cells = cell.text ∷ [] } ∷ run ∷ runs) e
@@ -236,12 +236,12 @@ module _ (width_of : List ℕ → ℕ) where
       let rest : Row = runs_row (other ∷ runs) in
       let count : length (first ++ rest) ≡ length first + length rest = length-append first rest in
       let own : List ChangeValue = attributes_due d.screen.pen run.attributes ++ map Text (texts run.cells) in
-      let others : List ChangeValue = runs_written run.attributes (other ∷ runs) in
+      let remaining : List ChangeValue = runs_written run.attributes (other ∷ runs) in
       let next : Display = on_screen (λ s. with_pen run.attributes (write_columns first s)) d in
       let one : replay width_of d own ≡ next = one_run run.attributes run.cells d h p.0 (omega (arith, fits, count)) in
       let lawful : IsDisplay next = subst IsDisplay one (replay_is width_of own d h) in
-      fold-append (effect width_of) d own others
-      ∙ ap (λ (e : Display). replay width_of e others) one
+      fold-append (effect width_of) d own remaining
+      ∙ ap (λ (e : Display). replay width_of e remaining) one
       ∙ runs_are runs other next lawful p.1 (omega (arith, fits, count))
       ∙ ap (λ (s : Screen). record d { screen = with_pen (runs_pen run.attributes (other ∷ runs)) s }) (write_again (with_pen run.attributes d.screen) first rest (pen_lawful d.screen run.attributes h.lawful) (texts_whole run.attributes run.cells) (omega (arith, fits, count)))
 

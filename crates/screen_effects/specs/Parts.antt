@@ -1,4 +1,4 @@
--- The parts of a text, from its front on, and clusters that stand in cells.
+-- The parts of a text, from its prefix on, and clusters that stand in cells.
 use Rattle.std.specs.Prelude.{◌≡◌, ℕ, true, ⊤, List, [], ◌∷◌, Bool, not}
 use Rattle.std.specs.Char.{is_ascii_control}
 use Rattle.screen_effects.specs.Strokes.{TextPart, Plain}

@@ -1,9 +1,9 @@
--- The places that positions name. Columns and rows count from 0.
+-- The positions that positions name. Columns and rows count from 0.
 use Rattle.std.specs.Prelude.{ℕ, ◌+◌, ◌-◌, pos, negsuc, min, ◌==◌, if◌then◌else◌}
 use Rattle.cell_base.specs.declared.attributes.Position.{Position}
 use Rattle.cell_base.specs.declared.attributes.Position.TheVariants.{Relative, Absolute, EndRelative}
 
--- of `size` places the one named, going from the current one; past the last it is the last, and before the first the
+-- of `size` positions the one named, going from the current one; past the last it is the last, and before the first the
 -- first
 abbrev pub place : ℕ → ℕ → Position → ℕ
 place size from (Absolute at) = min at (size - 1)

@@ -38,7 +38,7 @@ IsSoundRow width_of (RightHalf attributes ∷ row) = IsSoundRow width_of row
 abbrev pub joined_columns : List CellContent → Row
 joined_columns cells = flat_map (λ cell. columns_of cell.text (nat_le 2 cell.width) cell.attributes) cells
 
--- the columns of cells from the cursor on, which goes behind them, and the pen of the last one
+-- the columns of cells from the cursor on, which goes after them, and the pen of the last one
 abbrev pub with_cells : List CellContent → Display → Display
 with_cells cells display =
     on_screen (λ screen. with_pen (last_pen screen.pen cells) (write_columns (joined_columns cells) screen)) display

@@ -1,4 +1,4 @@
-//! Worked examples: what is seen of a new display behind some changes. Each is the contract of a
+//! Worked examples: what is seen of a new display after some changes. Each is the contract of a
 //! function that does nothing.
 ghost use Rattle.std.specs.Prelude.{◌≡◌, pos, negsuc, [], ◌∷◌, ◌++◌, codes};
 ghost use Rattle.cell_base.specs.declared.color.ColorAttribute.TheVariants.{Default};

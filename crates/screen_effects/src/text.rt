@@ -25,7 +25,7 @@ pub fn split_at_control(text: &str) -> (&str, &str)
     text.split_at(plain_len(text))
 }
 
-/// Cuts off the control at the front; `None` of the empty text.
+/// Cuts off the control at the start; `None` of the empty text.
 pub fn split_control(text: &str) -> Option<(u8, &str)>
     requires { IsAtControl text.now }
     ensures none { IfNone result (text.now ≡ []) }
@@ -33,6 +33,6 @@ pub fn split_control(text: &str) -> Option<(u8, &str)>
     ensures len { IfSome result (λ parts. text.now ≡ parts.0 ∷ parts.1.now) }
 {
     let control = *text.as_bytes().first()?;
-    let (_, behind) = text.split_at(1);
-    Some((control, behind))
+    let (_, after) = text.split_at(1);
+    Some((control, after))
 }

@@ -64,7 +64,7 @@ own_bytes c e = by_size (cases_lt c 128)
 
 -- ---- characters and texts
 
--- the rest is read as it is behind the character
+-- the rest is read as it is after the character
 abbrev ReadsBack : ℕ → Type 0
 ReadsBack c = (rest : List ℕ) → read_after None (escaped_char c ++ rest) ≡ put_before (encode_utf8 c) (read_after None rest)
 
@@ -108,7 +108,7 @@ char_back c =
     by_test (c == 13) (λ e. same_back c 13 e return_back) (λ return.
     plain_back c (rw (amp, lt, gt, quot, apostrophe, return) refl) (rw (amp, lt, gt, quot, apostrophe) refl)))))))
 
--- the rest is read as it is behind the text
+-- the rest is read as it is after the text
 chars_back : (markup : Markup) (cs rest : List ℕ) → read_after None (flat_map (λ c. escaped_char (held markup c)) cs ++ rest) ≡ put_before (flat_map (λ c. encode_utf8 (held markup c)) cs) (read_after None rest)
 chars_back markup [] rest = sym (put_none (read_after None rest))
 chars_back markup (c ∷ cs) rest =

@@ -1,4 +1,4 @@
--- Pieces that are written one behind another.
+-- Pieces that are written one after another.
 use Rattle.std.proofs.Common.{◌≡◌, ℕ, ◌+◌, ◌<◌, ◌≤◌, List, [], ◌∷◌, ◌++◌, length, take, get_or, sym, ap, ◌∙◌, append_assoc}
 use Rattle.std.specs.List.{flat_map}
 use Rattle.std.proofs.lemmas.List.{append-nil, take_all, take_more}
@@ -14,7 +14,7 @@ pub written_none : (markup : Markup) (now : List ℕ) → now ≡ now ++ pieces_
 unfolding pieces_text
 written_none markup now = sym (append-nil now)
 
--- more behind what is written
+-- more after what is written
 pub written_more : (markup : Markup) (start now next : List ℕ) (done more : List Piece) → now ≡ start ++ pieces_text markup done → next ≡ now ++ pieces_text markup more → next ≡ start ++ pieces_text markup (done ++ more)
 written_more markup start now next done more so_far step =
     step
@@ -29,7 +29,7 @@ flat_map-next {A} f xs i x less item =
     ∙ ap (λ (y : A). flat_map f (take i xs ++ y ∷ [])) (sym item)
     ∙ ap (flat_map f) (sym (take_more xs i x less))
 
--- the next item of a list behind those before it
+-- the next item of a list after those before it
 pub written_item : {A : Type 0} (markup : Markup) (f : A → List Piece) (xs : List A) (i : ℕ) (x : A) (start now next : List ℕ) → i < length xs → get_or xs i x ≡ x
     → now ≡ start ++ pieces_text markup (flat_map f (take i xs)) → next ≡ now ++ pieces_text markup (f x) → next ≡ start ++ pieces_text markup (flat_map f (take (i + 1) xs))
 written_item markup f xs i x start now next less item so_far step =

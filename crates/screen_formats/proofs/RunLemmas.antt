@@ -70,7 +70,7 @@ unless : (b : Bool) → not b ≡ false → b ≡ true
 unless true e = refl
 unless false e = sym e
 
--- cells that go on behind a first one look as the runs that it begins
+-- cells that go on after a first one look as the runs that it begins
 others_look : (first : VisibleCell) (rest before cells : List VisibleCell) → GoOn begins_run (first ∷ before) cells → AllByRecursion (LooksAs (run_of (first ∷ rest))) cells
 others_look first rest before [] h = tt
 others_look first rest before (v ∷ cells) h =

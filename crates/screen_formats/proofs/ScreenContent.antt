@@ -129,9 +129,9 @@ title_holds title = (((refl, tt), (tt, (refl, tt))), append-nil (held_text Xml t
 
 front_holds : (width height title : Text) → Holds Xml (svg_head width height title) (held_text Xml title)
 front_holds width height title =
-    let behind = rectangle (codes "0") (codes "0") width height (hex_color default_background) [] in
-    let titled = holds_both Xml (element (codes "title") [] title) behind (held_text Xml title) [] (title_holds title) (rectangle_holds (codes "0") (codes "0") width height (hex_color default_background) []) in
-    let all = holds_both Xml (svg_opening width height) (element (codes "title") [] title ++ behind) [] (held_text Xml title ++ []) (opening_holds width height) titled in
+    let after = rectangle (codes "0") (codes "0") width height (hex_color default_background) [] in
+    let titled = holds_both Xml (element (codes "title") [] title) after (held_text Xml title) [] (title_holds title) (rectangle_holds (codes "0") (codes "0") width height (hex_color default_background) []) in
+    let all = holds_both Xml (svg_opening width height) (element (codes "title") [] title ++ after) [] (held_text Xml title ++ []) (opening_holds width height) titled in
     (all.0, all.1 ∙ append-nil (held_text Xml title))
 
 svg_holds : (screen : Screen) → Holds Xml (svg_pieces screen) (svg_content screen)

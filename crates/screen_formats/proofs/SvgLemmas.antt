@@ -1,4 +1,4 @@
--- Rows of a picture, one behind another.
+-- Rows of a picture, one after another.
 use Rattle.std.proofs.Common.{◌≡◌, ℕ, ◌+◌, ◌<◌, List, [], ◌∷◌, ◌++◌, length, map, take, get_or, sym, ap, ◌∙◌, arith, append_assoc}
 use Rattle.std.proofs.lemmas.List.{append-nil, length-map, length-take, map-append, take_more}
 use Rattle.cell_base.specs.Row.{Row}
@@ -30,7 +30,7 @@ taken_next lines i line less item =
     ∙ ap (map (λ (line : LineContent). line.columns)) (sym (take_more lines i line less))
     )
 
--- the next line's row behind those before it
+-- the next line's row after those before it
 pub row_written : (lines : List LineContent) (i : ℕ) (line : LineContent) (start now next : List ℕ) → i < length lines → get_or lines i line ≡ line
     → now ≡ start ++ pieces_text Xml (svg_rows 0 (map (λ line. line.columns) (take i lines))) → next ≡ now ++ pieces_text Xml (svg_row i line.columns)
     → next ≡ start ++ pieces_text Xml (svg_rows 0 (map (λ line. line.columns) (take (i + 1) lines)))

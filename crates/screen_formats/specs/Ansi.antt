@@ -14,7 +14,7 @@ use Rattle.screen_formats.specs.Links.{link_uri}
 use Rattle.screen_formats.specs.Looks.{Text, align_look, blink_look, intensity_look, text_if, underline_look}
 use Rattle.screen_formats.specs.Runs.{Run, runs_of}
 
--- ---- parameters of SGR, each behind a `;`
+-- ---- parameters of SGR, each after a `;`
 
 unfoldable pub look_codes : Attributes → Text
 look_codes a =
@@ -28,7 +28,7 @@ look_codes a =
     ++ (text_if a.overline (codes ";53")
     ++ (align_look a.vertical_align).code)))))))
 
--- the parameter of a layer (38 text, 48 behind it) and its colour
+-- the parameter of a layer (38 text, 48 after it) and its colour
 unfoldable pub color_code : Text → ColorAttribute → Text
 color_code layer Default = []
 color_code layer (PaletteIndex n) = 59 ∷ (layer ++ (codes ";5;" ++ decimal n))

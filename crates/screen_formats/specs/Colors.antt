@@ -60,20 +60,20 @@ abbrev pub foreground_color : Attributes → Rgb
 foreground_color a =
     if a.reverse then color_of default_background a.background else color_of default_foreground a.foreground
 
--- the colour behind the text
+-- the colour after the text
 abbrev pub paper : Attributes → Rgb
 paper a = if a.reverse then color_of default_foreground a.foreground else color_of default_background a.background
 
 abbrev pub midway : Rgb → Rgb → Rgb
 midway one other = ((one.0 + other.0) / 2, (one.1 + other.1) / 2, (one.2 + other.2) / 2)
 
--- a text that is half as bright is midway to what is behind it
+-- a text that is half as bright is midway to what follows it
 abbrev pub dimmed : Intensity → Rgb → Rgb → Rgb
-dimmed Normal front behind = front
-dimmed Bold front behind = front
-dimmed Half front behind = midway front behind
+dimmed Normal prefix after = prefix
+dimmed Bold prefix after = prefix
+dimmed Half prefix after = midway prefix after
 
--- the colour of the text; one that is hidden has that of what is behind it
+-- the colour of the text; one that is hidden has that of what follows it
 abbrev pub ink : Attributes → Rgb
 ink a = if a.invisible then paper a else dimmed a.intensity (foreground_color a) (paper a)
 

@@ -52,7 +52,7 @@ AreTagged (piece ∷ pieces) = IsNamed piece × AreTagged pieces
 abbrev pub row_content : Markup → Row → List ℕ
 row_content markup row = flat_map (λ run. held_text markup run.text) (runs_of (visible_cells row))
 
--- what is read of a screen as HTML: its rows, each with a line feed, and a line feed behind the screen
+-- what is read of a screen as HTML: its rows, each with a line feed, and a line feed after the screen
 abbrev pub html_content : Screen → List ℕ
 html_content screen = flat_map (λ row. row_content Html row ++ 10 ∷ []) screen.rows ++ 10 ∷ []
 

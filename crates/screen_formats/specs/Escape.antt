@@ -56,9 +56,9 @@ abbrev pub is_markup : ℕ → Bool
 is_markup b = b == 60 || b == 62 || b == 34 || b == 39
 
 abbrev pub put_before : List ℕ → Option (List ℕ) → Option (List ℕ)
-put_before front text = option_map (λ t. front ++ t) text
+put_before prefix text = option_map (λ t. prefix ++ t) text
 
--- what a text reads as, behind the name so far of an entity or behind none
+-- what a text reads as, after the name so far of an entity or after none
 abbrev pub read_after : Option (List ℕ) → List ℕ → Option (List ℕ)
 read_after None [] = Some []
 read_after (Some name) [] = None

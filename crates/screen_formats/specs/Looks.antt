@@ -20,7 +20,7 @@ Text = List ℕ
 abbrev pub text_if : Bool → Text → Text
 text_if holds text = if holds then text else []
 
--- a look: its word, with a space behind it; its parameter of SGR (ECMA-48 8.3.117), behind a `;`; and its declaration
+-- a look: its word, with a space after it; its parameter of SGR (ECMA-48 8.3.117), after a `;`; and its declaration
 -- of CSS
 pub record Look : Type 0 where
   pub word : Text

@@ -53,7 +53,7 @@ linked uri pieces =
 unfoldable pub svg_style : Attributes → Text
 svg_style a = color_style (codes "fill") (hex_color (ink a)) ++ look_style a
 
--- what is behind a run, if a colour is seen there
+-- what follows a run, if a colour is seen there
 unfoldable pub svg_paper : ℕ → Run → List Piece
 svg_paper row run =
     if has_background run.attributes
@@ -70,12 +70,12 @@ svg_text_of row run = linked (link_uri run.attributes) (svg_letters row run)
 
 -- ---- the screen
 
--- of a run its text, or what is behind it
+-- of a run its text, or what follows it
 abbrev pub svg_part : Bool → ℕ → Run → List Piece
 svg_part true row run = svg_text_of row run
 svg_part false row run = svg_paper row run
 
--- the texts stand before all that is behind them
+-- the texts stand before all that is after them
 abbrev pub svg_runs : ℕ → List Run → List Piece
 svg_runs row runs = flat_map (svg_part false row) runs ++ flat_map (svg_part true row) runs
 
@@ -110,7 +110,7 @@ sized_opening width height view_box =
 unfoldable pub svg_opening : Text → Text → List Piece
 svg_opening width height = sized_opening width height (codes "0 0 " ++ (width ++ 32 ∷ height))
 
--- the picture's size, the title, and what is behind everything
+-- the picture's size, the title, and what follows everything
 abbrev pub svg_head : Text → Text → Text → List Piece
 svg_head width height title =
     svg_opening width height

@@ -111,7 +111,7 @@ fn push_text(out: &mut String, uri: &str, text: &str) -> Result<(), AllocError>
     Ok(())
 }
 
-// Writes a run: its attributes behind plain ones, and its text.
+// Writes a run: its attributes after plain ones, and its text.
 #[tactic(auto, unfolding(crate::specs::Ansi::ansi_run))]
 fn push_run(alloc: Global, out: &mut String, run: &Run<'_>) -> Result<(), AllocError>
     ensures { OnOk result (string_bytes out.new ≡ string_bytes out.old ++ ansi_run run.now) }
@@ -149,7 +149,7 @@ fn push_rows(alloc: Global, out: &mut String, lines: &[Line]) -> Result<(), Allo
 
 /// Writes the rows of a screen as a text that a terminal shows: each run with SGR (ECMA-48 8.3.117) for its attributes
 /// before it, in a link (OSC 8) where it has one of the scheme http, https, mailto or file that is printable ASCII; and
-/// behind each row plain attributes and a line feed.
+/// after each row plain attributes and a line feed.
 ///
 /// Of a surface that has failed nothing is said but that its cells are written.
 pub fn write_ansi<W: Widths + Drop>(

@@ -34,7 +34,7 @@ const SYSTEM: [Rgb; 16] = [
 /// What stands for the default colour of a text.
 pub const DEFAULT_FOREGROUND: Rgb = (229, 229, 229);
 
-/// What stands for the default colour behind a text.
+/// What stands for the default colour after a text.
 pub const DEFAULT_BACKGROUND: Rgb = (0, 0, 0);
 
 // One of the six levels of the colour cube.
@@ -102,7 +102,7 @@ fn foreground_color(attrs: &CellAttributes) -> Rgb
     }
 }
 
-/// The colour behind a text: that of the text where both change places.
+/// The colour after a text: that of the text where both change places.
 pub fn paper(attrs: &CellAttributes) -> Rgb
     ensures { result ≡ paper attrs.now }
 {
@@ -113,7 +113,7 @@ pub fn paper(attrs: &CellAttributes) -> Rgb
     }
 }
 
-/// The colour of a text: that behind it where the text is hidden, and midway to that where it is half as bright.
+/// The colour of a text: that after it where the text is hidden, and midway to that where it is half as bright.
 pub fn ink(attrs: &CellAttributes) -> Rgb
     ensures { result ≡ ink attrs.now }
 {
@@ -126,7 +126,7 @@ pub fn ink(attrs: &CellAttributes) -> Rgb
     foreground_color(attrs)
 }
 
-// Whether a colour was set behind a text, or both change places.
+// Whether a colour was set after a text, or both change places.
 pub(crate) fn has_background(attrs: &CellAttributes) -> bool
     ensures { result ≡ has_background attrs.now }
 {

@@ -19,7 +19,7 @@ use cell_surface::Surface;
 use std::alloc::{AllocError, Global};
 use text_clusters::are_printable;
 
-// The declaration of the colour behind a text, if one is seen.
+// The declaration of the colour after a text, if one is seen.
 fn background_style(alloc: Global, attrs: &CellAttributes) -> Result<String, AllocError>
     ensures { IfOk result (λ style. string_bytes style ≡ background_style attrs.now) }
 {
@@ -150,7 +150,7 @@ fn screen_style(alloc: Global) -> Result<String, AllocError>
     Ok(style)
 }
 
-/// Writes a screen as HTML: an element `pre` of class `screen`, in which each row has a line feed behind it. A run is a
+/// Writes a screen as HTML: an element `pre` of class `screen`, in which each row has a line feed after it. A run is a
 /// `span`, or an `a` where it has a link of the scheme http, https, mailto or file. Its class tells how it looks, in
 /// the
 /// words of `look_words`, and its style is complete but for texts that blink or are raised or lowered. Cells that a

@@ -201,7 +201,7 @@ fn screen_value<W: Widths + Drop>(alloc: Global, surface: &Surface<W>) -> Result
 /// - of attributes `colors`, the `foreground`, the `background` and that of the `underline`: empty where none was
 /// set, the
 ///   number of one of the palette, `#rrggbb` of any other; `looks`, in the words of `look_words`; `link`, a URI of the
-///   scheme http, https, mailto or file, or else empty; `wrapped`, whether the line goes on in the next row behind the
+///   scheme http, https, mailto or file, or else empty; `wrapped`, whether the line goes on in the next row after the
 ///   cell; and `semantic_type`: `output`, `input` or `prompt`.
 ///
 /// Of a surface that has failed nothing is said but that its cells are written.

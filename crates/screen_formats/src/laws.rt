@@ -22,7 +22,7 @@ pub fn escaped_texts_read_back(markup: Markup, text: &str)
     let _text = text;
 }
 
-/// What a reader who passes over the tags sees of pieces are their texts, one behind the other, whatever stands in them
+/// What a reader who passes over the tags sees of pieces are their texts, one after the other, whatever stands in them
 /// and in the values of attributes.
 #[tactic(auto, using(crate::proofs::ContentLemmas::content_back))]
 pub fn pieces_hold_their_texts(markup: Markup)
@@ -34,7 +34,7 @@ pub fn pieces_hold_their_texts(markup: Markup)
 
 /// What a reader who passes over the tags sees of a screen in HTML are the texts of its visible cells, in order, each
 /// row
-/// with a line feed behind it.
+/// with a line feed after it.
 #[tactic(auto, using(crate::proofs::ScreenContent::html_read))]
 pub fn html_holds_the_cells()
     ensures { (screen : Screen) → content (html_text screen) ≡ Some (html_content screen) }

@@ -17,7 +17,7 @@ pub(crate) fn text_if(holds: bool, text: &str) -> &str
     if holds { text } else { "" }
 }
 
-/// A look: its word, with a space behind it; its parameter of SGR, behind a `;`; and its declaration of CSS. Each is
+/// A look: its word, with a space after it; its parameter of SGR, after a `;`; and its declaration of CSS. Each is
 /// empty where there is none.
 #[derive(Clone, Copy)]
 pub(crate) struct Look {
@@ -89,7 +89,7 @@ pub(crate) fn align_look(align: VerticalAlign) -> Look
     }
 }
 
-/// How a text looks, as words with a space behind each: `bold`, `dim`, `italic`, `underline` (or `double-underline`,
+/// How a text looks, as words with a space after each: `bold`, `dim`, `italic`, `underline` (or `double-underline`,
 /// `curly-underline`, `dotted-underline`, `dashed-underline`), `overline`, `strikethrough`, `blink`, `rapid-blink`,
 /// `reverse`, `invisible`, `superscript` and `subscript`, in this order. Nothing for a plain text.
 pub fn look_words(alloc: Global, attrs: &CellAttributes) -> Result<String, AllocError>

@@ -56,7 +56,7 @@ impl<'a> Run<'a> {
         *self.attrs == *cell.attrs() && self.width == cell.width()
     }
 
-    // The cell goes behind those of the run.
+    // The cell goes after those of the run.
     fn grow(&mut self, cell: &CellRef<'_>) -> Result<(), AllocError>
         ensures { OnOk result (self.new ≡ grown self.old (shown_by cell.now)) }
     {
@@ -67,7 +67,7 @@ impl<'a> Run<'a> {
     }
 }
 
-// The cell joins a run, or begins one behind it.
+// The cell joins a run, or begins one after it.
 fn push_after<'a>(
     alloc: Global,
     runs: &mut Vec<Run<'a>>,

@@ -123,7 +123,7 @@ fn push_placed_text<'a>(
     Ok(())
 }
 
-// Writes what is behind a run, if a colour is seen there.
+// Writes what follows a run, if a colour is seen there.
 #[tactic(auto, unfolding(crate::specs::Svg::svg_paper))]
 fn push_paper(alloc: Global, out: &mut String, row: usize, run: &Run<'_>) -> Result<(), AllocError>
     ensures { OnOk result (string_bytes out.new ≡ string_bytes out.old ++ pieces_text Xml (svg_paper row run.now)) }
@@ -173,7 +173,7 @@ fn push_text(alloc: Global, out: &mut String, row: usize, run: &Run<'_>) -> Resu
     Ok(())
 }
 
-// Writes the text of a run, or what is behind it.
+// Writes the text of a run, or what follows it.
 fn push_part(
     alloc: Global,
     out: &mut String,
@@ -192,7 +192,7 @@ fn push_part(
     Ok(())
 }
 
-// Writes the texts of runs, or what is behind them.
+// Writes the texts of runs, or what follows them.
 fn push_parts(
     alloc: Global,
     out: &mut String,
@@ -299,7 +299,7 @@ fn push_svg_opening<'a>(
     Ok(())
 }
 
-// Writes what comes before the rows: the picture's tag, the title, and what is behind everything.
+// Writes what comes before the rows: the picture's tag, the title, and what follows everything.
 fn push_head<'a>(
     alloc: Global,
     out: &mut String,
@@ -317,7 +317,7 @@ fn push_head<'a>(
     Ok(())
 }
 
-// Writes what comes behind the rows.
+// Writes what follows the rows.
 fn push_end(out: &mut String) -> Result<(), AllocError>
     ensures { OnOk result
         (string_bytes out.new ≡ string_bytes out.old
@@ -328,7 +328,7 @@ fn push_end(out: &mut String) -> Result<(), AllocError>
     Ok(())
 }
 
-/// Writes a screen as SVG: columns of 10 units and rows of 20, with the title, a rectangle behind each run of which a
+/// Writes a screen as SVG: columns of 10 units and rows of 20, with the title, a rectangle after each run of which a
 /// background is seen, the text of each run, as long as its columns, in a link where it has one of the scheme http,
 /// https, mailto or file, and a rectangle for the cursor, if it is shown. Wide cells take two columns each. The class
 /// of

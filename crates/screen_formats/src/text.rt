@@ -8,7 +8,7 @@ use cell_base::Widths;
 use cell_surface::Surface;
 use std::alloc::AllocError;
 
-/// Writes the texts of a screen's rows, each with a line feed behind it.
+/// Writes the texts of a screen's rows, each with a line feed after it.
 pub fn write_text<W: Widths + Drop>(
     out: &mut String,
     surface: &Surface<W>,

@@ -16,12 +16,12 @@ use Rattle.screen_effects.proofs.StrokeLaws.{new_display_is}
 pub columns_in : List LineContent → List Row
 columns_in lines = map (λ l. l.columns) lines
 
--- the lines but the first, and behind them one that was set
+-- the lines but the first, and after them one that was set
 pub scrolled_lines : (lines new : List LineContent) (l : LineContent) (last : ℕ) → 0 < length lines → last ≡ length new - 1 → length new ≡ length lines → take (length lines - 1) new ≡ drop 1 lines → set new last l ≡ drop 1 lines ++ l ∷ []
-scrolled_lines lines new l last h n same front =
+scrolled_lines lines new l last h n same prefix =
     let count = length-set new last l in
     let fewer : last ≡ length lines - 1 = omega arith in
-    sym (take_all (last + 1) (set new last l) (omega arith)) ∙ take_more_set new last l (omega arith) ∙ ap (λ (xs : List LineContent). xs ++ l ∷ []) (ap (λ m. take m new) fewer ∙ front)
+    sym (take_all (last + 1) (set new last l) (omega arith)) ∙ take_more_set new last l (omega arith) ∙ ap (λ (xs : List LineContent). xs ++ l ∷ []) (ap (λ m. take m new) fewer ∙ prefix)
 
 -- the lines but the first, which was set
 pub after_first : (lines : List LineContent) (l : LineContent) → drop 1 (set lines 0 l) ≡ drop 1 lines

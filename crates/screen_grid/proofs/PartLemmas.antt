@@ -25,22 +25,22 @@ pub plain_puts : (width_of : List ℕ → ℕ) (d : Display) (text : List ℕ) �
 plain_puts width_of d text p = ap (parts_done width_of d) (plain_parts text p ∙ append-nil (plain_part text)) ∙ plain_done width_of d text
 
 module _ {W : Type 0} (width_of : List ℕ → ℕ) where
-  -- the front of a text was drawn
-  pub front_leads : (c new : Grid W) (text front rest : List ℕ) → Shows c new (clusters_done width_of (display_of c) (clusters front)) → text_parts text ≡ plain_part front ++ text_parts rest → IsAtControl rest → PartsLead width_of c new text rest
-  front_leads c new text front rest s e k = record {
-    same = ap (λ (d : Display). parts_done width_of d (text_parts rest)) (s.same ∙ sym (plain_done width_of (display_of c) front))
-        ∙ sym (done-append width_of (display_of c) (plain_part front) (text_parts rest)) ∙ ap (parts_done width_of (display_of c)) (sym e);
+  -- the start of a text was drawn
+  pub front_leads : (c new : Grid W) (text prefix rest : List ℕ) → Shows c new (clusters_done width_of (display_of c) (clusters prefix)) → text_parts text ≡ plain_part prefix ++ text_parts rest → IsAtControl rest → PartsLead width_of c new text rest
+  front_leads c new text prefix rest s e k = record {
+    same = ap (λ (d : Display). parts_done width_of d (text_parts rest)) (s.same ∙ sym (plain_done width_of (display_of c) prefix))
+        ∙ sym (done-append width_of (display_of c) (plain_part prefix) (text_parts rest)) ∙ ap (parts_done width_of (display_of c)) (sym e);
     widths = s.widths;
     drawn = s.drawn;
     control = k;
   }
 
-  -- a control, and the text behind it
-  pub control_leads : (c now ctl new : Grid W) (text rest behind others : List ℕ) (control : ℕ) → PartsLead width_of c now text rest → text_parts rest ≡ Control control ∷ text_parts behind
-      → Shows now ctl (parts_done width_of (display_of now) (Control control ∷ [])) → PartsLead width_of ctl new behind others → PartsLead width_of c new text others
-  control_leads c now ctl new text rest behind others control p e s q = record {
-    same = q.same ∙ ap (λ (d : Display). parts_done width_of d (text_parts behind)) s.same
-        ∙ sym (done-append width_of (display_of now) (Control control ∷ []) (text_parts behind)) ∙ ap (parts_done width_of (display_of now)) (sym e) ∙ p.same;
+  -- a control, and the text after it
+  pub control_leads : (c now ctl new : Grid W) (text rest after remaining : List ℕ) (control : ℕ) → PartsLead width_of c now text rest → text_parts rest ≡ Control control ∷ text_parts after
+      → Shows now ctl (parts_done width_of (display_of now) (Control control ∷ [])) → PartsLead width_of ctl new after remaining → PartsLead width_of c new text remaining
+  control_leads c now ctl new text rest after remaining control p e s q = record {
+    same = q.same ∙ ap (λ (d : Display). parts_done width_of d (text_parts after)) s.same
+        ∙ sym (done-append width_of (display_of now) (Control control ∷ []) (text_parts after)) ∙ ap (parts_done width_of (display_of now)) (sym e) ∙ p.same;
     widths = q.widths ∙ s.widths ∙ p.widths;
     drawn = q.drawn;
     control = q.control;

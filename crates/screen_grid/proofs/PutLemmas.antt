@@ -77,7 +77,7 @@ module _ {W : Type 0} (width_of : List ℕ → ℕ) where
       not_last true = refl
       not_last false = refl
 
-  -- at the start of the next row, where it doesn't fit behind the cursor
+  -- at the start of the next row, where it doesn't fit after the cursor
   pub put_next : (c fed home : Grid W) (cluster : List ℕ) (columns : Row) (count : ℕ) → IsDrawn c → cluster_columns width_of (display_of c).screen cluster ≡ columns → length columns ≡ count → c.width < c.column + count → count ≤ c.width
       → Shows c fed (stroke_done width_of (display_of c) LineFeed) → Shows fed home (stroke_done width_of (display_of fed) CarriageReturn) → Shows c (grid_with home columns count) (stroke_done width_of (display_of c) (Cluster cluster))
   put_next c fed home cluster columns count h k n fits room f r =

@@ -7,10 +7,10 @@ use Rattle.std.proofs.lemmas.List.Edits.{swap_is}
 use Rattle.std.proofs.lemmas.Bool.{cases_eq, cases_lt}
 
 module _ {X : Type 0} (d : X) (old now new : List X) (start at : ℕ) where
-  -- one item more came to the front
+  -- one item more came to the start
   pub brought_more : 0 < start → start + at < length old → length now ≡ length old → take at now ≡ take at (drop start old) → drop (start + at) now ≡ drop (start + at) old → new ≡ swap now at (start + at)
       → take (at + 1) new ≡ take (at + 1) (drop start old)
-  brought_more some h n front rest e =
+  brought_more some h n prefix rest e =
       let y = get_or now (start + at) d in
       let rest_len = length-drop start old in
       let same : y ≡ get_or (drop start old) at d =
@@ -19,7 +19,7 @@ module _ {X : Type 0} (d : X) (old now new : List X) (start at : ℕ) where
       ap (take (at + 1)) (e ∙ sym (swap_is now at (start + at) d (omega arith) (omega arith)))
       ∙ take-set-le (at + 1) (set now at y) (start + at) (get_or now at d) (omega arith)
       ∙ take_more_set now at y (omega arith)
-      ∙ (λ i. front i ++ same i ∷ [])
+      ∙ (λ i. prefix i ++ same i ∷ [])
       ∙ sym (take_more (drop start old) at d (omega arith))
 
   -- the others stand where they stood
@@ -34,8 +34,8 @@ module _ {X : Type 0} (d : X) (old now new : List X) (start at : ℕ) where
 
 pub brought : {X : Type 0} (old now new : List X) (start at : ℕ) → 0 < start → start + at < length old → length now ≡ length old → take at now ≡ take at (drop start old) → drop (start + at) now ≡ drop (start + at) old → new ≡ swap now at (start + at)
     → (take (at + 1) new ≡ take (at + 1) (drop start old)) × (drop (start + (at + 1)) new ≡ drop (start + (at + 1)) old)
-brought [] now new start at some h n front rest e = absurd (omega arith)
-brought (d ∷ ys) now new start at some h n front rest e = (brought_more d (d ∷ ys) now new start at some h n front rest e, others_stay d (d ∷ ys) now new start at h n rest e)
+brought [] now new start at some h n prefix rest e = absurd (omega arith)
+brought (d ∷ ys) now new start at some h n prefix rest e = (brought_more d (d ∷ ys) now new start at some h n prefix rest e, others_stay d (d ∷ ys) now new start at h n rest e)
 
 -- the first ones of the first ones
 first_of_both : {X : Type 0} (n len : ℕ) (xs : List X) → take n (take len xs) ≡ take (min len n) xs
@@ -50,7 +50,7 @@ first_left xs new value start len n m e k v =
     ap (λ (l : List _). take m (drop start l)) k ∙ ap (take m) (drop-take start m xs) ∙ take-take m m (drop start xs) (omega arith) ∙ ap (λ i. take i (drop start xs)) e
     ∙ sym (first_of_both n len (drop start xs)) ∙ ap (take n) v
 
--- one item more stands behind the others
+-- one item more follows the others
 pub one_after : {X : Type 0} (xs new : List X) (start len : ℕ) (x : X) → start + len ≤ length xs → take (start + len + 1) new ≡ take (start + len) xs ++ x ∷ [] → take (len + 1) (drop start new) ≡ take len (drop start xs) ++ x ∷ []
 one_after {X} xs new start len x h e =
     let next : start + (len + 1) ≡ start + len + 1 = omega arith in
@@ -62,7 +62,7 @@ one_after {X} xs new start len x h e =
 pub counted : {X : Type 0} (xs value : List X) (start len : ℕ) → start + len ≤ length xs → take len (drop start xs) ≡ value → length value ≡ len
 counted xs value start len h e = let n = length-drop start xs in sym (ap length e) ∙ length-take-le len (drop start xs) (omega arith)
 
--- from the next place on there are the others, and one more behind them
+-- from the next position on there are the others, and one more after them
 pub turned_on : {X : Type 0} (xs value : List X) (start len : ℕ) → take len (drop start xs) ≡ value → 0 < length value → start + len ≤ length xs → take (length value - 1) (take len (drop (start + 1) xs)) ≡ drop 1 value
 turned_on xs value start len e some h =
     let n = counted xs value start len h e in
@@ -74,7 +74,7 @@ turned_on xs value start len e some h =
     ∙ sym (drop-take 1 (len - 1) (drop start xs))
     ∙ ap (λ m. drop 1 (take m (drop start xs))) (sym more) ∙ ap (drop 1) e
 
--- in a list of that length they are as many from any place on
+-- in a list of that length they are as many from any position on
 pub as_many : {X : Type 0} (xs ys value : List X) (start next len : ℕ) → take len (drop start xs) ≡ value → start + len ≤ length xs → length ys ≡ length xs → next + len ≤ length xs → length (take len (drop next ys)) ≡ length value
 as_many xs ys value start next len e h same k =
     let n = counted xs value start len h e in
@@ -91,10 +91,10 @@ rotated_front (x ∷ xs) = take_at xs (x ∷ []) (length (x ∷ xs) - 1) (omega 
 -- of a list that is filled up from another, the first ones are filled up from its first ones
 take-refill : {X : Type 0} (n : ℕ) (xs ws : List X) → n ≤ length xs → take n (refill (length xs) xs ws) ≡ refill (length (take n xs)) (take n xs) ws
 take-refill n xs ws h =
-    let front = length-take-le n xs h in
+    let prefix = length-take-le n xs h in
     same_lists _ _ (search (rules, places)) (λ k d j. grind (arith, places, cases_lt k (length ws)))
 
--- items come over those from a place on
+-- items come over those from a position on
 pub all_lent : {X : Type 0} (xs ws : List X) (n start len : ℕ) → n ≡ length xs → start + len ≤ n
     → take len (drop start (take n ((take start xs ++ (ws ++ drop (length ws) (drop start xs))) ++ drop (length (take start xs ++ (ws ++ drop (length ws) (drop start xs)))) xs)))
     ≡ refill (length (take len (drop start xs))) (take len (drop start xs)) ws
@@ -102,15 +102,15 @@ all_lent {X} xs ws n start len e h =
     let part = drop start xs in
     let more = ws ++ drop (length ws) part in
     let ys = take start xs ++ more in
-    let front = length-take-le start xs (omega arith) in
+    let prefix = length-take-le start xs (omega arith) in
     let rest = length-drop start xs in
-    let behind = length-drop (length ws) part in
+    let after = length-drop (length ws) part in
     let long = length-append ws (drop (length ws) part) in
     let whole = length-append (take start xs) more in
     let left : n ≡ start + length part = omega arith in
     ap (λ (l : List X). take len (drop start l)) (take-append-le n ys (drop (length ys) xs) (omega arith))
     ∙ ap (λ m. take len (drop start (take m ys))) left
-    ∙ ap (take len) (drop-take start (length part) ys ∙ ap (take (length part)) (drop_at (take start xs) more start front))
+    ∙ ap (take len) (drop-take start (length part) ys ∙ ap (take (length part)) (drop_at (take start xs) more start prefix))
     ∙ take-refill len part ws (omega arith)
 
 -- a list that is filled up from another of its length

@@ -76,11 +76,11 @@ done-append width_of d (suc n) [] = refl
 done-append width_of d (suc n) (g ∷ gs) = done-append width_of (stroke_done width_of d (Cluster g)) n gs
 
 module _ {W : Type 0} (width_of : List ℕ → ℕ) where
-  -- the cells of some clusters that fit behind the cursor
+  -- the cells of some clusters that fit after the cursor
   abbrev pub fitting_here : Grid W → List (List ℕ) → List CellContent
   fitting_here c gs = fitting (c.width - c.column) (map (made width_of c.pen) gs)
 
-  -- the grid with cells set from the cursor on, which goes behind them
+  -- the grid with cells set from the cursor on, which goes after them
   abbrev pub grid_on : Grid W → List CellContent → Grid W
   grid_on c cells = record c { lines = set c.lines c.row (record (line_at c.lines c.row) { columns = overlaid (line_at c.lines c.row).columns c.column cells }); column = c.column + length (flat_map cell_columns cells) }
 
@@ -110,7 +110,7 @@ module _ {W : Type 0} (width_of : List ℕ → ℕ) where
   RunOn gs c = Shows c (grid_on c (fitting_here c gs)) (clusters_done width_of (display_of c) (take (length (fitting_here c gs)) gs))
 
   first_on : (g : List ℕ) (gs : List (List ℕ)) (c : Grid W) → IsDrawn c → stand (g ∷ gs) ≡ true → ((here : Grid W) → IsDrawn here → stand gs ≡ true → RunOn gs here) → RunOn (g ∷ gs) c
-  first_on g gs c h s others = by_test (leb_tells n room)
+  first_on g gs c h s remaining = by_test (leb_tells n room)
     where
       cell : CellContent
       cell = made width_of c.pen g
@@ -132,7 +132,7 @@ module _ {W : Type 0} (width_of : List ℕ → ℕ) where
           let place = h.lawful.lawful.column_in in
           let here = grid_with c (cell_columns cell) n in
           let step = put_here width_of c g (cell_columns cell) n h (same_columns width_of g c.width c.pen (not_true (shows_as_space g) parts.0) (omega arith)) refl (omega arith) in
-          let rest = others here step.drawn parts.1 in
+          let rest = remaining here step.drawn parts.1 in
           let less : room - n ≡ c.width - (c.column + n) = omega arith in
           let all : fitting_here c (g ∷ gs) ≡ cell ∷ fitting_here here gs = fitting_cell room cell (map (made width_of c.pen) gs) k ∙ ap (λ m. cell ∷ fitting m (map (made width_of c.pen) gs)) less in
           let same : display_of (grid_on here (fitting_here here gs)) ≡ clusters_done width_of (stroke_done width_of (display_of c) (Cluster g)) (take (length (fitting_here here gs)) gs) =

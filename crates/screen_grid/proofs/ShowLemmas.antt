@@ -142,23 +142,23 @@ region_rows change first size lines keeps p =
 
 -- the code's region is cut to the lines
 pub region_cut : (change : ℕ → List LineContent → List LineContent) (lines : List LineContent) (first size count : ℕ)
-    → let tall = length lines in let from = min first tall in let behind = from + min size (tall - from) in
-    take from lines ++ change (min count (behind - from)) (take (behind - from) (drop from lines)) ++ drop behind lines
+    → let tall = length lines in let from = min first tall in let after = from + min size (tall - from) in
+    take from lines ++ change (min count (after - from)) (take (after - from) (drop from lines)) ++ drop after lines
     ≡ in_region (λ xs. change (min count (length xs)) xs) first size lines
 region_cut change lines first size count =
     let tall = length lines in
     let from = min first tall in
-    let behind = from + min size (tall - from) in
+    let after = from + min size (tall - from) in
     let rest = length-drop from lines in
-    let others : drop from lines ≡ drop first lines = drop_min first lines in
-    let long = ap length others in
-    let some : behind - from ≡ min size (length (drop first lines)) = omega arith in
-    let part : take (behind - from) (drop from lines) ≡ take size (drop first lines) =
-    (λ i. take (some i) (others i)) ∙ take_min size (drop first lines) in
-    let taken = length-take-le (behind - from) (drop from lines) (omega arith) in
-    let n : behind - from ≡ length (take size (drop first lines)) = sym taken ∙ ap length part in
-    let last : drop behind lines ≡ drop (first + size) lines =
-    sym (drop-drop (min size (tall - from)) from lines) ∙ ap (drop (min size (tall - from))) others
+    let remaining : drop from lines ≡ drop first lines = drop_min first lines in
+    let long = ap length remaining in
+    let some : after - from ≡ min size (length (drop first lines)) = omega arith in
+    let part : take (after - from) (drop from lines) ≡ take size (drop first lines) =
+    (λ i. take (some i) (remaining i)) ∙ take_min size (drop first lines) in
+    let taken = length-take-le (after - from) (drop from lines) (omega arith) in
+    let n : after - from ≡ length (take size (drop first lines)) = sym taken ∙ ap length part in
+    let last : drop after lines ≡ drop (first + size) lines =
+    sym (drop-drop (min size (tall - from)) from lines) ∙ ap (drop (min size (tall - from))) remaining
     ∙ (let m : min size (tall - from) ≡ min size (length (drop first lines)) = omega arith in ap (λ k. drop k (drop first lines)) m) ∙ drop_min size (drop first lines) ∙ drop-drop size first lines in
     λ i. take_min first lines i ++ change (min count (n i)) (part i) ++ last i
 
@@ -303,14 +303,14 @@ module _ {W : Type 0} where
       let tall : length all ≡ length c.lines = length-map (map columns c.lines) (resized_row width) ∙ length-map c.lines columns in
       let sized : length (map bits c.lines) ≡ length c.lines = length-map c.lines bits in
       let count : more ≡ rows - length all = omega arith in
-      let others : more ≡ rows - length (map bits c.lines) = omega arith in
+      let remaining : more ≡ rows - length (map bits c.lines) = omega arith in
       let row_list : map columns lines ≡ take rows all ++ replicate (rows - length all) (plain_row width) =
       ap (map columns) e ∙ map-append columns (map (widened width) kept) (replicate more (clustered_line_of 0 (plain_row width)))
       ∙ (λ i. (widen_all width kept (All-take (λ l. IsWhole l.columns) rows c.lines (all_whole c h)) ∙ ap (map (resized_row width)) (sym (take-map columns rows c.lines)) ∙ sym (take-map (resized_row width) rows (map columns c.lines))) i
       ++ (map_replicate columns more (clustered_line_of 0 (plain_row width)) ∙ ap (λ n. replicate n (plain_row width)) count) i) in
       let size_list : map bits lines ≡ take rows (map bits c.lines) ++ replicate (rows - length (map bits c.lines)) SingleWidthLine =
       ap (map bits) e ∙ map-append bits (map (widened width) kept) (replicate more (clustered_line_of 0 (plain_row width)))
-      ∙ (λ i. (widen_bits width kept ∙ sym (take-map bits rows c.lines)) i ++ (map_replicate bits more (clustered_line_of 0 (plain_row width)) ∙ ap (λ n. replicate n SingleWidthLine) others) i) in
+      ∙ (λ i. (widen_bits width kept ∙ sym (take-map bits rows c.lines)) i ++ (map_replicate bits more (clustered_line_of 0 (plain_row width)) ∙ ap (λ n. replicate n SingleWidthLine) remaining) i) in
       let numbers : All IsRow lines = subst (All IsRow) (sym e)
       (All-append IsRow (map (widened width) kept) (replicate more (clustered_line_of 0 (plain_row width))) (widen_rows width kept (All-take IsRow rows c.lines h.rows)) (All-replicate IsRow more (clustered_line_of 0 (plain_row width)) (refl, refl))) in
       shows_by c new _ (resized_is width rows (display_of c) p q h.lawful) (same_display new (resized width rows (display_of c)) refl row_list refl refl refl refl refl size_list refl) refl numbers

@@ -64,7 +64,7 @@ abbrev pub line_with : {W : Type 0} → Grid W → Row → LineContent
 line_with c columns =
     record (line_at c.lines c.row) { columns = set_columns (line_at c.lines c.row).columns c.column columns }
 
--- the grid with these columns from the cursor on, which goes behind them
+-- the grid with these columns from the cursor on, which goes after them
 abbrev pub grid_with : {W : Type 0} → Grid W → Row → ℕ → Grid W
 grid_with c columns count =
     record c { lines = slice_set c.lines c.row (line_with c columns); column = c.column + count }

@@ -1,4 +1,4 @@
--- The parts of a text, from its front on.
+-- The parts of a text, from its prefix on.
 use Rattle.std.specs.Prelude.{◌≡◌, ℕ, List, fold}
 use Rattle.std.specs.List.{flat_map}
 use Rattle.screen_grid.specs.Grid.{Grid, IsDrawn, display_of}

@@ -1,8 +1,6 @@
 //! The grid.
 ghost use Rattle.std.specs.Prelude.{◌≡◌, ℕ, true, false, nat_le, ◌+◌, ◌-◌, ◌<◌, ◌≤◌, ◌++◌, ◌∷◌, [], length, map};
-ghost use Rattle.std.specs.Prelude.{replicate, IfOk, IsTrue, OnOk};
-ghost use Rattle.std.specs.List.{list_all};
-ghost use Rattle.text_clusters.specs.Plain.{is_printable};
+ghost use Rattle.std.specs.Prelude.{replicate, IfOk, OnOk};
 ghost use Rattle.cell_base.specs.Cluster.{clusters};
 ghost use Rattle.cell_base.specs.CellContent.{shows_as_space};
 ghost use Rattle.cell_base.specs.Row.{columns_of};
@@ -24,7 +22,7 @@ use crate::positions::{column_place, place};
 use crate::ring::Ring;
 use crate::rows::{
     blank_lines, blank_rows, blank_rows_below, copy, resize, scroll, scroll_down, scroll_up,
-    set_blanks, set_cell, set_plain, set_size, set_text,
+    set_blanks, set_cell, set_size, set_text,
 };
 use crate::text::{next_cluster, single_control};
 use cell_base::{
@@ -36,21 +34,20 @@ use screen_change::Change;
 use screen_effects::{split_at_control, split_control};
 use std::alloc::{AllocError, Global};
 use std::marker::Model;
-use text_clusters::are_printable;
 
 /// Lines with a cursor, a pen and a title. Columns and rows count from 0; at the column of the width
 /// a wrap is pending.
 #[derive(Drop)]
 pub struct Grid<W> {
     alloc: Global,
-    widths: W,
-    width: usize,
-    rows: Ring<Line>,
-    column: usize,
-    row: usize,
+    pub(crate) widths: W,
+    pub(crate) width: usize,
+    pub(crate) rows: Ring<Line>,
+    pub(crate) column: usize,
+    pub(crate) row: usize,
     visibility: CursorVisibility,
     shape: Option<CursorShape>,
-    pen: CellAttributes,
+    pub(crate) pen: CellAttributes,
     title: String,
 }
 
@@ -176,7 +173,7 @@ impl<W: Widths + Drop> Grid<W> {
         scroll(&mut self.rows, self.width);
     }
 
-    // A text of so many columns stands at the cursor, which goes behind it.
+    // A text of so many columns stands at the cursor, which goes after it.
     fn write(&mut self, text: &str, width: usize) -> Result<(), AllocError>
         requires drawn { IsDrawn self.old }
         requires stands { shows_as_space text.now ≡ false }
@@ -267,9 +264,9 @@ impl<W: Widths + Drop> Grid<W> {
             return Ok(());
         }
         let mut left = self.put_in_row(text)?;
-        while let Some((cluster, behind)) = next_cluster(left) {
+        while let Some((cluster, after)) = next_cluster(left) {
             self.put(cluster)?;
-            left = self.put_in_row(behind)?;
+            left = self.put_in_row(after)?;
         }
         Ok(())
     }
@@ -286,39 +283,6 @@ impl<W: Widths + Drop> Grid<W> {
             b'\n' => self.line_feed(),
             _ => self.put(" ")?,
         }
-        Ok(())
-    }
-
-    // Whether a text is printable ASCII characters that fit in the cursor's row, each of which is known to take one
-    // column.
-    #[inline(always)]
-    fn takes_plainly(&self, text: &str) -> bool
-        ensures printable { IsTrue result → list_all is_printable text.now ≡ true }
-        ensures narrow { IsTrue result → (byte : ℕ) → is_printable byte ≡ true
-            → W.width_of self.now.widths (byte ∷ []) ≡ 1 }
-        ensures fits { IsTrue result → self.now.column + length text.now ≤ self.now.width }
-    {
-        if self.width < self.column {
-            return false;
-        }
-        if !self.widths.has_narrow_ascii() {
-            return false;
-        }
-        text.len() <= self.width - self.column && are_printable(text.as_bytes())
-    }
-
-    // Puts the characters of such a text, each of which is a cluster by itself.
-    #[inline(always)]
-    fn put_plain(&mut self, text: &str) -> Result<(), AllocError>
-        requires drawn { IsDrawn self.old }
-        requires printable { list_all is_printable text.now ≡ true }
-        requires narrow { (byte : ℕ) → is_printable byte ≡ true → W.width_of self.old.widths (byte ∷ []) ≡ 1 }
-        requires fits { self.old.column + length text.now ≤ self.old.width }
-        ensures { OnOk result
-            (Shows self.old self.new (text_done (W.width_of self.old.widths) (display_of self.old) text.now)) }
-    {
-        set_plain(&mut self.rows, self.row, self.column, text, &self.pen)?;
-        self.column += text.len();
         Ok(())
     }
 
@@ -348,13 +312,13 @@ impl<W: Widths + Drop> Grid<W> {
         ensures { OnOk result
             (Shows self.old self.new (text_done (W.width_of self.old.widths) (display_of self.old) text.now)) }
     {
-        let (front, mut rest) = split_at_control(text);
-        self.put_run(front)?;
-        while let Some((control, behind)) = split_control(rest) {
+        let (prefix, mut rest) = split_at_control(text);
+        self.put_run(prefix)?;
+        while let Some((control, after)) = split_control(rest) {
             self.control(control)?;
-            let (front, others) = split_at_control(behind);
-            self.put_run(front)?;
-            rest = others;
+            let (prefix, remaining) = split_at_control(after);
+            self.put_run(prefix)?;
+            rest = remaining;
         }
         Ok(())
     }
@@ -423,7 +387,7 @@ impl<W: Widths + Drop> Grid<W> {
         Ok(())
     }
 
-    // The cursor goes to a place.
+    // The cursor goes to a position.
     fn move_cursor(&mut self, x: Position, y: Position)
         requires { IsDrawn self.old }
         ensures { Shows self.old self.new
@@ -456,8 +420,8 @@ impl<W: Widths + Drop> Grid<W> {
     {
         let height = self.rows.len();
         let first = first.min(height);
-        let behind = first + size.min(height - first);
-        scroll_up(&mut self.rows, first, behind, count.min(behind - first))?;
+        let after = first + size.min(height - first);
+        scroll_up(&mut self.rows, first, after, count.min(after - first))?;
         Ok(())
     }
 
@@ -475,8 +439,8 @@ impl<W: Widths + Drop> Grid<W> {
     {
         let height = self.rows.len();
         let first = first.min(height);
-        let behind = first + size.min(height - first);
-        scroll_down(&mut self.rows, first, behind, count.min(behind - first))?;
+        let after = first + size.min(height - first);
+        scroll_down(&mut self.rows, first, after, count.min(after - first))?;
         Ok(())
     }
 

@@ -1,10 +1,10 @@
-//! The places that positions name.
+//! The positions that positions name.
 ghost use Rattle.std.specs.Prelude.{◌≡◌, ◌<◌, ◌≤◌};
 ghost use Rattle.screen_effects.specs.Positions.{column_place, place};
 
 use cell_base::Position;
 
-// Of `size` places the one named, going from the current one: at most the last.
+// Of `size` positions the one named, going from the current one: at most the last.
 pub(crate) fn place(size: usize, from: usize, position: Position) -> usize
     requires some { 0 < size }
     requires within { from ≤ size }

@@ -1,4 +1,4 @@
-//! Items of which the first goes, and another comes behind the last, at little cost.
+//! Items of which the first goes, and another follows the last, at little cost.
 ghost use Rattle.std.specs.Prelude.{◌≡◌, ◌+◌, ◌-◌, ◌<◌, ◌≤◌, ◌++◌, ◌∷◌, [], length, drop, take, slice_index_or};
 ghost use Rattle.std.specs.Prelude.{slice_set, vec_len, OnErr, OnOk};
 ghost use Rattle.std.specs.List.{refill};
@@ -9,7 +9,7 @@ use std::alloc::AllocError;
 use std::marker::Model;
 use std::ops::{Index, IndexMut};
 
-/// Items of which the first goes, and another comes behind the last, at little cost: they stand in a vector, with spare
+/// Items of which the first goes, and another follows the last, at little cost: they stand in a vector, with spare
 /// ones around them.
 #[derive(Drop)]
 pub(crate) struct Ring<T> {
@@ -32,7 +32,7 @@ impl<T> Model for Ring<T> {
     ghost invariant = { λ t. t.start + t.len ≤ t.items.len };
 }
 
-// An item comes into a place, or behind all others where there is no such place yet.
+// An item comes into a position, or after all others where there is no such position yet.
 fn store<T: Drop>(items: &mut Vec<T>, at: usize, item: T) -> Result<(), AllocError>
     requires { at ≤ vec_len items.old }
     ensures stored { OnOk result (take (at + 1) items.new.items ≡ take at items.old.items ++ item ∷ []) }
@@ -47,7 +47,7 @@ fn store<T: Drop>(items: &mut Vec<T>, at: usize, item: T) -> Result<(), AllocErr
     Ok(())
 }
 
-// The items from `start` on, so many as `len`, come to the front: one after another changes places with what stands
+// The items from `start` on, so many as `len`, come to the start: one after another changes places with what stands
 // there.
 #[cold]
 #[inline(never)]
@@ -55,7 +55,7 @@ fn bring_to_front<T>(items: &mut [T], start: usize, len: usize)
     requires some { 0 < start }
     requires within { start + len ≤ length items.old }
     ensures len { length items.new ≡ length items.old }
-    ensures front { take len items.new ≡ take len (drop start items.old) }
+    ensures prefix { take len items.new ≡ take len (drop start items.old) }
 {
     for at in 0..len {
         items.swap(at, start + at);
@@ -96,7 +96,7 @@ impl<T> Ring<T> {
         self.len
     }
 
-    /// How many places are spare.
+    /// How many positions are spare.
     pub(crate) fn room(&self) -> usize {
         self.items.len() - self.len
     }
@@ -119,12 +119,12 @@ impl<T> Ring<T> {
         self.items.slice_mut(self.start..self.start + self.len)
     }
 
-    /// The first item goes, and some spare one comes behind the others; where there is none, the first one.
+    /// The first item goes, and some spare one follows the others; where there is none, the first one.
     #[inline(always)]
     pub(crate) fn turn(&mut self)
         requires { 0 < length self.old }
         ensures len { length self.new ≡ length self.old }
-        ensures front { take (length self.old - 1) self.new ≡ drop 1 self.old }
+        ensures prefix { take (length self.old - 1) self.new ≡ drop 1 self.old }
     {
         if self.start + self.len < self.items.len() {
             self.start += 1;
@@ -133,11 +133,11 @@ impl<T> Ring<T> {
         self.turn_at_end();
     }
 
-    // Turns where no place behind the items is spare: where some are before them, these are behind them then.
+    // Turns where no position after the items is spare: where some are before them, these are after them then.
     fn turn_at_end(&mut self)
         requires some { 0 < length self.old }
         ensures len { length self.new ≡ length self.old }
-        ensures front { take (length self.old - 1) self.new ≡ drop 1 self.old }
+        ensures prefix { take (length self.old - 1) self.new ≡ drop 1 self.old }
     {
         if self.start == 0 {
             rotate(&mut self.items, self.start, self.len);
@@ -149,7 +149,7 @@ impl<T> Ring<T> {
 }
 
 impl<T: Drop> Ring<T> {
-    /// An item comes behind the others, in a spare place if there is one. Where memory is refused nothing changes.
+    /// An item follows the others, in a spare position if there is one. Where memory is refused nothing changes.
     pub(crate) fn push(&mut self, item: T) -> Result<(), AllocError>
         ensures done { OnOk result (self.new ≡ self.old ++ item ∷ []) }
         ensures refused { OnErr result (self.new ≡ self.old) }
@@ -159,7 +159,7 @@ impl<T: Drop> Ring<T> {
         Ok(())
     }
 
-    /// One spare place more, with something in it.
+    /// One spare position more, with something in it.
     pub(crate) fn add_room(&mut self, spare: T) -> Result<(), AllocError>
         ensures { self.new ≡ self.old }
     {
@@ -167,7 +167,7 @@ impl<T: Drop> Ring<T> {
         Ok(())
     }
 
-    /// Only so many stay, from the front; the others go, and the spare ones behind them.
+    /// Only so many stay, from the start; the others go, and the spare ones after them.
     pub(crate) fn truncate(&mut self, len: usize)
         ensures { self.new ≡ take len self.old }
     {

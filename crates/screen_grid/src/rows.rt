@@ -97,7 +97,7 @@ pub(crate) fn scroll(rows: &mut Ring<Line>, width: usize)
 }
 
 // Sets the clusters of a text from a column of a row on, as far as they fit; answers the column
-// behind them and the text that is left.
+// after them and the text that is left.
 pub(crate) fn set_text<'a, W: Widths>(
     rows: &mut Ring<Line>,
     row: usize,
@@ -114,7 +114,7 @@ pub(crate) fn set_text<'a, W: Widths>(
         ≡ slice_set rows.old row
         (text_set (line_at rows.old row) at (length (line_at rows.old row).columns) text.now attrs.now
         (W.width_of w.now))) }
-    ensures behind { IfOk result
+    ensures after { IfOk result
         (λ r. r.0 ≡ set_text_end at (length (line_at rows.old row).columns) text.now attrs.now (W.width_of w.now)) }
     ensures rest { IfOk result
         (λ r. clusters r.1.now
@@ -221,63 +221,63 @@ pub(crate) fn blank_rows_below(
 }
 
 // Rows between two become rows of plain blanks.
-fn clear_rows(rows: &mut Ring<Line>, from: usize, behind: usize) -> Result<(), AllocError>
-    requires order { from ≤ behind }
-    requires within { behind ≤ length rows.old }
+fn clear_rows(rows: &mut Ring<Line>, from: usize, after: usize) -> Result<(), AllocError>
+    requires order { from ≤ after }
+    requires within { after ≤ length rows.old }
     ensures { OnOk result
         (rows.new
-        ≡ take from rows.old ++ map cleared (take (behind - from) (drop from rows.old)) ++ drop behind rows.old) }
+        ≡ take from rows.old ++ map cleared (take (after - from) (drop from rows.old)) ++ drop after rows.old) }
 {
-    for row in from..behind {
+    for row in from..after {
         clear_line(&mut rows[row])?;
     }
     Ok(())
 }
 
 // What stands in a region moves up, and what leaves it comes again below.
-fn rotate_up<T>(items: &mut [T], first: usize, behind: usize, count: usize)
-    requires order { first ≤ behind }
-    requires within { behind ≤ length items.old }
-    requires fits { first + count ≤ behind }
+fn rotate_up<T>(items: &mut [T], first: usize, after: usize, count: usize)
+    requires order { first ≤ after }
+    requires within { after ≤ length items.old }
+    requires fits { first + count ≤ after }
     ensures { items.new
         ≡ take first items.old
-        ++ (drop count (take (behind - first) (drop first items.old))
-        ++ take count (take (behind - first) (drop first items.old))) ++ drop behind items.old }
+        ++ (drop count (take (after - first) (drop first items.old))
+        ++ take count (take (after - first) (drop first items.old))) ++ drop after items.old }
 {
-    items[first..behind].rotate_left(count);
+    items[first..after].rotate_left(count);
 }
 
 // What stands in a region moves down, and what leaves it comes again above.
-fn rotate_down<T>(items: &mut [T], first: usize, behind: usize, count: usize)
-    requires order { first ≤ behind }
-    requires within { behind ≤ length items.old }
-    requires fits { first + count ≤ behind }
+fn rotate_down<T>(items: &mut [T], first: usize, after: usize, count: usize)
+    requires order { first ≤ after }
+    requires within { after ≤ length items.old }
+    requires fits { first + count ≤ after }
     ensures { items.new
         ≡ take first items.old
-        ++ (drop (behind - first - count) (take (behind - first) (drop first items.old))
-        ++ take (behind - first - count) (take (behind - first) (drop first items.old)))
-        ++ drop behind items.old }
+        ++ (drop (after - first - count) (take (after - first) (drop first items.old))
+        ++ take (after - first - count) (take (after - first) (drop first items.old)))
+        ++ drop after items.old }
 {
-    items[first..behind].rotate_right(count);
+    items[first..after].rotate_right(count);
 }
 
 // Rows of a region move up, and rows of plain blanks come below.
 pub(crate) fn scroll_up(
     rows: &mut Ring<Line>,
     first: usize,
-    behind: usize,
+    after: usize,
     count: usize,
 ) -> Result<(), AllocError>
-    requires order { first ≤ behind }
-    requires within { behind ≤ length rows.old }
-    requires fits { first + count ≤ behind }
+    requires order { first ≤ after }
+    requires within { after ≤ length rows.old }
+    requires fits { first + count ≤ after }
     ensures { OnOk result
         (rows.new
-        ≡ take first rows.old ++ rows_up count (take (behind - first) (drop first rows.old))
-        ++ drop behind rows.old) }
+        ≡ take first rows.old ++ rows_up count (take (after - first) (drop first rows.old))
+        ++ drop after rows.old) }
 {
-    rotate_up(rows.as_mut_slice(), first, behind, count);
-    clear_rows(rows, behind - count, behind)?;
+    rotate_up(rows.as_mut_slice(), first, after, count);
+    clear_rows(rows, after - count, after)?;
     Ok(())
 }
 
@@ -285,18 +285,18 @@ pub(crate) fn scroll_up(
 pub(crate) fn scroll_down(
     rows: &mut Ring<Line>,
     first: usize,
-    behind: usize,
+    after: usize,
     count: usize,
 ) -> Result<(), AllocError>
-    requires order { first ≤ behind }
-    requires within { behind ≤ length rows.old }
-    requires fits { first + count ≤ behind }
+    requires order { first ≤ after }
+    requires within { after ≤ length rows.old }
+    requires fits { first + count ≤ after }
     ensures { OnOk result
         (rows.new
-        ≡ take first rows.old ++ rows_down count (take (behind - first) (drop first rows.old))
-        ++ drop behind rows.old) }
+        ≡ take first rows.old ++ rows_down count (take (after - first) (drop first rows.old))
+        ++ drop after rows.old) }
 {
-    rotate_down(rows.as_mut_slice(), first, behind, count);
+    rotate_down(rows.as_mut_slice(), first, after, count);
     clear_rows(rows, first, first + count)?;
     Ok(())
 }

@@ -1,4 +1,4 @@
--- What is due behind one more change, another size, and changes that are forgotten.
+-- What is due after one more change, another size, and changes that are forgotten.
 use Rattle.std.proofs.Common.{◌≡◌, ℕ, suc, ◌+◌, ◌-◌, ◌≤◌, true, false, List, [], ◌∷◌, ◌++◌, length, drop, refl, sym, ap, ◌∙◌, arith, inl, inr, length-append, length-drop}
 use Rattle.std.specs.Prelude.{◌==◌, nat_lt, Option, Some, None, if◌then◌else◌}
 use Rattle.std.specs.Option.{option_map}
@@ -46,9 +46,9 @@ with_change most log change number h z f s m =
     let later = kept most (logged change log) in
     let first = first_later most log change h in
     let long = length-append log.entries (change ∷ []) in
-    let place : gone + (number - first_number later) ≡ number - first_number log = omega arith in
+    let position : gone + (number - first_number later) ≡ number - first_number log = omega arith in
     due_here most later number z (omega arith) (omega arith) (omega arith)
-    ∙ ap (λ (cs : List ChangeValue). Some cs) (drop-drop (number - first_number later) gone all ∙ ap (λ n. drop n all) place ∙ drop-append-le (number - first_number log) log.entries (change ∷ []) (omega arith))
+    ∙ ap (λ (cs : List ChangeValue). Some cs) (drop-drop (number - first_number later) gone all ∙ ap (λ n. drop n all) position ∙ drop-append-le (number - first_number log) log.entries (change ∷ []) (omega arith))
 
 pub due_later : (most : ℕ) (log : Log) (change : ChangeValue) (number : ℕ) → length log.entries ≤ log.number → number ≤ log.number → due most (kept most (logged change log)) number ≡ due_after most log change number
 due_later most log change number h s =
@@ -69,7 +69,7 @@ due_later most log change number h s =
           let first = first_later most log change h in
           let still : nat_lt number (first_number later) ≡ true = grind (arith, nat_tests) in
           none_early most later number still ∙ sym (ap put (none_early most log number p.0))
-      | inr p ↦ let behind = p.1 in
+      | inr p ↦ let after = p.1 in
           with_change most log change number h z (omega arith) s m ∙ sym (ap put (due_here most log number z (omega arith) s (omega arith)))
     ]
 
@@ -118,9 +118,9 @@ due_cut most log before number h m n =
       | inl p ↦ (let early = p.1 in let same : first_number cut ≡ first_number log = omega arith in ap (λ k. nat_lt number k) same)
       | inr p ↦ (let late = p.1 in let still : nat_lt number (first_number cut) ≡ false = grind (arith, nat_tests) in still ∙ sym p.0)
     ] in
-    let place : gone + (number - first_number cut) ≡ number - first_number log = omega arith in
+    let position : gone + (number - first_number cut) ≡ number - first_number log = omega arith in
     due_is most cut number
-    ∙ (λ i. due_of (number == 0) (test i) (nat_lt log.number number) (nat_lt most (log.number - number)) ((drop-drop (number - first_number cut) gone log.entries ∙ ap (λ k. drop k log.entries) place) i))
+    ∙ (λ i. due_of (number == 0) (test i) (nat_lt log.number number) (nat_lt most (log.number - number)) ((drop-drop (number - first_number cut) gone log.entries ∙ ap (λ k. drop k log.entries) position) i))
     ∙ sym (due_is most log number)
 
 pub due_forgotten : (most : ℕ) (log : Log) (before number : ℕ) → length log.entries ≤ log.number → before ≤ number → due most (forgotten before log) number ≡ due most log number

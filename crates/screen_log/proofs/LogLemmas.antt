@@ -170,8 +170,8 @@ due_tail most log all number t =
           ]
       | inr p ↦ let ge = p.1 in
           let whole : nat_lt number first ≡ false = elim (leb_tells (suc number) first) [ inl q ↦ (let lt = q.1 in absurd (omega arith)) | inr q ↦ q.0 ] in
-          let place : t.gone + (number - later) ≡ number - first = omega arith in
-          let same : drop (number - later) log.entries ≡ drop (number - first) all.entries = ap (drop (number - later)) t.entries ∙ drop-drop (number - later) t.gone all.entries ∙ ap (λ k. drop k all.entries) place in
+          let position : t.gone + (number - later) ≡ number - first = omega arith in
+          let same : drop (number - later) log.entries ≡ drop (number - first) all.entries = ap (drop (number - later)) t.entries ∙ drop-drop (number - later) t.gone all.entries ∙ ap (λ k. drop k all.entries) position in
           (λ i. due_of (number == 0) ((p.0 ∙ sym whole) i) (nat_lt (n i) number) (nat_lt most (n i - number)) (same i))
     ]
     ∙ sym (due_is most all number)

@@ -10,39 +10,39 @@ use Rattle.screen_change.specs.ValueOf.{value_of}
 use Rattle.screen_change.specs.declared.change.Change.{Change}
 use Rattle.screen_log.specs.Log.{Log, due, first_number, forgotten, resized_log}
 
--- what is in front of a place, and what is behind it, where the front has two parts
+-- what is before a position, and what follows it, where the prefix has two parts
 take_front : (a b c d : List Change) (n : ℕ) → length (a ++ b) ≡ n → take n (a ++ ((b ++ c) ++ d)) ≡ a ++ b
 take_front a b c d n e = ap (λ (rest : List Change). take n (a ++ rest)) (append_assoc b c d) ∙ ap (take n) (sym (append_assoc a b (c ++ d))) ∙ take_at (a ++ b) (c ++ d) n e
 
 drop_front : (a b c d : List Change) (n : ℕ) → length (a ++ b) ≡ n → drop n (a ++ ((b ++ c) ++ d)) ≡ c ++ d
 drop_front a b c d n e = ap (λ (rest : List Change). drop n (a ++ rest)) (append_assoc b c d) ∙ ap (drop n) (sym (append_assoc a b (c ++ d))) ∙ drop_at (a ++ b) (c ++ d) n e
 
--- a block of changes behind the first ones changes place with as many others: what is done in front, and then what is left behind, are the whole
-pub swapped_block : (n at : ℕ) (front behind done left : List Change) → at + n ≤ length front → length front ≡ length behind
-    → done ≡ take n (mid_of at (length behind - at) behind) ++ drop n (mid_of at (length front - at) front)
-    → left ≡ take n (mid_of at (length front - at) front) ++ drop n (mid_of at (length behind - at) behind)
-    → take (at + n) (put_mid at (length front - at) front done) ++ drop (at + n) (put_mid at (length behind - at) behind left) ≡ take at front ++ drop at behind
-swapped_block n at front behind done left h e d l =
-    let fronts = mid_of at (length front - at) front in
-    let others = mid_of at (length behind - at) behind in
-    let all_fronts : fronts ≡ drop at front = between_to_end front at (length front) (omega arith) in
-    let all_others : others ≡ drop at behind = between_to_end behind at (length behind) (omega arith) in
-    let first = length-take-le at front (omega arith) in
-    let second = length-take-le at behind (omega arith) in
-    let fronts_len = ap length all_fronts ∙ length-drop at front in
-    let others_len = ap length all_others ∙ length-drop at behind in
-    let block = length-take-le n others (omega arith) in
+-- a block of changes after the first ones changes place with as many others: what is done before, and then what is left after, are the whole
+pub swapped_block : (n at : ℕ) (prefix after done left : List Change) → at + n ≤ length prefix → length prefix ≡ length after
+    → done ≡ take n (mid_of at (length after - at) after) ++ drop n (mid_of at (length prefix - at) prefix)
+    → left ≡ take n (mid_of at (length prefix - at) prefix) ++ drop n (mid_of at (length after - at) after)
+    → take (at + n) (put_mid at (length prefix - at) prefix done) ++ drop (at + n) (put_mid at (length after - at) after left) ≡ take at prefix ++ drop at after
+swapped_block n at prefix after done left h e d l =
+    let fronts = mid_of at (length prefix - at) prefix in
+    let remaining = mid_of at (length after - at) after in
+    let all_fronts : fronts ≡ drop at prefix = between_to_end prefix at (length prefix) (omega arith) in
+    let all_others : remaining ≡ drop at after = between_to_end after at (length after) (omega arith) in
+    let first = length-take-le at prefix (omega arith) in
+    let second = length-take-le at after (omega arith) in
+    let fronts_len = ap length all_fronts ∙ length-drop at prefix in
+    let others_len = ap length all_others ∙ length-drop at after in
+    let block = length-take-le n remaining (omega arith) in
     let other_block = length-take-le n fronts (omega arith) in
-    let joined = length-append (take at front) (take n others) in
-    let other_joined = length-append (take at behind) (take n fronts) in
-    let none : post_of at (length behind - at) behind ≡ [] = drop_all (length behind - at) (drop at behind) (let k = length-drop at behind in omega arith) in
-    (λ i. take (at + n) (put_mid at (length front - at) front (d i)) ++ drop (at + n) (put_mid at (length behind - at) behind (l i)))
-    ∙ (λ i. take_front (take at front) (take n others) (drop n fronts) (post_of at (length front - at) front) (at + n) (omega arith) i
-    ++ drop_front (take at behind) (take n fronts) (drop n others) (post_of at (length behind - at) behind) (at + n) (omega arith) i)
-    ∙ ap (λ (rest : List Change). (take at front ++ take n others) ++ (drop n others ++ rest)) none
-    ∙ ap (λ (rest : List Change). (take at front ++ take n others) ++ rest) (append-nil (drop n others))
-    ∙ append_assoc (take at front) (take n others) (drop n others)
-    ∙ ap (λ (rest : List Change). take at front ++ rest) (take-append-drop n others ∙ all_others)
+    let joined = length-append (take at prefix) (take n remaining) in
+    let other_joined = length-append (take at after) (take n fronts) in
+    let none : post_of at (length after - at) after ≡ [] = drop_all (length after - at) (drop at after) (let k = length-drop at after in omega arith) in
+    (λ i. take (at + n) (put_mid at (length prefix - at) prefix (d i)) ++ drop (at + n) (put_mid at (length after - at) after (l i)))
+    ∙ (λ i. take_front (take at prefix) (take n remaining) (drop n fronts) (post_of at (length prefix - at) prefix) (at + n) (omega arith) i
+    ++ drop_front (take at after) (take n fronts) (drop n remaining) (post_of at (length after - at) after) (at + n) (omega arith) i)
+    ∙ ap (λ (rest : List Change). (take at prefix ++ take n remaining) ++ (drop n remaining ++ rest)) none
+    ∙ ap (λ (rest : List Change). (take at prefix ++ take n remaining) ++ rest) (append-nil (drop n remaining))
+    ∙ append_assoc (take at prefix) (take n remaining) (drop n remaining)
+    ∙ ap (λ (rest : List Change). take at prefix ++ rest) (take-append-drop n remaining ∙ all_others)
 
 module _ (items : List Change) (start most : ℕ) (s : start ≤ length items) where
   abbrev pub values : List ChangeValue
@@ -59,8 +59,8 @@ module _ (items : List Change) (start most : ℕ) (s : start ≤ length items) w
       let n = count in
       let k = length (values ++ value_of change ∷ []) - most in
       let same : values ++ value_of change ∷ [] ≡ map value_of (drop start all) = sym (map-append value_of (drop start items) (change ∷ [])) ∙ ap (map value_of) (sym (drop-append-le start items (change ∷ []) s)) in
-      let place : start + k ≡ first = omega arith in
-      ap (map value_of) e ∙ ap (λ m. map value_of (drop m all)) (sym place) ∙ ap (map value_of) (sym (drop-drop k start all)) ∙ sym (drop-map value_of k (drop start all)) ∙ ap (drop k) (sym same)
+      let position : start + k ≡ first = omega arith in
+      ap (map value_of) e ∙ ap (λ m. map value_of (drop m all)) (sym position) ∙ ap (map value_of) (sym (drop-drop k start all)) ∙ sym (drop-map value_of k (drop start all)) ∙ ap (drop k) (sym same)
 
   -- the changes from a number on
   pub from_number : (number at : ℕ) → length items ≤ start + number → map value_of (drop (start + (at - (number - (length items - start)))) items) ≡ drop (at - (number - length values)) values

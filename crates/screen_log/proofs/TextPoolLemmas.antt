@@ -5,12 +5,12 @@ use Rattle.std.proofs.lemmas.List.{drop-drop, drop-set-lt, replicate-append-repl
 use Rattle.screen_change.specs.declared.change.Change.{Change}
 use Rattle.screen_log.specs.LogView.{nothing}
 
--- one place more holds nothing
+-- one position more holds nothing
 pub one_dropped : (changes : List Change) (at : ℕ) → at < length changes → take at changes ≡ replicate at nothing → take (at + 1) (slice_set changes at nothing) ≡ replicate (at + 1) nothing
 one_dropped changes at h e =
-    take_more_set changes at nothing h ∙ ap (λ (front : List Change). front ++ nothing ∷ []) e ∙ replicate-append-replicate at 1 nothing
+    take_more_set changes at nothing h ∙ ap (λ (prefix : List Change). prefix ++ nothing ∷ []) e ∙ replicate-append-replicate at 1 nothing
 
--- what stands behind that place is as it was
+-- what follows that position is as it was
 pub rest_stays : (changes old : List Change) (at : ℕ) → drop at changes ≡ drop at old → drop (at + 1) (slice_set changes at nothing) ≡ drop (at + 1) old
 rest_stays changes old at e =
     drop-set-lt (at + 1) changes at nothing (omega arith) ∙ sym (drop-drop 1 at changes) ∙ ap (drop 1) e ∙ drop-drop 1 at old

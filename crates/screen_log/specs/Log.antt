@@ -13,7 +13,7 @@ pub record Log : Type 0 where
 abbrev pub new_log : Log
 new_log = record { number = 0; entries = [] }
 
--- the number behind which the entries begin
+-- the number after which the entries begin
 abbrev pub first_number : Log → ℕ
 first_number log = log.number - length log.entries
 
@@ -47,7 +47,7 @@ due most log number =
     then None
     else Some (drop (number - first_number log) log.entries)
 
--- behind one more change: what was due before it, and the change, as long as no more are due than so many
+-- after one more change: what was due before it, and the change, as long as no more are due than so many
 abbrev pub due_after : ℕ → Log → ChangeValue → ℕ → Option (List ChangeValue)
 due_after most log change number =
     if nat_lt most (log.number + 1 - number) then None

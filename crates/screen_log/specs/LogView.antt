@@ -11,12 +11,12 @@ use Rattle.screen_log.specs.declared.change_log.ChangeLog.TheInside.{Inside}
 abbrev pub nothing : Change
 nothing = CursorShape Default
 
--- the changes behind the places of those that were dropped
+-- the changes after the places of those that were dropped
 abbrev pub log_of : Inside → Sized
 log_of a =
     record { most = a.most; log = record { number = a.number; entries = map value_of (drop a.start a.changes.items) } }
 
--- At most as many changes are kept as may be due, each of them has a number, and at most as many places stand before
+-- At most as many changes are kept as may be due, each of them has a number, and at most as many positions stand before
 -- them. What isn't kept holds no memory, but for 64 KB of texts' memory at most, for texts to come.
 pub record IsBounded (a : Inside) : Type 0 where
   pub gone : a.start + a.start ≤ length a.changes.items

@@ -45,31 +45,31 @@ impl Model for ChangeLog {
 const BLOCK: usize = 64;
 
 // The first changes of both, a block of each, change places.
-fn swap_blocks(front: &mut [Change], behind: &mut [Change])
-    requires front { BLOCK ≤ length front.old }
-    requires behind { BLOCK ≤ length behind.old }
-    ensures front { front.new ≡ take BLOCK behind.old ++ drop BLOCK front.old }
-    ensures behind { behind.new ≡ take BLOCK front.old ++ drop BLOCK behind.old }
+fn swap_blocks(prefix: &mut [Change], after: &mut [Change])
+    requires prefix { BLOCK ≤ length prefix.old }
+    requires after { BLOCK ≤ length after.old }
+    ensures prefix { prefix.new ≡ take BLOCK after.old ++ drop BLOCK prefix.old }
+    ensures after { after.new ≡ take BLOCK prefix.old ++ drop BLOCK after.old }
 {
-    if let Some(one) = front.first_chunk_mut::<BLOCK>() {
-        if let Some(other) = behind.first_chunk_mut::<BLOCK>() {
+    if let Some(one) = prefix.first_chunk_mut::<BLOCK>() {
+        if let Some(other) = after.first_chunk_mut::<BLOCK>() {
             mem::swap(one, other);
         }
     }
 }
 
 // The changes of two lists of one length change places.
-fn swap_changes(front: &mut [Change], behind: &mut [Change])
-    requires { length front.old ≡ length behind.old }
-    ensures len { length front.new ≡ length front.old }
-    ensures front { front.new ≡ behind.old }
+fn swap_changes(prefix: &mut [Change], after: &mut [Change])
+    requires { length prefix.old ≡ length after.old }
+    ensures len { length prefix.new ≡ length prefix.old }
+    ensures prefix { prefix.new ≡ after.old }
 {
     let mut at = 0;
-    while BLOCK <= front.len() - at {
-        swap_blocks(&mut front[at..], &mut behind[at..]);
+    while BLOCK <= prefix.len() - at {
+        swap_blocks(&mut prefix[at..], &mut after[at..]);
         at += BLOCK;
     }
-    front[at..].swap_with_slice(&mut behind[at..]);
+    prefix[at..].swap_with_slice(&mut after[at..]);
 }
 
 // The changes from `start` on change places with the first ones.
@@ -79,11 +79,11 @@ fn bring_to_front(changes: &mut [Change], start: usize)
     requires within { start ≤ length changes.old }
     requires few { length changes.old ≤ start + start }
     ensures len { length changes.new ≡ length changes.old }
-    ensures front { take (length changes.old - start) changes.new ≡ drop start changes.old }
+    ensures prefix { take (length changes.old - start) changes.new ≡ drop start changes.old }
 {
-    let (front, behind) = changes.split_at_mut(start);
-    let count = behind.len();
-    swap_changes(&mut front[..count], behind);
+    let (prefix, after) = changes.split_at_mut(start);
+    let count = after.len();
+    swap_changes(&mut prefix[..count], after);
 }
 
 // What stands in the place of a dropped change: it holds nothing.
@@ -117,7 +117,7 @@ fn drop_change(change: Change, spare: &mut TextPool)
     }
 }
 
-// Drops the changes from one place to another where they stand.
+// Drops the changes from one position to another where they stand.
 #[inline(always)]
 fn drop_in_place(changes: &mut [Change], from: usize, to: usize, spare: &mut TextPool)
     requires order { from ≤ to }
@@ -135,26 +135,26 @@ fn drop_in_place(changes: &mut [Change], from: usize, to: usize, spare: &mut Tex
 }
 
 // Drops the changes before a place, of which those before `start` are dropped, where they stand. Where no more are left
-// behind it these are brought to the front: so each change that is dropped moves at most one other.
+// after it these are brought to the start: so each change that is dropped moves at most one other.
 #[inline(always)]
-fn drop_before(changes: &mut Vec<Change>, start: &mut usize, place: usize, spare: &mut TextPool)
-    requires order { start.old ≤ place }
-    requires within { place ≤ vec_len changes.old }
+fn drop_before(changes: &mut Vec<Change>, start: &mut usize, position: usize, spare: &mut TextPool)
+    requires order { start.old ≤ position }
+    requires within { position ≤ vec_len changes.old }
     requires dropped { take start.old changes.old.items ≡ replicate start.old nothing }
     requires spare { spare.old ≤ MOST_POOLED }
-    ensures left { drop start.new changes.new.items ≡ drop place changes.old.items }
-    ensures len { vec_len changes.new + place ≡ start.new + vec_len changes.old }
+    ensures left { drop start.new changes.new.items ≡ drop position changes.old.items }
+    ensures len { vec_len changes.new + position ≡ start.new + vec_len changes.old }
     ensures few { start.new + start.new ≤ vec_len changes.new }
     ensures dropped { take start.new changes.new.items ≡ replicate start.new nothing }
     ensures spare { spare.new ≤ MOST_POOLED }
 {
-    drop_in_place(changes, *start, place, spare);
-    let left = changes.len() - place;
-    if place < left {
-        *start = place;
+    drop_in_place(changes, *start, position, spare);
+    let left = changes.len() - position;
+    if position < left {
+        *start = position;
         return;
     }
-    bring_to_front(changes, place);
+    bring_to_front(changes, position);
     changes.truncate(left);
     *start = 0;
 }

@@ -25,7 +25,7 @@ pub fn kept_changes_are_counted(log: &ChangeLog)
     log.is_counted();
 }
 
-/// Behind one more change what is due from a number on is what was due before it, and the change; or
+/// After one more change what is due from a number on is what was due before it, and the change; or
 /// nothing, so that a repaint is, where nothing was due, or where more would be than may be. To
 /// somebody who has seen the change none is due. Each change that the log keeps is taken to have a
 /// number, as in all logs.

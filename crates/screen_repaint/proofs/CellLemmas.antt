@@ -60,9 +60,9 @@ row_again at [] p = refl
 row_again at (Narrow text attributes ∷ row) p = ap (λ (r : Row). Narrow text attributes ∷ r) (row_again (at + 1) row p)
 row_again at (RightHalf attributes ∷ row) p = absurd p
 row_again at (LeftHalf text attributes ∷ []) p = absurd p
-row_again at (LeftHalf text attributes ∷ Narrow other others ∷ row) p = absurd p
-row_again at (LeftHalf text attributes ∷ LeftHalf other others ∷ row) p = absurd p
-row_again at (LeftHalf text attributes ∷ RightHalf others ∷ row) p =
+row_again at (LeftHalf text attributes ∷ Narrow other remaining ∷ row) p = absurd p
+row_again at (LeftHalf text attributes ∷ LeftHalf other remaining ∷ row) p = absurd p
+row_again at (LeftHalf text attributes ∷ RightHalf remaining ∷ row) p =
     ap (λ (r : Row). LeftHalf text attributes ∷ RightHalf attributes ∷ r) (row_again (at + 1 + 1) row p.1) ∙ ap (λ (a : Attributes). LeftHalf text attributes ∷ RightHalf a ∷ row) (sym p.0)
 
 pub whole_cells : (cells : List CellContent) → IsWhole (joined_columns cells)
@@ -91,7 +91,7 @@ module _ (width_of : List ℕ → ℕ) (narrow : width_of space ≡ 1) where
       let parts = and_parts (is_blank_of color cell) (list_all (is_blank_of color) cells) e in
       λ i. one_blank color cell p.0 parts.0 i ++ all_blanks color cells p.1 parts.1 i
 
-  -- as many blanks of a colour stand behind these cells, which are sound
+  -- as many blanks of a colour follow these cells, which are sound
   pub record Fronts (color : ColorAttribute) (cells kept : List CellContent) : Type 0 where
     pub blanks : ℕ
     pub same : joined_columns cells ≡ joined_columns kept ++ replicate blanks (blank (blank_of color))

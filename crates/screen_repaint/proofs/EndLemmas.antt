@@ -41,8 +41,8 @@ pub record Ends (cells : List CellContent) (end : End) : Type 0 where
   pub within : end.kept ≤ end.cells
   pub background : background_at_end cells ≡ option_map (λ a. a.background) end.blanks
   pub plain : (attributes : Attributes) → end.blanks ≡ Some attributes → attributes ≡ blank_of attributes.background
-  pub others : (color : ColorAttribute) → (end.blanks ≡ Some (blank_of color) → ⊥) → up_to_last (λ cell. not (is_blank_of color cell)) cells ≡ cells
-  pub front : (color : ColorAttribute) → end.blanks ≡ Some (blank_of color) → take end.kept cells ≡ up_to_last (λ cell. not (is_blank_of color cell)) cells
+  pub remaining : (color : ColorAttribute) → (end.blanks ≡ Some (blank_of color) → ⊥) → up_to_last (λ cell. not (is_blank_of color cell)) cells ≡ cells
+  pub prefix : (color : ColorAttribute) → end.blanks ≡ Some (blank_of color) → take end.kept cells ≡ up_to_last (λ cell. not (is_blank_of color cell)) cells
   pub whole : end.blanks ≡ None → end.kept ≡ end.cells
 
 or_true : (b : Bool) → (b || true) ≡ true
@@ -137,8 +137,8 @@ another cells end cell h e = record {
   within = omega arith;
   background = background_more cells cell ∙ ap (λ b. if b then Some cell.attributes.background else None) e;
   plain = λ attributes p. absurd (none_some attributes p);
-  others = λ color f. up_to_kept (λ x. not (is_blank_of color x)) cells cell (passes_not color cell (no_blank color cell e));
-  front = λ color p. absurd (none_some (blank_of color) p);
+  remaining = λ color f. up_to_kept (λ x. not (is_blank_of color x)) cells cell (passes_not color cell (no_blank color cell e));
+  prefix = λ color p. absurd (none_some (blank_of color) p);
   whole = λ p. refl;
 }
 
@@ -150,11 +150,11 @@ goes_on cells end cell h e b =
       within = let w = h.within in omega arith;
       background = background_more cells cell ∙ ap (λ x. if x then Some cell.attributes.background else None) e ∙ ap (option_map (λ a. a.background)) (sym is);
       plain = h.plain;
-      others = λ color f. up_to_kept (λ x. not (is_blank_of color x)) cells cell (passes_not color cell (λ t. f (is ∙ ap Some (blank_parts color cell t).1)));
-      front = λ color p.
+      remaining = λ color f. up_to_kept (λ x. not (is_blank_of color x)) cells cell (passes_not color cell (λ t. f (is ∙ ap Some (blank_parts color cell t).1)));
+      prefix = λ color p.
           let same : cell.attributes ≡ blank_of color = some_is cell.attributes (blank_of color) (sym is ∙ p) in
           let blank : is_blank_of color cell ≡ true = blank_from color cell (blank_parts cell.attributes.background cell e).0 same in
-          taken_before end.kept cells cell (let w = h.within in let n = h.count in omega arith) ∙ h.front color p
+          taken_before end.kept cells cell (let w = h.within in let n = h.count in omega arith) ∙ h.prefix color p
           ∙ sym (up_to_dropped (λ x. not (is_blank_of color x)) cells cell (ap not blank));
       whole = λ p. absurd (none_some cell.attributes (sym p ∙ is));
     }
@@ -166,13 +166,13 @@ begins cells end cell h e b = record {
   within = omega arith;
   background = background_more cells cell ∙ ap (λ x. if x then Some cell.attributes.background else None) e;
   plain = λ attributes p. sym (some_is cell.attributes attributes p) ∙ own_blank cell e ∙ ap (λ (a : Attributes). blank_of a.background) (some_is cell.attributes attributes p);
-  others = λ color f. up_to_kept (λ x. not (is_blank_of color x)) cells cell (passes_not color cell (λ t. f (ap Some (blank_parts color cell t).1)));
-  front = λ color p.
+  remaining = λ color f. up_to_kept (λ x. not (is_blank_of color x)) cells cell (passes_not color cell (λ t. f (ap Some (blank_parts color cell t).1)));
+  prefix = λ color p.
       let same : cell.attributes ≡ blank_of color = some_is cell.attributes (blank_of color) p in
       let blank : is_blank_of color cell ≡ true = blank_from color cell (blank_parts cell.attributes.background cell e).0 same in
       let other : end.blanks ≡ Some (blank_of color) → ⊥ = λ q. false≢true (sym b ∙ ends_in_from end.blanks cell.attributes (q ∙ ap Some (sym same))) in
       taken_before end.cells cells cell (let n = h.count in omega arith) ∙ ap (λ n. take n cells) h.count ∙ take_all cells
-      ∙ sym (up_to_dropped (λ x. not (is_blank_of color x)) cells cell (ap not blank) ∙ h.others color other);
+      ∙ sym (up_to_dropped (λ x. not (is_blank_of color x)) cells cell (ap not blank) ∙ h.remaining color other);
   whole = λ p. absurd (none_some cell.attributes (sym p));
 }
 
@@ -195,8 +195,8 @@ no_end = record {
   within = omega arith;
   background = refl;
   plain = λ attributes p. absurd (none_some attributes p);
-  others = λ color f. refl;
-  front = λ color p. absurd (none_some (blank_of color) p);
+  remaining = λ color f. refl;
+  prefix = λ color p. absurd (none_some (blank_of color) p);
   whole = λ p. refl;
 }
 
@@ -216,7 +216,7 @@ kept_cells cells = by_end (end_of cells).blanks refl
         ∙ sym (ap (λ (o : Option ColorAttribute). less_blanks o cells) (h.background ∙ ap (option_map (λ a. a.background)) e))
     by_end (Some attributes) e =
         let is : attributes ≡ blank_of attributes.background = h.plain attributes e in
-        h.front attributes.background (e ∙ ap Some is)
+        h.prefix attributes.background (e ∙ ap Some is)
         ∙ sym (ap (λ (o : Option ColorAttribute). less_blanks o cells) (h.background ∙ ap (option_map (λ a. a.background)) e))
 
 -- ---- rows of blanks

@@ -1,4 +1,4 @@
--- Changes that are written one behind another.
+-- Changes that are written one after another.
 use Rattle.std.proofs.Common.{Bor, ◌≡◌, ℕ, zero, suc, ◌+◌, ◌-◌, ◌<◌, ◌≤◌, Bool, true, false, List, [], ◌∷◌, ◌++◌, length, take, map, Option, Some, None, refl, sym, ap, subst, ◌∙◌, arith, append-nil, append_assoc}
 use Rattle.std.specs.Prelude.{◌&&◌, ◌||◌, ◌==◌, not, nat_le, replicate, if◌then◌else◌}
 use Rattle.std.proofs.lemmas.List.Sums.{fold-append}
@@ -39,7 +39,7 @@ ended_is w e = λ i. record w { changes = finished_is w e i; cells = sym e i }
 pub nothing_more : (w : Written) → w.cells ≡ [] → with_changes [] w ≡ w
 nothing_more w e = λ i. record w { changes = append-nil w.changes i; cells = sym e i }
 
--- changes behind changes
+-- changes after changes
 pub more : (a b : List ChangeValue) (w : Written) → with_changes b (with_changes a w) ≡ with_changes (a ++ b) w
 more a b w = λ i. record { changes = append_assoc w.changes a b i; pen = sym (fold-append pen_after w.pen a b) i; cells = [] }
 
@@ -95,7 +95,7 @@ cleared_alone background color below_too pen v w b t other p e =
     ∙ ap (λ (cs : List ChangeValue). with_changes cs (ended w)) (sym (clear_of color other))
     ∙ sym (λ i. with_changes (end_cleared (b i) (t i)) (ended w))
 
--- ---- the pen behind cells
+-- ---- the pen after cells
 
 texts_keep_pen : (ts : List (List ℕ)) (pen : Attributes) → pen_left pen (map Text ts) ≡ pen
 texts_keep_pen [] pen = refl
@@ -270,23 +270,23 @@ module _ (whole w : Written) (some painted : Bool) (count : ℕ) (row : Row) (be
   abbrev own : List ChangeValue
   own = row_painted w.pen (row_cells row) too
 
-  abbrev others : Attributes → List ChangeValue
-  others pen = rows_painted pen below
+  abbrev remaining : Attributes → List ChangeValue
+  remaining pen = rows_painted pen below
 
   pub row_skipped : (next : ℕ) → next ≡ count + 1 → are_some own ≡ false → LeadsOn whole some w painted next below
   row_skipped next n e =
       let alone : too ≡ false = never_both w.pen (row_cells row) below e in
-      let all : rows_painted w.pen (row ∷ below) ≡ in_next_row (others w.pen) =
-      ap (λ b. if b then own else own ++ in_next_row (others (pen_left w.pen own))) alone
-      ∙ ap (λ (cs : List ChangeValue). cs ++ in_next_row (others (pen_left w.pen cs))) (no_changes own e) in
+      let all : rows_painted w.pen (row ∷ below) ≡ in_next_row (remaining w.pen) =
+      ap (λ b. if b then own else own ++ in_next_row (remaining (pen_left w.pen own))) alone
+      ∙ ap (λ (cs : List ChangeValue). cs ++ in_next_row (remaining (pen_left w.pen cs))) (no_changes own e) in
       let count_is : next ≡ suc count = omega (arith, n) in record {
         is_ended = leads.is_ended;
         same =
-            ap (λ n. with_changes (after_moves n (others w.pen)) w) count_is
-            ∙ ap (λ (cs : List ChangeValue). with_changes cs w) (sym (one_more count (others w.pen)))
+            ap (λ n. with_changes (after_moves n (remaining w.pen)) w) count_is
+            ∙ ap (λ (cs : List ChangeValue). with_changes cs w) (sym (one_more count (remaining w.pen)))
             ∙ ap (λ (cs : List ChangeValue). with_changes (after_moves count cs) w) (sym all)
             ∙ leads.same;
-        any = ap (λ b. painted || b) (sym (next_some (others w.pen)) ∙ ap are_some (sym all)) ∙ leads.any;
+        any = ap (λ b. painted || b) (sym (next_some (remaining w.pen)) ∙ ap are_some (sym all)) ∙ leads.any;
       }
 
   module _ (moved next : Written) (left : List Row) (m : ℕ) (p : moved ≡ with_changes (moves count) w) (q : next ≡ with_changes (row_painted moved.pen (row_cells row) too) moved) where
@@ -309,14 +309,14 @@ module _ (whole w : Written) (some painted : Bool) (count : ℕ) (row : Row) (be
         ∙ nothing_more next (ap (λ (v : Written). v.cells) q)
         ∙ next_is
         ∙ ap (λ (cs : List ChangeValue). with_changes cs w) (sym (append-nil (moves count ++ own)) ∙ sym (after_some count own [] e) ∙ ap (after_moves count) (append-nil own))
-        ∙ ap (λ b. with_changes (after_moves count (if b then own else own ++ in_next_row (others (pen_left w.pen own)))) w) (sym t)
+        ∙ ap (λ b. with_changes (after_moves count (if b then own else own ++ in_next_row (remaining (pen_left w.pen own)))) w) (sym t)
         ∙ leads.same)
         (λ t.
         (λ i. with_changes (after_moves ((goes t).1 i) (rows_painted (next_pen i) ((goes t).0 i))) (next_is i))
-        ∙ ap (λ (cs : List ChangeValue). with_changes cs (with_changes (moves count ++ own) w)) (sym (after_one (others (pen_left w.pen own))))
-        ∙ more (moves count ++ own) (in_next_row (others (pen_left w.pen own))) w
-        ∙ ap (λ (cs : List ChangeValue). with_changes cs w) (sym (after_some count own (in_next_row (others (pen_left w.pen own))) e))
-        ∙ ap (λ b. with_changes (after_moves count (if b then own else own ++ in_next_row (others (pen_left w.pen own)))) w) (sym t)
+        ∙ ap (λ (cs : List ChangeValue). with_changes cs (with_changes (moves count ++ own) w)) (sym (after_one (remaining (pen_left w.pen own))))
+        ∙ more (moves count ++ own) (in_next_row (remaining (pen_left w.pen own))) w
+        ∙ ap (λ (cs : List ChangeValue). with_changes cs w) (sym (after_some count own (in_next_row (remaining (pen_left w.pen own))) e))
+        ∙ ap (λ b. with_changes (after_moves count (if b then own else own ++ in_next_row (remaining (pen_left w.pen own)))) w) (sym t)
         ∙ leads.same)
 
     some_is : are_some own ≡ true → true ≡ some
@@ -324,8 +324,8 @@ module _ (whole w : Written) (some painted : Bool) (count : ℕ) (row : Row) (be
         sym (or_true painted)
         ∙ ap (λ b. painted || b) (sym
         (by_test too
-        (λ t. ap (λ b. are_some (if b then own else own ++ in_next_row (others (pen_left w.pen own)))) t ∙ e)
-        (λ t. ap (λ b. are_some (if b then own else own ++ in_next_row (others (pen_left w.pen own)))) t ∙ some_of own (in_next_row (others (pen_left w.pen own))) ∙ ap (λ b. b || are_some (in_next_row (others (pen_left w.pen own)))) e)))
+        (λ t. ap (λ b. are_some (if b then own else own ++ in_next_row (remaining (pen_left w.pen own)))) t ∙ e)
+        (λ t. ap (λ b. are_some (if b then own else own ++ in_next_row (remaining (pen_left w.pen own)))) t ∙ some_of own (in_next_row (remaining (pen_left w.pen own))) ∙ ap (λ b. b || are_some (in_next_row (remaining (pen_left w.pen own)))) e)))
         ∙ leads.any
 
     pub row_done : are_some own ≡ true → (too ≡ true → left ≡ []) → (too ≡ false → (left ≡ below) × (m ≡ 1)) → LeadsOn whole some next true m left

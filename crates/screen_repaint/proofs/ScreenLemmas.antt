@@ -1,5 +1,5 @@
 -- A screen that is painted, part by part.
-use Rattle.std.proofs.Common.{◌≡◌, ℕ, suc, ◌<◌, Bool, List, [], ◌∷◌, ◌++◌, length, refl, sym, ap, ◌∙◌, arith}
+use Rattle.std.proofs.Common.{◌≡◌, ℕ, suc, ◌<◌, Bool, true, false, List, [], ◌∷◌, ◌++◌, length, refl, sym, ap, ◌∙◌, arith}
 use Rattle.std.specs.Prelude.{All, not, ◌&&◌, ◌==◌, if◌then◌else◌}
 use Rattle.cell_base.specs.declared.attributes.CursorVisibility.TheVariants.{Hidden}
 use Rattle.cell_base.specs.declared.color.ColorAttribute.TheVariants.{Default}
@@ -14,7 +14,7 @@ use Rattle.screen_change.proofs.TextLemmas.{by_test}
 use Rattle.cell_base.specs.WholeRow.{IsWhole}
 use Rattle.screen_effects.specs.Display.{Display}
 use Rattle.screen_repaint.specs.PaintedRows.{AreFilled, with_changes}
-use Rattle.screen_repaint.specs.Repaint.{pen_left, are_some, rows_painted, cursor_placed, cursor_shown, title_due, repaint}
+use Rattle.screen_repaint.specs.Repaint.{pen_left, are_some, rows_painted, cursor_placed, cursor_shown, repaint_with, titles}
 use Rattle.screen_repaint.proofs.EndLemmas.{some_visible}
 use Rattle.screen_repaint.proofs.PaintLemmas.{finished_is, nothing_more, more}
 
@@ -38,9 +38,10 @@ filled (row ∷ rows) width n even whole =
       filled rows width n (λ k d h. even (suc k) d (omega arith)) (λ k d h. whole (suc k) d (omega arith)),
     )
 
-title_pen : (title : List ℕ) (pen : Attributes) → pen_left pen (title_due title) ≡ pen
-title_pen [] pen = refl
-title_pen (byte ∷ title) pen = refl
+title_pen : (also_empty : Bool) (title : List ℕ) (pen : Attributes) → pen_left pen (titles also_empty title) ≡ pen
+title_pen true title pen = refl
+title_pen false [] pen = refl
+title_pen false (byte ∷ title) pen = refl
 
 place_pen : (painted : Bool) (column row : ℕ) (pen : Attributes) → pen_left pen (cursor_placed painted column row) ≡ pen
 place_pen painted column row pen =
@@ -48,34 +49,37 @@ place_pen painted column row pen =
     (λ e. ap (λ b. pen_left pen (if b then [] else CursorPosition (Absolute column) (Absolute row) ∷ [])) e)
     (λ e. ap (λ b. pen_left pen (if b then [] else CursorPosition (Absolute column) (Absolute row) ∷ [])) e)
 
-module _ (d : Display) (w w1 w2 w3 w4 w5 w6 : Written) (painted : Bool) where
+module _ (d : Display) (also_empty : Bool) (w w1 w2 w3 w4 w5 w6 : Written) (painted : Bool) where
   abbrev rows : List ChangeValue
   rows = rows_painted plain d.screen.rows
 
   abbrev clear : List ChangeValue
   clear = CursorVisibility Hidden ∷ ClearScreen Default ∷ []
 
-  abbrev place : Bool → List ChangeValue
-  place some = cursor_placed some d.screen.column d.screen.row
+  abbrev title : List ChangeValue
+  title = titles also_empty d.screen.title
 
-  pub repainted : w ≡ begun plain → w1 ≡ with_changes clear w → w2 ≡ with_changes (title_due d.screen.title) w1
+  abbrev position : Bool → List ChangeValue
+  position some = cursor_placed some d.screen.column d.screen.row
+
+  pub repainted : w ≡ begun plain → w1 ≡ with_changes clear w → w2 ≡ with_changes title w1
       → w3 ≡ with_changes (rows_painted w2.pen d.screen.rows) w2 → painted ≡ are_some (rows_painted w2.pen d.screen.rows)
-      → w4 ≡ with_changes (place painted) w3 → w5 ≡ with_changes (attributes_due w4.pen d.screen.pen) w4 → w6 ≡ with_changes (cursor_shown d.screen.visible d.shape) w5
-      → finished w6 ≡ repaint d
+      → w4 ≡ with_changes (position painted) w3 → w5 ≡ with_changes (attributes_due w4.pen d.screen.pen) w4 → w6 ≡ with_changes (cursor_shown d.screen.visible d.shape) w5
+      → finished w6 ≡ repaint_with title d
   repainted e e1 e2 e3 some e4 e5 e6 =
       let first : w1 ≡ with_changes clear (begun plain) = e1 ∙ ap (with_changes clear) e in
-      let second : w2 ≡ with_changes (clear ++ title_due d.screen.title) (begun plain) = e2 ∙ ap (with_changes (title_due d.screen.title)) first ∙ more clear (title_due d.screen.title) (begun plain) in
-      let pen2 : w2.pen ≡ plain = ap (λ (v : Written). v.pen) second ∙ title_pen d.screen.title plain in
-      let third : w3 ≡ with_changes (clear ++ title_due d.screen.title ++ rows) (begun plain) =
-      e3 ∙ (λ i. with_changes (rows_painted (pen2 i) d.screen.rows) (second i)) ∙ more (clear ++ title_due d.screen.title) rows (begun plain) in
+      let second : w2 ≡ with_changes (clear ++ title) (begun plain) = e2 ∙ ap (with_changes title) first ∙ more clear title (begun plain) in
+      let pen2 : w2.pen ≡ plain = ap (λ (v : Written). v.pen) second ∙ title_pen also_empty d.screen.title plain in
+      let third : w3 ≡ with_changes (clear ++ title ++ rows) (begun plain) =
+      e3 ∙ (λ i. with_changes (rows_painted (pen2 i) d.screen.rows) (second i)) ∙ more (clear ++ title) rows (begun plain) in
       let pen3 : w3.pen ≡ pen_left plain rows = ap (λ (v : Written). v.pen) e3 ∙ (λ i. pen_left (pen2 i) (rows_painted (pen2 i) d.screen.rows)) in
       let any : painted ≡ are_some rows = some ∙ ap (λ pen. are_some (rows_painted pen d.screen.rows)) pen2 in
-      let fourth : w4 ≡ with_changes (clear ++ title_due d.screen.title ++ rows ++ place (are_some rows)) (begun plain) =
-      e4 ∙ (λ i. with_changes (place (any i)) (third i)) ∙ more (clear ++ title_due d.screen.title ++ rows) (place (are_some rows)) (begun plain) in
+      let fourth : w4 ≡ with_changes (clear ++ title ++ rows ++ position (are_some rows)) (begun plain) =
+      e4 ∙ (λ i. with_changes (position (any i)) (third i)) ∙ more (clear ++ title ++ rows) (position (are_some rows)) (begun plain) in
       let pen4 : w4.pen ≡ pen_left plain rows = ap (λ (v : Written). v.pen) e4 ∙ place_pen painted d.screen.column d.screen.row w3.pen ∙ pen3 in
-      let fifth : w5 ≡ with_changes (clear ++ title_due d.screen.title ++ rows ++ place (are_some rows) ++ attributes_due (pen_left plain rows) d.screen.pen) (begun plain) =
-      e5 ∙ (λ i. with_changes (attributes_due (pen4 i) d.screen.pen) (fourth i)) ∙ more (clear ++ title_due d.screen.title ++ rows ++ place (are_some rows)) (attributes_due (pen_left plain rows) d.screen.pen) (begun plain) in
-      let all : w6 ≡ with_changes (repaint d) (begun plain) =
+      let fifth : w5 ≡ with_changes (clear ++ title ++ rows ++ position (are_some rows) ++ attributes_due (pen_left plain rows) d.screen.pen) (begun plain) =
+      e5 ∙ (λ i. with_changes (attributes_due (pen4 i) d.screen.pen) (fourth i)) ∙ more (clear ++ title ++ rows ++ position (are_some rows)) (attributes_due (pen_left plain rows) d.screen.pen) (begun plain) in
+      let all : w6 ≡ with_changes (repaint_with title d) (begun plain) =
       e6 ∙ ap (with_changes (cursor_shown d.screen.visible d.shape)) fifth
-      ∙ more (clear ++ title_due d.screen.title ++ rows ++ place (are_some rows) ++ attributes_due (pen_left plain rows) d.screen.pen) (cursor_shown d.screen.visible d.shape) (begun plain) in
+      ∙ more (clear ++ title ++ rows ++ position (are_some rows) ++ attributes_due (pen_left plain rows) d.screen.pen) (cursor_shown d.screen.visible d.shape) (begun plain) in
       finished_is w6 (ap (λ (v : Written). v.cells) e6) ∙ ap (λ (v : Written). v.changes) all

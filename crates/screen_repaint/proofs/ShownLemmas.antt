@@ -54,13 +54,13 @@ module _ (width_of : List ℕ → ℕ) (narrow : width_of space ≡ 1) (d : Disp
       let kept : List CellContent = cell ∷ cells in
       let columns : Row = joined_columns kept in
       let rest : List Row = replicate n (plain_row width) in
-      let behind : Attributes = last_pen pen kept in
+      let after : Attributes = last_pen pen kept in
       let at : 0 + length columns ≡ length columns = omega arith in
       written_are_shown width_of (starts done (suc n) pen) kept h p (omega arith) (omega (arith, e))
-      ∙ ap (λ (r : Row). at_place (slice_set (done ++ plain_row width ∷ rest) (length done) (set_columns r 0 columns)) (0 + length columns) (length done) behind) (element_at done (plain_row width) [] rest)
-      ∙ ap (λ (rows : List Row). at_place rows (0 + length columns) (length done) behind) (element_set done (plain_row width) (set_columns (plain_row width) 0 columns) rest)
-      ∙ ap (λ (r : Row). at_place (done ++ r ∷ rest) (0 + length columns) (length done) behind) (set_at_start columns m width plain e)
-      ∙ ap (λ c. at_place (done ++ (columns ++ replicate m (blank plain)) ∷ rest) c (length done) behind) at
+      ∙ ap (λ (r : Row). at_place (slice_set (done ++ plain_row width ∷ rest) (length done) (set_columns r 0 columns)) (0 + length columns) (length done) after) (element_at done (plain_row width) [] rest)
+      ∙ ap (λ (rows : List Row). at_place rows (0 + length columns) (length done) after) (element_set done (plain_row width) (set_columns (plain_row width) 0 columns) rest)
+      ∙ ap (λ (r : Row). at_place (done ++ r ∷ rest) (0 + length columns) (length done) after) (set_at_start columns m width plain e)
+      ∙ ap (λ c. at_place (done ++ (columns ++ replicate m (blank plain)) ∷ rest) c (length done) after) at
       ∙ ap (λ (a : Attributes). at_place (done ++ (columns ++ replicate m (blank plain)) ∷ rest) (length columns) (length done) a) (sym (cells_leave kept pen))
 
   abbrev row_left : Row → ℕ → Row
@@ -138,10 +138,10 @@ module _ (width_of : List ℕ → ℕ) (narrow : width_of space ≡ 1) (d : Disp
       let cells : List CellContent = row_cells row in
       let kept : List CellContent = less_blanks (Some color) cells in
       let too : Bool = go_with_blanks (Some color) below in
-      let front : Fronts width_of narrow color cells kept = front_kept width_of narrow color cells (sound_cells width_of narrow 0 row g.2) in
+      let prefix : Fronts width_of narrow color cells kept = front_kept width_of narrow color cells (sound_cells width_of narrow 0 row g.2) in
       let columns : Row = joined_columns kept in
-      let m : ℕ = front.blanks in
-      let is : columns ++ blank_row m color ≡ row = sym front.same ∙ row_again 0 row g.1 in
+      let m : ℕ = prefix.blanks in
+      let is : columns ++ blank_row m color ≡ row = sym prefix.same ∙ row_again 0 row g.1 in
       let both = length-append columns (blank_row m color) in
       let some : length (blank_row m color) ≡ m = length-of m (blank (blank_of color)) in
       let n = ap length is in
@@ -152,7 +152,7 @@ module _ (width_of : List ℕ → ℕ) (narrow : width_of space ≡ 1) (d : Disp
         column = length columns;
         shown =
             fold-append (effect width_of) (starts done (length (row ∷ below)) pen) own last
-            ∙ ap (λ (e : Display). replay width_of e last) (cells_shown done (length below) m pen kept h front.sound count)
+            ∙ ap (λ (e : Display). replay width_of e last) (cells_shown done (length below) m pen kept h prefix.sound count)
             ∙ blanks_shown color too done below columns m (pen_left pen own) (whole_cells kept) (goes color below g.3)
             ∙ ap (λ (r : Row). at_place (done ++ r ∷ under too below) (length columns) (length done) (pen_left (pen_left pen own) last)) is
             ∙ ap (λ (a : Attributes). at_place (done ++ row ∷ under too below) (length columns) (length done) a) (sym (fold-append pen_after pen own last));
@@ -198,17 +198,17 @@ module _ (width_of : List ℕ → ℕ) (narrow : width_of space ≡ 1) (d : Disp
         ∙ ap (λ (rows : List Row). at_place rows p.column p.row (pen_left pen (change ∷ changes))) (append_assoc done (row ∷ []) below);
   }
 
-  -- changes behind a row's own
-  after_own : (start between : Display) (own others : List ChangeValue) (rows : List Row) (pen : Attributes) → replay width_of start own ≡ between
-      → Painted rows (pen_left (pen_left pen own) others) (replay width_of between others) → Painted rows (pen_left pen (own ++ others)) (replay width_of start (own ++ others))
-  after_own start between own others rows pen e p = record {
+  -- changes after a row's own
+  after_own : (start between : Display) (own remaining : List ChangeValue) (rows : List Row) (pen : Attributes) → replay width_of start own ≡ between
+      → Painted rows (pen_left (pen_left pen own) remaining) (replay width_of between remaining) → Painted rows (pen_left pen (own ++ remaining)) (replay width_of start (own ++ remaining))
+  after_own start between own remaining rows pen e p = record {
     column = p.column;
     row = p.row;
     shown =
-        fold-append (effect width_of) start own others
-        ∙ ap (λ (d : Display). replay width_of d others) e
+        fold-append (effect width_of) start own remaining
+        ∙ ap (λ (d : Display). replay width_of d remaining) e
         ∙ p.shown
-        ∙ ap (λ (a : Attributes). at_place rows p.column p.row a) (sym (fold-append pen_after pen own others));
+        ∙ ap (λ (a : Attributes). at_place rows p.column p.row a) (sym (fold-append pen_after pen own remaining));
   }
 
   pub rows_shown : (left done : List Row) (pen : Attributes) → (0 < length left → IsDisplay (starts done (length left) pen)) → AreGood width_of narrow width left
@@ -220,15 +220,15 @@ module _ (width_of : List ℕ → ℕ) (narrow : width_of space ≡ 1) (d : Disp
       let start : Display = starts done (length (row ∷ below)) pen in
       let lawful : IsDisplay start = h (omega arith) in
       let next : Attributes = pen_left pen own in
-      let others : List ChangeValue = rows_painted next below in
+      let remaining : List ChangeValue = rows_painted next below in
       let one : Own done below row too next (replay width_of start own) = own_shown (background_at_end (row_cells row)) done below row pen lawful g in
       by_test too
-      (λ t. subst (λ b. Painted (done ++ row ∷ below) (pen_left pen (if b then own else own ++ in_next_row others)) (replay width_of start (if b then own else own ++ in_next_row others))) (sym t)
+      (λ t. subst (λ b. Painted (done ++ row ∷ below) (pen_left pen (if b then own else own ++ in_next_row remaining)) (replay width_of start (if b then own else own ++ in_next_row remaining))) (sym t)
       (record { column = one.column; row = length done; shown = one.shown ∙ ap (λ b. at_place (done ++ row ∷ under b below) one.column (length done) next) t }))
       (λ t.
       let alone : replay width_of start own ≡ at_place (done ++ row ∷ replicate (length below) (plain_row width)) one.column (length done) next = one.shown ∙ ap (λ b. at_place (done ++ row ∷ under b below) one.column (length done) next) t in
       let rest = rows_shown below (done ++ row ∷ []) next
       (λ n. subst IsDisplay (ap (λ (e : Display). effect width_of e move) alone ∙ moved done row (length below) one.column next n) (effect_is width_of (replay width_of start own) move (replay_is width_of own start lawful))) g.3 in
-      subst (λ b. Painted (done ++ row ∷ below) (pen_left pen (if b then own else own ++ in_next_row others)) (replay width_of start (if b then own else own ++ in_next_row others))) (sym t)
-      (after_own start (at_place (done ++ row ∷ replicate (length below) (plain_row width)) one.column (length done) next) own (in_next_row others) (done ++ row ∷ below) pen alone
-      (next_shown others done below row one.column next (some_below next below) rest)))
+      subst (λ b. Painted (done ++ row ∷ below) (pen_left pen (if b then own else own ++ in_next_row remaining)) (replay width_of start (if b then own else own ++ in_next_row remaining))) (sym t)
+      (after_own start (at_place (done ++ row ∷ replicate (length below) (plain_row width)) one.column (length done) next) own (in_next_row remaining) (done ++ row ∷ below) pen alone
+      (next_shown remaining done below row one.column next (some_below next below) rest)))

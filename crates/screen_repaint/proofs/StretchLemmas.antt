@@ -91,7 +91,7 @@ cell_count end cell =
     (λ e. ap (λ (e : End). e.cells) (one_blank end cell e) ∙ blanks_count 1 cell.attributes end)
     (λ e. ap (λ (e : End). e.cells) (one_other end cell e) ∙ others_count 1 end)
 
--- a blank behind blanks of these attributes, or none
+-- a blank after blanks of these attributes, or none
 blanks_more : (n : ℕ) (attributes : Attributes) (end : End) → with_blanks 1 attributes (with_blanks n attributes end) ≡ with_blanks (suc n) attributes end
 blanks_more zero attributes end = refl
 blanks_more (suc n) attributes end =
@@ -108,7 +108,7 @@ blanks_more (suc n) attributes end =
     ∙ ap (λ k. record { cells = k; kept = end.cells; blanks = Some attributes }) more
     ∙ sym (blanks_some (suc (suc n)) attributes end false (omega arith) e))
 
--- another cell behind blanks
+-- another cell after blanks
 others_over : (n k : ℕ) (attributes : Attributes) (end : End) → with_others 1 (with_blanks n attributes (with_others k end)) ≡ with_others (k + n + 1) end
 others_over n k attributes end =
     let before = others_count k end in
@@ -137,12 +137,12 @@ reversed_ends (byte ∷ text) attributes end =
     ∙ by_test (blank_at attributes byte)
     (λ e.
     let one : suc n ≡ m = (let s : suc n ≡ 1 + n = omega arith in s) ∙ sym (ap (λ b. if b then 1 + n else 0) e) in
-    let others : length text - n ≡ length (byte ∷ text) - m = omega arith in
-    one_blank before (plain_cell byte attributes) e ∙ blanks_more n attributes (with_others (length text - n) end) ∙ (λ i. with_blanks (one i) attributes (with_others (others i) end)))
+    let remaining : length text - n ≡ length (byte ∷ text) - m = omega arith in
+    one_blank before (plain_cell byte attributes) e ∙ blanks_more n attributes (with_others (length text - n) end) ∙ (λ i. with_blanks (one i) attributes (with_others (remaining i) end)))
     (λ e.
     let none : 0 ≡ m = sym (ap (λ b. if b then 1 + n else 0) e) in
-    let others : length text - n + n + 1 ≡ length (byte ∷ text) - m = omega arith in
-    one_other before (plain_cell byte attributes) e ∙ others_over n (length text - n) attributes end ∙ (λ i. with_blanks (none i) attributes (with_others (others i) end)))
+    let remaining : length text - n + n + 1 ≡ length (byte ∷ text) - m = omega arith in
+    one_other before (plain_cell byte attributes) e ∙ others_over n (length text - n) attributes end ∙ (λ i. with_blanks (none i) attributes (with_others (remaining i) end)))
 
 -- a text's cells are others, and then blanks
 plain_ends : (text : List ℕ) (attributes : Attributes) (end : End) → with_plain text attributes end ≡ with_blanks (blanks_at_end text attributes) attributes (with_others (length text - blanks_at_end text attributes) end)

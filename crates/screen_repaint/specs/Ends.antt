@@ -1,4 +1,4 @@
--- How rows end: the blanks of one background behind the other cells.
+-- How rows end: the blanks of one background after the other cells.
 use Rattle.std.specs.Prelude.{◌≡◌, ℕ, ◌+◌, ◌<◌, Bool, true, false, ◌&&◌, ◌==◌, List, [], ◌∷◌, length, fold, Option}
 use Rattle.std.specs.Prelude.{Some, None, if◌then◌else◌}
 use Rattle.std.specs.List.{list_all, suffix_len}
@@ -60,7 +60,7 @@ abbrev pub are_blanks_with : Attributes → List CellContent → Bool
 are_blanks_with attributes cells =
     list_all (λ cell. bytes_eq cell.text space && same_attributes cell.attributes attributes) cells
 
--- some of the cells that are left are passed, if there are any: the end with the others behind is the end with all of
+-- some of the cells that are left are passed, if there are any: the end with the others after is the end with all of
 -- them
 pub record PassesOn (old : End) (left : List VisibleCell) (new : End) (rest : List VisibleCell) (any : Bool) : Type 0
   where
@@ -74,7 +74,7 @@ pub record PassesSpaces (attributes : Attributes) (left rest : List VisibleCell)
   pub same : (are && are_blanks_with attributes (contents rest)) ≡ are_blanks_with attributes (contents left)
   pub fewer : length rest < length left
 
--- how many elements behind the last one that fails a test there are; as many as said where each passes
+-- how many elements after the last one that fails a test there are; as many as said where each passes
 abbrev pub passing_at_end : {A : Type 0} → (A → Bool) → ℕ → List A → ℕ
 passing_at_end test all [] = all
 passing_at_end test all (x ∷ xs) = passing_at_end test (if test x then all else length xs) xs

@@ -20,7 +20,7 @@ rows_of lines = map (λ l. l.columns) lines
 abbrev pub ended : Written → Written
 ended written = record written { changes = finished written; cells = [] }
 
--- other changes behind, and no text goes on
+-- other changes after, and no text goes on
 abbrev pub with_changes : List ChangeValue → Written → Written
 with_changes changes written =
     record { changes = written.changes ++ changes; pen = pen_left written.pen changes; cells = [] }

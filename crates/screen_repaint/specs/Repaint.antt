@@ -82,7 +82,7 @@ abbrev pub are_some : List ChangeValue → Bool
 are_some [] = false
 are_some (change ∷ changes) = true
 
--- the cursor's place; none where nothing was painted and it is home
+-- the cursor's position; none where nothing was painted and it is home
 abbrev pub cursor_placed : Bool → ℕ → ℕ → List ChangeValue
 cursor_placed painted column row =
     if not painted && (column == 0 && row == 0) then [] else CursorPosition (Absolute column) (Absolute row) ∷ []
@@ -99,6 +99,11 @@ cursor_shown visible shape = if visible then CursorVisibility Visible ∷ shape_
 abbrev pub title_due : List ℕ → List ChangeValue
 title_due [] = []
 title_due (byte ∷ title) = Title (byte ∷ title) ∷ []
+
+-- the title; an empty one only where it is wanted too
+abbrev pub titles : Bool → List ℕ → List ChangeValue
+titles true title = Title title ∷ []
+titles false title = title_due title
 
 -- a clear with the cursor hidden, titles, the rows, the cursor's place, the pen, unless it is in force, and the cursor
 abbrev pub repaint_with : List ChangeValue → Display → List ChangeValue

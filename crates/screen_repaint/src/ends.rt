@@ -97,12 +97,12 @@ impl<'a> RowEnd<'a> {
     }
 
     // So many other cells, and then so many blanks with these attributes.
-    fn push(&mut self, others: usize, blanks: usize, attrs: &'a CellAttributes)
-        requires { self.old.cells + (others + blanks) < 2 ^ 64 }
-        ensures { self.new ≡ with_blanks blanks attrs.now (with_others others self.old) }
+    fn push(&mut self, remaining: usize, blanks: usize, attrs: &'a CellAttributes)
+        requires { self.old.cells + (remaining + blanks) < 2 ^ 64 }
+        ensures { self.new ≡ with_blanks blanks attrs.now (with_others remaining self.old) }
     {
-        if others > 0 {
-            self.cells += others;
+        if remaining > 0 {
+            self.cells += remaining;
             self.kept = self.cells;
             self.blanks = None;
         }

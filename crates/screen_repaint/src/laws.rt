@@ -9,7 +9,7 @@ ghost use Rattle.screen_repaint.specs.Shown.{AreTitles, shown_on, title_left, ti
 ghost use Rattle.screen_effects.specs.WrittenCells.{IsSoundDisplay};
 
 /// Any display of the same size on which a repaint is played shows what the painted display shows:
-/// its rows, its cursor's place, whether that is visible, and its pen. The title is the one that the
+/// its rows, its cursor's position, whether that is visible, and its pen. The title is the one that the
 /// repaint sets, or else stays; sizes of rows stay, and so does the cursor's shape where the painted
 /// display shows none. A space takes one column, and each cell of that display is taken to have a
 /// text that is by itself one cluster (UAX 29) without C0 controls and DEL, in as many columns as it

@@ -6,4 +6,4 @@ pub mod laws;
 mod rows;
 mod screen;
 
-pub use screen::repaint;
+pub use screen::{repaint, repaint_with_title};

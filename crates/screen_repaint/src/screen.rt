@@ -4,12 +4,13 @@ ghost use Rattle.cell_base.specs.declared.attributes.CursorVisibility.TheVariant
 ghost use Rattle.cell_base.specs.declared.color.ColorAttribute.TheVariants.{Default};
 ghost use Rattle.cell_base.specs.Attributes.{plain};
 ghost use Rattle.screen_change.specs.CellChanges.{attributes_due};
-ghost use Rattle.screen_change.specs.ChangeValue.{ClearScreen, CursorVisibility as Visibility};
+ghost use Rattle.screen_change.specs.ChangeValue.{ClearScreen, CursorVisibility as Visibility, Title};
 ghost use Rattle.screen_change.specs.ValueOf.{value_of};
 ghost use Rattle.screen_grid.specs.Grid.{IsDrawn, display_of};
 ghost use Rattle.screen_effects.specs.Effect.{is_visible};
 ghost use Rattle.screen_repaint.specs.PaintedRows.{with_changes};
-ghost use Rattle.screen_repaint.specs.Repaint.{cursor_placed, cursor_shown, pen_after, repaint, shape_due, title_due};
+ghost use Rattle.screen_repaint.specs.Repaint.{cursor_placed, cursor_shown, pen_after, repaint, repaint_with};
+ghost use Rattle.screen_repaint.specs.Repaint.{shape_due, titles};
 
 use crate::rows::paint_rows;
 use cell_base::{CellAttributes, ColorAttribute, CursorShape, CursorVisibility, Position, Widths};
@@ -38,40 +39,53 @@ fn write_clear(writer: &mut CellWriter<'_>) -> Result<(), AllocError>
     Ok(())
 }
 
-// The title, unless it is empty.
+// A title.
 fn write_title(alloc: Global, writer: &mut CellWriter<'_>, title: &str) -> Result<(), AllocError>
     requires { writer.old.cells ≡ [] }
-    ensures { OnOk result (writer.new ≡ with_changes (title_due title.now) writer.old) }
+    ensures { OnOk result (writer.new ≡ with_changes (Title title.now ∷ []) writer.old) }
 {
-    if title.is_empty() {
-        return Ok(());
-    }
-    let mut text = String::new(alloc);
-    text.push_str(title)?;
+    let text = String::from_str(alloc, title)?;
     write(writer, Change::Title(text))?;
     Ok(())
 }
 
-// Whether the place is the first column of the first row.
-fn is_home(place: (usize, usize)) -> bool
-    ensures { result ≡ (place.0 == 0 && place.1 == 0) }
+// The title, unless it is empty and an empty one isn't wanted.
+fn write_titles(
+    alloc: Global,
+    writer: &mut CellWriter<'_>,
+    title: &str,
+    also_empty: bool,
+) -> Result<(), AllocError>
+    requires { writer.old.cells ≡ [] }
+    ensures { OnOk result (writer.new ≡ with_changes (titles also_empty title.now) writer.old) }
 {
-    place.0 == 0 && place.1 == 0
+    if !also_empty && title.is_empty() {
+        return Ok(());
+    }
+    write_title(alloc, writer, title)?;
+    Ok(())
 }
 
-// The cursor's place, unless nothing was painted and it is home.
+// Whether the position is the first column of the first row.
+fn is_home(position: (usize, usize)) -> bool
+    ensures { result ≡ (position.0 == 0 && position.1 == 0) }
+{
+    position.0 == 0 && position.1 == 0
+}
+
+// The cursor's position, unless nothing was painted and it is home.
 fn write_place(
     writer: &mut CellWriter<'_>,
-    place: (usize, usize),
+    position: (usize, usize),
     painted: bool,
 ) -> Result<(), AllocError>
     requires { writer.old.cells ≡ [] }
-    ensures { OnOk result (writer.new ≡ with_changes (cursor_placed painted place.0 place.1) writer.old) }
+    ensures { OnOk result (writer.new ≡ with_changes (cursor_placed painted position.0 position.1) writer.old) }
 {
-    if !painted && is_home(place) {
+    if !painted && is_home(position) {
         return Ok(());
     }
-    let (column, row) = place;
+    let (column, row) = position;
     write(
         writer,
         Change::CursorPosition {
@@ -119,20 +133,22 @@ fn write_cursor(
     Ok(())
 }
 
-// The changes of `repaint`, given the attributes of a plain pen.
+// The changes of a repaint, given the attributes of a plain pen, with the title, or with it where it isn't empty.
 fn repaint_from<'a, W: Widths + Drop>(
     alloc: Global,
     grid: &'a Grid<W>,
     attrs: &'a CellAttributes,
+    also_empty: bool,
 ) -> Result<Vec<Change>, AllocError>
     requires drawn { IsDrawn grid.now }
     requires plain { attrs.now ≡ plain }
-    ensures { IfOk result (λ changes. map value_of changes.items ≡ repaint (display_of grid.now)) }
+    ensures { IfOk result (λ changes. map value_of changes.items
+        ≡ repaint_with (titles also_empty (display_of grid.now).screen.title) (display_of grid.now)) }
 {
     let pen = grid.pen();
     let mut writer = CellWriter::new(alloc, attrs);
     write_clear(&mut writer)?;
-    write_title(alloc, &mut writer, grid.title())?;
+    write_titles(alloc, &mut writer, grid.title(), also_empty)?;
     let painted = paint_rows(&mut writer, grid.lines())?;
     write_place(&mut writer, grid.cursor_position(), painted)?;
     write_pen(&mut writer, pen)?;
@@ -142,16 +158,30 @@ fn repaint_from<'a, W: Widths + Drop>(
 }
 
 /// The changes that paint a grid on any screen of its size, from a clear on: the title, unless it is
-/// empty; row by row the cells, each run of neighbours of equal attributes behind these, unless the
+/// empty; row by row the cells, each run of neighbours of equal attributes after these, unless the
 /// pen has them, and a clear for the blanks of one background at a row's end, unless it is the
 /// default one; where all rows below are blanks of that background too, one clear to the end of the
-/// screen stands for them. Then the cursor's place, the pen, and the cursor with its shape, if it is
+/// screen stands for them. Then the cursor's position, the pen, and the cursor with its shape, if it is
 /// shown.
 pub fn repaint<W: Widths + Drop>(alloc: Global, grid: &Grid<W>) -> Result<Vec<Change>, AllocError>
     requires { IsDrawn grid.now }
     ensures { IfOk result (λ changes. map value_of changes.items ≡ repaint (display_of grid.now)) }
 {
     let plain = CellAttributes::blank();
-    let changes = repaint_from(alloc, grid, &plain)?;
+    let changes = repaint_from(alloc, grid, &plain, false)?;
+    Ok(changes)
+}
+
+/// The changes of `repaint`, with the title also where it is empty.
+pub fn repaint_with_title<W: Widths + Drop>(
+    alloc: Global,
+    grid: &Grid<W>,
+) -> Result<Vec<Change>, AllocError>
+    requires { IsDrawn grid.now }
+    ensures { IfOk result (λ changes. map value_of changes.items
+        ≡ repaint_with (Title (display_of grid.now).screen.title ∷ []) (display_of grid.now)) }
+{
+    let plain = CellAttributes::blank();
+    let changes = repaint_from(alloc, grid, &plain, true)?;
     Ok(changes)
 }

@@ -8,7 +8,7 @@ use Rattle.recordings.specs.Events.{Event}
 use Rattle.recordings.specs.Order.{AreFrom}
 use Rattle.recordings.specs.Recordings.{Recording}
 use Rattle.shot.specs.Pictures.{picture}
-use Rattle.shot.specs.Play.{behind, is_by, steps_of, until, view_at}
+use Rattle.shot.specs.Play.{events_after, is_by, steps_of, until, view_at}
 use Rattle.shot.specs.Shots.{end_of, last_time, multiples, pictures, shots}
 use Rattle.shot.specs.declared.format.Format.{Format}
 use Rattle.terminal_table.specs.History.{Look}
@@ -42,7 +42,7 @@ until_is time early (event ∷ events) from =
     rw is (ap (λ n. take n (event ∷ events)) more ∙ ap (λ es. event ∷ es) (until_is time event.time events from.1)))
     (λ is. rw is (sym (none_by time event.time events (leb-false event.time time is) from.1)))
 
-pub after_is : (time early : ℕ) (events : List Event) → AreFrom early events → behind time events ≡ filter (λ event. not (is_by time event)) events
+pub after_is : (time early : ℕ) (events : List Event) → AreFrom early events → events_after time events ≡ filter (λ event. not (is_by time event)) events
 after_is time early [] from = refl
 after_is time early (event ∷ events) from =
     by_test (is_by time event)

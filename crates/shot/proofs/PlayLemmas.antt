@@ -53,14 +53,14 @@ prefix_mapped f test [] = refl
 prefix_mapped f test (x ∷ xs) = ap (λ n. cond (test (f x)) (1 + n) 0) (prefix_mapped f test xs)
 
 -- the events up to a time, and then a look
-pub played_until : {W : Type 0} (before then now : Terminal W) (events front : List Event) (time count : ℕ) → front ≡ take count events → count ≡ prefix_len (is_by time) (map event_of events)
-    → ((view : View) → StandsAt before view → StandsAt then (after program_width view (steps_of (map event_of front))))
+pub played_until : {W : Type 0} (before then now : Terminal W) (events prefix : List Event) (time count : ℕ) → prefix ≡ take count events → count ≡ prefix_len (is_by time) (map event_of events)
+    → ((view : View) → StandsAt before view → StandsAt then (after program_width view (steps_of (map event_of prefix))))
     → GoesBy (λ w. program_width) then now (Look ∷ [])
     → (view : View) → StandsAt before view → StandsAt now (view_at view (map event_of events) time)
 unfolding view_at
-played_until before then now events front time count front_is count_is acted looked view st =
-    let fronts : map event_of front ≡ until time (map event_of events) =
+played_until before then now events prefix time count front_is count_is acted looked view st =
+    let fronts : map event_of prefix ≡ until time (map event_of events) =
     ap (map event_of) front_is ∙ sym (take-map event_of count events) ∙ ap (λ n. take n (map event_of events)) count_is in
     subst (StandsAt now)
-    (sym (after_joins program_width view (steps_of (map event_of front)) (Look ∷ [])) ∙ ap (λ es. after program_width view (steps_of es ++ Look ∷ [])) fronts)
-    (looked.stands (after program_width view (steps_of (map event_of front))) (acted view st))
+    (sym (after_joins program_width view (steps_of (map event_of prefix)) (Look ∷ [])) ∙ ap (λ es. after program_width view (steps_of es ++ Look ∷ [])) fronts)
+    (looked.stands (after program_width view (steps_of (map event_of prefix))) (acted view st))

@@ -1,10 +1,10 @@
--- Screens that are written one behind another.
+-- Screens that are written one after another.
 use Rattle.std.proofs.Common.{◌≡◌, ℕ, zero, suc, ◌+◌, ◌*◌, ◌-◌, ◌<◌, ◌≤◌, List, [], ◌∷◌, ◌++◌, Option, Some, None, refl, sym, ap, subst, ◌∙◌, append_assoc, append-nil, arith}
 use Rattle.std.proofs.Math.Nat.{suc-mul}
 use Rattle.std.specs.Io.KnownBytes.{Appends}
 use Rattle.recordings.specs.Events as recorded
 use Rattle.shot.specs.Pictures.{picture}
-use Rattle.shot.specs.Play.{behind, view_at}
+use Rattle.shot.specs.Play.{events_after, view_at}
 use Rattle.shot.specs.Shots.{pictures, times_after}
 use Rattle.shot.specs.Writing.{IsWriting}
 use Rattle.shot.specs.declared.format.Format.{Format}
@@ -29,7 +29,7 @@ writing_first format view events step count t out st = record {
   done = [];
   stands = st;
   appends = appends_none out;
-  whole = λ others. refl;
+  whole = λ remaining. refl;
 }
 
 -- one screen more
@@ -38,18 +38,18 @@ pub writing_next : {W : Type 0} (format : Format) (view : View) (events : List r
     → later ≡ time + step
     → ((v : View) → StandsAt t v → StandsAt u (view_at v rest later))
     → ((v : View) → StandsAt t v → Appends out new (picture format (view_at v rest later).state.screen))
-    → next ≡ behind later rest
+    → next ≡ events_after later rest
     → IsWriting format view events step count u next later left old new
 writing_next format view events step count t u rest next time later left old out new w at stands appends is = record {
   now = view_at w.now rest later;
   done = w.done ++ picture format (view_at w.now rest later).state.screen;
   stands = stands w.now w.stands;
   appends = appends_both old out new w.done (picture format (view_at w.now rest later).state.screen) w.appends (appends w.now w.stands);
-  whole = λ others.
-      append_assoc w.done (picture format (view_at w.now rest later).state.screen) (pictures format (view_at w.now rest later) next (times_after later step left others))
-      ∙ ap (λ es. w.done ++ (picture format (view_at w.now rest later).state.screen ++ pictures format (view_at w.now rest later) es (times_after later step left others))) is
-      ∙ ap (λ l. w.done ++ pictures format w.now rest (l ∷ times_after l step left others)) at
-      ∙ w.whole others;
+  whole = λ remaining.
+      append_assoc w.done (picture format (view_at w.now rest later).state.screen) (pictures format (view_at w.now rest later) next (times_after later step left remaining))
+      ∙ ap (λ es. w.done ++ (picture format (view_at w.now rest later).state.screen ++ pictures format (view_at w.now rest later) es (times_after later step left remaining))) is
+      ∙ ap (λ l. w.done ++ pictures format w.now rest (l ∷ times_after l step left remaining)) at
+      ∙ w.whole remaining;
 }
 
 -- where the screens at those times are written, another one is the last

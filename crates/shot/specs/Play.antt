@@ -19,19 +19,19 @@ steps_of events = map (λ (event : recorded.Event). step_of event.act) events
 abbrev pub is_by : ℕ → recorded.Event → Bool
 is_by time event = nat_le event.time time
 
--- the events that are, and those behind them; no event is before the one in front of it
+-- the events that are, and those after them; no event is before the one before it
 abbrev pub until : ℕ → List recorded.Event → List recorded.Event
 until time events = take (prefix_len (is_by time) events) events
 
-abbrev pub behind : ℕ → List recorded.Event → List recorded.Event
-behind time events = drop (prefix_len (is_by time) events) events
+abbrev pub events_after : ℕ → List recorded.Event → List recorded.Event
+events_after time events = drop (prefix_len (is_by time) events) events
 
 -- from a view, events up to a time, and a look at it
 unfoldable pub view_at : View → List recorded.Event → ℕ → View
 view_at view events time = after program_width view (steps_of (until time events) ++ Look ∷ [])
 
--- the screens at some times, each looked at behind the ones before it
+-- the screens at some times, each looked at after the ones before it
 abbrev pub screens_at : View → List recorded.Event → List ℕ → List Screen
 screens_at view events [] = []
 screens_at view events (time ∷ times) =
-    (view_at view events time).state.screen ∷ screens_at (view_at view events time) (behind time events) times
+    (view_at view events time).state.screen ∷ screens_at (view_at view events time) (events_after time events) times

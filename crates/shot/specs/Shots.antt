@@ -17,7 +17,7 @@ last_time events = slice_index (map (λ (event : recorded.Event). event.time) ev
 abbrev pub end_of : Option ℕ → List recorded.Event → ℕ
 end_of at events = unwrap_or at (last_time events)
 
--- whether all that is done up to the end is known: behind a line that is wrong there may be more events at the last
+-- whether all that is done up to the end is known: after a line that is wrong there may be more events at the last
 -- time
 abbrev pub is_known : Option ℕ → Recording → Bool
 is_known at recording =
@@ -27,14 +27,14 @@ is_known at recording =
 abbrev pub count_below : ℕ → ℕ → ℕ
 count_below step time = if step == 0 then 0 else (time - 1) / step
 
--- so many times, each a step behind the one before it, and then others
+-- so many times, each a step after the one before it, and then others
 abbrev pub times_after : ℕ → ℕ → ℕ → List ℕ → List ℕ
-times_after time step zero others = others
-times_after time step (suc count) others = (time + step) ∷ times_after (time + step) step count others
+times_after time step zero remaining = remaining
+times_after time step (suc count) remaining = (time + step) ∷ times_after (time + step) step count remaining
 
 -- the multiples of a step below a time, and then others
 abbrev pub multiples : ℕ → ℕ → List ℕ → List ℕ
-multiples step time others = times_after 0 step (count_below step time) others
+multiples step time remaining = times_after 0 step (count_below step time) remaining
 
 -- the multiples of the step below the end, and the end; of a recording with a line that is wrong those that are known
 abbrev pub times_of : Option ℕ → ℕ → Recording → List ℕ
@@ -42,7 +42,7 @@ times_of at step recording =
     if is_known at recording then multiples step (end_of at recording.events) (end_of at recording.events ∷ [])
     else multiples step (last_time recording.events) []
 
--- the screens at these times, one behind another
+-- the screens at these times, one after another
 abbrev pub pictures : Format → View → List recorded.Event → List ℕ → List ℕ
 pictures format view events times = flat_map (picture format) (screens_at view events times)
 

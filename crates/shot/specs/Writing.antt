@@ -8,15 +8,15 @@ use Rattle.terminal.specs.Headline.{StandsAt}
 use Rattle.terminal.specs.Terminal.{Terminal}
 use Rattle.terminal_table.specs.Meaning.{View}
 
--- From a view and its events the screens at so many times are to be written, of which some are left behind a time.
+-- From a view and its events the screens at so many times are to be written, of which some are left a time.
 -- Those before them are written, and some events are left: with the screens at the times that are left, and at any
--- others behind them, they come to the whole.
+-- others after them, they come to the whole.
 pub record IsWriting {W : Type 0} (format : Format) (view : View) (events : List recorded.Event) (step count : ℕ)
     (terminal : Terminal W) (rest : List recorded.Event) (time left : ℕ) (old new : Option (List ℕ)) : Type 0 where
   pub now : View
   pub done : List ℕ
   pub stands : StandsAt terminal now
   pub appends : Appends old new done
-  pub whole : (others : List ℕ)
-      → done ++ pictures format now rest (times_after time step left others)
-      ≡ pictures format view events (times_after 0 step count others)
+  pub whole : (remaining : List ℕ)
+      → done ++ pictures format now rest (times_after time step left remaining)
+      ≡ pictures format view events (times_after 0 step count remaining)

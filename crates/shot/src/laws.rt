@@ -5,21 +5,21 @@ ghost use Rattle.recordings.specs.Events.{Event as RecordedEvent};
 ghost use Rattle.recordings.specs.Order.{AreFrom};
 ghost use Rattle.recordings.specs.Recordings.{Recording};
 ghost use Rattle.shot.specs.Pictures.{picture};
-ghost use Rattle.shot.specs.Play.{behind, is_by, steps_of, until};
+ghost use Rattle.shot.specs.Play.{events_after, is_by, steps_of, until};
 ghost use Rattle.shot.specs.Shots.{end_of, shots};
 ghost use Rattle.shot.specs.declared.format.Format.{Format};
 ghost use Rattle.terminal_table.specs.History.{Look};
 ghost use Rattle.terminal_table.specs.Meaning.{meaning};
 
-/// The events of a recording up to a time are exactly those at it or before it, and the others are behind them.
+/// The events of a recording up to a time are exactly those at it or before it, and the others are after them.
 pub fn events_are_cut_at_a_time()
     ensures until { (time : ℕ) (events : List RecordedEvent) → AreFrom 0 events
         → until time events ≡ filter (is_by time) events }
-    ensures behind { (time : ℕ) (events : List RecordedEvent) → AreFrom 0 events
-        → behind time events ≡ filter (λ event. not (is_by time event)) events }
+    ensures events_after { (time : ℕ) (events : List RecordedEvent) → AreFrom 0 events
+        → events_after time events ≡ filter (λ event. not (is_by time event)) events }
 {}
 
-/// Without a step one screen is written of a recording without a wrong line: that of a new terminal of its size behind
+/// Without a step one screen is written of a recording without a wrong line: that of a new terminal of its size after
 /// the events up to the time that is asked for, and a look.
 pub fn one_screen_is_that_of_the_time()
     ensures { (format : Format) (at : Option ℕ) (recording : Recording) → recording.fault ≡ None

@@ -5,7 +5,7 @@ ghost use Rattle.std.specs.Io.KnownBytes.{Appends};
 ghost use Rattle.cell_base.specs.Cluster.{program_width};
 ghost use Rattle.recordings.specs.EventView.{act_of, event_of};
 ghost use Rattle.shot.specs.Pictures.{picture};
-ghost use Rattle.shot.specs.Play.{behind, is_by, step_of, steps_of, until, view_at};
+ghost use Rattle.shot.specs.Play.{events_after, is_by, step_of, steps_of, until, view_at};
 ghost use Rattle.terminal.specs.Headline.{GoesBy, StandsAt};
 ghost use Rattle.terminal_table.specs.Meaning.{View, after};
 
@@ -47,7 +47,7 @@ fn count_until(events: &[Event], time: u64) -> usize
     events.iter().take_while(|event| event.time <= time).count()
 }
 
-// Does what the events up to a time do, and looks; the events behind it are left.
+// Does what the events up to a time do, and looks; the events after it are left.
 #[tactic(auto, unfolding(crate::specs::Play::view_at))]
 fn play_until<'a>(
     terminal: &mut Screen,
@@ -56,7 +56,7 @@ fn play_until<'a>(
 ) -> Result<&'a [Event], TerminalError>
     ensures stands { OnOk result ((view : View) → StandsAt terminal.old view
         → StandsAt terminal.new (view_at view (map event_of events.entry.now) time)) }
-    ensures rest { IfOk result (λ rest. map event_of rest.now ≡ behind time (map event_of events.entry.now)) }
+    ensures rest { IfOk result (λ rest. map event_of rest.now ≡ events_after time (map event_of events.entry.now)) }
 {
     let (now, later) = events.split_at(count_until(events, time));
     act_all(terminal, now)?;
@@ -64,7 +64,7 @@ fn play_until<'a>(
     Ok(later)
 }
 
-/// Plays the events up to a time, and writes the screen; the events behind it are left.
+/// Plays the events up to a time, and writes the screen; the events after it are left.
 pub fn write_screen<'a, T: Write>(
     alloc: Global,
     terminal: &mut Screen,
@@ -78,7 +78,7 @@ pub fn write_screen<'a, T: Write>(
     ensures writes { OnOk result ((view : View) → StandsAt terminal.old view
         → Appends (T.contents writer.old) (T.contents writer.new)
         (picture format (view_at view (map event_of events.entry.now) time).state.screen)) }
-    ensures rest { IfOk result (λ rest. map event_of rest.now ≡ behind time (map event_of events.entry.now)) }
+    ensures rest { IfOk result (λ rest. map event_of rest.now ≡ events_after time (map event_of events.entry.now)) }
 {
     let rest = play_until(terminal, events, time)?;
     let text = picture(alloc, format, terminal.surface())?;

@@ -29,7 +29,7 @@ pub fn tell<F: Write>(faults: &mut F, fault: &str) -> u8
     FAULT
 }
 
-// Writes some texts, one behind another, and flushes.
+// Writes some texts, one after another, and flushes.
 fn write_text<F: Write>(faults: &mut F, texts: &[&str]) -> io::Result<()> {
     for text in texts {
         faults.write_all(text.as_bytes())?;

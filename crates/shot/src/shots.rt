@@ -37,7 +37,7 @@ fn count_below(step: u64, time: u64) -> u64
     time.saturating_sub(1) / step
 }
 
-// Writes the screens at so many times, each a step behind the one before it; the events behind the last one are left.
+// Writes the screens at so many times, each a step after the one before it; the events after the last one are left.
 fn write_steps<'a, T: Write>(
     alloc: Global,
     terminal: &mut Screen,
@@ -156,8 +156,8 @@ fn write_by<T: Write>(
 }
 
 /// Plays a recording to a new terminal of its size, and writes the screen at the time that is asked for, as it is
-/// behind all that is done at that time or before it; and before it those at each multiple of the step. A screen is
-/// looked at behind those before it. Of a recording with a line that is wrong those are written that no more events can
+/// after all that is done at that time or before it; and before it those at each multiple of the step. A screen is
+/// looked at after those before it. Of a recording with a line that is wrong those are written that no more events can
 /// change.
 pub fn write_shots<T: Write>(
     alloc: Global,

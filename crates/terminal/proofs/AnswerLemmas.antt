@@ -1,5 +1,5 @@
 -- A terminal that forgets what nobody reads answers as one that keeps all.
-use Rattle.std.proofs.Common.{◌≡◌, ℕ, ◌≤◌, ◌^◌, ◌⊎◌, inl, inr, false, List, [], ◌∷◌, ◌++◌, refl, sym, ap, subst, ◌∙◌, arith, Option}
+use Rattle.std.proofs.Common.{◌≡◌, ℕ, ◌≤◌, ◌^◌, ◌⊎◌, inl, inr, false, List, [], ◌∷◌, ◌++◌, sym, ap, subst, ◌∙◌, arith, Option}
 use Rattle.std.specs.Io.KnownBytes.{Appends}
 use Rattle.cell_base.specs.Screen.{Screen, height}
 use Rattle.cell_surface.specs.Surface.{number_of}
@@ -24,7 +24,7 @@ use Rattle.terminal_viewers.proofs.PieceLemmas.{standings_join, standings_cut}
 
 -- ---- standings
 
--- one piece behind another is both
+-- one piece after another is both
 pub pieces_join : (f : List ℕ → ℕ) (s : Standing) (x y : List ℕ) → standing_after f (standing_after f s (Piece x ∷ [])) (Piece y ∷ []) ≡ standing_after f s (Piece (x ++ y) ∷ [])
 pieces_join f s x y = sym (standings_join f s (Piece x ∷ []) (Piece y ∷ [])) ∙ standings_cut actions_join f s x y []
 
@@ -63,7 +63,7 @@ module _ {W : Type 0} (width_of : W → List ℕ → ℕ) (w : W) where
         log = there.log;
       })
 
-  -- what a viewer is sent behind a look, by what the terminal shows then
+  -- what a viewer is sent after a look, by what the terminal shows then
   update_there : (t u : Terminal W) (s : Standing) (number : ℕ) → t.surface.grid.widths ≡ w → IsAt t s → GoesBy width_of t u (Look ∷ []) → update_of (state_in u).screen u.surface.log number ≡ update_at (looked f s) number
   update_there t u s number e at g = let there = goes_at t u s (Look ∷ []) e at g in λ i. update_of (there.stands.state i).screen (there.log i) number
 

@@ -21,7 +21,7 @@ appends_kept (Some x) (Some y) None bytes h k = absurd k
 appends_kept (Some x) (Some y) (Some z) bytes h k = k ∙ h
 
 pub prefix_of : (a c : Option (List ℕ)) (bytes : List ℕ) (n : ℕ) → Appends a c (take n bytes) → AppendsPrefix a c bytes
-prefix_of a c bytes n h = record { written = take n bytes; others = drop n bytes; whole = sym (take-append-drop n bytes); appends = h }
+prefix_of a c bytes n h = record { written = take n bytes; remaining = drop n bytes; whole = sym (take-append-drop n bytes); appends = h }
 
 pub nothing_appended : (a b : Option (List ℕ)) → Keeps a b → Appends a b []
 nothing_appended None b h = tt

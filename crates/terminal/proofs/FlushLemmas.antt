@@ -7,7 +7,7 @@ use Rattle.terminal.specs.Watched.{counted, counted_by}
 use Rattle.terminal_viewers.specs.Updates.{in_pieces}
 use Rattle.terminal_viewers.proofs.PieceLemmas.{grows, fills}
 
--- Of an input some pieces are done, with a flush behind each, and one has begun.
+-- Of an input some pieces are done, with a flush after each, and one has begun.
 pub record IsFlushing (every : ℕ) (input rest : List ℕ) (old now left : ℕ) : Type 0 where
   pub done : ℕ
   pub begun : List ℕ

@@ -123,7 +123,7 @@ module _ {W : Type 0} (width_of : W → List ℕ → ℕ) where
   pub events_are : (stream bytes : List ℕ) → AreEvents (item_events (items stream bytes))
   events_are stream bytes = call_events is_the_cut newly_join pieces_spell stream bytes
 
-  -- what is unfinished behind it
+  -- what is unfinished after it
   piece_ends : (u w : Held) (bytes : List ℕ) → ((stream : List ℕ) → u ≡ held_of stream → w ≡ held_of (stream ++ bytes)) → (view : View) → u ≡ held_of view.stream → w ≡ held_of (view.stream ++ table.pieces (Piece bytes ∷ []))
   piece_ends u w bytes ends view e = ends view.stream e ∙ ap (λ xs. held_of (view.stream ++ xs)) (sym (nothing_after bytes))
 

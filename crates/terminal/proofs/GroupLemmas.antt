@@ -31,8 +31,8 @@ other_first Join one other (next ∷ groups) f p = ((λ j. p.0 (f next j)), p.1)
 abbrev run_of : Attributes → List (List ℕ) → CellRun
 run_of attributes texts = record { attributes = attributes; cells = texts }
 
-abbrev lone : CellContent → CellRun
-lone cell = run_of cell.attributes (cell.text ∷ [])
+abbrev single : CellContent → CellRun
+single cell = run_of cell.attributes (cell.text ∷ [])
 
 one_more_run : (cell : CellContent) (cells : List CellContent) (runs : List CellRun) → AreRunsOf cells runs → AreRunsOf (cell ∷ cells) (before_runs cell runs)
 one_more_run cell cells [] are = record {
@@ -45,13 +45,13 @@ one_more_run cell cells (run ∷ runs) are =
     (λ e.
     let same : cell.attributes ≡ run.attributes = (same_attributes_decides cell.attributes run.attributes).0 e in
     let longer_run : CellRun = run_of run.attributes (cell.text ∷ run.cells) in
-    subst (λ t. AreRunsOf (cell ∷ cells) (if t then longer_run ∷ runs else lone cell ∷ run ∷ runs)) (sym e) (record {
+    subst (λ t. AreRunsOf (cell ∷ cells) (if t then longer_run ∷ runs else single cell ∷ run ∷ runs)) (sym e) (record {
       whole = (λ i. (cell.text, sym same i) ∷ are.whole i);
       filled = ((λ f. not_empty (cell.text, run.attributes) (written_by run) f), are.filled.1);
       longest = other_first HaveEqualAttributes run longer_run runs (λ next j. j) are.longest;
     }))
     (λ e.
-    subst (λ t. AreRunsOf (cell ∷ cells) (if t then run_of run.attributes (cell.text ∷ run.cells) ∷ runs else lone cell ∷ run ∷ runs)) (sym e) (record {
+    subst (λ t. AreRunsOf (cell ∷ cells) (if t then run_of run.attributes (cell.text ∷ run.cells) ∷ runs else single cell ∷ run ∷ runs)) (sym e) (record {
       whole = ap (λ ws. written cell ∷ ws) are.whole;
       filled = ((λ f. not_empty (written cell) [] f), are.filled);
       longest = ((λ j. false≢true (sym e ∙ (same_attributes_decides cell.attributes run.attributes).1 j)), are.longest);
@@ -132,8 +132,8 @@ one_more_stretch c cells (s ∷ ss) are =
     (λ e.
     let on : GoesOn (alone c) s = goes_on c s e in
     subst (λ t. AreStretchesOf (c ∷ cells) (if t then longer c s ∷ ss else alone c ∷ s ∷ ss)) (sym e) (record {
-      whole = (λ i. c ∷ (side_by_side (sym on.0 i) (sym on.1 i) (s.first ∷ s.others) ++ flat_map placed_by ss)) ∙ ap (λ cs. c ∷ cs) are.whole;
-      filled = ((λ f. not_empty c (side_by_side c.row (c.column + c.cell.width) (s.first ∷ s.others)) f), are.filled.1);
+      whole = (λ i. c ∷ (side_by_side (sym on.0 i) (sym on.1 i) (s.first ∷ s.remaining) ++ flat_map placed_by ss)) ∙ ap (λ cs. c ∷ cs) are.whole;
+      filled = ((λ f. not_empty c (side_by_side c.row (c.column + c.cell.width) (s.first ∷ s.remaining)) f), are.filled.1);
       longest = other_first GoesOn s (longer c s) ss (λ next j. (j.0 ∙ sym on.0, j.1 ∙ after c s on.1)) are.longest;
     }))
     (λ e.
@@ -153,7 +153,7 @@ stretches_are_cut (c ∷ cells) = one_more_stretch c cells (stretches cells) (st
 -- ---- no other stretches are one
 
 abbrev stretch_of : ℕ → ℕ → CellContent → List CellContent → Stretch
-stretch_of row column first others = record { row = row; column = column; first = first; others = others }
+stretch_of row column first remaining = record { row = row; column = column; first = first; remaining = remaining }
 
 abbrev placed_at : ℕ → ℕ → CellContent → PlacedCell
 placed_at row column cell = record { row = row; column = column; cell = cell }
@@ -164,21 +164,21 @@ begins_next c (s ∷ ss) p =
     ap (λ t. if t then longer c s ∷ ss else alone c ∷ s ∷ ss)
     (by_test (c.row == s.row && c.column + c.cell.width == s.column) (λ e. absurd (p.0 (goes_on c s e))) (λ e. e))
 
-stretch_again : (row column : ℕ) (first : CellContent) (others : List CellContent) (cells : List PlacedCell) (ss : List Stretch)
-    → stretches cells ≡ ss → NoNeighborsJoin GoesOn (stretch_of row column first others ∷ ss)
-    → stretches (side_by_side row column (first ∷ others) ++ cells) ≡ stretch_of row column first others ∷ ss
+stretch_again : (row column : ℕ) (first : CellContent) (remaining : List CellContent) (cells : List PlacedCell) (ss : List Stretch)
+    → stretches cells ≡ ss → NoNeighborsJoin GoesOn (stretch_of row column first remaining ∷ ss)
+    → stretches (side_by_side row column (first ∷ remaining) ++ cells) ≡ stretch_of row column first remaining ∷ ss
 stretch_again row column first [] cells ss e p = ap (before_stretches (placed_at row column first)) e ∙ begins_next (placed_at row column first) ss p
-stretch_again row column first (next ∷ others) cells ss e p =
+stretch_again row column first (next ∷ remaining) cells ss e p =
     let c : PlacedCell = placed_at row column first in
-    let s : Stretch = stretch_of row (column + first.width) next others in
-    let apart : NoNeighborsJoin GoesOn (s ∷ ss) = other_first GoesOn (stretch_of row column first (next ∷ others)) s ss (λ other j. j) p in
-    ap (before_stretches c) (stretch_again row (column + first.width) next others cells ss e apart)
+    let s : Stretch = stretch_of row (column + first.width) next remaining in
+    let apart : NoNeighborsJoin GoesOn (s ∷ ss) = other_first GoesOn (stretch_of row column first (next ∷ remaining)) s ss (λ other j. j) p in
+    ap (before_stretches c) (stretch_again row (column + first.width) next remaining cells ss e apart)
     ∙ ap (λ t. if t then longer c s ∷ ss else alone c ∷ s ∷ ss) (goes_on_if c s (refl, refl))
 
 stretches_again : (ss : List Stretch) → NoNeighborsJoin GoesOn ss → stretches (flat_map placed_by ss) ≡ ss
 stretches_again [] p = refl
 stretches_again (s ∷ ss) p =
-    stretch_again s.row s.column s.first s.others (flat_map placed_by ss) ss (stretches_again ss (rest_has_none GoesOn s ss p)) p
+    stretch_again s.row s.column s.first s.remaining (flat_map placed_by ss) ss (stretches_again ss (rest_has_none GoesOn s ss p)) p
 
 pub one_stretch_cut : (cells : List PlacedCell) (ss : List Stretch) → AreStretchesOf cells ss → ss ≡ stretches cells
 one_stretch_cut cells ss are = sym (stretches_again ss are.longest) ∙ ap stretches are.whole

@@ -68,8 +68,8 @@ module _ {W : Type 0} (width_of : W → List ℕ → ℕ) where
   pub alone_idle : ((f : List ℕ → ℕ) (view : View) (action : StreamAction) → alone.IsIdle view → IsWritable (action ∷ []) → alone.IsIdle (after f view (alone.alone action)))
       → (before now : Terminal W) (view : View) (action : StreamAction) → IsIdle before → StandsAt before view → IsWritable (action ∷ []) → GoesBy width_of before now (alone.alone action) → IsIdle now
   alone_idle law before now view action idle st w g =
-      let behind = law (of before) view action (idle_view before view idle st) w in
-      record { run = (g.stands view st).run ∙ behind.run; unfinished = (g.stands view st).unfinished ∙ behind.stream }
+      let later = law (of before) view action (idle_view before view idle st) w in
+      record { run = (g.stands view st).run ∙ later.run; unfinished = (g.stands view st).unfinished ∙ later.stream }
 
   pub asks_nothing : (before now : Terminal W) (view : View) (bytes : List ℕ) → StandsAt before view → before.run ≡ []
       → AllByRecursion AsksNothing (items view.stream bytes) → NeedsMemory width_of before bytes now → BytesTakeMemory view.stream bytes

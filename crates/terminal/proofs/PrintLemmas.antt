@@ -11,25 +11,25 @@ use Rattle.terminal_render.specs.EncodedSizes.{prints_in}
 
 has_texts : (before : Option ℕ) (actions : List StreamAction) → IsWritableAfter before actions → HasTexts actions
 has_texts None [] w = tt
-has_texts None (print character ∷ others) w = has_texts None others w.1
-has_texts None (print_string text ∷ others) w = (w.0.utf8, has_texts None others w.1)
-has_texts None (control number ∷ others) w = has_texts None others w.1
-has_texts None (enter header byte ∷ others) w = has_texts (Some byte) others w.1
-has_texts None (data_byte byte ∷ others) w = absurd w.0
-has_texts None (exit ∷ others) w = absurd w.0
-has_texts None (command c ∷ others) w = has_texts None others w.1
-has_texts None (csi a ∷ others) w = has_texts None others w.1
-has_texts None (esc e ∷ others) w = has_texts None others w.1
+has_texts None (print character ∷ remaining) w = has_texts None remaining w.1
+has_texts None (print_string text ∷ remaining) w = (w.0.utf8, has_texts None remaining w.1)
+has_texts None (control number ∷ remaining) w = has_texts None remaining w.1
+has_texts None (enter header byte ∷ remaining) w = has_texts (Some byte) remaining w.1
+has_texts None (data_byte byte ∷ remaining) w = absurd w.0
+has_texts None (exit ∷ remaining) w = absurd w.0
+has_texts None (command c ∷ remaining) w = has_texts None remaining w.1
+has_texts None (csi a ∷ remaining) w = has_texts None remaining w.1
+has_texts None (esc e ∷ remaining) w = has_texts None remaining w.1
 has_texts (Some before) [] w = absurd w
-has_texts (Some before) (print character ∷ others) w = absurd w
-has_texts (Some before) (print_string text ∷ others) w = absurd w
-has_texts (Some before) (control number ∷ others) w = absurd w
-has_texts (Some before) (enter header byte ∷ others) w = absurd w
-has_texts (Some before) (data_byte byte ∷ others) w = has_texts (Some byte) others w.1
-has_texts (Some before) (exit ∷ others) w = has_texts None others w
-has_texts (Some before) (command c ∷ others) w = absurd w
-has_texts (Some before) (csi a ∷ others) w = absurd w
-has_texts (Some before) (esc e ∷ others) w = absurd w
+has_texts (Some before) (print character ∷ remaining) w = absurd w
+has_texts (Some before) (print_string text ∷ remaining) w = absurd w
+has_texts (Some before) (control number ∷ remaining) w = absurd w
+has_texts (Some before) (enter header byte ∷ remaining) w = absurd w
+has_texts (Some before) (data_byte byte ∷ remaining) w = has_texts (Some byte) remaining w.1
+has_texts (Some before) (exit ∷ remaining) w = has_texts None remaining w
+has_texts (Some before) (command c ∷ remaining) w = absurd w
+has_texts (Some before) (csi a ∷ remaining) w = absurd w
+has_texts (Some before) (esc e ∷ remaining) w = absurd w
 
 terminator_prints : (closed stands : Bool) → prints_in (terminator_before closed stands) ≡ []
 terminator_prints true true = refl
@@ -51,25 +51,25 @@ action_prints (command c) h = refl
 action_prints (csi a) h = refl
 action_prints (esc e) h = refl
 
-first_has : (a : StreamAction) (others : List StreamAction) → HasTexts (a ∷ others) → HasTexts (a ∷ []) × HasTexts others
-first_has (print character) others h = (tt, h)
-first_has (print_string text) others h = ((h.0, tt), h.1)
-first_has (control number) others h = (tt, h)
-first_has (enter header byte) others h = (tt, h)
-first_has (data_byte byte) others h = (tt, h)
-first_has exit others h = (tt, h)
-first_has (command c) others h = (tt, h)
-first_has (csi a) others h = (tt, h)
-first_has (esc e) others h = (tt, h)
+first_has : (a : StreamAction) (remaining : List StreamAction) → HasTexts (a ∷ remaining) → HasTexts (a ∷ []) × HasTexts remaining
+first_has (print character) remaining h = (tt, h)
+first_has (print_string text) remaining h = ((h.0, tt), h.1)
+first_has (control number) remaining h = (tt, h)
+first_has (enter header byte) remaining h = (tt, h)
+first_has (data_byte byte) remaining h = (tt, h)
+first_has exit remaining h = (tt, h)
+first_has (command c) remaining h = (tt, h)
+first_has (csi a) remaining h = (tt, h)
+first_has (esc e) remaining h = (tt, h)
 
 read_prints : (closed : Bool) (actions : List StreamAction) → HasTexts actions → prints_in (read_form_after closed actions) ≡ prints_in actions
 read_prints closed [] h = terminator_prints closed false
-read_prints closed (a ∷ others) h =
-    let front = terminator_before closed (is_string_terminator a) in
-    let behind = read_form_after (closes_string a) others in
-    let has = first_has a others h in
-    let first = flat_map-append printed front (characters_of a) ∙ ap (λ text. text ++ prints_in (characters_of a)) (terminator_prints closed (is_string_terminator a)) ∙ action_prints a has.0 in
-    flat_map-append printed (front ++ characters_of a) behind ∙ (λ i. first i ++ read_prints (closes_string a) others has.1 i)
+read_prints closed (a ∷ remaining) h =
+    let prefix = terminator_before closed (is_string_terminator a) in
+    let after = read_form_after (closes_string a) remaining in
+    let has = first_has a remaining h in
+    let first = flat_map-append printed prefix (characters_of a) ∙ ap (λ text. text ++ prints_in (characters_of a)) (terminator_prints closed (is_string_terminator a)) ∙ action_prints a has.0 in
+    flat_map-append printed (prefix ++ characters_of a) after ∙ (λ i. first i ++ read_prints (closes_string a) remaining has.1 i)
 
 pub prints_stay : (actions : List StreamAction) → IsWritable actions → prints_in (read_form actions) ≡ prints_in actions
 prints_stay actions w = read_prints false actions (has_texts None actions w)

@@ -38,7 +38,7 @@ module _ {W : Type 0} (width_of : W → List ℕ → ℕ) where
       answers_later width_of w whole.log.log.number (standing_after (width_of w) whole h).log.log.number u (standing_after (width_of w) whole h) (number_rises (width_of w) whole h)
       (answers_on width_of w whole.log.log.number t u whole h fed e a g)
 
-  -- bytes more, behind which the changes are forgotten and the replies dropped
+  -- bytes more, after which the changes are forgotten and the replies dropped
   more_fed : (t now u then : Terminal W) (fed bytes : List ℕ) (number : ℕ) → IsFed width_of fed t now → GoesBy width_of now u (Piece bytes ∷ []) → number ≡ number_of u.surface → Lightens width_of u then number
       → IsFed width_of (fed ++ bytes) t then
   more_fed t now u then fed bytes number h g n l = record {

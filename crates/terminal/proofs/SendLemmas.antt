@@ -115,9 +115,9 @@ module _ {W : Type 0} (width_of : W → List ℕ → ℕ) where
     read = [];
     rest = x;
     whole = refl;
-    others = refl;
-    of_read = record { written = []; others = updates_from f every start []; whole = refl; appends = nothing_appended old old (keeps_same old) };
-    of_input = record { written = []; others = updates_from f every start x; whole = refl; appends = nothing_appended old old (keeps_same old) };
+    remaining = refl;
+    of_read = record { written = []; remaining = updates_from f every start []; whole = refl; appends = nothing_appended old old (keeps_same old) };
+    of_input = record { written = []; remaining = updates_from f every start x; whole = refl; appends = nothing_appended old old (keeps_same old) };
   }
 
   pub new_past : (w : W) (every : ℕ) (t : Terminal W) (width height : ℕ) (input : Option (List ℕ)) → IsAt t (new_standing width height) → t.surface.grid.widths ≡ w → LooksNeedNumber width_of every t input

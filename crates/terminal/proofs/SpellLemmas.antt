@@ -60,9 +60,9 @@ abbrev AreSmallEvents : List Event → Type 0
 AreSmallEvents [] = ⊤
 AreSmallEvents (event ∷ events) = IsSmallEvent event × AreSmallEvents events
 
-acts_before : (actions : List StreamAction) (others : List Event) → AreSmallEvents others → AreSmallEvents (map Act actions ++ others)
-acts_before [] others h = h
-acts_before (a ∷ actions) others h = (tt, acts_before actions others h)
+acts_before : (actions : List StreamAction) (remaining : List Event) → AreSmallEvents remaining → AreSmallEvents (map Act actions ++ remaining)
+acts_before [] remaining h = h
+acts_before (a ∷ actions) remaining h = (tt, acts_before actions remaining h)
 
 events_small : (stream : List ℕ) (history : History) → AreSmall history → AreSmallEvents (events stream history)
 events_small stream [] h = tt
@@ -80,7 +80,7 @@ settled_small f v h p = same_small (settled f v).state.screen v.state.screen (se
 resized_tall : (width tall : ℕ) (s : Screen) → height (resized_screen width tall s) ≡ tall
 resized_tall width tall s =
     let rows = map (resized_row width) s.rows in
-    let front = length-take tall rows in
+    let prefix = length-take tall rows in
     let more = length-replicate (tall - length rows) (plain_row width) in
     let both = length-append (take tall rows) (replicate (tall - length rows) (plain_row width)) in
     omega arith
@@ -176,7 +176,7 @@ module _ {W : Type 0} (width_of : W → List ℕ → ℕ) where
       let some = stands_somewhere width_of s u (with_parts s u) reached ready refl in
       spelled_after (with_parts s u) (with_parts r w) history some.0 some.1 some.2 sizes small p g had.shape had.ready.stays
 
-  still_held : (u : Held) (view : View) → u ≡ held_of view.stream → u ≡ held_of (view.stream ++ [])
+  pub still_held : (u : Held) (view : View) → u ≡ held_of view.stream → u ≡ held_of (view.stream ++ [])
   still_held u view e = e ∙ ap held_of (sym (nothing_after view.stream))
 
   pub looked_spelled : (s r : TerminalState W) (u : Held) → IsReached u → IsReady s → IsSpelled (with_parts s u) → Had width_of s r (Looked ∷ []) → IsSpelled (with_parts r u)

@@ -28,53 +28,53 @@ appends_both (Some l) None c x y h k = absurd h
 appends_both (Some l) (Some m) None x y h k = absurd k
 appends_both (Some l) (Some m) (Some n) x y h k = k ∙ ap (λ s. s ++ y) h ∙ append_assoc l x y
 
--- the first of some bytes are the first of these with others behind
+-- the first of some bytes are the first of these with others after
 pub prefix_after : (a b c : Option (List ℕ)) (x y z : List ℕ) → Appends a b x → AppendsPrefix b c y → AppendsPrefix a c (x ++ (y ++ z))
 prefix_after a b c x y z h k = record {
   written = x ++ k.written;
-  others = k.others ++ z;
-  whole = ap (λ s. x ++ (s ++ z)) k.whole ∙ ap (λ s. x ++ s) (append_assoc k.written k.others z) ∙ sym (append_assoc x k.written (k.others ++ z));
+  remaining = k.remaining ++ z;
+  whole = ap (λ s. x ++ (s ++ z)) k.whole ∙ ap (λ s. x ++ s) (append_assoc k.written k.remaining z) ∙ sym (append_assoc x k.written (k.remaining ++ z));
   appends = appends_both a b c x k.written h k.appends;
 }
 
 pub prefix_so_far : (a b : Option (List ℕ)) (x z : List ℕ) → Appends a b x → AppendsPrefix a b (x ++ z)
-prefix_so_far a b x z h = record { written = x; others = z; whole = refl; appends = h }
+prefix_so_far a b x z h = record { written = x; remaining = z; whole = refl; appends = h }
 
 -- ---- the first piece
 
 -- the first piece of an input goes on from what has begun
 record First (every : ℕ) (begun input : List ℕ) : Type 0 where
   more : List ℕ
-  others : List (List ℕ)
-  are : in_pieces every begun input ≡ (begun ++ more) ∷ others
+  remaining : List (List ℕ)
+  are : in_pieces every begun input ≡ (begun ++ more) ∷ remaining
 
 first_piece : (every : ℕ) (begun input : List ℕ) → First every begun input
-first_piece every begun [] = record { more = []; others = []; are = ap (λ (l : List ℕ). l ∷ []) (sym (append-nil begun)) }
+first_piece every begun [] = record { more = []; remaining = []; are = ap (λ (l : List ℕ). l ∷ []) (sym (append-nil begun)) }
 first_piece every begun (byte ∷ input) = by_test (length begun + 1 == every) refl (first_piece every (begun ++ byte ∷ []) input)
   where
     by_test : (b : Bool) → (length begun + 1 == every) ≡ b → First every (begun ++ byte ∷ []) input → First every begun (byte ∷ input)
     by_test true e later = record {
       more = byte ∷ [];
-      others = in_pieces every [] input;
+      remaining = in_pieces every [] input;
       are = ap (λ b. if b then (begun ++ byte ∷ []) ∷ in_pieces every [] input else in_pieces every (begun ++ byte ∷ []) input) e;
     }
     by_test false e later = record {
       more = byte ∷ later.more;
-      others = later.others;
+      remaining = later.remaining;
       are = ap (λ b. if b then (begun ++ byte ∷ []) ∷ in_pieces every [] input else in_pieces every (begun ++ byte ∷ []) input) e
-          ∙ later.are ∙ ap (λ (l : List ℕ). l ∷ later.others) (append_assoc begun (byte ∷ []) later.more);
+          ∙ later.are ∙ ap (λ (l : List ℕ). l ∷ later.remaining) (append_assoc begun (byte ∷ []) later.more);
     }
 
--- so it does from bytes behind it that fit in the piece
+-- so it does from bytes after it that fit in the piece
 record Holds (every : ℕ) (begun bytes next : List ℕ) : Type 0 where
   more : List ℕ
-  others : List (List ℕ)
-  are : in_pieces every begun (bytes ++ next) ≡ ((begun ++ bytes) ++ more) ∷ others
+  remaining : List (List ℕ)
+  are : in_pieces every begun (bytes ++ next) ≡ ((begun ++ bytes) ++ more) ∷ remaining
 
 holds : (every : ℕ) (begun bytes next : List ℕ) → length begun + length bytes ≤ every → Holds every begun bytes next
 holds every begun [] next h =
     let first = first_piece every begun next in
-    record { more = first.more; others = first.others; are = first.are ∙ ap (λ (l : List ℕ). (l ++ first.more) ∷ first.others) (sym (append-nil begun)) }
+    record { more = first.more; remaining = first.remaining; are = first.are ∙ ap (λ (l : List ℕ). (l ++ first.more) ∷ first.remaining) (sym (append-nil begun)) }
 holds every begun (byte ∷ bytes) next h = either (order (length begun + length (byte ∷ bytes)) every)
   where
     all : List ℕ
@@ -83,10 +83,10 @@ holds every begun (byte ∷ bytes) next h = either (order (length begun + length
     either : (length begun + length all < every) ⊎ (every ≤ length begun + length all) → Holds every begun all next
     either (inl l) =
         let first = first_piece every (begun ++ all) next in
-        record { more = first.more; others = first.others; are = grows every begun all next l ∙ first.are }
+        record { more = first.more; remaining = first.remaining; are = grows every begun all next l ∙ first.are }
     either (inr l) = record {
       more = [];
-      others = in_pieces every [] next;
+      remaining = in_pieces every [] next;
       are = fills every begun all next (omega arith) (omega arith) ∙ ap (λ (l : List ℕ). l ∷ in_pieces every [] next) (sym (append-nil (begun ++ all)));
     }
 
@@ -101,7 +101,7 @@ module _ {W : Type 0} (width_of : W → List ℕ → ℕ) (w : W) where
 
   -- ---- an input that is being read
 
-  -- Of an input some bytes were read, in pieces that are done and one that has begun; an update was written behind each that is done. `last` is where a
+  -- Of an input some bytes were read, in pieces that are done and one that has begun; an update was written after each that is done. `last` is where a
   -- terminal that keeps all stood at the last look. This one answers as that one does with the piece that has begun, from the viewer's number on; before
   -- the first update, for which nothing is due, from any number.
   pub record IsSending (every : ℕ) (start : Standing) (input rest : List ℕ) (old now : Option (List ℕ)) (t : Terminal W) (number left : ℕ) : Type 0 where
@@ -142,7 +142,7 @@ module _ {W : Type 0} (width_of : W → List ℕ → ℕ) (w : W) where
   }
 
   module _ (every : ℕ) (start : Standing) (input rest : List ℕ) (old now : Option (List ℕ)) (t : Terminal W) (number left : ℕ) (s : IsSending every start input rest old now t number left) where
-    -- the updates, where more comes behind what was read
+    -- the updates, where more follows what was read
     all_is : (more : List ℕ) → updates_from f every start (s.read ++ more) ≡ s.written ++ updates_after f s.last number (in_pieces every s.begun more)
     all_is more = ap (updates_after f start 0) (s.pieces more) ∙ s.leads (in_pieces every s.begun more)
 
@@ -231,7 +231,7 @@ module _ {W : Type 0} (width_of : W → List ℕ → ℕ) (w : W) where
             forgotten_from v later (omega (arith, seen, there, is)) (omega (arith, there, is)) (inl p.1) same l
         by_number (inr p) = by_asked p.1 (e ∙ ap (λ b. if b then number_of t.surface else number) p.0) s.asked
 
-    -- ---- a look behind a piece
+    -- ---- a look after a piece
 
     next_of : List ℕ → Standing
     next_of piece = standing_after f s.last (looks (piece ∷ []))
@@ -256,7 +256,7 @@ module _ {W : Type 0} (width_of : W → List ℕ → ℕ) (w : W) where
     unfolding next_of
     full_is bytes more some full = all_is (bytes ++ more) ∙ ap (λ ps. s.written ++ updates_after f s.last number ps) (fills every s.begun bytes more some full)
 
-    -- some bytes more, which fill it, and the update behind them
+    -- some bytes more, which fill it, and the update after them
     pub sending_next : (next bytes : List ℕ) (u v : Terminal W) (later : ℕ) (new : Option (List ℕ)) → rest ≡ bytes ++ next → t.surface.grid.widths ≡ w → GoesBy width_of t u (Piece bytes ∷ []) → length bytes ≡ left → 0 < left
         → ((x : Standing) → IsAt u x → Sent f x number later v now new) → v.surface.grid.widths ≡ w → v.is_failed ≡ false
         → IsSending every start input next old new v later every
@@ -311,21 +311,21 @@ module _ {W : Type 0} (width_of : W → List ℕ → ℕ) (w : W) where
 
     -- ---- where it ends early
 
-    -- what was read, and bytes that were read behind it
-    pub sending_part : (next bytes : List ℕ) (others : Option (List ℕ)) → rest ≡ bytes ++ next → others ≡ Some next → SendsPart f every start input others old now
-    sending_part next bytes others e known = record {
+    -- what was read, and bytes that were read after it
+    pub sending_part : (next bytes : List ℕ) (remaining : Option (List ℕ)) → rest ≡ bytes ++ next → remaining ≡ Some next → SendsPart f every start input remaining old now
+    sending_part next bytes remaining e known = record {
       read = s.read ++ bytes;
       rest = next;
       whole = s.whole ∙ ap (λ l. s.read ++ l) e ∙ sym (append_assoc s.read bytes next);
-      others = known;
+      remaining = known;
       of_read = subst (AppendsPrefix old now) (sym (all_is bytes)) (prefix_so_far old now s.written _ s.appends);
       of_input = subst (AppendsPrefix old now) (sym (ap (updates_from f every start) s.whole ∙ all_is rest)) (prefix_so_far old now s.written _ s.appends);
     }
 
-    -- the first bytes of an update behind them
-    pub sending_some : (next bytes : List ℕ) (u : Terminal W) (new others : Option (List ℕ)) → rest ≡ bytes ++ next → others ≡ Some next → t.surface.grid.widths ≡ w → GoesBy width_of t u (Piece bytes ∷ []) → length bytes ≡ left → 0 < left
-        → ((x : Standing) → IsAt u x → AppendsPrefix now new (update_at (looked f x) number)) → SendsPart f every start input others old new
-    sending_some next bytes u new others e known same g full some sends =
+    -- the first bytes of an update after them
+    pub sending_some : (next bytes : List ℕ) (u : Terminal W) (new remaining : Option (List ℕ)) → rest ≡ bytes ++ next → remaining ≡ Some next → t.surface.grid.widths ≡ w → GoesBy width_of t u (Piece bytes ∷ []) → length bytes ≡ left → 0 < left
+        → ((x : Standing) → IsAt u x → AppendsPrefix now new (update_at (looked f x) number)) → SendsPart f every start input remaining old new
+    sending_some next bytes u new remaining e known same g full some sends =
         let piece = s.begun ++ bytes in
         let room = s.room in
         let a = fed_on bytes u same g in
@@ -334,7 +334,7 @@ module _ {W : Type 0} (width_of : W → List ℕ → ℕ) (w : W) where
           read = s.read ++ bytes;
           rest = next;
           whole = s.whole ∙ ap (λ l. s.read ++ l) e ∙ sym (append_assoc s.read bytes next);
-          others = known;
+          remaining = known;
           of_read = subst (AppendsPrefix old new) (sym (ap (λ l. updates_from f every start (s.read ++ l)) (sym (append-nil bytes)) ∙ full_is bytes [] (omega arith) (omega arith)))
               (prefix_after old now new s.written (update_at (next_of piece) number) _ s.appends first);
           of_input = subst (AppendsPrefix old new) (sym (ap (updates_from f every start) (s.whole ∙ ap (λ l. s.read ++ l) e) ∙ full_is bytes next (omega arith) (omega arith)))
@@ -342,9 +342,9 @@ module _ {W : Type 0} (width_of : W → List ℕ → ℕ) (w : W) where
         }
 
     -- the first bytes of the update at the end
-    pub sending_last : (new others : Option (List ℕ)) → rest ≡ [] → others ≡ Some rest → ((x : Standing) → IsAt t x → AppendsPrefix now new (update_at (looked f x) number)) → SendsPart f every start input others old new
+    pub sending_last : (new remaining : Option (List ℕ)) → rest ≡ [] → remaining ≡ Some rest → ((x : Standing) → IsAt t x → AppendsPrefix now new (update_at (looked f x) number)) → SendsPart f every start input remaining old new
     unfolding with_piece
-    sending_last new others e known sends =
+    sending_last new remaining e known sends =
         let first = subst (AppendsPrefix now new) (update_is s.begun t s.answers) (sends s.answers.kept s.answers.at) in
         let all = prefix_after old now new s.written (update_at (next_of s.begun) number) [] s.appends first in
         let read_is : input ≡ s.read = s.whole ∙ ap (λ l. s.read ++ l) e ∙ append-nil s.read in
@@ -352,7 +352,7 @@ module _ {W : Type 0} (width_of : W → List ℕ → ℕ) (w : W) where
           read = s.read;
           rest = rest;
           whole = s.whole;
-          others = known;
+          remaining = known;
           of_read = subst (λ l. AppendsPrefix old new (updates_from f every start l)) read_is (subst (AppendsPrefix old new) (sym (at_end e)) all);
           of_input = subst (AppendsPrefix old new) (sym (at_end e)) all;
         }
@@ -362,11 +362,11 @@ module _ {W : Type 0} (width_of : W → List ℕ → ℕ) (w : W) where
     Past : Standing → Type 0
     Past x = 2 ^ 64 ≤ x.log.log.number
 
-    -- the whole of the input leads further than its front
-    past_front : (front others : History) → standing_after f start (looks (in_pieces every [] input)) ≡ standing_after f s.last (front ++ others) → 2 ^ 64 ≤ (standing_after f s.last front).log.log.number → 2 ^ 64 ≤ number_after f every start input
-    past_front front others e n =
-        let whole = e ∙ standings_join f s.last front others in
-        let rises = number_rises f (standing_after f s.last front) others in
+    -- the whole of the input leads further than its prefix
+    past_front : (prefix remaining : History) → standing_after f start (looks (in_pieces every [] input)) ≡ standing_after f s.last (prefix ++ remaining) → 2 ^ 64 ≤ (standing_after f s.last prefix).log.log.number → 2 ^ 64 ≤ number_after f every start input
+    past_front prefix remaining e n =
+        let whole = e ∙ standings_join f s.last prefix remaining in
+        let rises = number_rises f (standing_after f s.last prefix) remaining in
         subst (λ (x : Standing). 2 ^ 64 ≤ x.log.log.number) (sym whole) (omega arith)
 
     -- the pieces from the one that has begun on
@@ -383,11 +383,11 @@ module _ {W : Type 0} (width_of : W → List ℕ → ℕ) (w : W) where
         let room = s.room in
         let piece = s.begun ++ bytes in
         let h = holds every s.begun bytes next (omega arith) in
-        past_front (Piece piece ∷ []) (Piece h.more ∷ Look ∷ looks h.others)
-        (pieces_after ((piece ++ h.more) ∷ h.others) (input_is bytes next e ∙ ap (λ ps. s.done ++ ps) h.are) ∙ sym (standings_cut actions_join f s.last piece h.more (Look ∷ looks h.others)))
+        past_front (Piece piece ∷ []) (Piece h.more ∷ Look ∷ looks h.remaining)
+        (pieces_after ((piece ++ h.more) ∷ h.remaining) (input_is bytes next e ∙ ap (λ ps. s.done ++ ps) h.are) ∙ sym (standings_cut actions_join f s.last piece h.more (Look ∷ looks h.remaining)))
         (subst (λ (x : Standing). 2 ^ 64 ≤ x.log.log.number) (pieces_join f s.last s.begun bytes) (needs_there width_of w s.from t here (Piece bytes ∷ []) tt same s.answers n))
 
-    -- a look that is refused a number behind a piece
+    -- a look that is refused a number after a piece
     look_needs : (piece : List ℕ) (u : Terminal W) → u.surface.grid.widths ≡ w → AnswersAt s.from u (with_piece piece) → NeedsNumber width_of u (Look ∷ []) → 2 ^ 64 ≤ (next_of piece).log.log.number
     unfolding next_of with_piece
     look_needs piece u same a n =

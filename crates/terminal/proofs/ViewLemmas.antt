@@ -1,13 +1,13 @@
 -- What terminals show of others.
-use Rattle.std.proofs.Common.{◌≡◌, ℕ, ◌+◌, ◌*◌, ◌<◌, ◌≤◌, ◌^◌, Bool, true, false, Option, Some, None, List, [], ◌∷◌, ◌++◌, length, map, refl, sym, ap, subst, ◌∙◌, arith}
-use Rattle.std.specs.Prelude.{IsErrOf, IsTrue, Ok}
+use Rattle.std.proofs.Common.{◌≡◌, ℕ, ◌+◌, ◌*◌, ◌<◌, ◌≤◌, ◌^◌, false, Option, Some, None, List, [], ◌∷◌, ◌++◌, length, map, refl, sym, ap, subst, ◌∙◌, arith}
 use Rattle.cell_base.specs.Row.{space, plain_row}
 use Rattle.cell_base.specs.Screen.{Screen, IsScreen, height}
 use Rattle.screen_change.specs.ChangeValue.{ChangeValue}
 use Rattle.cell_surface.specs.Surface.{Surface, shown_by, number_of}
 use Rattle.screen_log.specs.LogSteps.{Forgotten, Sized, step_of_kept}
 use Rattle.screen_log.specs.Log.{due, most_due}
-use Rattle.escape_framing.specs.Held.{hand_out, held_of, nothing_held}
+use Rattle.escape_framing.specs.Framed.{IsReached}
+use Rattle.escape_framing.specs.Held.{Held, hand_out, held_of, nothing_held}
 use Rattle.escape_stream.specs.StreamAction.{StreamAction}
 use Rattle.escape_stream.specs.StreamText.{stream_text}
 use Rattle.escape_stream.specs.StreamActions.{stream_actions}
@@ -21,8 +21,12 @@ use Rattle.std.proofs.lemmas.List.{length-map, length-replicate}
 use Rattle.terminal.specs.Headline.{StandsAt, GoesBy}
 use Rattle.terminal.specs.Terminal.{Terminal, IsIdle, IsSpelled, state_in}
 use Rattle.terminal.specs.Viewing.{CanReadFrom, ShowsAt, changes_for, patch_from, standing_of, update_for, update_prints}
+use Rattle.terminal.proofs.GoLemmas.{looked, stands_somewhere, went, with_parts}
 use Rattle.terminal.proofs.LawLemmas.{idle_view}
 use Rattle.terminal.proofs.PrintLemmas.{prints_stay}
+use Rattle.terminal.proofs.SpellLemmas.{still_held}
+use Rattle.terminal_steps.specs.Events as steps
+use Rattle.terminal_steps.specs.declared.state.TerminalState.{TerminalState}
 use Rattle.terminal_viewers.specs.Patch.{patch_of, place_prints}
 use Rattle.terminal_viewers.specs.Reading.{CanReadPatch, PatchesAreShown, PatchesArePlain, PatchesLeaveIdle, PatchesPrintFreshCells, patch_for}
 use Rattle.terminal_table.specs.Prints.{IsPlain}
@@ -51,11 +55,6 @@ use Rattle.terminal_viewers.specs.Viewers.{CanRead, UpdatesAreShown, UpdatesLeav
 idle_stream : held_of [] ≡ nothing_held
 unfolding hand_out
 idle_stream = refl
-
--- what answers has not failed, where a call that has failed is refused
-pub not_failed : {T E : Type 0} (is_failed : Bool) (value : T) (error : E) → (IsTrue is_failed → IsErrOf (Ok value) error) → is_failed ≡ false
-not_failed true value error h = let same = h refl in cc
-not_failed false value error h = refl
 
 -- a terminal that stands, with a lawful view, and whose changes can be sent
 pub record IsSound {W : Type 0} (width_of : W → List ℕ → ℕ) (t : Terminal W) : Type 0 where
@@ -108,18 +107,18 @@ module _ {W : Type 0} (width_of : W → List ℕ → ℕ) where
   }
 
   -- a viewer at which an update was fed
-  module _ (t v behind : Terminal W) (number : ℕ) (narrow : of v space ≡ 1) (st : IsSound width_of t) (sv : IsSound width_of v) (idle : IsIdle v) (same : of v ≡ of t)
-      (shows : ShowsAt width_of (state_in v).screen number t) (g : GoesBy width_of v behind (Piece (update_for t number) ∷ [])) where
+  module _ (t v later : Terminal W) (number : ℕ) (narrow : of v space ≡ 1) (st : IsSound width_of t) (sv : IsSound width_of v) (idle : IsIdle v) (same : of v ≡ of t)
+      (shows : ShowsAt width_of (state_in v).screen number t) (g : GoesBy width_of v later (Piece (update_for t number) ∷ [])) where
     reads : CanRead (of v) sv.view (state_in t).screen t.surface.log number
     reads = can_read t sv.view number (of v) (sym same) narrow st (ready_is v sv idle) (idle_view width_of v sv.view idle sv.stands)
         (subst (λ (x : State). ShowsAt width_of x.screen number t) sv.stands.state shows)
 
-    pub update_shown : UpdatesAreShown → state_in behind ≡ record (state_in v) { screen = (state_in t).screen }
+    pub update_shown : UpdatesAreShown → state_in later ≡ record (state_in v) { screen = (state_in t).screen }
     update_shown law =
         (g.stands sv.view sv.stands).state ∙ law (of v) sv.view (state_in t).screen t.surface.log number reads
         ∙ ap (λ (x : State). record x { screen = (state_in t).screen }) (sym sv.stands.state)
 
-    pub update_idle : UpdatesLeaveIdle → IsIdle behind
+    pub update_idle : UpdatesLeaveIdle → IsIdle later
     update_idle law =
         let there = g.stands sv.view sv.stands in
         let quiet = law (of v) sv.view (state_in t).screen t.surface.log number reads in
@@ -162,13 +161,13 @@ module _ {W : Type 0} (width_of : W → List ℕ → ℕ) where
     bytes_are : patch_from t shown ≡ patch_for sv.view new_screen
     bytes_are = ap (λ x. patch_of x new_screen) old_is
 
-    pub patch_shown : PatchesAreShown → (behind : Terminal W) → GoesBy width_of v behind (Piece (patch_from t shown) ∷ []) → state_in behind ≡ record (state_in v) { screen = (state_in t).screen }
-    patch_shown law behind g =
+    pub patch_shown : PatchesAreShown → (later : Terminal W) → GoesBy width_of v later (Piece (patch_from t shown) ∷ []) → state_in later ≡ record (state_in v) { screen = (state_in t).screen }
+    patch_shown law later g =
         (g.stands sv.view sv.stands).state ∙ ap (λ bytes. (after (of v) sv.view (Piece bytes ∷ [])).state) bytes_are ∙ law (of v) sv.view new_screen reads_patch
         ∙ ap (λ (x : State). record x { screen = new_screen }) (sym sv.stands.state)
 
-    pub patch_idle : PatchesLeaveIdle → (behind : Terminal W) → GoesBy width_of v behind (Piece (patch_from t shown) ∷ []) → IsIdle behind
-    patch_idle law behind g =
+    pub patch_idle : PatchesLeaveIdle → (later : Terminal W) → GoesBy width_of v later (Piece (patch_from t shown) ∷ []) → IsIdle later
+    patch_idle law later g =
         let there = g.stands sv.view sv.stands in
         let quiet = subst (λ bytes. alone.IsIdle (after (of v) sv.view (Piece bytes ∷ []))) (sym bytes_are) (law (of v) sv.view new_screen reads_patch) in
         record { run = there.run ∙ quiet.run; unfinished = there.unfinished ∙ quiet.stream }
@@ -200,6 +199,12 @@ module _ {W : Type 0} (width_of : W → List ℕ → ℕ) where
         wide = sym (ap (λ (x : Screen). x.width) same ∙ size.wide ∙ ap (λ (x : Screen). x.width) start);
         tall = sym (count_is t) ∙ sym (ap (λ (x : Screen). height x) same ∙ size.tall ∙ ap (λ (x : Screen). height x) start) ∙ count_is now;
       }
+
+  -- where the held run ends the size stays
+  pub settle_keeps_size : (s r : TerminalState W) (u : Held) → IsReached u → steps.IsReady s → steps.Had width_of s r (Looked ∷ []) → IsSize (with_parts s u) (with_parts r u)
+  settle_keeps_size s r u reached ready had =
+      look_keeps_size (with_parts s u) (with_parts r u) (stands_somewhere width_of s u (with_parts s u) reached ready refl)
+      (went width_of s r u u (Look ∷ []) (λ view. Looked ∷ []) reached (looked (width_of s.surface.grid.widths)) (still_held width_of u) (λ view e. had))
 
   -- ---- sessions
 
@@ -262,16 +267,16 @@ module _ {W : Type 0} (width_of : W → List ℕ → ℕ) where
 
   -- ---- all updates of an input
 
-  pub input_shown : UpdatesShowTheInput → (w : W) (width rows every : ℕ) (input : List ℕ) (new behind : Terminal W) → width_of w space ≡ 1 → 0 < width → width < 2 ^ 32 → 0 < rows → rows < 2 ^ 32 → StandsAt new (new_view width rows) → new.surface.grid.widths ≡ w
-      → GoesBy width_of new behind (Piece (updates (width_of w) width rows every input) ∷ []) → (state_in behind).screen ≡ (updated (width_of w) width rows every input).state.screen
-  input_shown law w width rows every input new behind narrow a b c d st e g =
+  pub input_shown : UpdatesShowTheInput → (w : W) (width rows every : ℕ) (input : List ℕ) (new later : Terminal W) → width_of w space ≡ 1 → 0 < width → width < 2 ^ 32 → 0 < rows → rows < 2 ^ 32 → StandsAt new (new_view width rows) → new.surface.grid.widths ≡ w
+      → GoesBy width_of new later (Piece (updates (width_of w) width rows every input) ∷ []) → (state_in later).screen ≡ (updated (width_of w) width rows every input).state.screen
+  input_shown law w width rows every input new later narrow a b c d st e g =
       ap (λ (x : State). x.screen) (g.stands (new_view width rows) st).state
       ∙ ap (λ x. (after (width_of x) (new_view width rows) (Piece (updates (width_of w) width rows every input) ∷ [])).state.screen) e
       ∙ law (width_of w) width rows every input narrow a b c d
 
-  pub input_idle : UpdatesLeaveNewViewersIdle → (w : W) (width rows every : ℕ) (input : List ℕ) (new behind : Terminal W) → width_of w space ≡ 1 → 0 < width → width < 2 ^ 32 → 0 < rows → rows < 2 ^ 32 → StandsAt new (new_view width rows) → new.surface.grid.widths ≡ w
-      → GoesBy width_of new behind (Piece (updates (width_of w) width rows every input) ∷ []) → IsIdle behind
-  input_idle law w width rows every input new behind narrow a b c d st e g =
+  pub input_idle : UpdatesLeaveNewViewersIdle → (w : W) (width rows every : ℕ) (input : List ℕ) (new later : Terminal W) → width_of w space ≡ 1 → 0 < width → width < 2 ^ 32 → 0 < rows → rows < 2 ^ 32 → StandsAt new (new_view width rows) → new.surface.grid.widths ≡ w
+      → GoesBy width_of new later (Piece (updates (width_of w) width rows every input) ∷ []) → IsIdle later
+  input_idle law w width rows every input new later narrow a b c d st e g =
       let there = g.stands (new_view width rows) st in
       let bytes = updates (width_of w) width rows every input in
       let quiet = subst (λ x. alone.IsIdle (after (width_of x) (new_view width rows) (Piece bytes ∷ []))) (sym e) (law (width_of w) width rows every input narrow a b c d) in
@@ -334,18 +339,18 @@ module _ {W : Type 0} (width_of : W → List ℕ → ℕ) where
 
   -- ---- what is rendered for one change
 
-  module _ (v behind : Terminal W) (change : ChangeValue) (actions : List StreamAction) (sv : IsSound width_of v) (idle : IsIdle v)
-      (sent : rendering change (state_in v).screen.width (height (state_in v).screen) ≡ Some actions) (writable : IsWritable actions) (g : GoesBy width_of v behind (Piece (stream_text actions) ∷ [])) where
+  module _ (v later : Terminal W) (change : ChangeValue) (actions : List StreamAction) (sv : IsSound width_of v) (idle : IsIdle v)
+      (sent : rendering change (state_in v).screen.width (height (state_in v).screen) ≡ Some actions) (writable : IsWritable actions) (g : GoesBy width_of v later (Piece (stream_text actions) ∷ [])) where
     sent_at : rendering change sv.view.state.screen.width (height sv.view.state.screen) ≡ Some actions
     sent_at = subst (λ (x : State). rendering change x.screen.width (height x.screen) ≡ Some actions) sv.stands.state sent
 
-    pub rendered_shown : RenderedTextsHaveTheEffect → state_in behind ≡ record (state_in v) { screen = (effect (of v) (display_on (state_in v).screen) change).screen }
+    pub rendered_shown : RenderedTextsHaveTheEffect → state_in later ≡ record (state_in v) { screen = (effect (of v) (display_on (state_in v).screen) change).screen }
     rendered_shown law =
         (g.stands sv.view sv.stands).state
         ∙ ap (λ (x : View). x.state) (law (of v) sv.view (display_on (state_in v).screen) change actions (ready_is v sv idle) (idle_view width_of v sv.view idle sv.stands) writable (ap (λ (x : State). x.screen) sv.stands.state) sent_at)
         ∙ ap (λ (x : State). record x { screen = (effect (of v) (display_on (state_in v).screen) change).screen }) (sym sv.stands.state)
 
-    pub rendered_idle : RenderedTextsLeaveIdle → IsIdle behind
+    pub rendered_idle : RenderedTextsLeaveIdle → IsIdle later
     rendered_idle law =
         let there = g.stands sv.view sv.stands in
         let quiet = law (of v) sv.view change actions (ready_is v sv idle) (idle_view width_of v sv.view idle sv.stands) writable sent_at in

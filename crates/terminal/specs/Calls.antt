@@ -28,6 +28,6 @@ taken_in [] = []
 taken_in (Goes history ∷ calls) = taken_in calls
 taken_in (Takes replies ∷ calls) = replies ++ taken_in calls
 
--- it has the replies that were taken too, in front of those that were not
+-- it has the replies that were taken too, before those that were not
 abbrev pub with_taken : {W : Type 0} → List ℕ → Terminal W → Terminal W
 with_taken taken t = record t { replies = taken ++ t.replies }

@@ -14,7 +14,7 @@ NeedsNumber width_of t history =
     (view : View) → StandsAt t view → 2 ^ 64 ≤ (final_log width_of t view history).log.number
 
 -- Feeding bytes is refused memory: the parser takes some for them, or the terminal for one of the texts and actions
--- that they hand out, behind those before it.
+-- that they hand out, after those before it.
 abbrev pub NeedsMemory : {W : Type 0} → (W → List ℕ → ℕ) → Terminal W → List ℕ → Terminal W → Type 0
 NeedsMemory width_of before bytes after = (view : View) → StandsAt before view
     → BytesTakeMemory view.stream bytes

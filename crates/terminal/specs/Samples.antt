@@ -9,7 +9,7 @@ use Rattle.terminal_table.specs.Logged.{log_of}
 use Rattle.terminal_table.specs.Samples.{screen_after, csi, osc}
 use Rattle.terminal_viewers.specs.Update.{update_of}
 
--- the update of a new terminal behind a history, for a number
+-- the update of a new terminal after a history, for a number
 abbrev pub update_after : ℕ → ℕ → History → ℕ → List ℕ
 update_after width height history number =
     update_of (screen_after width height history) (log_of program_width width height history) number
@@ -22,8 +22,8 @@ patch_between width height old new = patch_of (screen_after width height old) (s
 abbrev pub printed : List ℕ → List ℕ
 printed text = text ++ 0 ∷ []
 
--- A screen without a title that is painted anew: the cursor is hidden, and the screen cleared; behind its rows and the
--- place the cursor is shown.
+-- A screen without a title that is painted anew: the cursor is hidden, and the screen cleared; after its rows and the
+-- position the cursor is shown.
 abbrev pub painted : List ℕ → List ℕ
 painted rows =
     csi (codes "?25l") ++ plain_pen ++ csi (codes "2J") ++ csi (codes "1;1H") ++ osc (codes "2;") ++ rows

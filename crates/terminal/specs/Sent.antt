@@ -43,7 +43,7 @@ due_from t number = if number == 0 then number_of t.surface else number
 abbrev pub update_at : Standing → ℕ → List ℕ
 update_at s number = update_of s.view.state.screen s.log number
 
--- behind a look the update was written, and answers the number that the viewer has then; what is older is forgotten
+-- after a look the update was written, and answers the number that the viewer has then; what is older is forgotten
 pub record Sent {W : Type 0} (width_of : List ℕ → ℕ) (s : Standing) (number next : ℕ) (now : Terminal W)
     (old new : Option (List ℕ)) : Type 0 where
   pub appends : Appends old new (update_at (looked width_of s) number)
@@ -67,7 +67,7 @@ SendsSome width_of before number old new =
 abbrev pub updates_from : (List ℕ → ℕ) → ℕ → Standing → List ℕ → List ℕ
 updates_from width_of every start input = updates_after width_of start 0 (in_pieces every [] input)
 
--- how many updates that are: one behind each piece that is full, and one at the end
+-- how many updates that are: one after each piece that is full, and one at the end
 abbrev pub update_count : ℕ → List ℕ → ℕ
 update_count every input = length (in_pieces every [] input)
 
@@ -85,7 +85,7 @@ pub record SendsPart (width_of : List ℕ → ℕ) (every : ℕ) (start : Standi
   pub read : List ℕ
   pub rest : List ℕ
   pub whole : input ≡ read ++ rest
-  pub others : left ≡ Some rest
+  pub remaining : left ≡ Some rest
   pub of_read : AppendsPrefix old new (updates_from width_of every start read)
   pub of_input : AppendsPrefix old new (updates_from width_of every start input)
 
@@ -96,12 +96,12 @@ SendsFirst width_of every before (Some input) left old new =
     (start : Standing) → IsAt before start → IsCounted start
     → SendsPart (width_of before.surface.grid.widths) every start input left old new
 
--- the number behind an input that is looked at behind each piece
+-- the number after an input that is looked at after each piece
 abbrev pub number_after : (List ℕ → ℕ) → ℕ → Standing → List ℕ → ℕ
 number_after width_of every start input =
     (standing_after width_of start (looks (in_pieces every [] input))).log.log.number
 
--- a known input, looked at behind each piece, leads past the numbers of 64 bits
+-- a known input, looked at after each piece, leads past the numbers of 64 bits
 abbrev pub LooksNeedNumber : {W : Type 0} → (W → List ℕ → ℕ) → ℕ → Terminal W → Option (List ℕ) → Type 0
 LooksNeedNumber width_of every before None = Unit {0}
 LooksNeedNumber width_of every before (Some input) =

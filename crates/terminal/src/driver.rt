@@ -168,7 +168,7 @@ fn rows_of<R: Read, W: Widths + Drop>(
 }
 
 /// Feeds the whole input to a new terminal, looks once at its end, and writes the rows, each with
-/// a line feed behind it, and flushes. The changes and the replies, which nobody reads, are
+/// a line feed after it, and flushes. The changes and the replies, which nobody reads, are
 /// forgotten. Width and height are from 1 to 2^32 - 1.
 ///
 /// A read asks for at most 4,096 bytes. It ends at the first fault, also one of a read that was
@@ -200,7 +200,7 @@ pub fn show<R: Read, T: Write, W: Widths + Drop>(
     ensures write { IsErrOf result RunError.Write ↔ IsTrue writer.new.has_failed }
     ensures too_long { IsErrOf result RunError.TooLong → reader.new.reads ≡ 2 ^ 48 }
     // Nothing is written before the whole input was read.
-    ensures others { IsErr result → (IsErrOf result RunError.Write → ⊥)
+    ensures remaining { IsErr result → (IsErrOf result RunError.Write → ⊥)
         → Keeps (T.contents writer.old.inner) (T.contents writer.new.inner) }
     // It flushes once, after the last write.
     ensures flushes { OnOk result (writer.new.flushes ≡ counted writer.old.flushes) }

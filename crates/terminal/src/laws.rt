@@ -52,7 +52,7 @@ pub fn histories_decide<W: Widths>()
         → GoesBy (λ w. W.width_of w) before other history → IsAlike one other }
 {}
 
-/// Taking the replies on the way changes nothing else. With the replies that were taken in front of those that it still
+/// Taking the replies on the way changes nothing else. With the replies that were taken before those that it still
 /// has a terminal has gone by the whole history: its screen, its log and all its replies are what the history means.
 pub fn replies_stand_apart<W: Widths>()
     ensures { (before : Terminal W) (now : Terminal W) (calls : List Call) → before.is_failed ≡ false

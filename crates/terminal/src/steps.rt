@@ -40,7 +40,7 @@ fn take_step<W: Widths + Drop>(
     }
 }
 
-/// A new terminal of this many columns and rows, each from 1 to 2^32 - 1, behind some steps in turn.
+/// A new terminal of this many columns and rows, each from 1 to 2^32 - 1, after some steps in turn.
 ///
 /// Refuses as the first step that is refused does, and with `Memory` where the new terminal is.
 pub fn play<W: Widths + Drop>(

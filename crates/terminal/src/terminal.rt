@@ -105,6 +105,9 @@ impl<W: Widths + Drop> Terminal<W> {
         ensures memory { IsErrOf result TerminalError.Memory → self.new.surface.is_failed ≡ true }
         ensures err { OnErr result (IsTrue self.new.is_failed) }
         ensures nothing { self.old.run ≡ [] → self.old.is_failed ≡ false → IsOk result }
+        ensures width { OnOk result (self.new.surface.grid.width ≡ self.old.surface.grid.width) }
+        ensures height { OnOk result
+            (length self.new.surface.grid.lines ≡ length self.old.surface.grid.lines) }
     {
         if self.is_failed {
             return Err(TerminalError::Failed);
@@ -152,7 +155,7 @@ impl<W: Widths + Drop> Terminal<W> {
     /// to an idle terminal of this size and these widths that showed this one's screen at that number, they leave
     /// it idle with this one's screen. The place of a pending wrap is sent as the last cell of its row once more.
     ///
-    /// Refuses as `feed` does. Where the bytes are refused memory the terminal hasn't failed: it is as behind
+    /// Refuses as `feed` does. Where the bytes are refused memory the terminal hasn't failed: it is as after
     /// `settle`, and the same call, asked again, gives what it would have given.
     pub fn update(&mut self, number: SequenceNo) -> Result<(SequenceNo, Vec<u8>), TerminalError>
         ensures settled { OnOk result (GoesBy (λ w. W.width_of w) self.old self.new (Look ∷ [])) }
@@ -186,11 +189,11 @@ impl<W: Widths + Drop> Terminal<W> {
 
     /// Settles, and answers the number of changes so far and the bytes that a viewer is sent which shows the screen
     /// of another terminal, of this size and these widths, that hasn't failed: the title, the cells that aren't shown
-    /// yet, each once, the cursor's place, the pen, and whether the cursor is visible. Fed to an idle terminal of
+    /// yet, each once, the cursor's position, the pen, and whether the cursor is visible. Fed to an idle terminal of
     /// this size and these widths that shows the other one's screen, they leave it idle with this one's screen. The
     /// place of a pending wrap is sent as the last cell of its row once more.
     ///
-    /// Refuses as `feed` does. Where the bytes are refused memory the terminal hasn't failed: it is as behind
+    /// Refuses as `feed` does. Where the bytes are refused memory the terminal hasn't failed: it is as after
     /// `settle`, and the same call, asked again, gives what it would have given.
     pub fn patch(&mut self, shown: &Terminal<W>) -> Result<(SequenceNo, Vec<u8>), TerminalError>
         requires shown { shown.now.is_failed ≡ false }
@@ -209,8 +212,6 @@ impl<W: Widths + Drop> Terminal<W> {
         ensures stays { IsTrue self.old.is_failed → IsTrue self.new.is_failed }
         ensures nothing { self.old.run ≡ [] → self.old.is_failed ≡ false → self.new.is_failed ≡ false }
     {
-        // For the clauses: what is known of a terminal that hasn't failed.
-        self.stands();
         self.settle()?;
         let bytes = self.patch_from(shown)?;
         Ok((self.current_number(), bytes))

@@ -1,4 +1,4 @@
-//! The updates of an input, written behind each of so many bytes.
+//! The updates of an input, written after each of so many bytes.
 ghost use Rattle.std.specs.Prelude.{◌≡◌, ◌↔◌, ◌<◌, ◌≤◌, ◌^◌, false, IsTrue, IsErr, IfOk, IfSome, OnOk, OnErr, IsErrOf};
 ghost use Rattle.std.specs.Prelude.{[], ◌∷◌};
 ghost use Rattle.std.specs.Io.KnownBytes.{Appends};
@@ -63,7 +63,7 @@ fn due_from<W: Widths + Drop>(terminal: &Terminal<W>, number: SequenceNo) -> Seq
     }
 }
 
-// Feeds the whole input, and writes an update behind each of so many bytes and at the end.
+// Feeds the whole input, and writes an update after each of so many bytes and at the end.
 fn write_updates<R: Read, T: Write, W: Widths + Drop>(
     reader: &mut Watched<R>,
     writer: &mut Watched<T>,
@@ -119,7 +119,7 @@ fn write_updates<R: Read, T: Write, W: Widths + Drop>(
     Err(RunError::TooLong)
 }
 
-/// Feeds the input to a new terminal, and behind each `every` bytes, at least 1, and once more at the end
+/// Feeds the input to a new terminal, and after each `every` bytes, at least 1, and once more at the end
 /// writes the update for the number that it got last, at first 0, and flushes. After each read the changes
 /// that no update needs any more are forgotten, and the replies dropped. Width and height are from 1 to
 /// 2^32 - 1.

@@ -45,15 +45,15 @@ use terminal_viewers::viewers::{
 /// that number, leaves one that shows the terminal's screen, with its saved cursor and its replies as they were, and
 /// idle.
 pub fn updates_are_shown<W: Widths + Drop>(terminal: &Terminal<W>, viewer: &Terminal<W>)
-    ensures shown { (number : ℕ) (behind : Terminal W) → terminal.now.is_failed ≡ false → viewer.now.is_failed ≡ false
+    ensures shown { (number : ℕ) (after : Terminal W) → terminal.now.is_failed ≡ false → viewer.now.is_failed ≡ false
         → IsIdle viewer.now → W.width_of viewer.now.surface.grid.widths ≡ W.width_of terminal.now.surface.grid.widths
         → ShowsAt (λ w. W.width_of w) (state_in viewer.now).screen number terminal.now
-        → GoesBy (λ w. W.width_of w) viewer.now behind (Piece (update_for terminal.now number) ∷ [])
-        → state_in behind ≡ record (state_in viewer.now) { screen = (state_in terminal.now).screen } }
-    ensures idle { (number : ℕ) (behind : Terminal W) → terminal.now.is_failed ≡ false → viewer.now.is_failed ≡ false
+        → GoesBy (λ w. W.width_of w) viewer.now after (Piece (update_for terminal.now number) ∷ [])
+        → state_in after ≡ record (state_in viewer.now) { screen = (state_in terminal.now).screen } }
+    ensures idle { (number : ℕ) (after : Terminal W) → terminal.now.is_failed ≡ false → viewer.now.is_failed ≡ false
         → IsIdle viewer.now → W.width_of viewer.now.surface.grid.widths ≡ W.width_of terminal.now.surface.grid.widths
         → ShowsAt (λ w. W.width_of w) (state_in viewer.now).screen number terminal.now
-        → GoesBy (λ w. W.width_of w) viewer.now behind (Piece (update_for terminal.now number) ∷ []) → IsIdle behind }
+        → GoesBy (λ w. W.width_of w) viewer.now after (Piece (update_for terminal.now number) ∷ []) → IsIdle after }
 {
     terminal.stands();
     viewer.stands();
@@ -66,13 +66,13 @@ pub fn updates_are_shown<W: Widths + Drop>(terminal: &Terminal<W>, viewer: &Term
 /// has the terminal's size, leaves one that shows the terminal's screen, with its saved cursor and its replies as they
 /// were, and idle.
 pub fn patches_are_shown<W: Widths + Drop>(terminal: &Terminal<W>, viewer: &Terminal<W>)
-    ensures shown { (shown : Terminal W) (behind : Terminal W)
+    ensures shown { (shown : Terminal W) (after : Terminal W)
         → CanReadFrom (λ w. W.width_of w) terminal.now viewer.now shown
-        → GoesBy (λ w. W.width_of w) viewer.now behind (Piece (patch_from terminal.now shown) ∷ [])
-        → state_in behind ≡ record (state_in viewer.now) { screen = (state_in terminal.now).screen } }
-    ensures idle { (shown : Terminal W) (behind : Terminal W)
+        → GoesBy (λ w. W.width_of w) viewer.now after (Piece (patch_from terminal.now shown) ∷ [])
+        → state_in after ≡ record (state_in viewer.now) { screen = (state_in terminal.now).screen } }
+    ensures idle { (shown : Terminal W) (after : Terminal W)
         → CanReadFrom (λ w. W.width_of w) terminal.now viewer.now shown
-        → GoesBy (λ w. W.width_of w) viewer.now behind (Piece (patch_from terminal.now shown) ∷ []) → IsIdle behind }
+        → GoesBy (λ w. W.width_of w) viewer.now after (Piece (patch_from terminal.now shown) ∷ []) → IsIdle after }
 {
     terminal.stands();
     viewer.stands();
@@ -81,7 +81,7 @@ pub fn patches_are_shown<W: Widths + Drop>(terminal: &Terminal<W>, viewer: &Term
     viewers_read_patches();
 }
 
-/// Such a viewer prints of the patch the cells that it doesn't show yet, each once, row by row, and behind them,
+/// Such a viewer prints of the patch the cells that it doesn't show yet, each once, row by row, and after them,
 /// exactly where a wrap is pending on the terminal, the last visible cell of the cursor's row; and nothing else that
 /// it reads changes its rows, and nothing scrolls.
 pub fn patches_print_the_fresh_cells<W: Widths + Drop>(terminal: &Terminal<W>, viewer: &Terminal<W>)
@@ -98,7 +98,7 @@ pub fn patches_print_the_fresh_cells<W: Widths + Drop>(terminal: &Terminal<W>, v
 }
 
 /// In every session that begins at a terminal, with new viewers of its size, updates, patches, other sizes and
-/// forgettings in any mix, a viewer that repeats the sizes and reads each answer to its end shows behind it the
+/// forgettings in any mix, a viewer that repeats the sizes and reads each answer to its end shows after it the
 /// screen of the one that answered it: the terminal, or another viewer. Where the viewers are answered one after
 /// another, each shows the terminal's screen.
 pub fn sessions_show_the_screen<W: Widths + Drop>(terminal: &Terminal<W>)
@@ -193,21 +193,21 @@ pub fn updates_are_small<W: Widths + Drop>(terminal: &Terminal<W>)
 /// What `render` answers for a change, fed as bytes to an idle terminal of that size, has the change's effect on
 /// its screen, with its saved cursor and its replies as they were, and leaves it idle.
 pub fn renderings_are_shown<W: Widths + Drop>(viewer: &Terminal<W>)
-    ensures shown { (change : ChangeValue) (actions : List StreamAction) (behind : Terminal W)
+    ensures shown { (change : ChangeValue) (actions : List StreamAction) (after : Terminal W)
         → viewer.now.is_failed ≡ false → IsIdle viewer.now
         → rendering change (state_in viewer.now).screen.width (height (state_in viewer.now).screen) ≡ Some actions
-        → IsWritable actions → GoesBy (λ w. W.width_of w) viewer.now behind (Piece (stream_text actions) ∷ [])
-        → state_in behind
+        → IsWritable actions → GoesBy (λ w. W.width_of w) viewer.now after (Piece (stream_text actions) ∷ [])
+        → state_in after
         ≡ record (state_in viewer.now) {
           screen
               = (effect (W.width_of viewer.now.surface.grid.widths) (display_on (state_in viewer.now).screen)
               change).screen;
         } }
-    ensures idle { (change : ChangeValue) (actions : List StreamAction) (behind : Terminal W)
+    ensures idle { (change : ChangeValue) (actions : List StreamAction) (after : Terminal W)
         → viewer.now.is_failed ≡ false → IsIdle viewer.now
         → rendering change (state_in viewer.now).screen.width (height (state_in viewer.now).screen) ≡ Some actions
-        → IsWritable actions → GoesBy (λ w. W.width_of w) viewer.now behind (Piece (stream_text actions) ∷ [])
-        → IsIdle behind }
+        → IsWritable actions → GoesBy (λ w. W.width_of w) viewer.now after (Piece (stream_text actions) ∷ [])
+        → IsIdle after }
 {
     viewer.stands();
     surfaces_stay_lawful(viewer.surface());
@@ -215,18 +215,18 @@ pub fn renderings_are_shown<W: Widths + Drop>(viewer: &Terminal<W>)
 }
 
 /// A new terminal that is fed the updates of an input, as `run` writes them, shows what a terminal shows that
-/// is fed the input and looked at behind each of so many bytes and at the end; and it is idle.
+/// is fed the input and looked at after each of so many bytes and at the end; and it is idle.
 pub fn new_viewers_show_the_input<W: Widths>()
     ensures shown { (widths : W) (width : ℕ) (height : ℕ) (every : ℕ) (input : List ℕ) (new : Terminal W)
-        (behind : Terminal W) → 0 < width → width < 2 ^ 32 → 0 < height → height < 2 ^ 32
+        (after : Terminal W) → 0 < width → width < 2 ^ 32 → 0 < height → height < 2 ^ 32
         → StandsAt new (new_view width height) → new.surface.grid.widths ≡ widths
-        → GoesBy (λ w. W.width_of w) new behind (Piece (updates (W.width_of widths) width height every input) ∷ [])
-        → (state_in behind).screen ≡ (updated (W.width_of widths) width height every input).state.screen }
+        → GoesBy (λ w. W.width_of w) new after (Piece (updates (W.width_of widths) width height every input) ∷ [])
+        → (state_in after).screen ≡ (updated (W.width_of widths) width height every input).state.screen }
     ensures idle { (widths : W) (width : ℕ) (height : ℕ) (every : ℕ) (input : List ℕ) (new : Terminal W)
-        (behind : Terminal W) → 0 < width → width < 2 ^ 32 → 0 < height → height < 2 ^ 32
+        (after : Terminal W) → 0 < width → width < 2 ^ 32 → 0 < height → height < 2 ^ 32
         → StandsAt new (new_view width height) → new.surface.grid.widths ≡ widths
-        → GoesBy (λ w. W.width_of w) new behind (Piece (updates (W.width_of widths) width height every input) ∷ [])
-        → IsIdle behind }
+        → GoesBy (λ w. W.width_of w) new after (Piece (updates (W.width_of widths) width height every input) ∷ [])
+        → IsIdle after }
 {
     updates_show_the_input();
 }

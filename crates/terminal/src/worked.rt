@@ -22,7 +22,7 @@ pub fn sent_updates()
         ++ csi (codes "2;2H")) }
 {}
 
-/// Patches: of a letter between two that stay, and of one behind which a wrap is pending, so that it is printed again.
+/// Patches: of a letter between two that stay, and of one after which a wrap is pending, so that it is printed again.
 pub fn sent_patches()
     ensures middle { patch_between 3 1 (shown (codes "abc")) (shown (codes "axc" ++ csi (codes "1;2H")))
         ≡ osc (codes "2;") ++ csi (codes "1;2H") ++ plain_pen ++ printed (codes "x")
@@ -32,7 +32,7 @@ pub fn sent_patches()
         ++ csi (codes "1;3H") ++ plain_pen ++ printed (codes "c") ++ plain_pen ++ csi (codes "?25h") }
 {}
 
-/// What is written of three letters, with an update behind each two.
+/// What is written of three letters, with an update after each two.
 pub fn written_updates()
     ensures { updates program_width 3 1 2 (codes "abc")
         ≡ painted (printed (codes "ab") ++ csi (codes "1;3H")) ++ printed (codes "c") }

@@ -36,7 +36,7 @@ use Rattle.terminal_table.specs.Functions.{Move, ControlFunction}
 use Rattle.terminal_table.specs.Steps.{cursor_to_restore}
 use Rattle.terminal_table.specs.Changes.{position, move_change, rendition_changes, changes}
 use Rattle.terminal_render.proofs.TextLemmas.{spelled_append, spelled_ascii}
-use Rattle.terminal_render.proofs.SpelledPenLemmas.{some_is, equal_some, map_some, told_some, told_color, pen_some}
+use Rattle.terminal_render.proofs.SpelledPenLemmas.{some_is, equal_some, map_some, told_some, encoded_color, pen_some}
 
 -- ---- single changes
 
@@ -95,17 +95,17 @@ change_some width height (ScrollRegionDown first size count) u g = scroll_some e
 change_some width height (Title title) u g = title_some title u
 
 value_color : (value : AttributeValue) → IsSpelledValue value → HasColor value
-value_color (one.Foreground color) u = told_color color u
-value_color (one.Background color) u = told_color color u
+value_color (one.Foreground color) u = encoded_color color u
+value_color (one.Background color) u = encoded_color color u
 value_color _ u = tt
 
 change_of_code : (change : ChangeValue) → IsSpelledChange change → IsChange change
 change_of_code (Attribute value) u = value_color value u
-change_of_code (AllAttributes a) u = (told_color a.foreground u.foreground, told_color a.background u.background, told_color a.underline_color u.underline)
+change_of_code (AllAttributes a) u = (encoded_color a.foreground u.foreground, encoded_color a.background u.background, encoded_color a.underline_color u.underline)
 change_of_code (Text text) u = u.utf8
-change_of_code (ClearScreen color) u = told_color color u
-change_of_code (ClearToEndOfLine color) u = told_color color u
-change_of_code (ClearToEndOfScreen color) u = told_color color u
+change_of_code (ClearScreen color) u = encoded_color color u
+change_of_code (ClearToEndOfLine color) u = encoded_color color u
+change_of_code (ClearToEndOfScreen color) u = encoded_color color u
 change_of_code (Title title) u = u.utf8
 change_of_code _ u = tt
 
@@ -123,7 +123,7 @@ pub spellings_append : (width height : ℕ) (xs ys : List ChangeValue) → HaveS
 spellings_append width height [] ys p q = q
 spellings_append width height (x ∷ xs) ys p q = (p.0, spellings_append width height xs ys p.1 q)
 
--- ---- places that moves reach
+-- ---- positions that moves reach
 
 at_some : (place : ℕ) (way : Way) → moves (At place) way ≢ None
 unfolding moves

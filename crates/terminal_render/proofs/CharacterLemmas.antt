@@ -22,30 +22,30 @@ use Rattle.terminal_table.proofs.RunLemmas.{character_printed}
 
 -- some bytes go before the first part if that is a text without controls
 abbrev before_parts : List ℕ → List TextPart → List TextPart
-before_parts front (Plain text ∷ parts) = Plain (front ++ text) ∷ parts
-before_parts front parts = Plain front ∷ parts
+before_parts prefix (Plain text ∷ parts) = Plain (prefix ++ text) ∷ parts
+before_parts prefix parts = Plain prefix ∷ parts
 
 one_before : (b : ℕ) (parts : List TextPart) → with_byte b parts ≡ before_parts (b ∷ []) parts
 one_before b [] = refl
 one_before b (Plain text ∷ parts) = refl
 one_before b (Control byte ∷ parts) = refl
 
-more_before : (b c : ℕ) (front : List ℕ) (parts : List TextPart) → with_byte b (before_parts (c ∷ front) parts) ≡ before_parts (b ∷ c ∷ front) parts
-more_before b c front [] = refl
-more_before b c front (Plain text ∷ parts) = refl
-more_before b c front (Control byte ∷ parts) = refl
+more_before : (b c : ℕ) (prefix : List ℕ) (parts : List TextPart) → with_byte b (before_parts (c ∷ prefix) parts) ≡ before_parts (b ∷ c ∷ prefix) parts
+more_before b c prefix [] = refl
+more_before b c prefix (Plain text ∷ parts) = refl
+more_before b c prefix (Control byte ∷ parts) = refl
 
 plain_byte : (b : ℕ) → not (is_ascii_control b) ≡ true → is_ascii_control b ≡ false
 plain_byte b h = grind (arith, nat_tests)
 
-pub parts_after : (b : ℕ) (front rest : List ℕ) → IsPrinted (b ∷ front) → text_parts ((b ∷ front) ++ rest) ≡ before_parts (b ∷ front) (text_parts rest)
+pub parts_after : (b : ℕ) (prefix rest : List ℕ) → IsPrinted (b ∷ prefix) → text_parts ((b ∷ prefix) ++ rest) ≡ before_parts (b ∷ prefix) (text_parts rest)
 parts_after b [] rest h =
     let p = and_parts (not (is_ascii_control b)) true h in
     ap (λ t. if t then Control b ∷ text_parts rest else with_byte b (text_parts rest)) (plain_byte b p.0) ∙ one_before b (text_parts rest)
-parts_after b (c ∷ front) rest h =
-    let p = and_parts (not (is_ascii_control b)) (list_all (λ x. not (is_ascii_control x)) (c ∷ front)) h in
-    ap (λ t. if t then Control b ∷ text_parts ((c ∷ front) ++ rest) else with_byte b (text_parts ((c ∷ front) ++ rest))) (plain_byte b p.0)
-    ∙ ap (with_byte b) (parts_after c front rest p.1) ∙ more_before b c front (text_parts rest)
+parts_after b (c ∷ prefix) rest h =
+    let p = and_parts (not (is_ascii_control b)) (list_all (λ x. not (is_ascii_control x)) (c ∷ prefix)) h in
+    ap (λ t. if t then Control b ∷ text_parts ((c ∷ prefix) ++ rest) else with_byte b (text_parts ((c ∷ prefix) ++ rest))) (plain_byte b p.0)
+    ∙ ap (with_byte b) (parts_after c prefix rest p.1) ∙ more_before b c prefix (text_parts rest)
 
 -- ---- parts by their characters
 
@@ -96,10 +96,10 @@ long c s = by_kind (spelled c s)
     by_kind (in_three g l t e) = rw e (omega arith)
     by_kind (in_four g l e) = rw e (omega arith)
 
--- bytes that are printed go before the parts behind them
-parts_of_front : (front rest : List ℕ) → 0 < length front → IsPrinted front → text_parts (front ++ rest) ≡ before_parts front (text_parts rest)
+-- bytes that are printed go before the parts after them
+parts_of_front : (prefix rest : List ℕ) → 0 < length prefix → IsPrinted prefix → text_parts (prefix ++ rest) ≡ before_parts prefix (text_parts rest)
 parts_of_front [] rest l h = absurd (omega arith)
-parts_of_front (b ∷ front) rest l h = parts_after b front rest h
+parts_of_front (b ∷ prefix) rest l h = parts_after b prefix rest h
 
 -- ---- U+0080 to U+009F
 
@@ -108,9 +108,9 @@ unfolding holds_c1
 no_c1_tail b [] h = refl
 no_c1_tail b (c ∷ bytes) h = (or_parts (is_c1 b c) (holds_c1 (c ∷ bytes)) h).1
 
-pub no_c1_after : (front rest : List ℕ) → holds_c1 (front ++ rest) ≡ false → holds_c1 rest ≡ false
+pub no_c1_after : (prefix rest : List ℕ) → holds_c1 (prefix ++ rest) ≡ false → holds_c1 rest ≡ false
 no_c1_after [] rest h = h
-no_c1_after (b ∷ front) rest h = no_c1_after front rest (no_c1_tail b (front ++ rest) h)
+no_c1_after (b ∷ prefix) rest h = no_c1_after prefix rest (no_c1_tail b (prefix ++ rest) h)
 
 is_pair : (x y : ℕ) → x ≡ 194 → 128 ≤ y → y < 160 → is_c1 x y ≡ true
 is_pair x y e l h = grind (arith, nat_tests)

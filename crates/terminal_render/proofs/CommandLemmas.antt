@@ -18,7 +18,7 @@ use Rattle.escape_osc.specs.Command.{Command, set_icon_name_and_window_title, se
 use Rattle.escape_osc.specs.Parts.{parts_of, joined, any_holds_c1}
 use Rattle.escape_osc.specs.Reading.{text_reading, utf8_reading, base64_reading, data_reading, clear_reading, lettered_reading, selection_command, link_command, coded_reading, fitting_reading, osc_reading}
 use Rattle.escape_osc.specs.Selection.{selection_reading}
-use Rattle.escape_osc.proofs.ByteLemmas.{each-front, each-back, each_joined, joined_each, none_passes, link_parts_each}
+use Rattle.escape_osc.proofs.ByteLemmas.{each-prefix, each-back, each_joined, joined_each, none_passes, link_parts_each}
 use Rattle.escape_osc.proofs.C1Lemmas.{LacksC1, holds_c1-cons, holds_c1-joint, any_holds_c1-joined, each_lacks_c1, link_parts_lack_c1}
 use Rattle.escape_osc.proofs.SplitLemmas.{parts_each}
 use Rattle.terminal_render.specs.Links.{is_plain_text, is_plain_param, has_plain_texts, is_carried}
@@ -47,7 +47,7 @@ params_plain : (ps : List Param) → AllByRecursion ArePlain (map param_text ps)
 params_plain [] c0 c1 = refl
 params_plain (p ∷ ps) c0 c1 =
     let free = or_parts (holds_c1 p.0) (holds_c1 p.1) (sym (holds_c1-joint p.0 61 p.1 (omega arith)) ∙ c1.0) in
-    let key = plain_text p.0 (each-front IsPlain p.0 (61 ∷ p.1) c0.0) free.0 in
+    let key = plain_text p.0 (each-prefix IsPlain p.0 (61 ∷ p.1) c0.0) free.0 in
     let value = plain_text p.1 (each-back IsPlain p.0 (61 ∷ p.1) c0.0).1 free.1 in
     let rest = params_plain ps c0.1 c1.1 in
     λ i. (key i && value i) && rest i
@@ -57,9 +57,9 @@ unfolding link_text
 link_plain link c0 c1 =
     let params = params_text link.params in
     let free = or_parts (holds_c1 params) (holds_c1 link.uri) (sym (holds_c1-joint params 59 link.uri (omega arith)) ∙ sym (holds_c1-cons 59 (params ++ 59 ∷ link.uri) (omega arith)) ∙ sym (holds_c1-cons 56 (59 ∷ (params ++ 59 ∷ link.uri)) (omega arith)) ∙ c1) in
-    let front = each-front IsPlain params (59 ∷ link.uri) c0.1.1 in
+    let prefix = each-prefix IsPlain params (59 ∷ link.uri) c0.1.1 in
     let uri = plain_text link.uri (each-back IsPlain params (59 ∷ link.uri) c0.1.1).1 free.1 in
-    let each = params_plain link.params (each_joined IsPlain 58 (map param_text link.params) front) (each_lacks_c1 (map param_text link.params) (any_holds_c1-joined 58 (map param_text link.params) (omega arith) ∙ free.0)) in
+    let each = params_plain link.params (each_joined IsPlain 58 (map param_text link.params) prefix) (each_lacks_c1 (map param_text link.params) (any_holds_c1-joined 58 (map param_text link.params) (omega arith) ∙ free.0)) in
     λ i. each i && uri i
 
 -- links that are read from some parts read back
@@ -128,12 +128,12 @@ selection_read (letters ∷ text ∷ more ∷ rest) = tt
 coded_read : (code : List ℕ) (rest : List (List ℕ)) → ReadBack (code ∷ rest) → AllByRecursion ArePlain (code ∷ rest) → any_holds_c1 (code ∷ rest) ≡ false → Reads (coded_reading code rest (code ∷ rest))
 unfolding coded_reading link_command
 coded_read code rest back c0 c1 =
-    let others : any_holds_c1 rest ≡ false = (or_parts (holds_c1 code) (any_holds_c1 rest) c1).1 in
-    cond_both (bytes_eq code (codes "0")) _ _ Reads (λ e. text_read set_icon_name_and_window_title rest (λ text h. h) c0.1 others)
+    let remaining : any_holds_c1 rest ≡ false = (or_parts (holds_c1 code) (any_holds_c1 rest) c1).1 in
+    cond_both (bytes_eq code (codes "0")) _ _ Reads (λ e. text_read set_icon_name_and_window_title rest (λ text h. h) c0.1 remaining)
     (λ e.
     cond_both (bytes_eq code (codes "1")) _ _ Reads (λ e. other_read set_icon_name (λ x. tt) (text_reading rest))
     (λ e.
-    cond_both (bytes_eq code (codes "2")) _ _ Reads (λ e. text_read set_window_title rest (λ text h. h) c0.1 others)
+    cond_both (bytes_eq code (codes "2")) _ _ Reads (λ e. text_read set_window_title rest (λ text h. h) c0.1 remaining)
     (λ e.
     cond_both (bytes_eq code (codes "7")) _ _ Reads (λ e. other_read current_working_directory (λ x. tt) (text_reading rest))
     (λ e.

@@ -10,14 +10,14 @@ use Rattle.escape_stream.specs.StreamText.{action_text, closes_string, stream_te
 use Rattle.terminal_render.specs.declared.borrowed_action.BorrowedAction.{BorrowedAction}
 use Rattle.terminal_render.specs.declared.borrowed_action.BorrowedAction.TheVariants as variant
 use Rattle.terminal_render.specs.Lists.{all_rendered}
-use Rattle.terminal_render.specs.Rendering.{behind, rendering}
+use Rattle.terminal_render.specs.Rendering.{appended, rendering}
 use Rattle.terminal_render.specs.BorrowedActionView.{borrowed_value, borrowed_values}
 use Rattle.terminal_render.proofs.ListLemmas.{renderings_join}
 use Rattle.terminal_render.proofs.OpeningLemmas.{following_bytes, one_opens, rendering_opens}
 
 -- ---- what was there
 
--- it stands in front still where it stood there, and what stood there then does
+-- it stands before still where it stood there, and what stood there then does
 pub still_front : (start bytes after : List ℕ) → take (length start) bytes ≡ start → take (length bytes) after ≡ bytes → take (length start) after ≡ start
 still_front start bytes after e f =
     let l = sym (length-take (length start) bytes) ∙ ap length e in
@@ -56,7 +56,7 @@ text_end bytes items i h = at_drop_all (λ (rest : List BorrowedAction). bytes +
 
 -- ---- changes in turn
 
--- the bytes of what is sent, behind others
+-- the bytes of what is sent, after others
 abbrev pub bytes_after : List ℕ → Option (List StreamAction) → Option (List ℕ)
 bytes_after start found = option_map (λ actions. start ++ stream_text actions) found
 
@@ -74,17 +74,17 @@ record Stood (found : Option (List StreamAction)) (before list : List StreamActi
   found_is : found ≡ Some actions
   are : before ++ actions ≡ list
 
-stood : (found : Option (List StreamAction)) (before list : List StreamAction) → behind before found ≡ Some list → Stood found before list
+stood : (found : Option (List StreamAction)) (before list : List StreamAction) → appended before found ≡ Some list → Stood found before list
 stood None before list e = cc
 stood (Some actions) before list e = record { actions = actions; found_is = refl; are = cc e }
 
-pub first_rendered : (found : Option (List StreamAction)) (before list owned : List StreamAction) → behind before found ≡ Some list → before ≡ [] → owned ≡ list → found ≡ Some owned
+pub first_rendered : (found : Option (List StreamAction)) (before list owned : List StreamAction) → appended before found ≡ Some list → before ≡ [] → owned ≡ list → found ≡ Some owned
 first_rendered found before list owned e none same =
     let s = stood found before list e in
     s.found_is ∙ ap (λ (xs : List StreamAction). Some xs) (ap (λ (xs : List StreamAction). xs ++ s.actions) (sym none) ∙ s.are ∙ sym same)
 
 pub next_appended : (start bytes after : List ℕ) (changes : List ChangeValue) (change : ChangeValue) (width height : ℕ) (before list : List StreamAction)
-    → bytes_after start (all_rendered changes width height) ≡ Some bytes → before ≡ [] → behind before (rendering change width height) ≡ Some list → after ≡ bytes ++ stream_text list
+    → bytes_after start (all_rendered changes width height) ≡ Some bytes → before ≡ [] → appended before (rendering change width height) ≡ Some list → after ≡ bytes ++ stream_text list
     → bytes_after start (all_rendered (changes ++ change ∷ []) width height) ≡ Some after
 next_appended start bytes after changes change width height before list e none stands appended =
     let m = made (all_rendered changes width height) start bytes e in
@@ -98,7 +98,7 @@ next_appended start bytes after changes change width height before list e none s
     ∙ sym appended)
 
 pub next_of_changes : (start bytes after : List ℕ) (changes : List Change) (i : ℕ) (change : Change) (width height : ℕ) (before list : List StreamAction) → i < length changes → change ≡ get_or changes i change
-    → bytes_after start (all_rendered (map value_of (take i changes)) width height) ≡ Some bytes → before ≡ [] → behind before (rendering (value_of change) width height) ≡ Some list → after ≡ bytes ++ stream_text list
+    → bytes_after start (all_rendered (map value_of (take i changes)) width height) ≡ Some bytes → before ≡ [] → appended before (rendering (value_of change) width height) ≡ Some list → after ≡ bytes ++ stream_text list
     → bytes_after start (all_rendered (map value_of (take (i + 1) changes)) width height) ≡ Some after
 next_of_changes start bytes after changes i change width height before list below item e none stands appended =
     ap (λ (cs : List ChangeValue). bytes_after start (all_rendered cs width height))
@@ -110,12 +110,12 @@ pub none_rendered : (changes : List Change) (i : ℕ) (change : Change) (width h
     → all_rendered (map value_of changes) width height ≡ None
 none_rendered [] i change width height below item none = absurd (omega (arith, below))
 none_rendered (c ∷ changes) zero change width height below item none =
-    ap (option_and_then (λ first. option_map (λ others. first ++ others) (all_rendered (map value_of changes) width height))) (ap (λ (x : Change). rendering (value_of x) width height) (sym item) ∙ none)
+    ap (option_and_then (λ first. option_map (λ remaining. first ++ remaining) (all_rendered (map value_of changes) width height))) (ap (λ (x : Change). rendering (value_of x) width height) (sym item) ∙ none)
 none_rendered (c ∷ changes) (suc i) change width height below item none =
-    ap (λ rest. option_and_then (λ first. option_map (λ others. first ++ others) rest) (rendering (value_of c) width height)) (none_rendered changes i change width height (omega (arith, below)) item none)
+    ap (λ rest. option_and_then (λ first. option_map (λ remaining. first ++ remaining) rest) (rendering (value_of c) width height)) (none_rendered changes i change width height (omega (arith, below)) item none)
     ∙ no_more (rendering (value_of c) width height)
   where
-    no_more : (found : Option (List StreamAction)) → option_and_then (λ first. option_map (λ others. first ++ others) None) found ≡ None
+    no_more : (found : Option (List StreamAction)) → option_and_then (λ first. option_map (λ remaining. first ++ remaining) None) found ≡ None
     no_more None = refl
     no_more (Some first) = refl
 
@@ -124,7 +124,7 @@ pub each_rendered : (changes : List Change) (i : ℕ) (change : Change) (width h
     → rendering (value_of change) width height ≢ None
 each_rendered changes i change width height below item h none = h (none_rendered changes i change width height below item none)
 
--- behind changes that have one the rest has one where all have
+-- after changes that have one the rest has one where all have
 pub rest_rendered : (changes : List Change) (i : ℕ) (change : Change) (width height : ℕ) → i < length changes → change ≡ get_or changes i change → is_some (rendering (value_of change) width height) ≡ true
     → is_some (all_rendered (map value_of (drop (i + 1) changes)) width height) ≡ is_some (all_rendered (map value_of (drop i changes)) width height)
 rest_rendered changes i change width height below item some =
@@ -132,13 +132,13 @@ rest_rendered changes i change width height below item some =
     ∙ ap (λ (c : Change). is_some (all_rendered (map value_of (c ∷ drop (i + 1) changes)) width height)) item
     ∙ sym (at_drop_more (λ (rest : List Change). is_some (all_rendered (map value_of rest) width height)) changes i change below)
   where
-    others : Option (List StreamAction)
-    others = all_rendered (map value_of (drop (i + 1) changes)) width height
+    remaining : Option (List StreamAction)
+    remaining = all_rendered (map value_of (drop (i + 1) changes)) width height
 
     mapped : (first : List StreamAction) (found : Option (List StreamAction)) → is_some found ≡ is_some (option_map (λ more. first ++ more) found)
     mapped first None = refl
     mapped first (Some more) = refl
 
-    by_first : (found : Option (List StreamAction)) → is_some found ≡ true → is_some others ≡ is_some (option_and_then (λ first. option_map (λ more. first ++ more) others) found)
+    by_first : (found : Option (List StreamAction)) → is_some found ≡ true → is_some remaining ≡ is_some (option_and_then (λ first. option_map (λ more. first ++ more) remaining) found)
     by_first None e = cc
-    by_first (Some first) e = mapped first others
+    by_first (Some first) e = mapped first remaining

@@ -14,10 +14,10 @@ use Rattle.terminal_render.specs.Rendering.{rendering}
 use Rattle.terminal_render.specs.Sizes.{RenderingsAreShort, TextsAreShort, RunsAreShort}
 use Rattle.terminal_render.proofs.ListLemmas.{parts}
 use Rattle.terminal_render.proofs.SizeLemmas.{after_short}
-use Rattle.terminal_render.specs.EncodedSizes.{AreShort, IsShort, all_encoded_size, own_size, encoded_size}
+use Rattle.terminal_render.specs.EncodedSizes.{AreShort, all_encoded_size, own_size, encoded_size}
 use Rattle.terminal_render.specs.Spelling.{HasSpelling, HaveSpellings, IsLinePart}
 
--- ---- joined lists: only a string terminator behind the end of a string is left out
+-- ---- joined lists: only a string terminator after the end of a string is left out
 
 apart_longer : (closed : Bool) (ys : List StreamAction) → length (texts_after closed ys) ≤ length (stream_text ys)
 apart_longer closed [] = omega arith
@@ -31,11 +31,11 @@ joined_short closed (x ∷ xs) ys =
 
 -- ---- changes
 
-module _ (others : RenderingsAreShort) (texts : TextsAreShort) (runs : RunsAreShort) where
+module _ (remaining : RenderingsAreShort) (texts : TextsAreShort) (runs : RunsAreShort) where
   change_short : (change : ChangeValue) (width height : ℕ) (actions : List StreamAction) → IsChange change → 0 < width → width < 2 ^ 32 → 0 < height → height < 2 ^ 32 → rendering change width height ≡ Some actions → length (stream_text actions) ≤ encoded_size change
   change_short (Text text) width height actions k w wide h tall e =
       cond_both (list_all (λ b. not (is_ascii_control b)) text) (length text + 1) (2 * length text) (λ most. length (stream_text actions) ≤ most) (λ t. runs text width height actions t e) (λ t. texts text width height actions e)
-  change_short change width height actions k w wide h tall e = others change width height actions k w wide h tall refl e
+  change_short change width height actions k w wide h tall e = remaining change width height actions k w wide h tall refl e
 
   pub lists_short : (width height : ℕ) (changes : List ChangeValue) (actions : List StreamAction) → 0 < width → width < 2 ^ 32 → 0 < height → height < 2 ^ 32 → HaveSpellings width height changes
       → all_rendered changes width height ≡ Some actions → length (stream_text actions) ≤ all_encoded_size changes
@@ -43,7 +43,7 @@ module _ (others : RenderingsAreShort) (texts : TextsAreShort) (runs : RunsAreSh
   lists_short width height (change ∷ changes) actions w wide h tall s e =
       let p = parts (rendering change width height) (all_rendered changes width height) actions e in
       subst (λ (xs : List StreamAction). length (stream_text xs) ≤ all_encoded_size (change ∷ changes)) (sym p.are)
-      (omega (arith, sum_by-cons encoded_size change changes, joined_short false p.first p.others, change_short change width height p.first s.0.of_code w wide h tall p.found_is, lists_short width height changes p.others w wide h tall s.1 p.rest_is))
+      (omega (arith, sum_by-cons encoded_size change changes, joined_short false p.first p.remaining, change_short change width height p.first s.0.of_code w wide h tall p.found_is, lists_short width height changes p.remaining w wide h tall s.1 p.rest_is))
 
   -- ---- each by itself
 
@@ -60,7 +60,7 @@ module _ (others : RenderingsAreShort) (texts : TextsAreShort) (runs : RunsAreSh
 
   one_short : (change : ChangeValue) (width height : ℕ) (actions : List StreamAction) → 0 < width → width < 2 ^ 32 → 0 < height → height < 2 ^ 32 → HasSpelling width height change → rendering change width height ≡ Some actions → length (stream_text actions) ≤ own_size change + 320
   one_short (Text text) width height actions w wide h tall s e = text_short text width height actions s.part e
-  one_short change width height actions w wide h tall s e = others change width height actions s.of_code w wide h tall refl e
+  one_short change width height actions w wide h tall s e = remaining change width height actions s.of_code w wide h tall refl e
 
   pub each_short : (width height : ℕ) (changes : List ChangeValue) → 0 < width → width < 2 ^ 32 → 0 < height → height < 2 ^ 32 → HaveSpellings width height changes → AreShort width height changes
   each_short width height [] w wide h tall s = tt

@@ -43,7 +43,7 @@ module _ (f : List ℕ → ℕ) where
   text_done : (text : List ℕ) (v : View) → IsUtf8 text → actions_done f v (map print (chars text)) ≡ actions_done f v (print_string text ∷ [])
   text_done text v u = with_text f v (chars text) ∙ (λ i. record v { held = v.held ++ encodes-chars text u i })
 
-  -- behind what closes a string no run is held
+  -- after what closes a string no run is held
   closed_run : (a : StreamAction) (v : View) → closes_string a ≡ true → (event_done f v (Act a)).held ≡ []
   closed_run (command c) v e = refl
   closed_run exit v e = refl
@@ -71,28 +71,28 @@ module _ (f : List ℕ → ℕ) where
 
   abbrev HaveTexts : List StreamAction → Type 0
   HaveTexts [] = ⊤
-  HaveTexts (a ∷ others) = HasText a × HaveTexts others
+  HaveTexts (a ∷ remaining) = HasText a × HaveTexts remaining
 
   form_done : (closed : Bool) (actions : List StreamAction) (v : View) → HaveTexts actions → (closed ≡ true → v.held ≡ []) → actions_done f v (read_form_after closed actions) ≡ actions_done f v actions
   form_done closed [] v t h = added_done closed false v h
-  form_done closed (a ∷ others) v t h =
-      joined (terminator_before closed (is_string_terminator a) ++ characters_of a) (read_form_after (closes_string a) others) v
-      ∙ ap (λ w. actions_done f w (read_form_after (closes_string a) others))
+  form_done closed (a ∷ remaining) v t h =
+      joined (terminator_before closed (is_string_terminator a) ++ characters_of a) (read_form_after (closes_string a) remaining) v
+      ∙ ap (λ w. actions_done f w (read_form_after (closes_string a) remaining))
       (joined (terminator_before closed (is_string_terminator a)) (characters_of a) v ∙ ap (λ w. actions_done f w (characters_of a)) (added_done closed (is_string_terminator a) v h) ∙ one_done a v t.0)
-      ∙ form_done (closes_string a) others (event_done f v (Act a)) t.1 (closed_run a v)
+      ∙ form_done (closes_string a) remaining (event_done f v (Act a)) t.1 (closed_run a v)
 
   -- writable lists have texts that are UTF-8, outside of a device control string and within one
   texts_in : (actions : List StreamAction) → (IsWritableAfter None actions → HaveTexts actions) × ((before : ℕ) → IsWritableAfter (Some before) actions → HaveTexts actions)
   texts_in [] = (λ w. tt, λ before w. tt)
-  texts_in (print c ∷ others) = let r = texts_in others in (λ w. (tt, r.0 w.1), λ before w. absurd w)
-  texts_in (print_string text ∷ others) = let r = texts_in others in (λ w. ((w.0.utf8, tt), r.0 w.1), λ before w. absurd w)
-  texts_in (control n ∷ others) = let r = texts_in others in (λ w. (tt, r.0 w.1), λ before w. absurd w)
-  texts_in (enter header byte ∷ others) = let r = texts_in others in (λ w. (tt, r.1 byte w.1), λ before w. absurd w)
-  texts_in (data_byte b ∷ others) = let r = texts_in others in (λ w. absurd w.0, λ before w. (tt, r.1 b w.1))
-  texts_in (exit ∷ others) = let r = texts_in others in (λ w. absurd w.0, λ before w. (tt, r.0 w))
-  texts_in (command c ∷ others) = let r = texts_in others in (λ w. (tt, r.0 w.1), λ before w. absurd w)
-  texts_in (csi a ∷ others) = let r = texts_in others in (λ w. (tt, r.0 w.1), λ before w. absurd w)
-  texts_in (esc p ∷ others) = let r = texts_in others in (λ w. (tt, r.0 w.1), λ before w. absurd w)
+  texts_in (print c ∷ remaining) = let r = texts_in remaining in (λ w. (tt, r.0 w.1), λ before w. absurd w)
+  texts_in (print_string text ∷ remaining) = let r = texts_in remaining in (λ w. ((w.0.utf8, tt), r.0 w.1), λ before w. absurd w)
+  texts_in (control n ∷ remaining) = let r = texts_in remaining in (λ w. (tt, r.0 w.1), λ before w. absurd w)
+  texts_in (enter header byte ∷ remaining) = let r = texts_in remaining in (λ w. (tt, r.1 byte w.1), λ before w. absurd w)
+  texts_in (data_byte b ∷ remaining) = let r = texts_in remaining in (λ w. absurd w.0, λ before w. (tt, r.1 b w.1))
+  texts_in (exit ∷ remaining) = let r = texts_in remaining in (λ w. absurd w.0, λ before w. (tt, r.0 w))
+  texts_in (command c ∷ remaining) = let r = texts_in remaining in (λ w. (tt, r.0 w.1), λ before w. absurd w)
+  texts_in (csi a ∷ remaining) = let r = texts_in remaining in (λ w. (tt, r.0 w.1), λ before w. absurd w)
+  texts_in (esc p ∷ remaining) = let r = texts_in remaining in (λ w. (tt, r.0 w.1), λ before w. absurd w)
 
 -- ---- fed
 

@@ -34,15 +34,15 @@ ready_after f view d change ready h same =
 -- the parts of such a list
 pub record Parts (found rest : Option (List StreamAction)) (actions : List StreamAction) : Type 0 where
   pub first : List StreamAction
-  pub others : List StreamAction
+  pub remaining : List StreamAction
   pub found_is : found ≡ Some first
-  pub rest_is : rest ≡ Some others
-  pub are : actions ≡ first ++ others
+  pub rest_is : rest ≡ Some remaining
+  pub are : actions ≡ first ++ remaining
 
-pub parts : (found rest : Option (List StreamAction)) (actions : List StreamAction) → option_and_then (λ first. option_map (λ others. first ++ others) rest) found ≡ Some actions → Parts found rest actions
+pub parts : (found rest : Option (List StreamAction)) (actions : List StreamAction) → option_and_then (λ first. option_map (λ remaining. first ++ remaining) rest) found ≡ Some actions → Parts found rest actions
 parts None rest actions e = cc
 parts (Some first) None actions e = cc
-parts (Some first) (Some others) actions e = let k : first ++ others ≡ actions = cc in record { first = first; others = others; found_is = refl; rest_is = refl; are = sym k }
+parts (Some first) (Some remaining) actions e = let k : first ++ remaining ≡ actions = cc in record { first = first; remaining = remaining; found_is = refl; rest_is = refl; are = sym k }
 
 pub lists_have_the_effect : ListsHaveTheEffect
 lists_have_the_effect f view d [] actions ready h same stands =
@@ -53,10 +53,10 @@ lists_have_the_effect f view d (change ∷ changes) actions ready h same stands 
     let width : (effect f d change).screen.width ≡ view.state.screen.width = size.width ∙ ap (λ (s : Screen). s.width) same in
     let tall : height (effect f d change).screen ≡ height view.state.screen = size.tall ∙ ap (λ (s : Screen). height s) same in
     let p = parts (rendering change view.state.screen.width (height view.state.screen)) (all_rendered changes view.state.screen.width (height view.state.screen)) actions stands in
-    let rest : all_rendered changes (effect f d change).screen.width (height (effect f d change).screen) ≡ Some p.others = (λ i. all_rendered changes (width i) (tall i)) ∙ p.rest_is in
-    ap (actions_done f view) p.are ∙ joined f p.first p.others view
-    ∙ ap (λ v. actions_done f v p.others) (have_the_effect f view d change p.first ready same p.found_is)
-    ∙ lists_have_the_effect f (with_change f view d change) (effect f d change) changes p.others (ready_after f view d change ready h same) (effect_is f d change h) refl rest
+    let rest : all_rendered changes (effect f d change).screen.width (height (effect f d change).screen) ≡ Some p.remaining = (λ i. all_rendered changes (width i) (tall i)) ∙ p.rest_is in
+    ap (actions_done f view) p.are ∙ joined f p.first p.remaining view
+    ∙ ap (λ v. actions_done f v p.remaining) (have_the_effect f view d change p.first ready same p.found_is)
+    ∙ lists_have_the_effect f (with_change f view d change) (effect f d change) changes p.remaining (ready_after f view d change ready h same) (effect_is f d change h) refl rest
 
 -- ---- fed
 
@@ -94,8 +94,8 @@ no_more (x ∷ xs) = ap (λ ys. x ∷ ys) (no_more xs)
 pub renderings_join : RenderingsJoin
 renderings_join [] change width height first last a b =
     let none : [] ≡ first = cc in
-    ap (λ found. option_and_then (λ x. option_map (λ others. x ++ others) (all_rendered [] width height)) found) b ∙ (λ i. Some (no_more last i)) ∙ ap (λ (xs : List StreamAction). Some (xs ++ last)) none
+    ap (λ found. option_and_then (λ x. option_map (λ remaining. x ++ remaining) (all_rendered [] width height)) found) b ∙ (λ i. Some (no_more last i)) ∙ ap (λ (xs : List StreamAction). Some (xs ++ last)) none
 renderings_join (c ∷ changes) change width height first last a b =
     let p = parts (rendering c width height) (all_rendered changes width height) first a in
-    let rest = renderings_join changes change width height p.others last p.rest_is b in
-    (λ i. option_and_then (λ x. option_map (λ others. x ++ others) (rest i)) (p.found_is i)) ∙ ap (λ (xs : List StreamAction). Some xs) (sym (append_assoc p.first p.others last)) ∙ ap (λ (xs : List StreamAction). Some (xs ++ last)) (sym p.are)
+    let rest = renderings_join changes change width height p.remaining last p.rest_is b in
+    (λ i. option_and_then (λ x. option_map (λ remaining. x ++ remaining) (rest i)) (p.found_is i)) ∙ ap (λ (xs : List StreamAction). Some xs) (sym (append_assoc p.first p.remaining last)) ∙ ap (λ (xs : List StreamAction). Some (xs ++ last)) (sym p.are)

@@ -36,8 +36,8 @@ spellings_drop width tall (suc n) (x ∷ xs) h = spellings_drop width tall n xs 
 pub all_some : (width tall : ℕ) (changes : List ChangeValue) → HaveSpellings width tall changes → all_rendered changes width tall ≢ None
 all_some width tall [] h = λ e. cc
 all_some width tall (change ∷ changes) h =
-    then_some (λ first. option_map (λ others. first ++ others) (all_rendered changes width tall)) (rendering change width tall) h.0.sent
-    (λ first. map_some (λ others. first ++ others) (all_rendered changes width tall) (all_some width tall changes h.1))
+    then_some (λ first. option_map (λ remaining. first ++ remaining) (all_rendered changes width tall)) (rendering change width tall) h.0.sent
+    (λ first. map_some (λ remaining. first ++ remaining) (all_rendered changes width tall) (all_some width tall changes h.1))
 
 pub due_has : (width tall most : ℕ) (l : Log) (number : ℕ) → HaveSpellings width tall l.entries → IfSome (due most l number) (HaveSpellings width tall)
 due_has width tall most l number h =

@@ -33,7 +33,7 @@ use Rattle.terminal_render.proofs.DoneLemmas.{on, done_append}
 
 -- ---- the pen alone
 
--- the pen behind a setting, if there is one
+-- the pen after a setting, if there is one
 abbrev set_pen : Attributes → Option Sgr → Attributes
 set_pen pen None = pen
 set_pen pen (Some value) = with_rendition value pen
@@ -98,12 +98,12 @@ set_line_color p (spec.TrueColor c) = refl
 
 -- the attributes with colours, on a plain pen with a link
 abbrev settled_pen : Option Link → Attributes → ColorSpec → ColorSpec → ColorSpec → Attributes
-settled_pen link a front back line =
-    record a { wrapped = false; semantic_type = type.Output; foreground = attribute_of front; background = attribute_of back; underline_color = attribute_of line; hyperlink = link }
+settled_pen link a prefix back line =
+    record a { wrapped = false; semantic_type = type.Output; foreground = attribute_of prefix; background = attribute_of back; underline_color = attribute_of line; hyperlink = link }
 
--- all settings in turn, behind a reset
-all_set : (link : Option Link) (a : Attributes) (front back line : ColorSpec) → fold set_pen (record plain { hyperlink = link }) (settings a front back line) ≡ settled_pen link a front back line
-all_set link a front back line =
+-- all settings in turn, after a reset
+all_set : (link : Option Link) (a : Attributes) (prefix back line : ColorSpec) → fold set_pen (record plain { hyperlink = link }) (settings a prefix back line) ≡ settled_pen link a prefix back line
+all_set link a prefix back line =
     let p0 : Attributes = record plain { hyperlink = link } in
     let p1 : Attributes = record p0 { intensity = a.intensity } in
     let p2 : Attributes = record p1 { underline = a.underline } in
@@ -114,12 +114,12 @@ all_set link a front back line =
     let p7 : Attributes = record p6 { invisible = a.invisible } in
     let p8 : Attributes = record p7 { overline = a.overline } in
     let p9 : Attributes = record p8 { vertical_align = a.vertical_align } in
-    let p10 : Attributes = record p9 { foreground = attribute_of front } in
+    let p10 : Attributes = record p9 { foreground = attribute_of prefix } in
     let p11 : Attributes = record p10 { background = attribute_of back } in
     let v12 : Option Sgr = unless_default sgr.UnderlineColor line in
     let r11 : List (Option Sgr) = v12 ∷ [] in
     let r10 : List (Option Sgr) = unless_default sgr.Background back ∷ r11 in
-    let r9 : List (Option Sgr) = unless_default sgr.Foreground front ∷ r10 in
+    let r9 : List (Option Sgr) = unless_default sgr.Foreground prefix ∷ r10 in
     let r8 : List (Option Sgr) = unless_base_line a.vertical_align ∷ r9 in
     let r7 : List (Option Sgr) = unless_off sgr.Overline a.overline ∷ r8 in
     let r6 : List (Option Sgr) = unless_off sgr.Invisible a.invisible ∷ r7 in
@@ -137,7 +137,7 @@ all_set link a front back line =
     ∙ ap (λ p. fold set_pen p r7) (set_invisible p6 a.invisible)
     ∙ ap (λ p. fold set_pen p r8) (set_overline p7 a.overline)
     ∙ ap (λ p. fold set_pen p r9) (set_align p8 a.vertical_align)
-    ∙ ap (λ p. fold set_pen p r10) (set_foreground p9 front)
+    ∙ ap (λ p. fold set_pen p r10) (set_foreground p9 prefix)
     ∙ ap (λ p. fold set_pen p r11) (set_background p10 back)
     ∙ set_line_color p11 line
 
@@ -147,9 +147,9 @@ output_type type.Input e = cc
 output_type type.Prompt e = cc
 
 -- so, with the link, the attributes are the pen
-pen_is : (a : Attributes) (front back line : ColorSpec) → is_unsaid a ≡ false → attribute_of front ≡ a.foreground → attribute_of back ≡ a.background → attribute_of line ≡ a.underline_color
-    → settled_pen a.hyperlink a front back line ≡ a
-pen_is a front back line e f b l =
+pen_is : (a : Attributes) (prefix back line : ColorSpec) → is_unsaid a ≡ false → attribute_of prefix ≡ a.foreground → attribute_of back ≡ a.background → attribute_of line ≡ a.underline_color
+    → settled_pen a.hyperlink a prefix back line ≡ a
+pen_is a prefix back line e f b l =
     let both = or_parts (a.wrapped || not (is_output a.semantic_type)) (not (is_carried a.hyperlink)) e in
     let kept = or_parts a.wrapped (not (is_output a.semantic_type)) both.0 in
     let w : a.wrapped ≡ false = kept.0 in
@@ -195,13 +195,13 @@ module _ (f : List ℕ → ℕ) (saved : Option SavedCursor) (replies : List ℕ
       ∙ settings_do values (with_pen (set_pen s.pen value) s)
 
   -- all attributes
-  pub pen_does : (a : Attributes) (front back line : ColorSpec) (s : Screen) → is_unsaid a ≡ false → attribute_of front ≡ a.foreground → attribute_of back ≡ a.background → attribute_of line ≡ a.underline_color
-      → actions_done f (on f saved replies stream s) (pen_actions (settings a front back line) a.hyperlink) ≡ on f saved replies stream (with_pen a s)
-  pen_does a front back line s e k b l =
-      done_append f saved replies stream (rendition sgr.Reset ∷ []) (flat_map set (settings a front back line) ++ link_action a.hyperlink ∷ []) (on f saved replies stream s)
-      ∙ ap (λ view. actions_done f view (flat_map set (settings a front back line) ++ link_action a.hyperlink ∷ [])) (rendition_does sgr.Reset s)
-      ∙ done_append f saved replies stream (flat_map set (settings a front back line)) (link_action a.hyperlink ∷ []) (on f saved replies stream (with_pen (with_rendition sgr.Reset s.pen) s))
-      ∙ ap (λ view. actions_done f view (link_action a.hyperlink ∷ [])) (settings_do (settings a front back line) (with_pen (with_rendition sgr.Reset s.pen) s))
-      ∙ ap (λ (p : Attributes). actions_done f (on f saved replies stream (with_pen p s)) (link_action a.hyperlink ∷ [])) (all_set s.pen.hyperlink a front back line)
-      ∙ link_does a.hyperlink (with_pen (settled_pen s.pen.hyperlink a front back line) s)
-      ∙ ap (λ (p : Attributes). on f saved replies stream (with_pen p s)) (pen_is a front back line e k b l)
+  pub pen_does : (a : Attributes) (prefix back line : ColorSpec) (s : Screen) → is_unsaid a ≡ false → attribute_of prefix ≡ a.foreground → attribute_of back ≡ a.background → attribute_of line ≡ a.underline_color
+      → actions_done f (on f saved replies stream s) (pen_actions (settings a prefix back line) a.hyperlink) ≡ on f saved replies stream (with_pen a s)
+  pen_does a prefix back line s e k b l =
+      done_append f saved replies stream (rendition sgr.Reset ∷ []) (flat_map set (settings a prefix back line) ++ link_action a.hyperlink ∷ []) (on f saved replies stream s)
+      ∙ ap (λ view. actions_done f view (flat_map set (settings a prefix back line) ++ link_action a.hyperlink ∷ [])) (rendition_does sgr.Reset s)
+      ∙ done_append f saved replies stream (flat_map set (settings a prefix back line)) (link_action a.hyperlink ∷ []) (on f saved replies stream (with_pen (with_rendition sgr.Reset s.pen) s))
+      ∙ ap (λ view. actions_done f view (link_action a.hyperlink ∷ [])) (settings_do (settings a prefix back line) (with_pen (with_rendition sgr.Reset s.pen) s))
+      ∙ ap (λ (p : Attributes). actions_done f (on f saved replies stream (with_pen p s)) (link_action a.hyperlink ∷ [])) (all_set s.pen.hyperlink a prefix back line)
+      ∙ link_does a.hyperlink (with_pen (settled_pen s.pen.hyperlink a prefix back line) s)
+      ∙ ap (λ (p : Attributes). on f saved replies stream (with_pen p s)) (pen_is a prefix back line e k b l)

@@ -44,7 +44,7 @@ on_is width height columns x y count row list at n r h e =
 
 -- ---- where moves lead
 
--- the cursor at a place
+-- the cursor at a position
 abbrev pub placed : ℕ → ℕ → Screen → Screen
 placed column row s = record s { column = column; row = row }
 
@@ -65,7 +65,7 @@ known_column width from at e = by_test (at == width) refl (below width at e)
     by_test false k h = rw k refl
 
 module _ (f : List ℕ → ℕ) (saved : Option SavedCursor) (replies : List ℕ) (stream : List ℕ) (s : Screen) (lawful : IsScreen s) (wide : s.width < 2 ^ 32) (high : height s < 2 ^ 32) where
-  -- moves lead to a place
+  -- moves lead to a position
   abbrev Leads : List Cursor → ℕ → ℕ → Type 0
   Leads cursors column row = actions_done f (on f saved replies stream s) (map moved cursors) ≡ on f saved replies stream (placed column row s)
 
@@ -196,7 +196,7 @@ module _ (f : List ℕ → ℕ) (saved : Option SavedCursor) (replies : List ℕ
       by_test false e = rw e (right_and_down m n e)
   on_does m (Relative (negsuc n)) = right_and_up m (n + 1) (omega arith)
 
-  -- a way back in the row can't be told
+  -- a way back in the row can't be encoded
   back_does : (m : ℕ) (y : Position) → IfSome (moves (Back m) (way_of (height s) y)) (λ cursors. Leads cursors (s.column - m) (place (height s) s.row y))
   unfolding moves
   back_does m y = tt

@@ -60,14 +60,14 @@ moves_print : (moves : List Cursor) → prints_in (map moved moves) ≡ []
 moves_print [] = refl
 moves_print (move ∷ moves) = moves_print moves
 
-set_print : (value : Option Sgr) (others : List StreamAction) → prints_in others ≡ [] → prints_in (set value ++ others) ≡ []
-set_print None others h = h
-set_print (Some value) others h = h
+set_print : (value : Option Sgr) (remaining : List StreamAction) → prints_in remaining ≡ [] → prints_in (set value ++ remaining) ≡ []
+set_print None remaining h = h
+set_print (Some value) remaining h = h
 
-sets_print : (values : List (Option Sgr)) (others : List StreamAction) → prints_in others ≡ [] → prints_in (flat_map set values ++ others) ≡ []
-sets_print [] others h = h
-sets_print (None ∷ values) others h = sets_print values others h
-sets_print (Some value ∷ values) others h = sets_print values others h
+sets_print : (values : List (Option Sgr)) (remaining : List StreamAction) → prints_in remaining ≡ [] → prints_in (flat_map set values ++ remaining) ≡ []
+sets_print [] remaining h = h
+sets_print (None ∷ values) remaining h = sets_print values remaining h
+sets_print (Some value ∷ values) remaining h = sets_print values remaining h
 
 value_prints : (value : AttributeValue) → Prints [] (option_map (λ action. action ∷ []) (attribute_action value))
 unfolding attribute_action
@@ -110,5 +110,5 @@ lists_print width height [] actions e = let none : [] ≡ actions = cc in ap pri
 lists_print width height (change ∷ changes) actions e =
     let p = parts (rendering change width height) (all_rendered changes width height) actions e in
     let first : prints_in p.first ≡ run_in change = subst (Prints (run_in change)) p.found_is (change_prints change width height) in
-    let rest = lists_print width height changes p.others p.rest_is in
-    ap prints_in p.are ∙ flat_map-append printed p.first p.others ∙ (λ i. first i ++ rest i)
+    let rest = lists_print width height changes p.remaining p.rest_is in
+    ap prints_in p.are ∙ flat_map-append printed p.first p.remaining ∙ (λ i. first i ++ rest i)

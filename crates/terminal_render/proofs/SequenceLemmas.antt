@@ -55,9 +55,9 @@ piece_spelled standard_mode_groups final ts = mode_spelled (mode_reading final) 
 
 -- ---- lists of groups
 
-found_spelled : (others : ℕ → List Action) (found : Option (Action × ℕ)) (rest : Action) → FindsSpelled found → IsSpelledSequence rest → ((k : ℕ) → AreSpelledSequences (others k)) → AreSpelledSequences (option_map_or (λ f. f.0 ∷ others (f.1 - 1)) found (rest ∷ []))
-found_spelled others None rest h r each = (r, tt)
-found_spelled others (Some f) rest h r each = (h, each (f.1 - 1))
+found_spelled : (remaining : ℕ → List Action) (found : Option (Action × ℕ)) (rest : Action) → FindsSpelled found → IsSpelledSequence rest → ((k : ℕ) → AreSpelledSequences (remaining k)) → AreSpelledSequences (option_map_or (λ f. f.0 ∷ remaining (f.1 - 1)) found (rest ∷ []))
+found_spelled remaining None rest h r each = (r, tt)
+found_spelled remaining (Some f) rest h r each = (h, each (f.1 - 1))
 
 from_spelled : (kind : Kind) (truncated : Bool) (final k : ℕ) (ts : List CsiParam) → AreSpelledSequences (groups_from (group_of kind final) (λ rest. unspecified rest truncated final) k ts)
 from_spelled kind truncated final zero [] = tt

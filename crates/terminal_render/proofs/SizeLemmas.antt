@@ -47,7 +47,7 @@ use Rattle.terminal_render.proofs.ValueLemmas.{IsSet, AreSet, default_set, setti
 
 abbrev total : List StreamAction → ℕ
 total [] = 0
-total (a ∷ others) = length (action_text a) + total others
+total (a ∷ remaining) = length (action_text a) + total remaining
 
 pub after_short : (closed : Bool) (a : StreamAction) → length (text_after closed a) ≤ length (action_text a)
 after_short closed a = by_test (closed && is_string_terminator a) refl
@@ -58,7 +58,7 @@ after_short closed a = by_test (closed && is_string_terminator a) refl
 
 all_short : (closed : Bool) (actions : List StreamAction) → length (texts_after closed actions) ≤ total actions
 all_short closed [] = omega arith
-all_short closed (a ∷ others) = omega (arith, length-append (text_after closed a) (texts_after (closes_string a) others), after_short closed a, all_short (closes_string a) others)
+all_short closed (a ∷ remaining) = omega (arith, length-append (text_after closed a) (texts_after (closes_string a) remaining), after_short closed a, all_short (closes_string a) remaining)
 
 total_append : (xs ys : List StreamAction) → total (xs ++ ys) ≡ total xs + total ys
 total_append [] ys = omega arith
@@ -136,29 +136,29 @@ module _ (short : ActionsAreShort) (titles : (text : List ℕ) → TextsTakeSix 
   sets_short [] h = omega arith
   sets_short (value ∷ values) h = omega (arith, total_append (set value) (flat_map set values), set_short value h.0, sets_short values h.1)
 
-  pen_short : (a : Attributes) (front rear line : ColorSpec) → IsColour front → IsColour rear → IsColour line → total (pen_actions (settings a front rear line) a.hyperlink) ≤ link_size a.hyperlink + 320
-  pen_short a front rear line f r l =
-      let twelve : length (settings a front rear line) ≡ 12 = refl in
-      omega (arith, one_short (codec.sgr sgr.Reset) tt, total_append (flat_map set (settings a front rear line)) (link_action a.hyperlink ∷ []), sets_short (settings a front rear line) (settings_set a front rear line f r l), link_short a.hyperlink, twelve)
+  pen_short : (a : Attributes) (prefix rear line : ColorSpec) → IsColour prefix → IsColour rear → IsColour line → total (pen_actions (settings a prefix rear line) a.hyperlink) ≤ link_size a.hyperlink + 320
+  pen_short a prefix rear line f r l =
+      let twelve : length (settings a prefix rear line) ≡ 12 = refl in
+      omega (arith, one_short (codec.sgr sgr.Reset) tt, total_append (flat_map set (settings a prefix rear line)) (link_action a.hyperlink ∷ []), sets_short (settings a prefix rear line) (settings_set a prefix rear line f r l), link_short a.hyperlink, twelve)
 
   pen_is : (a : Attributes) → HaveColors a → Within (link_size a.hyperlink + 320) (pen_rendering a)
   unfolding pen_rendering
   pen_is a h = by_test (is_unsaid a) refl
     where
-      by_line : (front rear : ColorSpec) → IsColour front → IsColour rear → (found : Option ColorSpec) → IfSome found IsColour
-          → Within (link_size a.hyperlink + 320) (option_map (λ values. pen_actions values a.hyperlink) (option_map (λ line. settings a front rear line) found))
-      by_line front rear f r None l = tt
-      by_line front rear f r (Some line) l = pen_short a front rear line f r l
+      by_line : (prefix rear : ColorSpec) → IsColour prefix → IsColour rear → (found : Option ColorSpec) → IfSome found IsColour
+          → Within (link_size a.hyperlink + 320) (option_map (λ values. pen_actions values a.hyperlink) (option_map (λ line. settings a prefix rear line) found))
+      by_line prefix rear f r None l = tt
+      by_line prefix rear f r (Some line) l = pen_short a prefix rear line f r l
 
-      by_rear : (front : ColorSpec) → IsColour front → (found : Option ColorSpec) → IfSome found IsColour
-          → Within (link_size a.hyperlink + 320) (option_map (λ values. pen_actions values a.hyperlink) (option_and_then (λ rear. option_map (λ line. settings a front rear line) (colour_setting a.underline_color)) found))
-      by_rear front f None r = tt
-      by_rear front f (Some rear) r = by_line front rear f r (colour_setting a.underline_color) (color_is a.underline_color h.2)
+      by_rear : (prefix : ColorSpec) → IsColour prefix → (found : Option ColorSpec) → IfSome found IsColour
+          → Within (link_size a.hyperlink + 320) (option_map (λ values. pen_actions values a.hyperlink) (option_and_then (λ rear. option_map (λ line. settings a prefix rear line) (colour_setting a.underline_color)) found))
+      by_rear prefix f None r = tt
+      by_rear prefix f (Some rear) r = by_line prefix rear f r (colour_setting a.underline_color) (color_is a.underline_color h.2)
 
       by_front : (found : Option ColorSpec) → IfSome found IsColour
-          → Within (link_size a.hyperlink + 320) (option_map (λ values. pen_actions values a.hyperlink) (option_and_then (λ front. option_and_then (λ rear. option_map (λ line. settings a front rear line) (colour_setting a.underline_color)) (colour_setting a.background)) found))
+          → Within (link_size a.hyperlink + 320) (option_map (λ values. pen_actions values a.hyperlink) (option_and_then (λ prefix. option_and_then (λ rear. option_map (λ line. settings a prefix rear line) (colour_setting a.underline_color)) (colour_setting a.background)) found))
       by_front None f = tt
-      by_front (Some front) f = by_rear front f (colour_setting a.background) (color_is a.background h.1)
+      by_front (Some prefix) f = by_rear prefix f (colour_setting a.background) (color_is a.background h.1)
 
       by_test : (b : Bool) → is_unsaid a ≡ b → Within (link_size a.hyperlink + 320) (pen_rendering a)
       by_test true e = rw e tt
@@ -217,7 +217,7 @@ module _ (short : ActionsAreShort) (titles : (text : List ℕ) → TextsTakeSix 
 
   moves_short : (cursors : List Cursor) → AreMoves cursors → total (map moved cursors) ≤ 24 * length cursors
   moves_short [] h = omega arith
-  moves_short (move ∷ others) h = omega (arith, one_short (codec.cursor move) h.0, moves_short others h.1)
+  moves_short (move ∷ remaining) h = omega (arith, one_short (codec.cursor move) h.0, moves_short remaining h.1)
 
   by_few : (move : ℕ → Cursor) (count : ℕ) → length (move_by move count) ≤ 1
   by_few move count = by_test (count == 0) refl

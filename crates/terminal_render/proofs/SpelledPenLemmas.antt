@@ -44,17 +44,17 @@ some_told (attribute.TrueColorWithDefaultFallback color) k h = k
 some_told (attribute.PaletteIndex index) k h = k
 some_told attribute.Default k h = tt
 
-pub told_color : (color : ColorAttribute) → IsSpelledColor color → IsColor color
-told_color (attribute.TrueColorWithPaletteFallback color index) h = absurd h
-told_color (attribute.TrueColorWithDefaultFallback color) h = h
-told_color (attribute.PaletteIndex index) h = h
-told_color attribute.Default h = tt
+pub encoded_color : (color : ColorAttribute) → IsSpelledColor color → IsColor color
+encoded_color (attribute.TrueColorWithPaletteFallback color index) h = absurd h
+encoded_color (attribute.TrueColorWithDefaultFallback color) h = h
+encoded_color (attribute.PaletteIndex index) h = h
+encoded_color attribute.Default h = tt
 
 settings_some : (a : Attributes) → IsSpelledPen a → pen_settings a ≢ None
 settings_some a p =
     then_some _ (colour_setting a.foreground) (told_some a.foreground p.foreground)
-    (λ front. then_some _ (colour_setting a.background) (told_some a.background p.background)
-    (λ back. map_some (λ line. settings a front back line) (colour_setting a.underline_color) (told_some a.underline_color p.underline)))
+    (λ prefix. then_some _ (colour_setting a.background) (told_some a.background p.background)
+    (λ back. map_some (λ line. settings a prefix back line) (colour_setting a.underline_color) (told_some a.underline_color p.underline)))
 
 pub pen_some : (a : Attributes) → IsSpelledPen a → pen_rendering a ≢ None
 unfolding pen_rendering
@@ -98,10 +98,10 @@ some_pen a k h =
     said a e (some_told a.foreground k.0 colors.first) (some_told a.background k.1 colors.second) (some_told a.underline_color k.2 colors.third))
   where
     said : (a : Attributes) → is_unsaid a ≡ false → IsSpelledColor a.foreground → IsSpelledColor a.background → IsSpelledColor a.underline_color → IsSpelledPen a
-    said a e front back line =
+    said a e prefix back line =
         let both = or_parts (a.wrapped || not (is_output a.semantic_type)) (not (is_carried a.hyperlink)) e in
         let first = or_parts a.wrapped (not (is_output a.semantic_type)) both.0 in
-        record { unwrapped = first.0; output = output_is a.semantic_type first.1; link = carried_is (is_carried a.hyperlink) both.1; foreground = front; background = back; underline = line }
+        record { unwrapped = first.0; output = output_is a.semantic_type first.1; link = carried_is (is_carried a.hyperlink) both.1; foreground = prefix; background = back; underline = line }
 
 pub pens_are_rendered : (a : Attributes) → HaveColors a → (IsSpelledPen a ↔ (pen_rendering a ≢ None))
 pens_are_rendered a k = (pen_some a, some_pen a k)

@@ -16,4 +16,4 @@ spelled_writable writable join width height [] actions w wide h tall s e = let n
 spelled_writable writable join width height (change ∷ changes) actions w wide h tall s e =
     let p = parts (rendering change width height) (all_rendered changes width height) actions e in
     subst IsWritable (sym p.are)
-    (join p.first p.others (writable change width height p.first s.0.of_code w wide h tall p.found_is) (spelled_writable writable join width height changes p.others w wide h tall s.1 p.rest_is))
+    (join p.first p.remaining (writable change width height p.first s.0.of_code w wide h tall p.found_is) (spelled_writable writable join width height changes p.remaining w wide h tall s.1 p.rest_is))

@@ -239,9 +239,9 @@ decided_spelled cut stream more = actions_spelled (newly_decided stream more) (d
 
 -- ---- events
 
-acts_before : (actions : List StreamAction) (others : List Event) → AreSpelledActions actions → AreSpelledEvents others → AreSpelledEvents (map Act actions ++ others)
-acts_before [] others h k = k
-acts_before (a ∷ actions) others h k = (h.0, acts_before actions others h.1 k)
+acts_before : (actions : List StreamAction) (remaining : List Event) → AreSpelledActions actions → AreSpelledEvents remaining → AreSpelledEvents (map Act actions ++ remaining)
+acts_before [] remaining h k = k
+acts_before (a ∷ actions) remaining h k = (h.0, acts_before actions remaining h.1 k)
 
 pub events_spelled : AllCut → (stream : List ℕ) (history : History) → AreSpelledEvents (events stream history)
 events_spelled cut stream [] = tt

@@ -53,13 +53,13 @@ two_free : (c : ℕ) → 160 ≤ c → c < 2048 → is_c1 (192 + c / 64) (128 + 
 two_free c g l = grind (arith, nat_tests)
 
 -- other than these controls
-abbrev IsTold : ℕ → Type 0
-IsTold c = (c < 128) ⊎ (0x9F < c)
+abbrev IsNoC1 : ℕ → Type 0
+IsNoC1 c = (c < 128) ⊎ (0x9F < c)
 
-character_free : (c : ℕ) (rest : List ℕ) → IsScalar c → IsTold c → holds_c1 (encode_utf8 c ++ rest) ≡ holds_c1 rest
+character_free : (c : ℕ) (rest : List ℕ) → IsScalar c → IsNoC1 c → holds_c1 (encode_utf8 c ++ rest) ≡ holds_c1 rest
 character_free c rest s t = by_kind (spelled c s) t
   where
-    by_kind : Spelled c → IsTold c → holds_c1 (encode_utf8 c ++ rest) ≡ holds_c1 rest
+    by_kind : Spelled c → IsNoC1 c → holds_c1 (encode_utf8 c ++ rest) ≡ holds_c1 rest
     by_kind (in_one l e) t = ap (λ (bytes : List ℕ). holds_c1 (bytes ++ rest)) e ∙ holds_c1-cons c rest l
     by_kind (in_two g l e) (inl low) = absurd (omega arith)
     by_kind (in_two g l e) (inr high) =
@@ -78,14 +78,14 @@ character_free c rest s t = by_kind (spelled c s) t
         ∙ not_lead (128 + (c / 64) % 64) _ (below_lead (c / 64))
         ∙ not_lead (128 + c % 64) rest (below_lead c)
 
-character_told : (c : ℕ) (rest : List ℕ) → IsScalar c → holds_c1 (encode_utf8 c ++ rest) ≡ false → IsTold c
+character_told : (c : ℕ) (rest : List ℕ) → IsScalar c → holds_c1 (encode_utf8 c ++ rest) ≡ false → IsNoC1 c
 character_told c rest s h = by_order (order c 128)
   where
-    by_order : (c < 128) ⊎ (128 ≤ c) → IsTold c
+    by_order : (c < 128) ⊎ (128 ≤ c) → IsNoC1 c
     by_order (inl l) = inl l
     by_order (inr l) = inr (above c rest s l h)
 
-printable_told : (c : ℕ) → IsPrintable c → IsTold c
+printable_told : (c : ℕ) → IsPrintable c → IsNoC1 c
 printable_told c (inl low) = let h = low.1 in inl (omega arith)
 printable_told c (inr high) = inr high
 
@@ -104,13 +104,13 @@ printable_free (c ∷ cs) s h =
     let p = and_parts (scalar c) (scalars cs) s in
     character_free c (encode_utf8_all cs) p.0 (printable_told c (All-head IsPrintable c cs h)) ∙ printable_free cs p.1 (All-tail IsPrintable c cs h)
 
-front_free : (front rest : List ℕ) → holds_c1 (front ++ rest) ≡ false → holds_c1 front ≡ false
+front_free : (prefix rest : List ℕ) → holds_c1 (prefix ++ rest) ≡ false → holds_c1 prefix ≡ false
 unfolding holds_c1
 front_free [] rest h = refl
 front_free (b ∷ []) rest h = refl
-front_free (b ∷ c ∷ front) rest h =
-    let p = or_parts (is_c1 b c) (holds_c1 (c ∷ front ++ rest)) h in
-    λ i. p.0 i || front_free (c ∷ front) rest p.1 i
+front_free (b ∷ c ∷ prefix) rest h =
+    let p = or_parts (is_c1 b c) (holds_c1 (c ∷ prefix ++ rest)) h in
+    λ i. p.0 i || front_free (c ∷ prefix) rest p.1 i
 
 -- ---- texts
 
@@ -157,8 +157,8 @@ spelled_character c s p = subst IsSpelledText (append-nil (encode_utf8 c)) (prin
 abbrev pub AreSpelledRuns : List (List ℕ) → Type 0
 AreSpelledRuns = AllByRecursion IsSpelledRun
 
-printed_parts : (front rest : List ℕ) → IsPrinted (front ++ rest) → IsPrinted front × IsPrinted rest
-printed_parts front rest h = and_parts (list_all (λ b. not (is_ascii_control b)) front) (list_all (λ b. not (is_ascii_control b)) rest) (sym (list_all-append (λ b. not (is_ascii_control b)) front rest) ∙ h)
+printed_parts : (prefix rest : List ℕ) → IsPrinted (prefix ++ rest) → IsPrinted prefix × IsPrinted rest
+printed_parts prefix rest h = and_parts (list_all (λ b. not (is_ascii_control b)) prefix) (list_all (λ b. not (is_ascii_control b)) rest) (sym (list_all-append (λ b. not (is_ascii_control b)) prefix rest) ∙ h)
 
 scalars_parts : (xs ys : List ℕ) → scalars (xs ++ ys) ≡ true → (scalars xs ≡ true) × (scalars ys ≡ true)
 scalars_parts [] ys h = (refl, h)
@@ -172,14 +172,14 @@ each_piece n [] s h k l = subst (λ (ps : List (List ℕ)). AreSpelledRuns (map 
 each_piece zero (c ∷ cs) s h k l = absurd (omega arith)
 each_piece (suc n) (c ∷ cs) s h k l =
     let f = first [] c cs in
-    let front = encode_utf8_all (c ∷ f.others) in
-    let p = scalars_parts (c ∷ f.others) f.rest (ap (λ (xs : List ℕ). scalars (c ∷ xs)) (sym f.whole) ∙ s) in
-    let whole : front ++ encode_utf8_all f.rest ≡ encode_utf8_all (c ∷ cs) = sym (ap (λ (xs : List ℕ). encode_utf8_all (c ∷ xs)) f.whole ∙ encodes-append (c ∷ f.others) f.rest) in
-    let free : holds_c1 (front ++ encode_utf8_all f.rest) ≡ false = ap holds_c1 whole ∙ h in
-    let plain = printed_parts front (encode_utf8_all f.rest) (subst IsPrinted (sym whole) k) in
+    let prefix = encode_utf8_all (c ∷ f.remaining) in
+    let p = scalars_parts (c ∷ f.remaining) f.rest (ap (λ (xs : List ℕ). scalars (c ∷ xs)) (sym f.whole) ∙ s) in
+    let whole : prefix ++ encode_utf8_all f.rest ≡ encode_utf8_all (c ∷ cs) = sym (ap (λ (xs : List ℕ). encode_utf8_all (c ∷ xs)) f.whole ∙ encodes-append (c ∷ f.remaining) f.rest) in
+    let free : holds_c1 (prefix ++ encode_utf8_all f.rest) ≡ false = ap holds_c1 whole ∙ h in
+    let plain = printed_parts prefix (encode_utf8_all f.rest) (subst IsPrinted (sym whole) k) in
     subst (λ (ps : List (List ℕ)). AreSpelledRuns (map encode_utf8_all ps)) (sym f.cut) (
-      record { spelled = record { utf8 = (c ∷ f.others, (p.0, refl)); no_c1 = front_free front (encode_utf8_all f.rest) free }; printed = plain.0 },
-      each_piece n f.rest p.1 (no_c1_after front (encode_utf8_all f.rest) free) plain.1 (omega (arith, ap length f.whole, length-append f.others f.rest)),
+      record { spelled = record { utf8 = (c ∷ f.remaining, (p.0, refl)); no_c1 = front_free prefix (encode_utf8_all f.rest) free }; printed = plain.0 },
+      each_piece n f.rest p.1 (no_c1_after prefix (encode_utf8_all f.rest) free) plain.1 (omega (arith, ap length f.whole, length-append f.remaining f.rest)),
     )
 
 spelled_graphemes : (text : List ℕ) → IsSpelledRun text → AreSpelledRuns (graphemes true text)

@@ -69,8 +69,8 @@ default_set setting spec.Default w h = tt
 default_set setting (spec.PaletteIndex n) w h = w h
 default_set setting (spec.TrueColor c) w h = w h
 
-pub settings_set : (a : Attributes) (front rear line : ColorSpec) → IsColour front → IsColour rear → IsColour line → AreSet (settings a front rear line)
-settings_set a front rear line f r l = (
+pub settings_set : (a : Attributes) (prefix rear line : ColorSpec) → IsColour prefix → IsColour rear → IsColour line → AreSet (settings a prefix rear line)
+settings_set a prefix rear line f r l = (
   normal_set a.intensity,
   (
     none_set a.underline,
@@ -88,7 +88,7 @@ settings_set a front rear line f r l = (
                 off_set sgr.Overline a.overline tt,
                 (
                   base_line_set a.vertical_align,
-                  (default_set sgr.Foreground front (λ h. h) f, (default_set sgr.Background rear (λ h. h) r, (default_set sgr.UnderlineColor line (λ h. h) l, tt))),
+                  (default_set sgr.Foreground prefix (λ h. h) f, (default_set sgr.Background rear (λ h. h) r, (default_set sgr.UnderlineColor line (λ h. h) l, tt))),
                 ),
               ),
             ),
@@ -99,7 +99,7 @@ settings_set a front rear line f r l = (
   ),
 )
 
--- a colour that can be told
+-- a colour that can be encoded
 pub color_is : (color : ColorAttribute) → IsColor color → IfSome (colour_setting color) IsColour
 color_is (attribute.TrueColorWithPaletteFallback c index) h = tt
 color_is (attribute.TrueColorWithDefaultFallback c) h = h
@@ -108,7 +108,7 @@ color_is attribute.Default h = tt
 
 abbrev pub AreMoves : List Cursor → Type 0
 AreMoves [] = ⊤
-AreMoves (move ∷ others) = IsWritableCursor move × AreMoves others
+AreMoves (move ∷ remaining) = IsWritableCursor move × AreMoves remaining
 
 pub moves_append : (xs ys : List Cursor) → AreMoves xs → AreMoves ys → AreMoves (xs ++ ys)
 moves_append [] ys h k = k
@@ -121,7 +121,7 @@ by_is move count w = by_test (count == 0) refl
     by_test true e = rw e tt
     by_test false e = let some : 0 < count = grind (arith, nat_tests) in rw e (w (min count word_max) (omega arith, omega arith), tt)
 
--- a way to a place that a parameter can hold
+-- a way to a position that a parameter can hold
 abbrev pub IsNamed : Way → Type 0
 IsNamed (At place) = IsPlace place
 IsNamed (Back count) = ⊤

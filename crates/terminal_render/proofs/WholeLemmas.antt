@@ -91,7 +91,7 @@ module _ (f : List ℕ → ℕ) (saved : Option SavedCursor) (replies : List ℕ
   attribute_makes (one.Background color) = background_makes color
   attribute_makes (one.Hyperlink link) = link_makes link
 
-  -- a colour that can be told is what its setting sets
+  -- a colour that can be encoded is what its setting sets
   told : (color : ColorAttribute) (c : ColorSpec) → colour_setting color ≡ Some c → attribute_of c ≡ color
   told (attribute.TrueColorWithPaletteFallback color index) c e = cc
   told (attribute.TrueColorWithDefaultFallback color) c e = let k : spec.TrueColor color ≡ c = cc in sym (ap attribute_of k)
@@ -102,20 +102,20 @@ module _ (f : List ℕ → ℕ) (saved : Option SavedCursor) (replies : List ℕ
   unfolding pen_rendering
   pen_makes a = by_test (is_unsaid a) refl
     where
-      by_line : is_unsaid a ≡ false → (front back : ColorSpec) → colour_setting a.foreground ≡ Some front → colour_setting a.background ≡ Some back → (found : Option ColorSpec) → colour_setting a.underline_color ≡ found
-          → Makes (option_map (λ values. pen_actions values a.hyperlink) (option_map (λ line. settings a front back line) found)) (with_pen a d.screen)
-      by_line e front back k b None l = tt
-      by_line e front back k b (Some line) l = pen_does f saved replies stream a front back line d.screen e (told a.foreground front k) (told a.background back b) (told a.underline_color line l)
+      by_line : is_unsaid a ≡ false → (prefix back : ColorSpec) → colour_setting a.foreground ≡ Some prefix → colour_setting a.background ≡ Some back → (found : Option ColorSpec) → colour_setting a.underline_color ≡ found
+          → Makes (option_map (λ values. pen_actions values a.hyperlink) (option_map (λ line. settings a prefix back line) found)) (with_pen a d.screen)
+      by_line e prefix back k b None l = tt
+      by_line e prefix back k b (Some line) l = pen_does f saved replies stream a prefix back line d.screen e (told a.foreground prefix k) (told a.background back b) (told a.underline_color line l)
 
-      by_back : is_unsaid a ≡ false → (front : ColorSpec) → colour_setting a.foreground ≡ Some front → (found : Option ColorSpec) → colour_setting a.background ≡ found
-          → Makes (option_map (λ values. pen_actions values a.hyperlink) (option_and_then (λ back. option_map (λ line. settings a front back line) (colour_setting a.underline_color)) found)) (with_pen a d.screen)
-      by_back e front k None b = tt
-      by_back e front k (Some back) b = by_line e front back k b (colour_setting a.underline_color) refl
+      by_back : is_unsaid a ≡ false → (prefix : ColorSpec) → colour_setting a.foreground ≡ Some prefix → (found : Option ColorSpec) → colour_setting a.background ≡ found
+          → Makes (option_map (λ values. pen_actions values a.hyperlink) (option_and_then (λ back. option_map (λ line. settings a prefix back line) (colour_setting a.underline_color)) found)) (with_pen a d.screen)
+      by_back e prefix k None b = tt
+      by_back e prefix k (Some back) b = by_line e prefix back k b (colour_setting a.underline_color) refl
 
       by_front : is_unsaid a ≡ false → (found : Option ColorSpec) → colour_setting a.foreground ≡ found
-          → Makes (option_map (λ values. pen_actions values a.hyperlink) (option_and_then (λ front. option_and_then (λ back. option_map (λ line. settings a front back line) (colour_setting a.underline_color)) (colour_setting a.background)) found)) (with_pen a d.screen)
+          → Makes (option_map (λ values. pen_actions values a.hyperlink) (option_and_then (λ prefix. option_and_then (λ back. option_map (λ line. settings a prefix back line) (colour_setting a.underline_color)) (colour_setting a.background)) found)) (with_pen a d.screen)
       by_front e None k = tt
-      by_front e (Some front) k = by_back e front k (colour_setting a.background) refl
+      by_front e (Some prefix) k = by_back e prefix k (colour_setting a.background) refl
 
       by_test : (b : Bool) → is_unsaid a ≡ b → Makes (pen_rendering a) (effect f d (AllAttributes a)).screen
       by_test true e = rw e tt

@@ -57,19 +57,19 @@ use Rattle.terminal_render.proofs.ValueLemmas.{IsSet, AreSet, default_set, setti
 -- each action is writable by itself
 abbrev pub AreAlone : List StreamAction → Type 0
 AreAlone [] = ⊤
-AreAlone (a ∷ others) = IsWritableAction a × AreAlone others
+AreAlone (a ∷ remaining) = IsWritableAction a × AreAlone remaining
 
 pub writable_alone : (actions : List StreamAction) → AreAlone actions → IsWritable actions
 writable_alone [] h = tt
-writable_alone (print c ∷ others) h = (h.0, writable_alone others h.1)
-writable_alone (print_string text ∷ others) h = (h.0, writable_alone others h.1)
-writable_alone (control n ∷ others) h = (h.0, writable_alone others h.1)
-writable_alone (enter header byte ∷ others) h = absurd h.0
-writable_alone (data_byte byte ∷ others) h = absurd h.0
-writable_alone (exit ∷ others) h = absurd h.0
-writable_alone (command c ∷ others) h = (h.0, writable_alone others h.1)
-writable_alone (csi a ∷ others) h = (h.0, writable_alone others h.1)
-writable_alone (esc e ∷ others) h = (h.0, writable_alone others h.1)
+writable_alone (print c ∷ remaining) h = (h.0, writable_alone remaining h.1)
+writable_alone (print_string text ∷ remaining) h = (h.0, writable_alone remaining h.1)
+writable_alone (control n ∷ remaining) h = (h.0, writable_alone remaining h.1)
+writable_alone (enter header byte ∷ remaining) h = absurd h.0
+writable_alone (data_byte byte ∷ remaining) h = absurd h.0
+writable_alone (exit ∷ remaining) h = absurd h.0
+writable_alone (command c ∷ remaining) h = (h.0, writable_alone remaining h.1)
+writable_alone (csi a ∷ remaining) h = (h.0, writable_alone remaining h.1)
+writable_alone (esc e ∷ remaining) h = (h.0, writable_alone remaining h.1)
 
 alone_append : (xs ys : List StreamAction) → AreAlone xs → AreAlone ys → AreAlone (xs ++ ys)
 alone_append [] ys h k = k
@@ -182,7 +182,7 @@ module _ (back : WritableActionsReadBack) (fronts : WritableTextsAreFronts) wher
   -- ---- control sequences
 
   sequence : (a : codec.Action) → codec_writable.IsWritable a → IsReadBack a
-  sequence a w = record { front = whole_front (spelling_of a); stands = fronts a w; whole = refl; action = back false a w }
+  sequence a w = record { prefix = whole_front (spelling_of a); stands = fronts a w; whole = refl; action = back false a w }
 
   -- ---- attributes
 
@@ -197,10 +197,10 @@ module _ (back : WritableActionsReadBack) (fronts : WritableTextsAreFronts) wher
   link_alone : (link : Option Link) → is_carried link ≡ true → AreAlone (link_action link ∷ [])
   link_alone link e = (link_writable link e, tt)
 
-  pen_alone : (a : Attributes) (front rear line : ColorSpec) → is_unsaid a ≡ false → IsColour front → IsColour rear → IsColour line → AreAlone (pen_actions (settings a front rear line) a.hyperlink)
-  pen_alone a front rear line e f r l =
+  pen_alone : (a : Attributes) (prefix rear line : ColorSpec) → is_unsaid a ≡ false → IsColour prefix → IsColour rear → IsColour line → AreAlone (pen_actions (settings a prefix rear line) a.hyperlink)
+  pen_alone a prefix rear line e f r l =
       let carried : is_carried a.hyperlink ≡ true = is_on (is_carried a.hyperlink) (or_parts (a.wrapped || not (is_output a.semantic_type)) (not (is_carried a.hyperlink)) e).1 in
-      (sequence (codec.sgr sgr.Reset) tt, alone_append (flat_map set (settings a front rear line)) (link_action a.hyperlink ∷ []) (sets_alone (settings a front rear line) (settings_set a front rear line f r l)) (link_alone a.hyperlink carried))
+      (sequence (codec.sgr sgr.Reset) tt, alone_append (flat_map set (settings a prefix rear line)) (link_action a.hyperlink ∷ []) (sets_alone (settings a prefix rear line) (settings_set a prefix rear line f r l)) (link_alone a.hyperlink carried))
     where
       is_on : (b : Bool) → not b ≡ false → b ≡ true
       is_on true e = refl
@@ -210,20 +210,20 @@ module _ (back : WritableActionsReadBack) (fronts : WritableTextsAreFronts) wher
   unfolding pen_rendering
   pen_is a h = by_test (is_unsaid a) refl
     where
-      by_line : is_unsaid a ≡ false → (front rear : ColorSpec) → IsColour front → IsColour rear → (found : Option ColorSpec) → IfSome found IsColour
-          → Alone (option_map (λ values. pen_actions values a.hyperlink) (option_map (λ line. settings a front rear line) found))
-      by_line e front rear f r None l = tt
-      by_line e front rear f r (Some line) l = pen_alone a front rear line e f r l
+      by_line : is_unsaid a ≡ false → (prefix rear : ColorSpec) → IsColour prefix → IsColour rear → (found : Option ColorSpec) → IfSome found IsColour
+          → Alone (option_map (λ values. pen_actions values a.hyperlink) (option_map (λ line. settings a prefix rear line) found))
+      by_line e prefix rear f r None l = tt
+      by_line e prefix rear f r (Some line) l = pen_alone a prefix rear line e f r l
 
-      by_rear : is_unsaid a ≡ false → (front : ColorSpec) → IsColour front → (found : Option ColorSpec) → IfSome found IsColour
-          → Alone (option_map (λ values. pen_actions values a.hyperlink) (option_and_then (λ rear. option_map (λ line. settings a front rear line) (colour_setting a.underline_color)) found))
-      by_rear e front f None r = tt
-      by_rear e front f (Some rear) r = by_line e front rear f r (colour_setting a.underline_color) (color_is a.underline_color h.2)
+      by_rear : is_unsaid a ≡ false → (prefix : ColorSpec) → IsColour prefix → (found : Option ColorSpec) → IfSome found IsColour
+          → Alone (option_map (λ values. pen_actions values a.hyperlink) (option_and_then (λ rear. option_map (λ line. settings a prefix rear line) (colour_setting a.underline_color)) found))
+      by_rear e prefix f None r = tt
+      by_rear e prefix f (Some rear) r = by_line e prefix rear f r (colour_setting a.underline_color) (color_is a.underline_color h.2)
 
       by_front : is_unsaid a ≡ false → (found : Option ColorSpec) → IfSome found IsColour
-          → Alone (option_map (λ values. pen_actions values a.hyperlink) (option_and_then (λ front. option_and_then (λ rear. option_map (λ line. settings a front rear line) (colour_setting a.underline_color)) (colour_setting a.background)) found))
+          → Alone (option_map (λ values. pen_actions values a.hyperlink) (option_and_then (λ prefix. option_and_then (λ rear. option_map (λ line. settings a prefix rear line) (colour_setting a.underline_color)) (colour_setting a.background)) found))
       by_front e None f = tt
-      by_front e (Some front) f = by_rear e front f (colour_setting a.background) (color_is a.background h.1)
+      by_front e (Some prefix) f = by_rear e prefix f (colour_setting a.background) (color_is a.background h.1)
 
       by_test : (b : Bool) → is_unsaid a ≡ b → Alone (pen_rendering a)
       by_test true e = rw e tt
@@ -274,7 +274,7 @@ module _ (back : WritableActionsReadBack) (fronts : WritableTextsAreFronts) wher
 
   moves_alone : (cursors : List Cursor) → AreMoves cursors → AreAlone (map moved cursors)
   moves_alone [] h = tt
-  moves_alone (move ∷ others) h = (sequence (codec.cursor move) h.0, moves_alone others h.1)
+  moves_alone (move ∷ remaining) h = (sequence (codec.cursor move) h.0, moves_alone remaining h.1)
 
   found_moves : (found : Option (List Cursor)) → IfSome found AreMoves → Alone (option_map (map moved) found)
   found_moves None h = tt

@@ -1,4 +1,4 @@
--- What the laws say of actions that are sent: they do to the screen what the change does, and nothing is held behind
+-- What the laws say of actions that are sent: they do to the screen what the change does, and nothing is held
 -- them.
 use Rattle.std.specs.Prelude.{◌≡◌, ℕ, ◌<◌, ◌^◌, List, [], ◌∷◌, ◌++◌, map, fold, Some}
 use Rattle.cell_base.specs.Screen.{height}
@@ -45,7 +45,7 @@ abbrev pub with_text : View → List ℕ → View
 with_text view text = record view { stream = view.stream ++ text }
 
 -- and so have the bytes of what is sent, where they read back: fed to such a terminal at which nothing is unfinished
--- they have the effect, and nothing is unfinished behind them
+-- they have the effect, and nothing is unfinished after them
 abbrev pub RenderedTextsHaveTheEffect : Type 0
 RenderedTextsHaveTheEffect =
     (width_of : List ℕ → ℕ) (view : View) (display : Display) (change : ChangeValue) (actions : List StreamAction)

@@ -17,7 +17,7 @@ use Rattle.terminal_render.specs.Rendering.{rendering}
 abbrev pub all_rendered : List ChangeValue → ℕ → ℕ → Option (List StreamAction)
 all_rendered [] width height = Some []
 all_rendered (change ∷ changes) width height =
-    option_and_then (λ first. option_map (λ others. first ++ others) (all_rendered changes width height))
+    option_and_then (λ first. option_map (λ remaining. first ++ remaining) (all_rendered changes width height))
     (rendering change width height)
 
 -- the view on which changes were replayed
@@ -49,11 +49,11 @@ ListTextsLeaveIdle =
     → all_rendered changes view.state.screen.width (height view.state.screen) ≡ Some actions
     → IsIdle (after width_of view (Piece (stream_text actions) ∷ []))
 
--- two lists that read back do so one behind the other
+-- two lists that read back do so one after the other
 abbrev pub WritableListsJoin : Type 0
 WritableListsJoin = (xs ys : List StreamAction) → IsWritable xs → IsWritable ys → IsWritable (xs ++ ys)
 
--- one change more behind some
+-- one change more after some
 abbrev pub RenderingsJoin : Type 0
 RenderingsJoin =
     (changes : List ChangeValue) (change : ChangeValue) (width height : ℕ) (first last : List StreamAction)

@@ -29,7 +29,7 @@ use Rattle.terminal_render.specs.Links.{is_carried}
 
 -- ---- one attribute
 
--- a colour as SGR sets it; one that falls back to the palette can't be told
+-- a colour as SGR sets it; one that falls back to the palette can't be encoded
 abbrev pub colour_setting : ColorAttribute → Option ColorSpec
 colour_setting (attribute.TrueColorWithPaletteFallback color index) = None
 colour_setting (attribute.TrueColorWithDefaultFallback color) = Some (spec.TrueColor color)
@@ -63,7 +63,7 @@ unfoldable pub attribute_action : AttributeValue → Option StreamAction
 attribute_action (change.Hyperlink link) = linked link
 attribute_action value = option_map rendition (attribute_setting value)
 
--- ---- all attributes: what isn't plain is set behind a reset
+-- ---- all attributes: what isn't plain is set after a reset
 
 abbrev pub unless_normal : Intensity → Option Sgr
 unless_normal intensity.Normal = None
@@ -90,11 +90,11 @@ unless_default setting color = Some (setting color)
 
 -- what is set of some attributes with these colours: foreground, background and underline colour
 abbrev pub settings : Attributes → ColorSpec → ColorSpec → ColorSpec → List (Option Sgr)
-settings a front back line =
+settings a prefix back line =
     unless_normal a.intensity ∷ unless_none a.underline ∷ unless_steady a.blink ∷ unless_off sgr.Italic a.italic
     ∷ unless_off sgr.Inverse a.reverse ∷ unless_off sgr.StrikeThrough a.strikethrough
     ∷ unless_off sgr.Invisible a.invisible
-    ∷ unless_off sgr.Overline a.overline ∷ unless_base_line a.vertical_align ∷ unless_default sgr.Foreground front
+    ∷ unless_off sgr.Overline a.overline ∷ unless_base_line a.vertical_align ∷ unless_default sgr.Foreground prefix
     ∷ unless_default sgr.Background back ∷ unless_default sgr.UnderlineColor line ∷ []
 
 -- none, or that one
@@ -115,12 +115,12 @@ is_output _ = false
 abbrev pub is_unsaid : Attributes → Bool
 is_unsaid a = a.wrapped || not (is_output a.semantic_type) || not (is_carried a.hyperlink)
 
--- the settings with the colours of the attributes, if each can be told
+-- the settings with the colours of the attributes, if each can be encoded
 abbrev pub pen_settings : Attributes → Option (List (Option Sgr))
 pen_settings a =
     option_and_then
-    (λ front. option_and_then
-    (λ back. option_map (λ line. settings a front back line) (colour_setting a.underline_color))
+    (λ prefix. option_and_then
+    (λ back. option_map (λ line. settings a prefix back line) (colour_setting a.underline_color))
     (colour_setting a.background)) (colour_setting a.foreground)
 
 unfoldable pub pen_rendering : Attributes → Option (List StreamAction)

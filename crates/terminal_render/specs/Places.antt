@@ -7,7 +7,7 @@ use Rattle.csi_codec.specs.Parameters.{word_max}
 use Rattle.csi_codec.specs.declared.cursors.Cursor.{Cursor}
 use Rattle.csi_codec.specs.declared.cursors.Cursor.TheVariants as cursor
 
--- a known place, counted from 1, or so many before or behind the current one
+-- a known position, counted from 1, or so many before or after the current one
 pub data Way : Type 0 where
   At : ℕ → Way
   Back : ℕ → Way
@@ -32,7 +32,7 @@ move_by move count = if count == 0 then [] else move (min count word_max) ∷ []
 
 -- The moves that lead the column one way and the row another: CUU, CUD, CUF (ECMA-48 8.3.22, 8.3.19, 8.3.20), CHA
 -- (8.3.9), VPA (8.3.158) and CUP (8.3.21). Each of them ends a pending wrap, so where nothing moves none does what the
--- position does; and a way back goes from the last column where a wrap is pending, while the position goes from behind
+-- position does; and a way back goes from the last column where a wrap is pending, while the position goes from after
 -- it.
 unfoldable pub moves : Way → Way → Option (List Cursor)
 moves (At column) (At row) = Some (cursor.Position row column ∷ [])

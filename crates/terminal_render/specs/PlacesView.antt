@@ -13,7 +13,7 @@ way_value (code.At place) = to.At place
 way_value (code.Back count) = to.Back count
 way_value (code.On count) = to.On count
 
--- places are counted from 1
+-- positions are counted from 1
 abbrev pub IsCounted : to.Way → Type 0
 IsCounted (to.At place) = 1 ≤ place
 IsCounted (to.Back count) = ⊤

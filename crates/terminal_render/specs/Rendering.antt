@@ -32,7 +32,7 @@ moved value = csi (codec.cursor value)
 abbrev pub is_whole : ℕ → ℕ → ℕ → Bool
 is_whole height first size = first == 0 && nat_le height size
 
--- SU and SD (ECMA-48 8.3.147 and 8.3.113) move all rows; a region of fewer can't be told
+-- SU and SD (ECMA-48 8.3.147 and 8.3.113) move all rows; a region of fewer can't be encoded
 unfoldable pub scroll_rendering : (ℕ → Edit) → ℕ → ℕ → ℕ → ℕ → Option (List StreamAction)
 scroll_rendering scroll height first size count =
     if is_whole height first size then Some (if count == 0 then [] else edited (scroll (min count height)) ∷ [])
@@ -67,6 +67,6 @@ rendering (CursorColor color) width height = None
 rendering (CursorShape shape) width height = None
 rendering (LineAttribute size) width height = None
 
--- what is sent, behind other actions
-abbrev pub behind : List StreamAction → Option (List StreamAction) → Option (List StreamAction)
-behind before found = option_map (λ actions. before ++ actions) found
+-- what is sent, after other actions
+abbrev pub appended : List StreamAction → Option (List StreamAction) → Option (List StreamAction)
+appended before found = option_map (λ actions. before ++ actions) found

@@ -9,7 +9,7 @@ use Rattle.terminal_render.specs.Rendering.{rendering}
 abbrev pub sent : ℕ → ℕ → ChangeValue → Option (List ℕ)
 sent width height change = option_map stream_text (rendering change width height)
 
--- bytes behind ESC [, and between ESC ] and ESC \
+-- bytes after ESC [, and between ESC ] and ESC \
 abbrev pub csi : List ℕ → List ℕ
 csi bytes = 27 ∷ 91 ∷ bytes
 

@@ -142,7 +142,7 @@ impl<'a> Actions<'a> {
     #[tactic(auto, using(crate::proofs::EncodedLemmas::text_next, crate::proofs::EncodedLemmas::text_end))]
     pub(crate) fn append_to(&self, bytes: &mut Vec<u8>) -> Result<(), AllocError>
         ensures ok { OnOk result (bytes.new.items ≡ bytes.old.items ++ stream_text self.now) }
-        ensures front { take (length bytes.old.items) bytes.new.items ≡ bytes.old.items }
+        ensures prefix { take (length bytes.old.items) bytes.new.items ≡ bytes.old.items }
     {
         for sent in &self.list {
             sent.append_to(bytes)?;

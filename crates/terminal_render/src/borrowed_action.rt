@@ -66,7 +66,7 @@ fn command_action(alloc: Global, command: OperatingSystemCommand) -> Result<Acti
 // The bytes of OSC 2.
 fn append_title(title: &str, bytes: &mut Vec<u8>) -> Result<(), AllocError>
     ensures ok { OnOk result (bytes.new.items ≡ bytes.old.items ++ text_of (set_window_title title.now)) }
-    ensures front { take (length bytes.old.items) bytes.new.items ≡ bytes.old.items }
+    ensures prefix { take (length bytes.old.items) bytes.new.items ≡ bytes.old.items }
 {
     bytes.extend_from_slice(b"\x1b]2;")?;
     bytes.extend_from_slice(title.as_bytes())?;
@@ -77,7 +77,7 @@ fn append_title(title: &str, bytes: &mut Vec<u8>) -> Result<(), AllocError>
 #[inline(never)]
 fn append_linked(link: &Rc<Hyperlink>, bytes: &mut Vec<u8>) -> Result<(), AllocError>
     ensures ok { OnOk result (bytes.new.items ≡ bytes.old.items ++ text_of (set_hyperlink (Some link.now.value))) }
-    ensures front { take (length bytes.old.items) bytes.new.items ≡ bytes.old.items }
+    ensures prefix { take (length bytes.old.items) bytes.new.items ≡ bytes.old.items }
 {
     let command = OperatingSystemCommand::SetHyperlink(Some(link.clone()?));
     command.append_bytes_to(bytes)
@@ -87,7 +87,7 @@ fn append_linked(link: &Rc<Hyperlink>, bytes: &mut Vec<u8>) -> Result<(), AllocE
 fn append_link(link: Option<&Rc<Hyperlink>>, bytes: &mut Vec<u8>) -> Result<(), AllocError>
     ensures ok { OnOk result
         (bytes.new.items ≡ bytes.old.items ++ text_of (set_hyperlink (option_map (λ l. l.now.value) link.entry))) }
-    ensures front { take (length bytes.old.items) bytes.new.items ≡ bytes.old.items }
+    ensures prefix { take (length bytes.old.items) bytes.new.items ≡ bytes.old.items }
 {
     match link {
         Some(link) => append_linked(link, bytes),
@@ -115,7 +115,7 @@ impl<'a> BorrowedAction<'a> {
     /// Appends the bytes of the action. Where memory is refused, some of them may have been appended.
     pub(crate) fn append_to(self, bytes: &mut Vec<u8>) -> Result<(), AllocError>
         ensures ok { OnOk result (bytes.new.items ≡ bytes.old.items ++ action_text (borrowed_value self.entry)) }
-        ensures front { take (length bytes.old.items) bytes.new.items ≡ bytes.old.items }
+        ensures prefix { take (length bytes.old.items) bytes.new.items ≡ bytes.old.items }
     {
         match self {
             BorrowedAction::Setting(value) => CSI::Sgr(value).append_bytes_to(bytes),

@@ -4,7 +4,7 @@ ghost use Rattle.std.specs.Prelude.{map, min, take, if◌then◌else◌, OnErr, 
 ghost use Rattle.screen_change.specs.ValueOf.{value_of as change_value};
 ghost use Rattle.escape_stream.specs.StreamText.{stream_text};
 ghost use Rattle.terminal_render.specs.Lists.{all_rendered};
-ghost use Rattle.terminal_render.specs.Rendering.{behind, edited, rendering, visibility_mode};
+ghost use Rattle.terminal_render.specs.Rendering.{appended, edited, rendering, visibility_mode};
 
 use crate::actions::Actions;
 use crate::pen::{push_attribute, push_clear, push_clear_screen, push_pen};
@@ -60,7 +60,7 @@ pub(crate) fn push_change<'a>(
     requires rows { 0 < height }
     requires height { height < 2 ^ 32 }
     requires encoded { rendering (change_value change.now) width height ≢ None }
-    ensures { OnOk result (behind actions.old (rendering (change_value change.now) width height) ≡ Some actions.new) }
+    ensures { OnOk result (appended actions.old (rendering (change_value change.now) width height) ≡ Some actions.new) }
 {
     match change {
         Change::Text(text) => push_text(actions, text.as_str()),
@@ -134,7 +134,7 @@ fn append_each(
     requires encoded { all_rendered (map change_value changes.now) width height ≢ None }
     ensures ok { OnOk result (option_map (λ actions. bytes.old.items ++ stream_text actions)
         (all_rendered (map change_value changes.now) width height) ≡ Some bytes.new.items) }
-    ensures front { take (length bytes.old.items) bytes.new.items ≡ bytes.old.items }
+    ensures prefix { take (length bytes.old.items) bytes.new.items ≡ bytes.old.items }
 {
     let mut actions = Actions::new(alloc);
     for change in changes {

@@ -41,7 +41,7 @@ pub fn clears()
         (ClearScreen (color.TrueColorWithPaletteFallback (record { 0 = 1; 1 = 2; 2 = 3; 3 = 255 }) 1)) ≡ None }
 {}
 
-/// All rows scroll, or none: a region past the last row ends there, and a smaller one can't be told.
+/// All rows scroll, or none: a region past the last row ends there, and a smaller one can't be encoded.
 pub fn scrolls()
     ensures none { sent 4 3 (ScrollRegionUp 0 3 0) ≡ Some [] }
     ensures some { sent 4 3 (ScrollRegionUp 0 3 2) ≡ Some (csi (codes "2S")) }

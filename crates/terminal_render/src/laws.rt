@@ -12,7 +12,7 @@ use escape_osc::laws::text_lengths;
 use escape_stream::encoding_laws::writable_lists_read_on;
 
 /// What is sent for a change has its effect: the terminal's table makes of a screen what the change
-/// makes of it, and nothing is held behind. The saved cursor and the replies stay.
+/// makes of it, and nothing is held. The saved cursor and the replies stay.
 pub fn renderings_have_the_effect()
     ensures { RenderingsHaveTheEffect }
 {}
@@ -39,7 +39,7 @@ pub fn rendered_texts_have_the_effect()
 /// At most 320 bytes are sent for a change beside its text, its title and its link's parameters and URI. For
 /// a text they are at most twice its bytes, and one more than it has where it holds no C0 control or DEL.
 pub fn renderings_are_short()
-    ensures others { RenderingsAreShort }
+    ensures remaining { RenderingsAreShort }
     ensures texts { TextsAreShort }
     ensures runs { RunsAreShort }
 {
@@ -58,8 +58,8 @@ pub fn lists_have_the_effect()
     writable_lists_read_on();
 }
 
-/// What is sent for one change more comes behind what is sent for those before it; and lists that read
-/// back do so one behind the other.
+/// What is sent for one change more follows what is sent for those before it; and lists that read
+/// back do so one after the other.
 pub fn lists_join()
     ensures renderings { RenderingsJoin }
     ensures writable { WritableListsJoin }

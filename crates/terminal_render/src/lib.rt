@@ -23,4 +23,4 @@ mod values;
 
 pub use encoding::append_encodings;
 pub use error::RenderError;
-pub use rendering::{append_renderings, has_encoding, render};
+pub use rendering::{has_encoding, render};

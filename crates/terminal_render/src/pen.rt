@@ -9,7 +9,7 @@ ghost use Rattle.terminal_render.specs.Pen.{attribute_action, clear_rendering, c
 ghost use Rattle.terminal_render.specs.Pen.{pen_actions, pen_rendering, pen_settings, settings};
 ghost use Rattle.terminal_render.specs.Pen.{unless_base_line, unless_default, unless_none, unless_normal};
 ghost use Rattle.terminal_render.specs.Pen.{unless_steady};
-ghost use Rattle.terminal_render.specs.Rendering.{behind, edited, moved};
+ghost use Rattle.terminal_render.specs.Rendering.{appended, edited, moved};
 
 use crate::actions::Actions;
 use crate::links::is_carried;
@@ -24,7 +24,7 @@ use std::alloc::AllocError;
 use std::rc::Rc;
 
 /// Whether SGR sets a colour: any but one that falls back to the palette.
-pub(crate) fn color_is_told(color: ColorAttribute) -> bool
+pub(crate) fn color_has_encoding(color: ColorAttribute) -> bool
     ensures { result ≡ is_some (colour_setting color) }
 {
     match color {
@@ -122,14 +122,14 @@ fn when(on: bool, setting: Sgr) -> Option<Sgr>
     if on { Some(setting) } else { None }
 }
 
-// What is set behind a reset, with these colours.
+// What is set after a reset, with these colours.
 fn settings(
     a: &CellAttributes,
-    front: ColorSpec,
+    prefix: ColorSpec,
     back: ColorSpec,
     line: ColorSpec,
 ) -> [Option<Sgr>; 12]
-    ensures { result ≡ settings a.now front back line }
+    ensures { result ≡ settings a.now prefix back line }
 {
     [
         unless_normal(a.intensity()),
@@ -141,7 +141,7 @@ fn settings(
         when(a.invisible(), Sgr::Invisible(true)),
         when(a.overline(), Sgr::Overline(true)),
         unless_base_line(a.vertical_align()),
-        foreground(front),
+        foreground(prefix),
         background(back),
         underline_color(line),
     ]
@@ -149,10 +149,10 @@ fn settings(
 
 /// Whether SGR and OSC 8 set the attributes.
 #[tactic(auto, unfolding(crate::specs::Pen::pen_rendering))]
-pub(crate) fn pen_is_told(a: &CellAttributes) -> bool
+pub(crate) fn pen_has_encoding(a: &CellAttributes) -> bool
     ensures { result ≡ is_some (pen_rendering a.now) }
 {
-    !is_unsaid(a) && colors_are_told(a)
+    !is_unsaid(a) && colors_have_encodings(a)
 }
 
 // Whether the attributes have what no action sets.
@@ -166,13 +166,13 @@ fn is_unsaid(a: &CellAttributes) -> bool
 }
 
 // Whether SGR sets each of their colours.
-fn colors_are_told(a: &CellAttributes) -> bool
+fn colors_have_encodings(a: &CellAttributes) -> bool
     ensures { result ≡ is_some (pen_settings a.now) }
 {
-    if !color_is_told(a.foreground()) {
+    if !color_has_encoding(a.foreground()) {
         return false;
     }
-    color_is_told(a.background()) && color_is_told(a.underline_color())
+    color_has_encoding(a.background()) && color_has_encoding(a.underline_color())
 }
 
 // The settings of such attributes and of their colours.
@@ -180,20 +180,20 @@ fn pen_settings(a: &CellAttributes) -> [Option<Sgr>; 12]
     requires { pen_settings a.now ≢ None }
     ensures { pen_settings a.now ≡ Some result }
 {
-    let front = color_setting(a.foreground());
+    let prefix = color_setting(a.foreground());
     let back = color_setting(a.background());
     let line = color_setting(a.underline_color());
-    settings(a, front, back, line)
+    settings(a, prefix, back, line)
 }
 
-/// Such attributes: a reset, what is set behind it, and the link or its end.
+/// Such attributes: a reset, what is set after it, and the link or its end.
 #[tactic(auto, unfolding(crate::specs::Pen::pen_rendering))]
 pub(crate) fn push_pen<'a>(
     actions: &mut Actions<'a>,
     pen: &'a CellAttributes,
 ) -> Result<(), AllocError>
     requires { pen_rendering pen.now ≢ None }
-    ensures { OnOk result (behind actions.old (pen_rendering pen.now) ≡ Some actions.new) }
+    ensures { OnOk result (appended actions.old (pen_rendering pen.now) ≡ Some actions.new) }
 {
     push_settings(actions, pen_settings(pen), pen.hyperlink())
 }
@@ -216,12 +216,12 @@ fn push_settings<'a>(
 
 /// Whether SGR or OSC 8 sets one attribute.
 #[tactic(auto, unfolding(crate::specs::Pen::attribute_action))]
-pub(crate) fn attribute_is_told(change: &AttributeChange) -> bool
+pub(crate) fn attribute_has_encoding(change: &AttributeChange) -> bool
     ensures { result ≡ is_some (attribute_action (attribute_value change.now)) }
 {
     match change {
         AttributeChange::Foreground(color) | AttributeChange::Background(color) => {
-            color_is_told(*color)
+            color_has_encoding(*color)
         }
         AttributeChange::Hyperlink(link) => is_carried(link.as_ref()),
         AttributeChange::Intensity(_)
@@ -241,7 +241,7 @@ pub(crate) fn push_attribute<'a>(
     change: &'a AttributeChange,
 ) -> Result<(), AllocError>
     requires { attribute_action (attribute_value change.now) ≢ None }
-    ensures { OnOk result (behind actions.old (option_map (λ action. action ∷ [])
+    ensures { OnOk result (appended actions.old (option_map (λ action. action ∷ [])
         (attribute_action (attribute_value change.now))) ≡ Some actions.new) }
 {
     match change {
@@ -280,7 +280,7 @@ pub(crate) fn push_clear(
     erasure: Edit,
 ) -> Result<(), AllocError>
     requires { clear_rendering color (edited erasure ∷ []) ≢ None }
-    ensures { OnOk result (behind actions.old (clear_rendering color (edited erasure ∷ [])) ≡ Some actions.new) }
+    ensures { OnOk result (appended actions.old (clear_rendering color (edited erasure ∷ [])) ≡ Some actions.new) }
 {
     push_plain_pen(actions, color_setting(color))?;
     actions.push_edit(erasure)
@@ -294,7 +294,8 @@ pub(crate) fn push_clear_screen(
 ) -> Result<(), AllocError>
     requires { clear_rendering color (edited (edit.EraseInDisplay display.EraseDisplay)
         ∷ moved (cursor.Position 1 1) ∷ []) ≢ None }
-    ensures { OnOk result (behind actions.old (clear_rendering color (edited (edit.EraseInDisplay display.EraseDisplay)
+    ensures { OnOk result
+        (appended actions.old (clear_rendering color (edited (edit.EraseInDisplay display.EraseDisplay)
         ∷ moved (cursor.Position 1 1) ∷ [])) ≡ Some actions.new) }
 {
     push_plain_pen(actions, color_setting(color))?;

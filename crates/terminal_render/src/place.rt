@@ -1,4 +1,4 @@
-//! Places as they are sent.
+//! Positions as they are sent.
 ghost use Rattle.std.specs.Prelude.{◌≡◌, ◌≤◌};
 
 /// A line or a column, counted from 1.
@@ -9,7 +9,7 @@ pub(crate) struct Place {
 }
 
 impl Place {
-    /// The place that counts so from 1.
+    /// The position that counts so from 1.
     pub(crate) fn new(number: u32) -> Place
         requires { 1 ≤ number }
         ensures { result.number ≡ number }

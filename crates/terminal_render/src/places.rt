@@ -5,7 +5,7 @@ ghost use Rattle.csi_codec.specs.Parameters.{word_max};
 ghost use Rattle.csi_codec.specs.declared.cursors.Cursor.TheVariants as cursor;
 ghost use Rattle.terminal_render.specs.Places.{At, On, move_by, moves, position_moves, way_of};
 ghost use Rattle.terminal_render.specs.PlacesView.{IsCounted, both_listed, listed, move_cursor, way_value};
-ghost use Rattle.terminal_render.specs.Rendering.{behind, moved};
+ghost use Rattle.terminal_render.specs.Rendering.{appended, moved};
 
 use crate::actions::Actions;
 use crate::moves::Move;
@@ -13,7 +13,7 @@ use crate::place::Place;
 use cell_base::Position;
 use std::alloc::AllocError;
 
-/// A known place, counted from 1, or so many before or behind the current one.
+/// A known position, counted from 1, or so many before or after the current one.
 #[derive(Clone, Copy)]
 pub(crate) enum Way {
     At(u32),
@@ -21,7 +21,7 @@ pub(crate) enum Way {
     On(usize),
 }
 
-// The place `at`, counted from 0, or the last of `size`; answered counted from 1.
+// The position `at`, counted from 0, or the last of `size`; answered counted from 1.
 fn place_of(size: usize, at: usize) -> u32
     requires some { 0 < size }
     requires within { size < 2 ^ 32 }
@@ -132,7 +132,7 @@ fn moves_on(columns: usize, row: Way) -> (Option<Move>, Option<Move>)
 /// Whether moves lead to a column and a row: to no column at or past the width, and to none by a way back, and not
 /// where neither moves.
 #[tactic(auto, unfolding(crate::specs::Places::moves, crate::specs::Places::position_moves))]
-pub(crate) fn position_is_told(width: usize, height: usize, x: Position, y: Position) -> bool
+pub(crate) fn position_has_encoding(width: usize, height: usize, x: Position, y: Position) -> bool
     ensures { result ≡ is_some (position_moves width height x y) }
 {
     match x {
@@ -155,7 +155,7 @@ fn position_moves(
     requires width { width < 2 ^ 32 }
     requires rows { 0 < height }
     requires height { height < 2 ^ 32 }
-    requires told { position_moves width height x y ≢ None }
+    requires encoded { position_moves width height x y ≢ None }
     ensures { position_moves width height x y ≡ Some (both_listed result) }
 {
     let row = way_of(height, y);
@@ -178,8 +178,8 @@ pub(crate) fn push_position(
     requires width { width < 2 ^ 32 }
     requires rows { 0 < height }
     requires height { height < 2 ^ 32 }
-    requires told { position_moves width height x y ≢ None }
-    ensures { OnOk result (behind actions.old (option_map (map moved) (position_moves width height x y))
+    requires encoded { position_moves width height x y ≢ None }
+    ensures { OnOk result (appended actions.old (option_map (map moved) (position_moves width height x y))
         ≡ Some actions.new) }
 {
     let (first, second) = position_moves(width, height, x, y);

@@ -1,20 +1,16 @@
 //! What is sent for a change, if anything can be.
-ghost use Rattle.std.specs.Prelude.{◌≡◌, ◌↔◌, ◌<◌, ◌^◌, ◌&&◌, ◌++◌, map, is_some, None, Some, option_map};
-ghost use Rattle.std.specs.Prelude.{IfOk, OnErr, OnOk, IsErrOf};
+ghost use Rattle.std.specs.Prelude.{◌≡◌, ◌↔◌, ◌<◌, ◌^◌, ◌&&◌, map, is_some, None, Some, IfOk, IsErrOf};
 ghost use Rattle.screen_change.specs.ValueOf.{value_of as change_value};
 ghost use Rattle.escape_stream.specs.StreamActionView.{value_of};
-ghost use Rattle.escape_stream.specs.StreamText.{stream_text};
 ghost use Rattle.escape_stream.specs.StreamWritable.{IsWritable};
-ghost use Rattle.terminal_render.specs.Lists.{all_rendered};
 ghost use Rattle.terminal_render.specs.Rendering.{is_whole, rendering};
 
 use crate::actions::Actions;
-use crate::encoding::{append_encodings, push_change};
+use crate::encoding::push_change;
 use crate::error::RenderError;
-use crate::laws::renderings_are_writable;
 use crate::links::is_plain_text;
-use crate::pen::{attribute_is_told, color_is_told, pen_is_told};
-use crate::places::position_is_told;
+use crate::pen::{attribute_has_encoding, color_has_encoding, pen_has_encoding};
+use crate::places::position_has_encoding;
 use crate::values::change_is;
 use escape_stream::Action;
 use screen_change::Change;
@@ -37,12 +33,12 @@ pub fn has_encoding(change: &Change, width: usize, height: usize) -> bool
     match change {
         Change::Text(text) => !holds_c1(text.as_bytes()),
         Change::Title(title) => is_plain_text(title.as_str()),
-        Change::Attribute(change) => attribute_is_told(change),
-        Change::AllAttributes(pen) => pen_is_told(pen),
+        Change::Attribute(change) => attribute_has_encoding(change),
+        Change::AllAttributes(pen) => pen_has_encoding(pen),
         Change::ClearScreen(color)
         | Change::ClearToEndOfLine(color)
-        | Change::ClearToEndOfScreen(color) => color_is_told(*color),
-        Change::CursorPosition { x, y } => position_is_told(width, height, *x, *y),
+        | Change::ClearToEndOfScreen(color) => color_has_encoding(*color),
+        Change::CursorPosition { x, y } => position_has_encoding(width, height, *x, *y),
         Change::CursorVisibility(_) => true,
         Change::ScrollRegionUp {
             first_row,
@@ -56,18 +52,6 @@ pub fn has_encoding(change: &Change, width: usize, height: usize) -> bool
         } => is_whole(height, *first_row, *region_size),
         Change::CursorColor(_) | Change::CursorShape(_) | Change::LineAttribute(_) => false,
     }
-}
-
-// Whether each of some changes has one.
-fn have_encodings(changes: &[Change], width: usize, height: usize) -> bool
-    ensures { result ≡ is_some (all_rendered (map change_value changes.now) width height) }
-{
-    for change in changes {
-        if !has_encoding(change, width, height) {
-            return false;
-        }
-    }
-    true
 }
 
 /// The actions that are sent for a change to a terminal of `width` columns and `height` rows, 1 to
@@ -97,38 +81,10 @@ pub fn render(
     ensures writable { IfOk result (λ actions. IsWritable (map value_of actions.items)) }
 {
     change_is(change);
-    renderings_are_writable();
     if !has_encoding(change, width, height) {
         return Err(RenderError::NoSpelling);
     }
     let mut actions = Actions::new(alloc);
     push_change(&mut actions, change, width, height)?;
     Ok(actions.to_vec(alloc)?)
-}
-
-/// Appends the bytes of what is sent for changes in turn, as `append_encodings` does. Where a change has no spelling,
-/// or memory is refused, `bytes` stay as they were.
-pub fn append_renderings(
-    alloc: Global,
-    changes: &[Change],
-    width: usize,
-    height: usize,
-    bytes: &mut Vec<u8>,
-) -> Result<(), RenderError>
-    requires columns { 0 < width }
-    requires width { width < 2 ^ 32 }
-    requires rows { 0 < height }
-    requires height { height < 2 ^ 32 }
-    ensures some { OnOk result
-        (option_map (λ actions. bytes.old.items ++ stream_text actions)
-        (all_rendered (map change_value changes.now) width height) ≡ Some bytes.new.items) }
-    ensures none { IsErrOf result RenderError.NoSpelling
-        → all_rendered (map change_value changes.now) width height ≡ None }
-    ensures refused { OnErr result (bytes.new.items ≡ bytes.old.items) }
-{
-    if !have_encodings(changes, width, height) {
-        return Err(RenderError::NoSpelling);
-    }
-    append_encodings(alloc, changes, width, height, bytes)?;
-    Ok(())
 }

@@ -35,13 +35,13 @@ fn push_control(actions: &mut Actions<'_>, control: u8) -> Result<(), AllocError
 pub(crate) fn push_text<'a>(actions: &mut Actions<'a>, text: &'a str) -> Result<(), AllocError>
     ensures { OnOk result (actions.new ≡ actions.old ++ flat_map part_actions (text_parts text.now)) }
 {
-    let (front, mut rest) = split_at_control(text);
-    push_plain(actions, front)?;
-    while let Some((control, behind)) = split_control(rest) {
+    let (prefix, mut rest) = split_at_control(text);
+    push_plain(actions, prefix)?;
+    while let Some((control, appended)) = split_control(rest) {
         push_control(actions, control)?;
-        let (front, others) = split_at_control(behind);
-        push_plain(actions, front)?;
-        rest = others;
+        let (prefix, remaining) = split_at_control(appended);
+        push_plain(actions, prefix)?;
+        rest = remaining;
     }
     Ok(())
 }

@@ -2,10 +2,6 @@
 use Rattle.std.proofs.Common.{◌≡◌, ℕ, ◌<◌, Bool, true, false, List, [], ◌∷◌, ◌++◌, length, map, fold, inl, inr, refl, sym, ap, subst, ◌∙◌, arith}
 use Rattle.std.specs.Prelude.{◌==◌, ◌⊎◌, Option, if◌then◌else◌}
 use Rattle.std.specs.List.{AllByRecursion}
-use Rattle.std.specs.String.{string_bytes}
-use Rattle.std.proofs.lemmas.Bool.Decides.{nat_tests}
-use Rattle.screen_change.specs.ChangeValue.{ChangeValue}
-use Rattle.cell_surface.specs.Surface.{number_of}
 use Rattle.cell_surface.specs.declared.error.SurfaceError.{SurfaceError}
 use Rattle.cell_surface.specs.declared.error.SurfaceError.TheVariants as refusal
 use Rattle.screen_log.specs.LogSteps.{LogStep, Logged, Sized, step_of_kept}
@@ -16,14 +12,13 @@ use Rattle.escape_stream.specs.declared.perform.Halted.{Halted}
 use Rattle.escape_stream.specs.declared.perform.Halted.TheVariants as halted
 use Rattle.terminal_table.specs.Changes.{changes_of, run_change}
 use Rattle.terminal_table.specs.Functions.{ControlFunction, function_of}
-use Rattle.terminal_table.specs.History.{Act, Looked}
+use Rattle.terminal_table.specs.History.{Act}
 use Rattle.terminal_table.specs.Logged.{event_logged, events_logged, run_logged}
 use Rattle.terminal_table.specs.Meaning.{View, event_done, settled}
 use Rattle.terminal_table.specs.Steps.{step_of}
 use Rattle.terminal_table.specs.Turns.{AreEvents}
-use Rattle.terminal_table.proofs.ListLemmas.{append_nil}
-use Rattle.terminal_steps.specs.Events.{view_of, IsReady, Had}
-use Rattle.terminal_steps.specs.Memory.{IsChangeRefused, TakesMemory, TakesOwnMemory, number_settled}
+use Rattle.terminal_steps.specs.Events.{view_of, IsReady}
+use Rattle.terminal_steps.specs.Memory.{TakesMemory, TakesOwnMemory, number_settled}
 use Rattle.terminal_steps.specs.Refusals.{of_halted}
 use Rattle.terminal_steps.specs.Items.{AsksNothing, item_event, item_events, DoesItem, RefusesItem, SomeNeedsMemory}
 use Rattle.terminal_steps.specs.declared.error.TerminalError.TheVariants.{Memory}
@@ -32,21 +27,9 @@ use Rattle.terminal_steps.proofs.NumberLemmas.{stopped_had}
 
 -- ---- what an action logs
 
--- a run that is held, and what comes behind it
-run_some : (held : List ℕ) (others : List LogStep) → (held ≡ [] → ⊥) → 0 < length ((if length held == 0 then [] else Logged (run_change held) ∷ []) ++ others)
-run_some [] others h = absurd (h refl)
-run_some (b ∷ held) others h =
-    let some : (length (b ∷ held) == 0) ≡ false = grind (arith, nat_tests) in
-    subst (λ (e : Bool). 0 < length ((if e then [] else Logged (run_change (b ∷ held)) ∷ []) ++ others)) (sym some) (omega arith)
-
 act_logged : (f : List ℕ → ℕ) (v : View) (action : StreamAction) → is_print action ≡ false
     → event_logged f v (Act action) ≡ run_logged v ++ map Logged (changes_of (function_of action) (settled f v).state)
 act_logged f v action p = ap (λ (b : Bool). if b then [] else run_logged v ++ map Logged (changes_of (function_of action) (settled f v).state)) p
-
-changes_some : (before : List LogStep) (changes : List ChangeValue) → 0 < length changes → 0 < length (before ++ map Logged changes)
-changes_some before [] h = absurd (omega (arith, h))
-changes_some [] (c ∷ changes) h = omega arith
-changes_some (step ∷ before) (c ∷ changes) h = omega arith
 
 -- ---- items that ask for nothing
 
@@ -78,28 +61,6 @@ quiet_items f v log items failed none all some =
 module _ {W : Type 0} (width_of : W → List ℕ → ℕ) where
   abbrev of : TerminalState W → List ℕ → ℕ
   of t = width_of t.surface.grid.widths
-
-  -- the run that it ends is refused memory
-  pub run_refused : (t : TerminalState W) (action : StreamAction) (failed : Bool) → is_print action ≡ false
-      → (string_bytes t.held ≡ [] → ⊥) → failed ≡ true → TakesMemory (of t) (view_of t) t.surface.log (Act action) failed
-  run_refused t action failed p h e =
-      let some = run_some (string_bytes t.held) (map Logged (changes_of (function_of action) (settled (of t) (view_of t)).state)) h in
-      inr (inr (subst (λ (steps : List LogStep). 0 < length steps) (sym (act_logged (of t) (view_of t) action p)) some, e))
-
-  -- what it does behind the run is refused memory
-  pub act_refused : (t u : TerminalState W) (action : StreamAction) (failed : Bool) → is_print action ≡ false
-      → Had width_of t u (Looked ∷ [])
-      → TakesOwnMemory (function_of action) (number_of u.surface) ⊎ IsChangeRefused (changes_of (function_of action) (view_of u).state) failed
-      → TakesMemory (of t) (view_of t) t.surface.log (Act action) failed
-  act_refused t u action failed p h (inl own) = inr (inl (subst (TakesOwnMemory (function_of action)) same own))
-    where
-      same : number_of u.surface ≡ number_settled (view_of t) t.surface.log
-      same = ap (λ (l : Sized). l.log.number) (h.log ∙ ap (fold step_of_kept t.surface.log) (append_nil (run_logged (view_of t))))
-  act_refused t u action failed p h (inr refused) =
-      let changes = changes_some (run_logged (view_of t)) (changes_of (function_of action) (view_of u).state) refused.0 in
-      let all : event_logged (of t) (view_of t) (Act action) ≡ run_logged (view_of t) ++ map Logged (changes_of (function_of action) (view_of u).state)
-      = act_logged (of t) (view_of t) action p ∙ ap (λ (v : View). run_logged (view_of t) ++ map Logged (changes_of (function_of action) v.state)) (sym h.view) in
-      inr (inr (subst (λ (steps : List LogStep). 0 < length steps) (sym all) changes, refused.1))
 
   -- ---- what the error of a call tells
 

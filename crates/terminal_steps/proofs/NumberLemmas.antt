@@ -1,21 +1,18 @@
 -- Numbers never fall, so what is refused a number leads past the last one.
-use Rattle.std.proofs.Common.{◌≡◌, ℕ, ◌+◌, ◌-◌, ◌<◌, ◌≤◌, ◌^◌, Bool, true, false, List, [], ◌∷◌, ◌++◌, length, map, fold, refl, sym, ap, subst, ◌∙◌, arith}
-use Rattle.std.specs.Prelude.{◌==◌, ◌≢◌, if◌then◌else◌, nat_lt}
+use Rattle.std.proofs.Common.{◌≡◌, ℕ, ◌<◌, ◌≤◌, ◌^◌, Bool, true, false, List, [], ◌∷◌, ◌++◌, fold, refl, sym, ap, subst, ◌∙◌, arith}
+use Rattle.std.specs.Prelude.{nat_lt}
 use Rattle.std.specs.String.{string_bytes}
 use Rattle.std.specs.List.{FoldsTo}
 use Rattle.std.proofs.lemmas.List.Sums.{fold-append}
 use Rattle.screen_change.specs.ChangeValue.{ChangeValue}
-use Rattle.cell_surface.specs.Surface.{Surface, shown_by, number_of, Resizes}
+use Rattle.cell_surface.specs.Surface.{Surface, shown_by, Resizes}
 use Rattle.screen_log.specs.Log.{most_due, forgotten, resized_log}
 use Rattle.screen_log.specs.LogSteps as log
 use Rattle.screen_log.specs.LogSteps.{LogStep, Logged, Forgotten, Sized, step_of_kept}
-use Rattle.escape_stream.specs.StreamAction.{StreamAction, is_print}
 use Rattle.screen_effects.specs.Display.{IsDisplay}
 use Rattle.screen_effects.proofs.EffectLaws.{resized_is}
-use Rattle.terminal_table.specs.Functions.{function_of}
-use Rattle.terminal_table.specs.Changes.{changes_of, run_change}
-use Rattle.terminal_table.specs.History.{Event, Act, Looked, Resized}
-use Rattle.terminal_table.specs.Meaning.{View, settled, event_done, with_size}
+use Rattle.terminal_table.specs.History.{Event, Looked, Resized}
+use Rattle.terminal_table.specs.Meaning.{View, event_done, with_size}
 use Rattle.terminal_table.specs.Logged.{run_logged, event_logged, events_logged}
 use Rattle.terminal_table.specs.Turns.{AreEvents, IsPrinted}
 use Rattle.terminal_table.proofs.JoinLemmas.{events_logged-append}
@@ -52,10 +49,6 @@ pub fold_number : (steps : List LogStep) (s : Sized) → s.log.number ≤ (fold 
 fold_number [] s = omega arith
 fold_number (step ∷ steps) s = let one = step_number s step in let more = fold_number steps (step_of_kept s step) in omega arith
 
-pub all_number : (changes : List ChangeValue) (s : Sized) → (fold step_of_kept s (map Logged changes)).log.number ≡ s.log.number + length changes
-all_number [] s = omega arith
-all_number (change ∷ changes) s = let more = all_number changes (step_of_kept s (Logged change)) in omega arith
-
 abbrev Past : Sized → Type 0
 Past s = 2 ^ 64 ≤ s.log.number
 
@@ -66,60 +59,18 @@ module _ {W : Type 0} (width_of : W → List ℕ → ℕ) where
   abbrev of : TerminalState W → List ℕ → ℕ
   of t = width_of t.surface.grid.widths
 
-  pub settled_number : (t : TerminalState W) → (length (string_bytes t.held) == 0) ≡ false → 2 ^ 64 ≤ number_of t.surface + 1 → Past (final_log width_of t (Looked ∷ []))
-  settled_number t e n = subst (λ b. Past (fold step_of_kept t.surface.log ((if b then [] else Logged (run_change (string_bytes t.held)) ∷ []) ++ []))) (sym e) n
+  -- ---- what is logged for one event after others
 
-  -- ---- what is logged for one event behind others
-
-  after_front : (t : TerminalState W) (front back : List LogStep) → fold step_of_kept t.surface.log ((front ++ back) ++ []) ≡ fold step_of_kept (fold step_of_kept t.surface.log (front ++ [])) back
-  after_front t front back =
-      ap (fold step_of_kept t.surface.log) (append_nil (front ++ back))
-      ∙ fold-append step_of_kept t.surface.log front back
-      ∙ ap (λ xs. fold step_of_kept (fold step_of_kept t.surface.log xs) back) (sym (append_nil front))
+  after_front : (t : TerminalState W) (prefix back : List LogStep) → fold step_of_kept t.surface.log ((prefix ++ back) ++ []) ≡ fold step_of_kept (fold step_of_kept t.surface.log (prefix ++ [])) back
+  after_front t prefix back =
+      ap (fold step_of_kept t.surface.log) (append_nil (prefix ++ back))
+      ∙ fold-append step_of_kept t.surface.log prefix back
+      ∙ ap (λ xs. fold step_of_kept (fold step_of_kept t.surface.log xs) back) (sym (append_nil prefix))
 
   resized_after : (t : TerminalState W) (width height : ℕ) → final_log width_of t (Resized width height ∷ []) ≡ step_of_kept (final_log width_of t (Looked ∷ [])) (log.Resized (most_due width height))
   resized_after t width height = after_front t (run_logged (view_of t)) (log.Resized (most_due width height) ∷ [])
 
-  acted_after : (t : TerminalState W) (action : StreamAction) → is_print action ≡ false
-      → final_log width_of t (Act action ∷ []) ≡ fold step_of_kept (final_log width_of t (Looked ∷ [])) (map Logged (changes_of (function_of action) (settled (of t) (view_of t)).state))
-  acted_after t action p = ap logged p ∙ after_front t (run_logged (view_of t)) (map Logged (changes_of (function_of action) (settled (of t) (view_of t)).state))
-    where
-      logged : Bool → Sized
-      logged b = fold step_of_kept t.surface.log ((if b then [] else run_logged (view_of t) ++ map Logged (changes_of (function_of action) (settled (of t) (view_of t)).state)) ++ [])
-
-  -- ---- actions
-
-  pub act_past : (t : TerminalState W) (action : StreamAction) → is_print action ≡ false → NeedsNumber width_of t (Looked ∷ []) → NeedsNumber width_of t (Act action ∷ [])
-  act_past t action p n = λ ready events. subst Past (sym (acted_after t action p)) (past_after (final_log width_of t (Looked ∷ [])) (map Logged (changes_of (function_of action) (settled (of t) (view_of t)).state)) (n ready (tt, tt)))
-
-  pub act_number : (t u : TerminalState W) (action : StreamAction) → is_print action ≡ false
-      → (IsReady t → AreEvents (Looked ∷ []) → Had width_of t u (Looked ∷ []))
-      → 2 ^ 64 ≤ number_of u.surface + length (changes_of (function_of action) (view_of u).state) → NeedsNumber width_of t (Act action ∷ [])
-  act_number t u action p does n = λ ready events.
-      let h : Had width_of t u (Looked ∷ []) = does ready (tt, tt) in
-      let all = all_number (changes_of (function_of action) (view_of u).state) u.surface.log in
-      let past : Past (fold step_of_kept u.surface.log (map Logged (changes_of (function_of action) (view_of u).state))) = omega arith in
-      let same : fold step_of_kept u.surface.log (map Logged (changes_of (function_of action) (view_of u).state)) ≡ fold step_of_kept (final_log width_of t (Looked ∷ [])) (map Logged (changes_of (function_of action) (settled (of t) (view_of t)).state))
-      = λ i. fold step_of_kept (h.log i) (map Logged (changes_of (function_of action) (h.view i).state)) in
-      subst Past (same ∙ sym (acted_after t action p)) past
-
   -- ---- other sizes
-
-  pub resized_past : (t : TerminalState W) (width height : ℕ) → NeedsNumber width_of t (Looked ∷ []) → NeedsNumber width_of t (Resized width height ∷ [])
-  resized_past t width height n = λ ready events. subst Past (sym (resized_after t width height)) (past_after (final_log width_of t (Looked ∷ [])) (log.Resized (most_due width height) ∷ []) (n ready (tt, tt)))
-
-  counted : (s : Sized) (most : ℕ) → s.log.number ≡ 2 ^ 64 - 1 → s.log.entries ≢ [] → Past (step_of_kept s (log.Resized most))
-  counted s most n f = by_entries s.log.entries refl
-    where
-      by_entries : (cs : List ChangeValue) → s.log.entries ≡ cs → 2 ^ 64 ≤ (resized_log s.log).number
-      by_entries [] e = absurd (f e)
-      by_entries (c ∷ cs) e = rw e (omega (arith, n))
-
-  pub resized_number : (t u : TerminalState W) (width height : ℕ)
-      → (IsReady t → AreEvents (Looked ∷ []) → Had width_of t u (Looked ∷ []))
-      → number_of u.surface ≡ 2 ^ 64 - 1 → u.surface.log.log.entries ≢ [] → NeedsNumber width_of t (Resized width height ∷ [])
-  resized_number t u width height does n f = λ ready events.
-      subst Past (ap (λ s. step_of_kept s (log.Resized (most_due width height))) (does ready (tt, tt)).log ∙ sym (resized_after t width height)) (counted u.surface.log (most_due width height) n f)
 
   pub resized_had : (t u : TerminalState W) (s : Surface W) (r : TerminalState W) (width height : ℕ) → 0 < width → 0 < height
       → r.surface ≡ s → string_bytes r.held ≡ string_bytes u.held → r.saved ≡ u.saved → r.replies.items ≡ u.replies.items
@@ -158,7 +109,7 @@ module _ {W : Type 0} (width_of : W → List ℕ → ℕ) where
 
   -- ---- items in turn
 
-  -- the events of items, where one is refused behind others
+  -- the events of items, where one is refused after others
   stopped_all : (done left : List Item) (item : Item) (items : List Item) → items ≡ done ++ (item ∷ left) → item_events items ≡ item_events done ++ (item_event item ∷ item_events left)
   stopped_all done left item items e = ap item_events e ∙ map-append item_event done (item ∷ left)
 

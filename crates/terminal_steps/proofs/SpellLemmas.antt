@@ -36,18 +36,18 @@ same_again n (d ∷ ds) = ap (λ xs. d ∷ xs) (same_again n ds)
 pub none_newly : (stream : List ℕ) → newly_decided stream [] ≡ []
 none_newly stream = ap (λ s. drop (length (dispatches stream)) (dispatches s)) (append_nil stream) ∙ drop_past (length (dispatches stream)) (dispatches stream) (omega arith)
 
-placed_are : DispatchesJoin → (front bytes : List ℕ) → map (λ (p : ℕ × Dispatch). p.1) (placed_from front bytes) ≡ newly_decided front bytes
-placed_are joins front [] = sym (none_newly front)
-placed_are joins front (b ∷ bytes) =
-    map-append (λ (p : ℕ × Dispatch). p.1) (map (λ d. (length front + 1, d)) (newly_decided front (b ∷ []))) (placed_from (front ++ b ∷ []) bytes)
-    ∙ (λ i. same_again (length front + 1) (newly_decided front (b ∷ [])) i ++ placed_are joins (front ++ b ∷ []) bytes i)
-    ∙ sym (joins front (b ∷ []) bytes)
+placed_are : DispatchesJoin → (prefix bytes : List ℕ) → map (λ (p : ℕ × Dispatch). p.1) (placed_from prefix bytes) ≡ newly_decided prefix bytes
+placed_are joins prefix [] = sym (none_newly prefix)
+placed_are joins prefix (b ∷ bytes) =
+    map-append (λ (p : ℕ × Dispatch). p.1) (map (λ d. (length prefix + 1, d)) (newly_decided prefix (b ∷ []))) (placed_from (prefix ++ b ∷ []) bytes)
+    ∙ (λ i. same_again (length prefix + 1) (newly_decided prefix (b ∷ [])) i ++ placed_are joins (prefix ++ b ∷ []) bytes i)
+    ∙ sym (joins prefix (b ∷ []) bytes)
 
 -- ---- what a text prints
 
-text_printed : (cs : List ℕ) (others : List Event) → AreEvents (prints cs ++ others) → IsPrinted (encode_utf8_all cs) × AreEvents others
-text_printed [] others h = (refl, h)
-text_printed (c ∷ cs) others h = let rest = text_printed cs others h.1 in (printed_append (encode_utf8 c) (encode_utf8_all cs) h.0 rest.0, rest.1)
+text_printed : (cs : List ℕ) (remaining : List Event) → AreEvents (prints cs ++ remaining) → IsPrinted (encode_utf8_all cs) × AreEvents remaining
+text_printed [] remaining h = (refl, h)
+text_printed (c ∷ cs) remaining h = let rest = text_printed cs remaining h.1 in (printed_append (encode_utf8 c) (encode_utf8_all cs) h.0 rest.0, rest.1)
 
 -- the actions of a text and of others
 acts_of : (cs : List ℕ) (actions all : List StreamAction) → all ≡ map print cs ++ actions → map Act all ≡ prints cs ++ map Act actions

@@ -1,4 +1,4 @@
--- What ends a run, and what an action does behind it.
+-- What ends a run, and what an action does after it.
 use Rattle.std.proofs.Common.{◌≡◌, ℕ, Bool, false, List, [], ◌∷◌, ◌++◌, length, map, fold, refl, sym, ap, subst, ◌∙◌}
 use Rattle.std.specs.Prelude.{◌==◌, Option, if◌then◌else◌}
 use Rattle.std.specs.String.{string_bytes}
@@ -28,7 +28,7 @@ module _ {W : Type 0} (width_of : W → List ℕ → ℕ) where
   abbrev of : TerminalState W → List ℕ → ℕ
   of t = width_of t.surface.grid.widths
 
-  -- the run was added as a change, and nothing is held behind it
+  -- the run was added as a change, and nothing is held after it
   pub settled_had : (t r : TerminalState W) (s : Surface W) → (length (string_bytes t.held) == 0) ≡ false
       → r.surface ≡ s → string_bytes r.held ≡ [] → r.saved ≡ t.saved → r.replies.items ≡ t.replies.items
       → AddsAll width_of t.surface s (run_change (string_bytes t.held) ∷ []) → IsReady t → Had width_of t r (Looked ∷ [])
@@ -59,7 +59,7 @@ module _ {W : Type 0} (width_of : W → List ℕ → ℕ) where
       logged : Bool → List LogStep
       logged b = (if b then [] else Logged (run_change text) ∷ []) ++ []
 
-  -- behind a run that has ended an action was applied
+  -- after a run that has ended an action was applied
   pub act_had : (t u : TerminalState W) (s : Surface W) (action : StreamAction) (r : TerminalState W) → is_print action ≡ false
       → r.surface ≡ s → string_bytes r.held ≡ string_bytes u.held
       → Had width_of t u (Looked ∷ [])

@@ -1,9 +1,13 @@
 -- Changes that are added to a surface, in order.
-use Rattle.std.specs.Prelude.{◌≡◌, ℕ, false, List, map, fold}
+use Rattle.std.specs.Prelude.{◌≡◌, ◌<◌, ◌≤◌, ◌+◌, ◌^◌, ⊤, ℕ, Bool, true, false, List, length, map, fold}
+use Rattle.std.specs.Prelude.{Result, IfOk, IsErrOf}
 use Rattle.screen_change.specs.ChangeValue.{ChangeValue}
-use Rattle.cell_surface.specs.Surface.{Surface, shown_by}
+use Rattle.cell_surface.specs.Surface.{Surface, number_of, shown_by}
+use Rattle.cell_surface.specs.declared.error.SurfaceError.{SurfaceError}
+use Rattle.cell_surface.specs.declared.error.SurfaceError.TheVariants.{Failed, Number, Memory}
 use Rattle.screen_log.specs.LogSteps.{Logged, step_of_kept}
 use Rattle.screen_effects.specs.Effect.{replay}
+use Rattle.terminal_steps.specs.Memory.{IsChangeRefused}
 
 -- each has had its effect, and was logged
 pub record AddsAll {W : Type 0} (width_of : W → List ℕ → ℕ) (before after : Surface W) (changes : List ChangeValue) :
@@ -12,3 +16,23 @@ pub record AddsAll {W : Type 0} (width_of : W → List ℕ → ℕ) (before afte
   pub widths : after.grid.widths ≡ before.grid.widths
   pub log : after.log ≡ fold step_of_kept before.log (map Logged changes)
   pub stays : after.is_failed ≡ false
+
+-- Changes are added in turn. Or the surface had failed before, or one of them has no number, or one is refused memory,
+-- and then the surface has failed. A call that takes more memory than theirs may be refused it as well.
+pub record AddsWith {W : Type 0}
+    (takes_more : Bool) (width_of : W → List ℕ → ℕ) (before : Surface W) (changes : List ChangeValue)
+    (result : Result ⊤ SurfaceError) (after : Surface W) : Type 0 where
+  pub added : IfOk result (λ _. AddsAll width_of before after changes)
+  pub failed : IsErrOf result Failed → before.is_failed ≡ true
+  pub numbers : IsErrOf result Number → (0 < length changes) × (2 ^ 64 ≤ number_of before + length changes)
+  pub memory : IsErrOf result Memory → takes_more ≡ false → IsChangeRefused changes after.is_failed
+
+-- it takes theirs alone
+abbrev pub Adds : {W : Type 0} → (W → List ℕ → ℕ) → Surface W → List ChangeValue → Result ⊤ SurfaceError → Surface W
+    → Type 0
+Adds = AddsWith false
+
+-- it copies a text or a pen first
+abbrev pub CopiesAndAdds : {W : Type 0} → (W → List ℕ → ℕ) → Surface W → List ChangeValue → Result ⊤ SurfaceError
+    → Surface W → Type 0
+CopiesAndAdds = AddsWith true

@@ -11,7 +11,7 @@ use Rattle.terminal_table.specs.Turns.{IsPrinted, AreEvents}
 use Rattle.terminal_steps.specs.TerminalStates.{state_of}
 use Rattle.terminal_steps.specs.declared.state.TerminalState.{TerminalState}
 
--- the state, and the run that is held, behind a stream of which nothing is unfinished
+-- the state, and the run that is held, after a stream of which nothing is unfinished
 abbrev pub view_of : {W : Type 0} → TerminalState W → View
 view_of t = record { state = state_of t.surface t.saved t.replies.items; stream = []; held = string_bytes t.held }
 

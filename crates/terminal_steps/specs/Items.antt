@@ -38,7 +38,7 @@ abbrev pub Leads : {W : Type 0} → (W → List ℕ → ℕ) → TerminalState W
 Leads width_of before after items =
     IsReady before → AreEvents (item_events items) → Had width_of before after (item_events items)
 
--- Of some items one is refused memory, behind those before it.
+-- Of some items one is refused memory, after those before it.
 pub record SomeNeedsMemory
     (width_of : List ℕ → ℕ) (view : View) (log : Sized) (items : List Item) (failed : Bool) : Type 0 where
   pub done : List Item

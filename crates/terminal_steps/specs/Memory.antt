@@ -42,7 +42,7 @@ keeps ReportPosition = true
 keeps _ = false
 
 -- Beside its changes an action takes memory for what its control function copies, where its first change has a number
--- behind this one, or for what that keeps.
+-- after this one, or for what that keeps.
 abbrev pub TakesOwnMemory : Option ControlFunction → ℕ → Type 0
 TakesOwnMemory None number = ⊥
 TakesOwnMemory (Some function) number =
@@ -52,7 +52,7 @@ TakesOwnMemory (Some function) number =
 abbrev pub IsChangeRefused : {A : Type 0} → List A → Bool → Type 0
 IsChangeRefused changes failed = (0 < length changes) × (failed ≡ true)
 
--- the number behind the run that is held, once it has ended
+-- the number after the run that is held, once it has ended
 abbrev pub number_settled : View → Sized → ℕ
 number_settled view log = (fold step_of_kept log (run_logged view)).log.number
 

@@ -1,13 +1,13 @@
 //! What a terminal does with an action, and with a run of printed characters.
-ghost use Rattle.std.specs.Prelude.{◌≡◌, ◌⊎◌, ◌+◌, ◌-◌, ◌^◌, ◌<◌, ◌≤◌, ◌↔◌, true, false, IfOk, OnOk, IsErr, IsErrOf};
-ghost use Rattle.std.specs.Prelude.{[], ◌∷◌, length};
+ghost use Rattle.std.specs.Prelude.{◌≡◌, ◌⊎◌, ◌+◌, ◌-◌, ◌^◌, ◌<◌, ◌≤◌, ◌↔◌, true, IfOk, OnOk, IsErr, IsErrOf};
+ghost use Rattle.std.specs.Prelude.{[], ◌∷◌, ◌||◌, length};
 ghost use Rattle.std.specs.String.{string_bytes};
 ghost use Rattle.cell_surface.specs.Surface.{number_of, shown_by};
 ghost use Rattle.escape_stream.specs.StreamActionView.{value_of};
 ghost use Rattle.terminal_table.specs.Changes.{changes, changes_of, run_change, visibility};
 ghost use Rattle.terminal_table.specs.Functions.{function_of};
 ghost use Rattle.terminal_table.specs.Steps.{reply_step, saved_step, step_of};
-ghost use Rattle.terminal_steps.specs.Additions.{AddsAll};
+ghost use Rattle.terminal_steps.specs.Additions.{AddsAll, AddsWith};
 ghost use Rattle.terminal_steps.specs.TerminalStates.{state_of};
 ghost use Rattle.terminal_steps.specs.FunctionView.{table_function};
 ghost use Rattle.terminal_steps.specs.Memory.{IsChangeRefused, TakesOwnMemory, copies, keeps};
@@ -63,23 +63,13 @@ fn perform<W: Widths + Drop>(
     replies: &mut Vec<u8>,
     function: ControlFunction,
 ) -> Result<(), SurfaceError>
-    ensures added { IfOk result
-        (λ _. AddsAll (λ w. W.width_of w) surface.old surface.new
-        (changes (table_function function) saved.old (shown_by surface.old).screen)) }
+    ensures added { AddsWith (copies (table_function function) || keeps (table_function function)) (λ w. W.width_of w)
+        surface.old (changes (table_function function) saved.old (shown_by surface.old).screen) result surface.new }
     ensures saved { IfOk result
         (λ _. saved.new ≡ saved_step (table_function function) saved.old (shown_by surface.old).screen) }
     ensures replies { IfOk result
         (λ _. replies.new.items
         ≡ reply_step (table_function function) replies.old.items (shown_by surface.old).screen) }
-    ensures failed { IsErrOf result SurfaceError.Failed → surface.old.is_failed ≡ true }
-    ensures numbers { IsErrOf result SurfaceError.Number
-        → 2 ^ 64
-        ≤ number_of surface.old
-        + length (changes (table_function function) saved.old (shown_by surface.old).screen) }
-    ensures memory { IsErrOf result SurfaceError.Memory
-        → copies (table_function function) ≡ false → keeps (table_function function) ≡ false
-        → IsChangeRefused (changes (table_function function) saved.old (shown_by surface.old).screen)
-        surface.new.is_failed }
 {
     match function {
         ControlFunction::Moves(movement) => move_cursor(surface, movement),
@@ -116,7 +106,7 @@ fn perform<W: Widths + Drop>(
 }
 
 /// What the terminal's table has for an action: its changes are added to the surface, the cursor is saved
-/// or a saved one forgotten, and a reply comes behind those that there are. An action for which the
+/// or a saved one forgotten, and a reply follows those that there are. An action for which the
 /// terminal has no control function, as a print, does nothing.
 ///
 /// Refusals are those of the surface, and want of memory for what is copied, for a saved cursor or for a reply; a

@@ -1,11 +1,11 @@
-//! Changes that are added to a surface, one after another.
-ghost use Rattle.std.specs.Prelude.{◌≡◌, ◌+◌, ◌^◌, ◌↔◌, ◌≤◌, true, IfOk, IsErrOf, [], ◌∷◌};
+//! Changes that are added to a surface, one after another. `add_one`, `add_one_attribute` and `add_whole_pen` are not
+//! inlined: this keeps the large stack slot of a change out of callers that add nothing.
+ghost use Rattle.std.specs.Prelude.{[], ◌∷◌};
 ghost use Rattle.std.specs.String.{string_bytes};
 ghost use Rattle.cell_base.specs.AttributeValueOf.{attribute_value};
 ghost use Rattle.screen_change.specs.ChangeValue.{Attribute, Text};
 ghost use Rattle.screen_change.specs.ValueOf.{value_of};
-ghost use Rattle.cell_surface.specs.Surface.{number_of};
-ghost use Rattle.terminal_steps.specs.Additions.{AddsAll};
+ghost use Rattle.terminal_steps.specs.Additions.{Adds, CopiesAndAdds};
 ghost use Rattle.terminal_steps.specs.Cursor.{line_end_change, pen_change, place_change};
 
 use crate::cursor::{LineEnd, Pen, Place};
@@ -16,25 +16,19 @@ use screen_change::Change;
 // One change.
 #[inline(never)]
 fn add_one<W: Widths + Drop>(surface: &mut Surface<W>, change: Change) -> Result<(), SurfaceError>
-    ensures added { IfOk result (λ _. AddsAll (λ w. W.width_of w) surface.old surface.new (value_of change ∷ [])) }
-    ensures failed { IsErrOf result SurfaceError.Failed → surface.old.is_failed ≡ true }
-    ensures numbers { IsErrOf result SurfaceError.Number → 2 ^ 64 ≤ number_of surface.old + 1 }
-    ensures memory { IsErrOf result SurfaceError.Memory → surface.new.is_failed ≡ true }
+    ensures { Adds (λ w. W.width_of w) surface.old (value_of change ∷ []) result surface.new }
 {
     surface.add_change(change)?;
     Ok(())
 }
 
-// Adds it where it is called: the room for what is added is only cleared there.
+// One change, inlined.
 #[inline(always)]
 pub(crate) fn add<W: Widths + Drop>(
     surface: &mut Surface<W>,
     change: Change,
 ) -> Result<(), SurfaceError>
-    ensures added { IfOk result (λ _. AddsAll (λ w. W.width_of w) surface.old surface.new (value_of change ∷ [])) }
-    ensures failed { IsErrOf result SurfaceError.Failed → surface.old.is_failed ≡ true }
-    ensures numbers { IsErrOf result SurfaceError.Number → 2 ^ 64 ≤ number_of surface.old + 1 }
-    ensures memory { IsErrOf result SurfaceError.Memory → surface.new.is_failed ≡ true }
+    ensures { Adds (λ w. W.width_of w) surface.old (value_of change ∷ []) result surface.new }
 {
     add_one(surface, change)
 }
@@ -44,11 +38,7 @@ pub(crate) fn add_run<W: Widths + Drop>(
     surface: &mut Surface<W>,
     text: String,
 ) -> Result<(), SurfaceError>
-    ensures added { IfOk result
-        (λ _. AddsAll (λ w. W.width_of w) surface.old surface.new (Text (string_bytes text) ∷ [])) }
-    ensures failed { IsErrOf result SurfaceError.Failed → surface.old.is_failed ≡ true }
-    ensures numbers { IsErrOf result SurfaceError.Number → 2 ^ 64 ≤ number_of surface.old + 1 }
-    ensures memory { IsErrOf result SurfaceError.Memory → surface.new.is_failed ≡ true }
+    ensures { Adds (λ w. W.width_of w) surface.old (Text (string_bytes text) ∷ []) result surface.new }
 {
     surface.add_change(text)?;
     Ok(())
@@ -60,27 +50,19 @@ fn add_one_attribute<W: Widths + Drop>(
     surface: &mut Surface<W>,
     change: AttributeChange,
 ) -> Result<(), SurfaceError>
-    ensures added { IfOk result
-        (λ _. AddsAll (λ w. W.width_of w) surface.old surface.new (Attribute (attribute_value change) ∷ [])) }
-    ensures failed { IsErrOf result SurfaceError.Failed → surface.old.is_failed ≡ true }
-    ensures numbers { IsErrOf result SurfaceError.Number → 2 ^ 64 ≤ number_of surface.old + 1 }
-    ensures memory { IsErrOf result SurfaceError.Memory → surface.new.is_failed ≡ true }
+    ensures { Adds (λ w. W.width_of w) surface.old (Attribute (attribute_value change) ∷ []) result surface.new }
 {
     surface.add_change(change)?;
     Ok(())
 }
 
-// Adds it where it is called: the room for what is added is only cleared there.
+// One attribute of the pen, inlined.
 #[inline(always)]
 pub(crate) fn add_attribute<W: Widths + Drop>(
     surface: &mut Surface<W>,
     change: AttributeChange,
 ) -> Result<(), SurfaceError>
-    ensures added { IfOk result
-        (λ _. AddsAll (λ w. W.width_of w) surface.old surface.new (Attribute (attribute_value change) ∷ [])) }
-    ensures failed { IsErrOf result SurfaceError.Failed → surface.old.is_failed ≡ true }
-    ensures numbers { IsErrOf result SurfaceError.Number → 2 ^ 64 ≤ number_of surface.old + 1 }
-    ensures memory { IsErrOf result SurfaceError.Memory → surface.new.is_failed ≡ true }
+    ensures { Adds (λ w. W.width_of w) surface.old (Attribute (attribute_value change) ∷ []) result surface.new }
 {
     add_one_attribute(surface, change)
 }
@@ -88,38 +70,29 @@ pub(crate) fn add_attribute<W: Widths + Drop>(
 // All attributes of the pen.
 #[inline(never)]
 fn add_whole_pen<W: Widths + Drop>(surface: &mut Surface<W>, pen: Pen) -> Result<(), SurfaceError>
-    ensures added { IfOk result (λ _. AddsAll (λ w. W.width_of w) surface.old surface.new (pen_change pen ∷ [])) }
-    ensures failed { IsErrOf result SurfaceError.Failed → surface.old.is_failed ≡ true }
-    ensures numbers { IsErrOf result SurfaceError.Number → 2 ^ 64 ≤ number_of surface.old + 1 }
-    ensures memory { IsErrOf result SurfaceError.Memory → surface.new.is_failed ≡ true }
+    ensures { Adds (λ w. W.width_of w) surface.old (pen_change pen ∷ []) result surface.new }
 {
     surface.add_change(pen)?;
     Ok(())
 }
 
-// Adds it where it is called: the room for what is added is only cleared there.
+// All attributes of the pen, inlined.
 #[inline(always)]
 pub(crate) fn add_pen<W: Widths + Drop>(
     surface: &mut Surface<W>,
     pen: Pen,
 ) -> Result<(), SurfaceError>
-    ensures added { IfOk result (λ _. AddsAll (λ w. W.width_of w) surface.old surface.new (pen_change pen ∷ [])) }
-    ensures failed { IsErrOf result SurfaceError.Failed → surface.old.is_failed ≡ true }
-    ensures numbers { IsErrOf result SurfaceError.Number → 2 ^ 64 ≤ number_of surface.old + 1 }
-    ensures memory { IsErrOf result SurfaceError.Memory → surface.new.is_failed ≡ true }
+    ensures { Adds (λ w. W.width_of w) surface.old (pen_change pen ∷ []) result surface.new }
 {
     add_whole_pen(surface, pen)
 }
 
-// A place for the cursor.
+// A position for the cursor.
 pub(crate) fn add_place<W: Widths + Drop>(
     surface: &mut Surface<W>,
     place: Place,
 ) -> Result<(), SurfaceError>
-    ensures added { IfOk result (λ _. AddsAll (λ w. W.width_of w) surface.old surface.new (place_change place ∷ [])) }
-    ensures failed { IsErrOf result SurfaceError.Failed → surface.old.is_failed ≡ true }
-    ensures numbers { IsErrOf result SurfaceError.Number → 2 ^ 64 ≤ number_of surface.old + 1 }
-    ensures memory { IsErrOf result SurfaceError.Memory → surface.new.is_failed ≡ true }
+    ensures { Adds (λ w. W.width_of w) surface.old (place_change place ∷ []) result surface.new }
 {
     surface.add_change(place)?;
     Ok(())
@@ -130,25 +103,19 @@ pub(crate) fn add_line_end<W: Widths + Drop>(
     surface: &mut Surface<W>,
     end: LineEnd,
 ) -> Result<(), SurfaceError>
-    ensures added { IfOk result
-        (λ _. AddsAll (λ w. W.width_of w) surface.old surface.new (line_end_change «end» ∷ [])) }
-    ensures failed { IsErrOf result SurfaceError.Failed → surface.old.is_failed ≡ true }
-    ensures numbers { IsErrOf result SurfaceError.Number → 2 ^ 64 ≤ number_of surface.old + 1 }
+    ensures { Adds (λ w. W.width_of w) surface.old (line_end_change «end» ∷ []) result surface.new }
 {
     surface.add_change(end)?;
     Ok(())
 }
 
-// A place for the cursor, and all attributes of the pen.
+// A position for the cursor, and all attributes of the pen.
 pub(crate) fn add_cursor<W: Widths + Drop>(
     surface: &mut Surface<W>,
     place: Place,
     pen: Pen,
 ) -> Result<(), SurfaceError>
-    ensures added { IfOk result
-        (λ _. AddsAll (λ w. W.width_of w) surface.old surface.new (place_change place ∷ pen_change pen ∷ [])) }
-    ensures failed { IsErrOf result SurfaceError.Failed → surface.old.is_failed ≡ true }
-    ensures numbers { IsErrOf result SurfaceError.Number → 2 ^ 64 ≤ number_of surface.old + 2 }
+    ensures { Adds (λ w. W.width_of w) surface.old (place_change place ∷ pen_change pen ∷ []) result surface.new }
 {
     add_place(surface, place)?;
     add_pen(surface, pen)?;
@@ -161,9 +128,7 @@ pub(crate) fn add_text<W: Widths + Drop>(
     surface: &mut Surface<W>,
     text: &str,
 ) -> Result<(), SurfaceError>
-    ensures added { IfOk result (λ _. AddsAll (λ w. W.width_of w) surface.old surface.new (Text text.now ∷ [])) }
-    ensures failed { IsErrOf result SurfaceError.Failed → surface.old.is_failed ≡ true }
-    ensures numbers { IsErrOf result SurfaceError.Number → 2 ^ 64 ≤ number_of surface.old + 1 }
+    ensures { CopiesAndAdds (λ w. W.width_of w) surface.old (Text text.now ∷ []) result surface.new }
 {
     let mut copy = surface.spare_text();
     copy.push_str(text)?;
@@ -172,10 +137,7 @@ pub(crate) fn add_text<W: Widths + Drop>(
 
 // No change.
 pub(crate) fn add_nothing<W: Widths + Drop>(surface: &mut Surface<W>) -> Result<(), SurfaceError>
-    ensures added { IfOk result (λ _. AddsAll (λ w. W.width_of w) surface.old surface.new []) }
-    ensures failed { IsErrOf result SurfaceError.Failed → surface.old.is_failed ≡ true }
-    ensures numbers { IsErrOf result SurfaceError.Number → ⊥ }
-    ensures memory { IsErrOf result SurfaceError.Memory → ⊥ }
+    ensures { Adds (λ w. W.width_of w) surface.old [] result surface.new }
 {
     if surface.is_failed() {
         return Err(SurfaceError::Failed);

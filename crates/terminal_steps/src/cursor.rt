@@ -34,7 +34,7 @@ pub(crate) struct Pen {
 }
 
 impl Pen {
-    /// The colour behind the text.
+    /// The colour after the text.
     pub(crate) fn background(&self) -> ColorAttribute
         ensures { result ≡ self.now.attributes.background }
     {

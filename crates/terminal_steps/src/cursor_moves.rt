@@ -1,10 +1,10 @@
 //! Moves of the cursor.
-ghost use Rattle.std.specs.Prelude.{◌≡◌, ◌+◌, ◌^◌, ◌≤◌, Option, true, min, IfOk, IsErrOf, []};
-ghost use Rattle.cell_surface.specs.Surface.{number_of, shown_by};
+ghost use Rattle.std.specs.Prelude.{◌≡◌, None, min};
+ghost use Rattle.cell_surface.specs.Surface.{shown_by};
 ghost use Rattle.terminal_table.specs.Changes.{changes, move_change, position};
 ghost use Rattle.terminal_table.specs.Functions as table;
 ghost use Rattle.terminal_table.specs.Steps.{active_column, target};
-ghost use Rattle.terminal_steps.specs.Additions.{AddsAll};
+ghost use Rattle.terminal_steps.specs.Additions.{Adds};
 ghost use Rattle.terminal_steps.specs.Cursor.{place_change};
 ghost use Rattle.terminal_steps.specs.FunctionView.{move_of};
 
@@ -23,7 +23,7 @@ pub(crate) fn current_column<W: Widths + Drop>(surface: &Surface<W>) -> usize
     column.min(width.saturating_sub(1))
 }
 
-/// The place at a column and a row, or at the last ones.
+/// The position at a column and a row, or at the last ones.
 pub(crate) fn position_at<W: Widths + Drop>(
     surface: &Surface<W>,
     column: usize,
@@ -88,12 +88,8 @@ pub(crate) fn move_cursor<W: Widths + Drop>(
     surface: &mut Surface<W>,
     movement: Move,
 ) -> Result<(), SurfaceError>
-    ensures added { IfOk result
-        (λ _. AddsAll (λ w. W.width_of w) surface.old surface.new
-        (changes (table.Moves (move_of movement)) None (shown_by surface.old).screen)) }
-    ensures failed { IsErrOf result SurfaceError.Failed → surface.old.is_failed ≡ true }
-    ensures numbers { IsErrOf result SurfaceError.Number → 2 ^ 64 ≤ number_of surface.old + 1 }
-    ensures memory { IsErrOf result SurfaceError.Memory → surface.new.is_failed ≡ true }
+    ensures { Adds (λ w. W.width_of w) surface.old
+        (changes (table.Moves (move_of movement)) None (shown_by surface.old).screen) result surface.new }
 {
     let place = move_place(surface, movement);
     add_place(surface, place)

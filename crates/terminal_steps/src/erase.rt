@@ -1,10 +1,10 @@
 //! Erasures, scrolls and the line before.
-ghost use Rattle.std.specs.Prelude.{◌≡◌, ◌+◌, ◌^◌, ◌≤◌, None, true, IfOk, IsErrOf, [], ◌∷◌};
+ghost use Rattle.std.specs.Prelude.{◌≡◌, None, IfOk, [], ◌∷◌};
 ghost use Rattle.screen_change.specs.ValueOf.{value_of};
-ghost use Rattle.cell_surface.specs.Surface.{number_of, shown_by};
+ghost use Rattle.cell_surface.specs.Surface.{shown_by};
 ghost use Rattle.terminal_table.specs.Changes.{changes, same_place};
 ghost use Rattle.terminal_table.specs.Functions as table;
-ghost use Rattle.terminal_steps.specs.Additions.{AddsAll};
+ghost use Rattle.terminal_steps.specs.Additions.{Adds, CopiesAndAdds};
 ghost use Rattle.terminal_steps.specs.Cursor.{place_change};
 
 use crate::changes::{add, add_cursor, add_line_end, add_pen, add_place};
@@ -29,11 +29,8 @@ fn current_pen<W: Widths + Drop>(surface: &Surface<W>) -> Result<Pen, AllocError
 pub(crate) fn erase_to_end_of_line<W: Widths + Drop>(
     surface: &mut Surface<W>,
 ) -> Result<(), SurfaceError>
-    ensures added { IfOk result
-        (λ _. AddsAll (λ w. W.width_of w) surface.old surface.new
-        (changes table.EraseToEndOfLine None (shown_by surface.old).screen)) }
-    ensures failed { IsErrOf result SurfaceError.Failed → surface.old.is_failed ≡ true }
-    ensures numbers { IsErrOf result SurfaceError.Number → 2 ^ 64 ≤ number_of surface.old + 2 }
+    ensures { CopiesAndAdds (λ w. W.width_of w) surface.old
+        (changes table.EraseToEndOfLine None (shown_by surface.old).screen) result surface.new }
 {
     let pen = current_pen(surface)?;
     add_line_end(surface, pen.line_end())?;
@@ -45,11 +42,8 @@ pub(crate) fn erase_to_end_of_line<W: Widths + Drop>(
 pub(crate) fn erase_to_end_of_display<W: Widths + Drop>(
     surface: &mut Surface<W>,
 ) -> Result<(), SurfaceError>
-    ensures added { IfOk result
-        (λ _. AddsAll (λ w. W.width_of w) surface.old surface.new
-        (changes table.EraseToEndOfDisplay None (shown_by surface.old).screen)) }
-    ensures failed { IsErrOf result SurfaceError.Failed → surface.old.is_failed ≡ true }
-    ensures numbers { IsErrOf result SurfaceError.Number → 2 ^ 64 ≤ number_of surface.old + 2 }
+    ensures { CopiesAndAdds (λ w. W.width_of w) surface.old
+        (changes table.EraseToEndOfDisplay None (shown_by surface.old).screen) result surface.new }
 {
     let pen = current_pen(surface)?;
     add(surface, Change::ClearToEndOfScreen(pen.background()))?;
@@ -67,11 +61,8 @@ fn same_place<W: Widths + Drop>(surface: &Surface<W>) -> Place
 
 /// The whole screen becomes blanks.
 pub(crate) fn erase_display<W: Widths + Drop>(surface: &mut Surface<W>) -> Result<(), SurfaceError>
-    ensures added { IfOk result
-        (λ _. AddsAll (λ w. W.width_of w) surface.old surface.new
-        (changes table.EraseDisplay None (shown_by surface.old).screen)) }
-    ensures failed { IsErrOf result SurfaceError.Failed → surface.old.is_failed ≡ true }
-    ensures numbers { IsErrOf result SurfaceError.Number → 2 ^ 64 ≤ number_of surface.old + 3 }
+    ensures { CopiesAndAdds (λ w. W.width_of w) surface.old
+        (changes table.EraseDisplay None (shown_by surface.old).screen) result surface.new }
 {
     let pen = current_pen(surface)?;
     let here = same_place(surface);
@@ -82,11 +73,8 @@ pub(crate) fn erase_display<W: Widths + Drop>(surface: &mut Surface<W>) -> Resul
 
 /// The cursor's row becomes blanks.
 pub(crate) fn erase_line<W: Widths + Drop>(surface: &mut Surface<W>) -> Result<(), SurfaceError>
-    ensures added { IfOk result
-        (λ _. AddsAll (λ w. W.width_of w) surface.old surface.new
-        (changes table.EraseLine None (shown_by surface.old).screen)) }
-    ensures failed { IsErrOf result SurfaceError.Failed → surface.old.is_failed ≡ true }
-    ensures numbers { IsErrOf result SurfaceError.Number → 2 ^ 64 ≤ number_of surface.old + 4 }
+    ensures { CopiesAndAdds (λ w. W.width_of w) surface.old
+        (changes table.EraseLine None (shown_by surface.old).screen) result surface.new }
 {
     let pen = current_pen(surface)?;
     let (_, row) = surface.cursor_position();
@@ -103,12 +91,8 @@ pub(crate) fn scroll_up<W: Widths + Drop>(
     surface: &mut Surface<W>,
     count: u32,
 ) -> Result<(), SurfaceError>
-    ensures added { IfOk result
-        (λ _. AddsAll (λ w. W.width_of w) surface.old surface.new
-        (changes (table.ScrollUp count) None (shown_by surface.old).screen)) }
-    ensures failed { IsErrOf result SurfaceError.Failed → surface.old.is_failed ≡ true }
-    ensures numbers { IsErrOf result SurfaceError.Number → 2 ^ 64 ≤ number_of surface.old + 1 }
-    ensures memory { IsErrOf result SurfaceError.Memory → surface.new.is_failed ≡ true }
+    ensures { Adds (λ w. W.width_of w) surface.old
+        (changes (table.ScrollUp count) None (shown_by surface.old).screen) result surface.new }
 {
     let (_, height) = surface.dimensions();
     let scroll_count = height.min(count as usize);
@@ -127,12 +111,8 @@ pub(crate) fn scroll_down<W: Widths + Drop>(
     surface: &mut Surface<W>,
     count: u32,
 ) -> Result<(), SurfaceError>
-    ensures added { IfOk result
-        (λ _. AddsAll (λ w. W.width_of w) surface.old surface.new
-        (changes (table.ScrollDown count) None (shown_by surface.old).screen)) }
-    ensures failed { IsErrOf result SurfaceError.Failed → surface.old.is_failed ≡ true }
-    ensures numbers { IsErrOf result SurfaceError.Number → 2 ^ 64 ≤ number_of surface.old + 1 }
-    ensures memory { IsErrOf result SurfaceError.Memory → surface.new.is_failed ≡ true }
+    ensures { Adds (λ w. W.width_of w) surface.old
+        (changes (table.ScrollDown count) None (shown_by surface.old).screen) result surface.new }
 {
     let (_, height) = surface.dimensions();
     let scroll_count = height.min(count as usize);
@@ -165,12 +145,8 @@ fn reverse_change<W: Widths + Drop>(surface: &Surface<W>) -> Change
 
 /// The row before; on the first one all rows move down.
 pub(crate) fn reverse_index<W: Widths + Drop>(surface: &mut Surface<W>) -> Result<(), SurfaceError>
-    ensures added { IfOk result
-        (λ _. AddsAll (λ w. W.width_of w) surface.old surface.new
-        (changes table.ReverseIndex None (shown_by surface.old).screen)) }
-    ensures failed { IsErrOf result SurfaceError.Failed → surface.old.is_failed ≡ true }
-    ensures numbers { IsErrOf result SurfaceError.Number → 2 ^ 64 ≤ number_of surface.old + 1 }
-    ensures memory { IsErrOf result SurfaceError.Memory → surface.new.is_failed ≡ true }
+    ensures { Adds (λ w. W.width_of w) surface.old
+        (changes table.ReverseIndex None (shown_by surface.old).screen) result surface.new }
 {
     let change = reverse_change(surface);
     add(surface, change)

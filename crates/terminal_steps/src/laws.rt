@@ -10,7 +10,7 @@ ghost use Rattle.terminal_steps.specs.Items.{item_events};
 use escape_framing::laws::{one_cut, pieces_join};
 use escape_stream::action_laws::pieces_are_actions;
 
-/// The texts and actions of a call have the meaning that the table gives the bytes of the call behind a stream, and
+/// The texts and actions of a call have the meaning that the table gives the bytes of the call after a stream, and
 /// log what it says; and what they print holds no control.
 pub fn pieces_have_the_meaning_of_bytes()
     ensures state { (width_of : List ℕ → ℕ) (view : View) (bytes : List ℕ)

@@ -1,12 +1,12 @@
 //! What SGR does to the pen.
-ghost use Rattle.std.specs.Prelude.{◌≡◌, ◌+◌, ◌^◌, ◌≤◌, None, true, false, IfOk, IsErrOf, length};
-ghost use Rattle.cell_surface.specs.Surface.{number_of, shown_by};
+ghost use Rattle.std.specs.Prelude.{◌≡◌, None, IfOk};
+ghost use Rattle.cell_surface.specs.Surface.{shown_by};
 ghost use Rattle.csi_codec.specs.declared.rendition.Sgr.TheVariants as sgr;
-ghost use Rattle.terminal_table.specs.Changes.{changes, rendition_changes};
+ghost use Rattle.terminal_table.specs.Changes.{changes};
 ghost use Rattle.terminal_table.specs.Functions as table;
 ghost use Rattle.terminal_table.specs.Steps.{with_rendition};
-ghost use Rattle.terminal_steps.specs.Additions.{AddsAll};
-ghost use Rattle.terminal_steps.specs.Memory.{IsChangeRefused, copies_pen};
+ghost use Rattle.terminal_steps.specs.Additions.{AddsWith};
+ghost use Rattle.terminal_steps.specs.Memory.{copies_pen};
 
 use crate::changes::{add_attribute, add_nothing, add_pen};
 use crate::cursor::Pen;
@@ -59,14 +59,8 @@ pub(crate) fn render<W: Widths + Drop>(
     surface: &mut Surface<W>,
     value: Sgr,
 ) -> Result<(), SurfaceError>
-    ensures added { IfOk result
-        (λ _. AddsAll (λ w. W.width_of w) surface.old surface.new
-        (changes (table.Rendition value) None (shown_by surface.old).screen)) }
-    ensures failed { IsErrOf result SurfaceError.Failed → surface.old.is_failed ≡ true }
-    ensures numbers { IsErrOf result SurfaceError.Number
-        → 2 ^ 64 ≤ number_of surface.old + length (rendition_changes value (shown_by surface.old).screen.pen) }
-    ensures memory { IsErrOf result SurfaceError.Memory → copies_pen value ≡ false
-        → IsChangeRefused (rendition_changes value (shown_by surface.old).screen.pen) surface.new.is_failed }
+    ensures { AddsWith (copies_pen value) (λ w. W.width_of w) surface.old
+        (changes (table.Rendition value) None (shown_by surface.old).screen) result surface.new }
 {
     let change = match value {
         Sgr::Intensity(value) => AttributeChange::Intensity(value),

@@ -1,11 +1,11 @@
 //! Cursors that were saved.
-ghost use Rattle.std.specs.Prelude.{◌≡◌, ◌+◌, ◌^◌, ◌≤◌, [], Some, None, true, IfOk, IsErrOf};
-ghost use Rattle.cell_surface.specs.Surface.{number_of, shown_by};
+ghost use Rattle.std.specs.Prelude.{◌≡◌, [], Some, None, IfOk};
+ghost use Rattle.cell_surface.specs.Surface.{shown_by};
 ghost use Rattle.terminal_table.specs.Changes.{changes};
 ghost use Rattle.terminal_table.specs.Functions as table;
 ghost use Rattle.terminal_table.specs.State.{cursor_of};
 ghost use Rattle.terminal_table.specs.Steps.{cursor_to_restore};
-ghost use Rattle.terminal_steps.specs.Additions.{AddsAll};
+ghost use Rattle.terminal_steps.specs.Additions.{Adds, CopiesAndAdds};
 
 use crate::changes::{add, add_cursor, add_nothing};
 use crate::cursor::Pen;
@@ -49,10 +49,8 @@ pub(crate) fn save_cursor<W: Widths + Drop>(
     surface: &mut Surface<W>,
     saved: &mut Option<SavedCursor>,
 ) -> Result<(), SurfaceError>
-    ensures added { IfOk result (λ _. AddsAll (λ w. W.width_of w) surface.old surface.new []) }
+    ensures added { CopiesAndAdds (λ w. W.width_of w) surface.old [] result surface.new }
     ensures saved { IfOk result (λ _. saved.new ≡ Some (cursor_of (shown_by surface.old).screen)) }
-    ensures failed { IsErrOf result SurfaceError.Failed → surface.old.is_failed ≡ true }
-    ensures numbers { IsErrOf result SurfaceError.Number → ⊥ }
 {
     let cursor = cursor_of(surface)?;
     add_nothing(surface)?;
@@ -83,11 +81,8 @@ pub(crate) fn restore_cursor<W: Widths + Drop>(
     surface: &mut Surface<W>,
     saved: &Option<SavedCursor>,
 ) -> Result<(), SurfaceError>
-    ensures added { IfOk result
-        (λ _. AddsAll (λ w. W.width_of w) surface.old surface.new
-        (changes table.RestoreCursor saved.now (shown_by surface.old).screen)) }
-    ensures failed { IsErrOf result SurfaceError.Failed → surface.old.is_failed ≡ true }
-    ensures numbers { IsErrOf result SurfaceError.Number → 2 ^ 64 ≤ number_of surface.old + 2 }
+    ensures { CopiesAndAdds (λ w. W.width_of w) surface.old
+        (changes table.RestoreCursor saved.now (shown_by surface.old).screen) result surface.new }
 {
     let SavedCursor { column, row, pen } = cursor_to_restore(saved)?;
     let place = position_at(surface, column, row);
@@ -99,13 +94,9 @@ pub(crate) fn full_reset<W: Widths + Drop>(
     surface: &mut Surface<W>,
     saved: &mut Option<SavedCursor>,
 ) -> Result<(), SurfaceError>
-    ensures added { IfOk result
-        (λ _. AddsAll (λ w. W.width_of w) surface.old surface.new
-        (changes table.FullReset None (shown_by surface.old).screen)) }
+    ensures added { Adds (λ w. W.width_of w) surface.old
+        (changes table.FullReset None (shown_by surface.old).screen) result surface.new }
     ensures saved { IfOk result (λ _. saved.new ≡ None) }
-    ensures failed { IsErrOf result SurfaceError.Failed → surface.old.is_failed ≡ true }
-    ensures numbers { IsErrOf result SurfaceError.Number → 2 ^ 64 ≤ number_of surface.old + 2 }
-    ensures memory { IsErrOf result SurfaceError.Memory → surface.new.is_failed ≡ true }
 {
     add(surface, Change::ClearScreen(ColorAttribute::Default))?;
     add(surface, Change::CursorVisibility(CursorVisibility::Visible))?;

@@ -1,39 +1,8 @@
 //! What a terminal does with what a parser reads.
-ghost use Rattle.std.specs.Prelude.{OnOk, IsErrOf, [], ◌∷◌};
-ghost use Rattle.escape_stream.specs.StreamActionView.{value_of};
-ghost use Rattle.terminal_table.specs.History.{Act};
-ghost use Rattle.terminal_steps.specs.Events.{Does, IsReady, NeedsNumber};
-ghost use Rattle.terminal_steps.specs.Memory.{NeedsMemory};
-
 use crate::state::TerminalState;
 use cell_base::Widths;
 use cell_surface::SurfaceError;
 use escape_stream::{Action, Perform};
-
-impl<W: Widths + Drop> TerminalState<W> {
-    // A print joins the run, and every other action ends it.
-    #[inline(always)]
-    fn act(&mut self, action: Action) -> Result<(), SurfaceError>
-        ensures done { OnOk result (Does (λ w. W.width_of w) self.old self.new (Act (value_of action) ∷ [])) }
-        ensures failed { IsErrOf result SurfaceError.Failed → IsReady self.old → ⊥ }
-        ensures numbers { IsErrOf result SurfaceError.Number
-            → NeedsNumber (λ w. W.width_of w) self.old (Act (value_of action) ∷ []) }
-        ensures memory { IsErrOf result SurfaceError.Memory
-            → NeedsMemory (λ w. W.width_of w) self.old (Act (value_of action)) self.new }
-    {
-        match action {
-            Action::Print(character) => {
-                self.held.push(character)?;
-                Ok(())
-            }
-            Action::PrintString(text) => {
-                self.held.push_str(&text)?;
-                Ok(())
-            }
-            other => self.apply(other),
-        }
-    }
-}
 
 // A text joins the run, and so does a print; every other action ends it. Refusals are those of the surface, and want of
 // memory; then nothing is said of what is kept.
@@ -57,6 +26,16 @@ impl<'t, W: Widths + Drop> Perform<'t> for TerminalState<W> {
 
     #[inline(always)]
     fn action(&mut self, action: Action) -> Result<(), SurfaceError> {
-        self.act(action)
+        match action {
+            Action::Print(character) => {
+                self.held.push(character)?;
+                Ok(())
+            }
+            Action::PrintString(text) => {
+                self.held.push_str(&text)?;
+                Ok(())
+            }
+            other => self.apply(other),
+        }
     }
 }

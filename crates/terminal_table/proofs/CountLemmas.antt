@@ -92,9 +92,9 @@ after_few test (suc n) at (x ∷ row) =
     let rest = after_few test n (at + 1) row in
     omega arith
 
--- what stands before a place, and from a later one on
+-- what stands before a position, and from a later one on
 parts_few : (test : VisibleCell → Bool) (k m at : ℕ) (row : Row) → k ≤ m → passing test at (take k row) + passing test (at + m) (drop m row) ≤ passing test at row
-parts_few test zero m at row h = let behind = after_few test m at row in omega arith
+parts_few test zero m at row h = let after = after_few test m at row in omega arith
 parts_few test (suc k) zero at row h = absurd (omega arith)
 parts_few test (suc k) (suc m) at [] h = omega arith
 parts_few test (suc k) (suc m) at (x ∷ row) h =
@@ -110,21 +110,21 @@ set_grows : (test : VisibleCell → Bool) (row : Row) (k : ℕ) (columns : Row) 
     → ((at : ℕ) → passing test at (closed_end (take k row)) ≤ passing test at (take k row) + more)
     → ((at : ℕ) → passing test at (closed_start (drop (k + length columns) row)) ≤ passing test at (drop (k + length columns) row) + more)
     → passing test 0 (set_columns row k columns) ≤ passing test 0 row + (more + more + 1)
-set_grows test row k columns more own front_grows back_grows = elim (cases_lt (length row) k) [ inl behind ↦ outside behind | inr within ↦ inside within ]
+set_grows test row k columns more own front_grows back_grows = elim (cases_lt (length row) k) [ inl after ↦ outside after | inr within ↦ inside within ]
   where
     m : ℕ
     m = k + length columns
 
-    front : Row
-    front = closed_end (take k row)
+    prefix : Row
+    prefix = closed_end (take k row)
 
     back : Row
     back = closed_start (drop m row)
 
-    parts : passing test 0 (set_columns row k columns) ≡ passing test 0 front + passing test (0 + length front) columns + passing test (0 + length (front ++ columns)) back
+    parts : passing test 0 (set_columns row k columns) ≡ passing test 0 prefix + passing test (0 + length prefix) columns + passing test (0 + length (prefix ++ columns)) back
     parts =
-        let whole = passing-append test 0 (front ++ columns) back in
-        let two = passing-append test 0 front columns in
+        let whole = passing-append test 0 (prefix ++ columns) back in
+        let two = passing-append test 0 prefix columns in
         omega arith
 
     kept : passing test 0 (take k row) + passing test (0 + m) (drop m row) ≤ passing test 0 row
@@ -132,20 +132,20 @@ set_grows test row k columns more own front_grows back_grows = elim (cases_lt (l
 
     inside : k ≤ length row → passing test 0 (set_columns row k columns) ≤ passing test 0 row + (more + more + 1)
     inside h =
-        let count : length front ≡ k = length-closed_end (take k row) ∙ length-take-le k row h in
-        let place : 0 + length (front ++ columns) ≡ 0 + m = omega (arith, length-append front columns) in
-        let same : passing test (0 + length (front ++ columns)) back ≡ passing test (0 + m) back = ap (λ n. passing test n back) place in
+        let count : length prefix ≡ k = length-closed_end (take k row) ∙ length-take-le k row h in
+        let place : 0 + length (prefix ++ columns) ≡ 0 + m = omega (arith, length-append prefix columns) in
+        let same : passing test (0 + length (prefix ++ columns)) back ≡ passing test (0 + m) back = ap (λ n. passing test n back) place in
         let before = front_grows 0 in
-        let between = own (0 + length front) in
-        let behind = back_grows (0 + m) in
+        let between = own (0 + length prefix) in
+        let after = back_grows (0 + m) in
         omega (arith, parts, kept)
 
     outside : length row < k → passing test 0 (set_columns row k columns) ≤ passing test 0 row + (more + more + 1)
     outside h =
         let none : drop m row ≡ [] = drop_all m row (omega arith) in
-        let same : passing test (0 + length (front ++ columns)) back ≡ 0 = ap (λ (r : Row). passing test (0 + length (front ++ columns)) (closed_start r)) none in
+        let same : passing test (0 + length (prefix ++ columns)) back ≡ 0 = ap (λ (r : Row). passing test (0 + length (prefix ++ columns)) (closed_start r)) none in
         let before = front_grows 0 in
-        let between = own (0 + length front) in
+        let between = own (0 + length prefix) in
         omega (arith, parts, kept)
 
 -- by a text's columns: its own cell, and a blank on each side
@@ -192,11 +192,11 @@ narrow_starts row h = whole_starts row (narrow_whole row h)
 
 pub narrow_set : (row : Row) (k : ℕ) (columns : Row) → IsNarrowRow row → IsNarrowRow columns → IsNarrowRow (set_columns row k columns)
 narrow_set row k columns h c =
-    let front = narrow_take k row h in
+    let prefix = narrow_take k row h in
     let back = narrow_drop (k + length columns) row h in
-    ap (λ (r : Row). list_all is_narrow ((r ++ columns) ++ closed_start (drop (k + length columns) row))) (narrow_ends (take k row) front)
+    ap (λ (r : Row). list_all is_narrow ((r ++ columns) ++ closed_start (drop (k + length columns) row))) (narrow_ends (take k row) prefix)
     ∙ ap (λ (r : Row). list_all is_narrow ((take k row ++ columns) ++ r)) (narrow_starts (drop (k + length columns) row) back)
-    ∙ narrow-append (take k row ++ columns) (drop (k + length columns) row) (narrow-append (take k row) columns front c) back
+    ∙ narrow-append (take k row ++ columns) (drop (k + length columns) row) (narrow-append (take k row) columns prefix c) back
 
 -- the text's own cell is all that comes
 pub narrow_grows : (test : VisibleCell → Bool) (row : Row) (k : ℕ) (text : List ℕ) (wide : Bool) (attributes : Attributes) → IsNarrowRow row

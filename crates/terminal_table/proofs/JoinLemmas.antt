@@ -14,9 +14,9 @@ map-append : {A B : Type 0} (f : A → B) (xs ys : List A) → map f (xs ++ ys) 
 map-append f [] ys = refl
 map-append f (x ∷ xs) ys = ap (λ zs. f x ∷ zs) (map-append f xs ys)
 
-drop-front : {A : Type 0} (xs ys : List A) → drop (length xs) (xs ++ ys) ≡ ys
-drop-front [] ys = refl
-drop-front (x ∷ xs) ys = drop-front xs ys
+drop-prefix : {A : Type 0} (xs ys : List A) → drop (length xs) (xs ++ ys) ≡ ys
+drop-prefix [] ys = refl
+drop-prefix (x ∷ xs) ys = drop-prefix xs ys
 
 -- ---- the stream of a view is nothing to events
 
@@ -122,10 +122,10 @@ cut_logged joins width_of v x y history = ap (events_logged width_of v) (cut_eve
 
 alike_after : PiecesJoin → (a b x : List ℕ) → DecideAlike a b → DecideAlike (a ++ x) (b ++ x)
 alike_after joins a b x h y =
-    sym (drop-front (newly_decided_actions a x) (newly_decided_actions (a ++ x) y))
+    sym (drop-prefix (newly_decided_actions a x) (newly_decided_actions (a ++ x) y))
     ∙ ap (drop (length (newly_decided_actions a x))) (sym (joins a x y) ∙ h (x ++ y) ∙ joins b x y)
     ∙ ap (λ xs. drop (length xs) (newly_decided_actions b x ++ newly_decided_actions (b ++ x) y)) (h x)
-    ∙ drop-front (newly_decided_actions b x) (newly_decided_actions (b ++ x) y)
+    ∙ drop-prefix (newly_decided_actions b x) (newly_decided_actions (b ++ x) y)
 
 pub alike_events : PiecesJoin → (a b : List ℕ) (history : History) → DecideAlike a b → events a history ≡ events b history
 alike_events joins a b [] h = refl

@@ -140,9 +140,9 @@ decided_printed cut stream more = actions_print (newly_decided stream more) (dro
 
 -- ---- events
 
-acts_before : (actions : List StreamAction) (others : List Event) → AllPrinted actions → AreEvents others → AreEvents (map Act actions ++ others)
-acts_before [] others h k = k
-acts_before (a ∷ actions) others h k = (h.0, acts_before actions others h.1 k)
+acts_before : (actions : List StreamAction) (remaining : List Event) → AllPrinted actions → AreEvents remaining → AreEvents (map Act actions ++ remaining)
+acts_before [] remaining h k = k
+acts_before (a ∷ actions) remaining h k = (h.0, acts_before actions remaining h.1 k)
 
 pub events_are : AllCut → (stream : List ℕ) (history : History) → AreSizes history → AreEvents (events stream history)
 events_are cut stream [] h = tt

@@ -52,12 +52,12 @@ module _ (width_of : List ℕ → ℕ) (olds : List Row) (most : ℕ) (Kept : Li
   events_grow (event ∷ es) view plain k p =
       let next : View = event_done width_of view event in
       let firsts : List PlacedText = event_prints width_of view event in
-      let others : List PlacedText = events_print width_of next es in
-      let parts = both_parts Printed firsts others p in
+      let remaining : List PlacedText = events_print width_of next es in
+      let parts = both_parts Printed firsts remaining p in
       let first = event_grows view event plain.0 k parts.0 in
       let rest = events_grow es next plain.1 first.kept parts.1 in
-      subst (λ n. Grows olds most Kept view.state.screen.rows (fold (event_done width_of) next es).state.screen.rows n) (sym (length-append firsts others))
-      (in_turn olds most Kept view.state.screen.rows next.state.screen.rows (fold (event_done width_of) next es).state.screen.rows (length firsts) (length others) first rest)
+      subst (λ n. Grows olds most Kept view.state.screen.rows (fold (event_done width_of) next es).state.screen.rows n) (sym (length-append firsts remaining))
+      (in_turn olds most Kept view.state.screen.rows next.state.screen.rows (fold (event_done width_of) next es).state.screen.rows (length firsts) (length remaining) first rest)
 
 -- ---- screens stay as wide
 
@@ -120,7 +120,7 @@ events_wide keep width_of (event ∷ es) view width h k plain =
 
 -- ---- streams
 
--- the fresh cells behind a plain stream are those of its rows
+-- the fresh cells after a plain stream are those of its rows
 fresh_rows : EventsKeepViews → StreamsHaveEvents → (width_of : List ℕ → ℕ) (view : View) (bytes : List ℕ) → IsView view → IsPlain width_of view bytes
     → fresh_after width_of view bytes ≡ rows_count view.state.screen.rows (after width_of view (read bytes)).state.screen.rows
 fresh_rows keep have width_of view bytes h plain =

@@ -14,6 +14,6 @@ pub with_text : (width_of : List ℕ → ℕ) (v : View) (cs : List ℕ) → fol
 with_text width_of v [] = λ i. record v { held = sym (append_nil v.held) i }
 with_text width_of v (c ∷ cs) = with_text width_of (record v { held = v.held ++ encode_utf8 c }) cs ∙ (λ i. record v { held = append_assoc v.held (encode_utf8 c) (encode_utf8_all cs) i })
 
-pub text_logged : (width_of : List ℕ → ℕ) (v : View) (cs : List ℕ) (others : List Event) → events_logged width_of v (prints cs ++ others) ≡ events_logged width_of (record v { held = v.held ++ encode_utf8_all cs }) others
-text_logged width_of v [] others = λ i. events_logged width_of (record v { held = sym (append_nil v.held) i }) others
-text_logged width_of v (c ∷ cs) others = text_logged width_of (record v { held = v.held ++ encode_utf8 c }) cs others ∙ (λ i. events_logged width_of (record v { held = append_assoc v.held (encode_utf8 c) (encode_utf8_all cs) i }) others)
+pub text_logged : (width_of : List ℕ → ℕ) (v : View) (cs : List ℕ) (remaining : List Event) → events_logged width_of v (prints cs ++ remaining) ≡ events_logged width_of (record v { held = v.held ++ encode_utf8_all cs }) remaining
+text_logged width_of v [] remaining = λ i. events_logged width_of (record v { held = sym (append_nil v.held) i }) remaining
+text_logged width_of v (c ∷ cs) remaining = text_logged width_of (record v { held = v.held ++ encode_utf8 c }) cs remaining ∙ (λ i. events_logged width_of (record v { held = append_assoc v.held (encode_utf8 c) (encode_utf8_all cs) i }) remaining)

@@ -33,7 +33,7 @@ screen_turns d new shown e = record { screen = e; shape = refl; sizes = λ h. h 
 
 -- ---- positions
 
--- a place within the screen is the one that is named
+-- a position within the screen is the one that is named
 column_within : (width from at : ℕ) → 0 < width → column_place width from (Absolute (min at (width - 1))) ≡ min at (width - 1)
 column_within width from at h = by_test (min at (width - 1) == width) refl
   where
@@ -112,12 +112,12 @@ reverse_turns width_of saved d h = by_test (d.screen.row == 0) refl
 
 -- ---- erasures
 
--- of what stood behind the columns nothing is left
+-- of what followed the columns nothing is left
 pub erased_is : (column : ℕ) (color : ColorAttribute) (row : Row) → cleared_after column color row ≡ erased_after column color row
 erased_is column color row =
     let n = length-replicate (length row - column) (blank (blank_of color)) in
     let past = drop_past (column + length (blank_row (length row - column) color)) row (omega arith) in
-    ap (λ others. (closed_end (take column row) ++ blank_row (length row - column) color) ++ closed_start others) past
+    ap (λ remaining. (closed_end (take column row) ++ blank_row (length row - column) color) ++ closed_start remaining) past
     ∙ append_nil (closed_end (take column row) ++ blank_row (length row - column) color)
 
 line_end_turns : (width_of : List ℕ → ℕ) (saved : Option SavedCursor) (d : Display) → Turns d (replay width_of d (changes table.EraseToEndOfLine saved d.screen)) (end_of_line_erased d.screen)
@@ -127,8 +127,8 @@ line_end_turns width_of saved d =
 
 -- the rows below, with the cursor's row set
 rows_below : (s : Screen) (x : Row) → s.row < height s → take s.row s.rows ++ x ∷ replicate (height s - (s.row + 1)) (blank_row s.width s.pen.background) ≡ take (s.row + 1) (set s.rows s.row x) ++ map (λ _. blank_row s.width s.pen.background) (drop (s.row + 1) (set s.rows s.row x))
-rows_below s x h = sym (ap (λ front. front ++ map (λ _. blank_row s.width s.pen.background) (drop (s.row + 1) (set s.rows s.row x))) (take_set s.rows s.row x h)
-    ∙ ap (λ rest. (take s.row s.rows ++ x ∷ []) ++ rest) behind
+rows_below s x h = sym (ap (λ prefix. prefix ++ map (λ _. blank_row s.width s.pen.background) (drop (s.row + 1) (set s.rows s.row x))) (take_set s.rows s.row x h)
+    ∙ ap (λ rest. (take s.row s.rows ++ x ∷ []) ++ rest) after
     ∙ joined (take s.row s.rows) (replicate (height s - (s.row + 1)) (blank_row s.width s.pen.background)))
   where
     below : List Row
@@ -137,10 +137,10 @@ rows_below s x h = sym (ap (λ front. front ++ map (λ _. blank_row s.width s.pe
     many : length below ≡ height s - (s.row + 1)
     many = omega (arith, length-drop (s.row + 1) (set s.rows s.row x), length-set {A = Row} s.rows s.row x)
 
-    behind : map (λ _. blank_row s.width s.pen.background) below ≡ replicate (height s - (s.row + 1)) (blank_row s.width s.pen.background)
-    behind = map_same (blank_row s.width s.pen.background) below ∙ ap (λ n. replicate n (blank_row s.width s.pen.background)) many
+    after : map (λ _. blank_row s.width s.pen.background) below ≡ replicate (height s - (s.row + 1)) (blank_row s.width s.pen.background)
+    after = map_same (blank_row s.width s.pen.background) below ∙ ap (λ n. replicate n (blank_row s.width s.pen.background)) many
 
-    joined : (front rest : List Row) → (front ++ x ∷ []) ++ rest ≡ front ++ x ∷ rest
+    joined : (prefix rest : List Row) → (prefix ++ x ∷ []) ++ rest ≡ prefix ++ x ∷ rest
     joined [] rest = refl
     joined (y ∷ ys) rest = ap (λ zs. y ∷ zs) (joined ys rest)
 
@@ -151,7 +151,7 @@ display_end_turns width_of saved d h =
     (ap (λ row. record s { rows = take s.row s.rows ++ row ∷ replicate (height s - (s.row + 1)) (blank_row s.width s.pen.background) }) (erased_is s.column s.pen.background (get_or s.rows s.row []))
     ∙ ap (λ rows. record s { rows = rows }) (rows_below s (erased_after s.column s.pen.background (get_or s.rows s.row [])) h.lawful.row_in))
 
--- the place where the cursor was, on a screen of the same size: no wrap is pending there
+-- the position where the cursor was, on a screen of the same size: no wrap is pending there
 same_row : (s other : Screen) → IsScreen s → other.width ≡ s.width → height other ≡ height s → at_place (active_column s, s.row) other ≡ record other { column = active_column s; row = s.row }
 same_row s other h w t = λ i. record other { column = columns i; row = rows i }
   where
@@ -181,8 +181,8 @@ line_turns width_of saved d h = subst (λ x. Turns d x (line_erased s)) (sym (be
     s : Screen
     s = d.screen
 
-    others : List ChangeValue
-    others = ClearToEndOfLine s.pen.background ∷ same_place s ∷ AllAttributes s.pen ∷ []
+    remaining : List ChangeValue
+    remaining = ClearToEndOfLine s.pen.background ∷ same_place s ∷ AllAttributes s.pen ∷ []
 
     first : Display
     first = record d { screen = record s { column = 0 } }
@@ -196,8 +196,8 @@ line_turns width_of saved d h = subst (λ x. Turns d x (line_erased s)) (sym (be
         row : min s.row (height s - 1) ≡ s.row
         row = let g = h.lawful.row_in in omega arith
 
-    begun : replay width_of d (changes table.EraseLine saved s) ≡ replay width_of first others
-    begun = ap (λ x. replay width_of x others) home
+    begun : replay width_of d (changes table.EraseLine saved s) ≡ replay width_of first remaining
+    begun = ap (λ x. replay width_of x remaining) home
 
     blanks : cleared_after 0 s.pen.background (get_or s.rows s.row []) ≡ blank_row s.width s.pen.background
     blanks = erased_is 0 s.pen.background (get_or s.rows s.row []) ∙ ap (λ n. blank_row n s.pen.background) (let e = h.lawful.even s.row [] h.lawful.row_in in omega arith)
@@ -205,7 +205,7 @@ line_turns width_of saved d h = subst (λ x. Turns d x (line_erased s)) (sym (be
     cleared : Display
     cleared = record d { screen = record s { column = 0; rows = set s.rows s.row (blank_row s.width s.pen.background); pen = blank_of s.pen.background } }
 
-    gone : replay width_of first others ≡ record d { screen = line_erased s }
+    gone : replay width_of first remaining ≡ record d { screen = line_erased s }
     gone =
         ap (λ row. replay width_of (record d { screen = record s { column = 0; rows = set s.rows s.row row; pen = blank_of s.pen.background } }) (same_place s ∷ AllAttributes s.pen ∷ [])) blanks
         ∙ back width_of cleared s h.lawful refl (length-set {A = Row} s.rows s.row (blank_row s.width s.pen.background))

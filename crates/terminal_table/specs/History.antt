@@ -29,8 +29,8 @@ pub data Event : Type 0 where
   Resized : ℕ → ℕ → Event
   Forgot : ℕ → Event
 
--- The events of a history that goes on behind a stream. An action comes as soon as so many bytes have come that every
--- continuation has it, so a look or another size stands behind all that the bytes before it decide.
+-- The events of a history that goes on after a stream. An action comes as soon as so many bytes have come that every
+-- continuation has it, so a look or another size follows all that the bytes before it decide.
 abbrev pub events : List ℕ → History → List Event
 events stream [] = []
 events stream (Piece bytes ∷ history) = map Act (newly_decided_actions stream bytes) ++ events (stream ++ bytes) history

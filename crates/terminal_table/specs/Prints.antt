@@ -24,7 +24,7 @@ ends_run (Forgot number) = false
 abbrev pub run_strokes : View → List Stroke
 run_strokes view = map Cluster (clusters view.held)
 
--- the view on which an event does what it does by itself: behind the run, if the event ends it
+-- the view on which an event does what it does by itself: after the run, if the event ends it
 abbrev pub run_ended : (List ℕ → ℕ) → View → Event → View
 run_ended width_of view event = if ends_run event then settled width_of view else view
 

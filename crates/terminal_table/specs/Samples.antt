@@ -48,7 +48,7 @@ shown bytes = Piece bytes ∷ Look ∷ []
 abbrev pub shown_by_byte : List ℕ → History
 shown_by_byte bytes = map (λ b. Piece (b ∷ [])) bytes ++ Look ∷ []
 
--- bytes behind ESC, behind ESC [, and between ESC ] and ESC \
+-- bytes after ESC, after ESC [, and between ESC ] and ESC \
 abbrev pub escape : List ℕ → List ℕ
 escape bytes = 27 ∷ bytes
 

@@ -73,7 +73,7 @@ abbrev pub rows_below_erased : Screen → Screen
 rows_below_erased screen =
     record screen { rows = take (screen.row + 1) screen.rows ++ blanks_for screen (drop (screen.row + 1) screen.rows) }
 
--- the whole row, or all of them; no wrap is pending behind it
+-- the whole row, or all of them; no wrap is pending after it
 abbrev pub line_erased : Screen → Screen
 line_erased screen =
     record screen {
@@ -167,7 +167,7 @@ saved_step SaveCursor saved screen = Some (cursor_of screen)
 saved_step FullReset saved screen = None
 saved_step _ saved screen = saved
 
--- of the replies: what is replied comes behind those that were not yet taken
+-- of the replies: what is replied follows those that were not yet taken
 abbrev pub reply_step : ControlFunction → List ℕ → Screen → List ℕ
 reply_step ReportStatus replies screen = replies ++ status_reply
 reply_step ReportPosition replies screen = replies ++ position_reply screen

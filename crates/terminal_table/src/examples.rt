@@ -1,4 +1,4 @@
-//! Worked examples: what is seen of a new terminal behind some bytes, and what is logged of them. Each
+//! Worked examples: what is seen of a new terminal after some bytes, and what is logged of them. Each
 //! is the contract of a function that does nothing.
 ghost use Rattle.std.specs.Prelude.{◌≡◌, [], ◌∷◌, ◌++◌, codes, false, true, None, Some};
 ghost use Rattle.cell_base.specs.declared.attributes.CursorVisibility.TheVariants.{Visible, Hidden};

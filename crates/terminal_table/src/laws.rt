@@ -24,7 +24,7 @@ use escape_stream::encoding_laws::writable_lists_read_on;
 
 /// The changes that are logged for a control function, for an action and for a run have on a display
 /// the effect of the table's step: they turn one that shows the state's screen into one that shows the
-/// screen behind the step.
+/// screen after the step.
 pub fn changes_have_the_effect_of_steps()
     ensures functions { (width_of : List ℕ → ℕ) (function : ControlFunction) (state : State) (display : Display)
         → IsDisplay display → display.screen ≡ state.screen
@@ -81,7 +81,7 @@ pub fn views_stay_lawful()
 }
 
 /// What is logged for an event, and for a history, has on a display the effect of the table: replayed on
-/// one that shows the screen before, it leaves one that shows the screen behind.
+/// one that shows the screen before, it leaves one that shows the screen after.
 pub fn logged_changes_show_the_meaning()
     ensures event { (width_of : List ℕ → ℕ) (view : View) (event : Event) (display : Display) → IsView view
         → IsEvent event → IsDisplay display → display.screen ≡ view.state.screen
@@ -147,7 +147,7 @@ pub fn unfinished_ends_matter()
 }
 
 /// The text of one action that is writable by itself, where nothing is unfinished and no run is held, and
-/// then a look, are its row of the table: its step, and its changes; and nothing is unfinished behind.
+/// then a look, are its row of the table: its step, and its changes; and nothing is unfinished after it.
 pub fn single_actions_are_their_rows()
     ensures state { (width_of : List ℕ → ℕ) (view : View) (action : StreamAction) → IsIdle view
         → IsWritable (action ∷ []) → (after width_of view (alone action)).state ≡ row_done width_of action view.state }

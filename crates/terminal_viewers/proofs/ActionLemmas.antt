@@ -218,24 +218,24 @@ module _ (f : List ℕ → ℕ) where
   read_after : (closed : Bool) (actions : List StreamAction) (v : View) (texts : List PlacedText) → (closed ≡ true → v.held ≡ []) → Sends v actions texts
       → (actions_print v (read_form_after closed actions) ≡ texts) × ArePlain v (read_form_after closed actions)
   read_after closed [] v texts h p = let added = added_sends closed false v h in (added.prints ∙ p.prints, added.plain)
-  read_after closed (a ∷ others) v texts h p =
+  read_after closed (a ∷ remaining) v texts h p =
       let stands : Bool = is_string_terminator a in
       let before : List StreamAction = terminator_before closed stands in
       let own : List StreamAction = characters_of a in
       let next : View = event_done f v (Act a) in
-      let rest : List StreamAction = read_form_after (closes_string a) others in
+      let rest : List StreamAction = read_form_after (closes_string a) remaining in
       let added = added_sends closed stands v h in
       let same : actions_done f v before ≡ v = added_done closed stands v h in
-      let behind : actions_done f v (before ++ own) ≡ next = joined f before own v ∙ ap (λ w. actions_done f w own) same ∙ one_done a v p.utf8.0 in
-      let later = read_after (closes_string a) others next (actions_print next others) (closed_run a v) (record { prints = refl; plain = p.plain.1; utf8 = p.utf8.1 }) in (
+      let after : actions_done f v (before ++ own) ≡ next = joined f before own v ∙ ap (λ w. actions_done f w own) same ∙ one_done a v p.utf8.0 in
+      let later = read_after (closes_string a) remaining next (actions_print next remaining) (closed_run a v) (record { prints = refl; plain = p.plain.1; utf8 = p.utf8.1 }) in (
         print_append v (before ++ own) rest
-            ∙ (λ i. print_append v before own i ++ actions_print (behind i) rest)
+            ∙ (λ i. print_append v before own i ++ actions_print (after i) rest)
             ∙ (λ i. (added.prints i ++ actions_print (same i) own) ++ actions_print next rest)
             ∙ (λ i. one_prints a v i ++ later.0 i)
             ∙ p.prints,
         are_plain_append v (before ++ own) rest
             (are_plain_append v before own added.plain (subst (λ w. ArePlain w own) (sym same) (one_plain a v p.plain.0)))
-            (subst (λ w. ArePlain w rest) (sym behind) later.1),
+            (subst (λ w. ArePlain w rest) (sym after) later.1),
       )
 
   pub read_prints : (actions : List StreamAction) (v : View) (texts : List PlacedText) → Sends v actions texts → (actions_print v (read_form actions) ≡ texts) × ArePlain v (read_form actions)

@@ -1,4 +1,4 @@
--- What chains keep as they go on and as their viewers are answered, and what is shown behind an answer.
+-- What chains keep as they go on and as their viewers are answered, and what is shown after an answer.
 use Rattle.std.proofs.Common.{◌≡◌, ℕ, zero, suc, ◌≤◌, List, [], ◌∷◌, ◌++◌, take, refl, sym, ap, subst, ◌∙◌, arith}
 use Rattle.std.proofs.lemmas.List.Elements.{All-cons, All-head, All-nil, All-tail}
 use Rattle.cell_base.specs.Row.{space}
@@ -6,7 +6,7 @@ use Rattle.cell_base.specs.Screen.{Screen}
 use Rattle.screen_effects.specs.Display.{IsDisplay}
 use Rattle.terminal_viewers.specs.Reading.{CanReadPatch, PatchesAreShown, PatchesLeaveIdle}
 use Rattle.terminal_render.specs.Effects.{IsReady}
-use Rattle.terminal_viewers.specs.Sessions.{Answer, Update, Patch, Chain, Viewer, answer_bytes, answered, answering, behind, forgetting, readings, sizes}
+use Rattle.terminal_viewers.specs.Sessions.{Answer, Update, Patch, Chain, Viewer, answer_bytes, answered, answering, lagging, forgetting, readings, sizes}
 use Rattle.terminal_viewers.specs.Showing.{AllShow, CanAnswer, IsShown}
 use Rattle.terminal_viewers.proofs.HistoryLemmas.{AreSteps, Rests, can_answer_after, repeated-append, rests_after_forgetting, rests_after_look, rests_after_sizes, sizes_are_steps, steps-append, steps_are_sizes}
 use Rattle.terminal_render.proofs.ViewLemmas.{display_on_is}
@@ -42,7 +42,7 @@ pub can_answer : (width_of : List ℕ → ℕ) (one : Standing) (viewers : List 
 can_answer width_of one [] h = h
 can_answer width_of one (viewer ∷ viewers) h = h.0
 
--- behind an answer a chain is still one, and the viewer shows the one that answered it
+-- after an answer a chain is still one, and the viewer shows the one that answered it
 pub record IsAnswered (width_of : List ℕ → ℕ) (at : ℕ) (chain : Chain) : Type 0 where
   pub stays : IsChain width_of chain.terminal chain.viewers
   pub shown : IsShown at chain.terminal chain.viewers
@@ -84,7 +84,7 @@ module _ (cut : AllCut) (width_of : List ℕ → ℕ) (narrow : width_of space �
         steps = steps-append viewer.since history f.steps h;
       }
 
-  pub goes_on : (history : History) (one : Standing) (viewers : List Viewer) → AreSteps history → IsChain width_of one viewers → IsChain width_of (standing_after width_of one history) (behind history viewers)
+  pub goes_on : (history : History) (one : Standing) (viewers : List Viewer) → AreSteps history → IsChain width_of one viewers → IsChain width_of (standing_after width_of one history) (lagging history viewers)
   goes_on history one [] h c = can_answer_after cut width_of narrow one history c h
   goes_on history one (viewer ∷ viewers) h c =
       (can_answer_after cut width_of narrow one history c.0 h, follows_after one viewer history c.0 (can_answer width_of viewer.standing viewers c.2) c.1 h, c.2)
@@ -147,7 +147,7 @@ module _ (cut : AllCut) (width_of : List ℕ → ℕ) (narrow : width_of space �
           idle = patch_idles width_of viewer.view one.view.state.screen reads;
         }
 
-    -- behind the sizes since the last answer
+    -- after the sizes since the last answer
     answer_rests : (answer : Answer) (one : Standing) (viewer : Viewer) → CanAnswer width_of one → CanAnswer width_of viewer.standing → Follows width_of one viewer
         → Rests (answered width_of answer viewer one).standing.view one.view.state.screen
     answer_rests answer one viewer can own f =
@@ -177,7 +177,7 @@ module _ (cut : AllCut) (width_of : List ℕ → ℕ) (narrow : width_of space �
 
     -- the first viewer
     first_answered : (answer : Answer) (one : Standing) (viewer : Viewer) (viewers : List Viewer) → CanAnswer width_of one → Follows width_of one viewer → IsChain width_of viewer.standing viewers
-        → IsChain width_of one (answered width_of answer viewer one ∷ behind (readings width_of answer viewer one) viewers)
+        → IsChain width_of one (answered width_of answer viewer one ∷ lagging (readings width_of answer viewer one) viewers)
     first_answered answer one viewer viewers can f c =
         let own = can_answer width_of viewer.standing viewers c in
         let history = readings width_of answer viewer one in
@@ -193,7 +193,7 @@ module _ (cut : AllCut) (width_of : List ℕ → ℕ) (narrow : width_of space �
         let follows = follows_looked one viewer c.0 own c.1 in
         record { stays = first_answered answer looked viewer viewers can follows c.2; shown = (answer_rests answer looked viewer can own follows).screen_is }
     answering_shows answer (suc at) one (viewer ∷ viewers) c =
-        let others = answering_shows answer at viewer.standing viewers c.2 in
+        let remaining = answering_shows answer at viewer.standing viewers c.2 in
         let rests = answering_rests answer at viewer.standing viewers c.1.idle in
         record {
           stays = (
@@ -204,9 +204,9 @@ module _ (cut : AllCut) (width_of : List ℕ → ℕ) (narrow : width_of space �
               reached = c.1.reached;
               steps = c.1.steps;
             },
-            others.stays,
+            remaining.stays,
           );
-          shown = others.shown;
+          shown = remaining.shown;
         }
 
     -- ---- the first viewers of a chain show its terminal, and the next one is answered
@@ -218,9 +218,9 @@ module _ (cut : AllCut) (width_of : List ℕ → ℕ) (narrow : width_of space �
         let looked = standing_after width_of one (Look ∷ []) in
         All-cons (HasScreen looked.view.state.screen) (answered width_of answer viewer looked) [] (answering_shows answer zero one (viewer ∷ viewers) c).shown (All-nil (HasScreen looked.view.state.screen))
     next_shows answer (suc at) one (viewer ∷ viewers) c h =
-        let others = answering width_of answer at viewer.standing viewers in
+        let remaining = answering width_of answer at viewer.standing viewers in
         let same = All-head (HasScreen one.view.state.screen) viewer (take at viewers) h in
-        let front = subst (λ (x : Screen). AllShow x (take at viewers)) (sym same) (All-tail (HasScreen one.view.state.screen) viewer (take at viewers) h) in
+        let prefix = subst (λ (x : Screen). AllShow x (take at viewers)) (sym same) (All-tail (HasScreen one.view.state.screen) viewer (take at viewers) h) in
         let rests = (answering_rests answer at viewer.standing viewers c.1.idle).screen_is ∙ same in
-        All-cons (HasScreen one.view.state.screen) (record viewer { standing = others.terminal }) (take (suc at) others.viewers) rests
-        (subst (λ (x : Screen). AllShow x (take (suc at) others.viewers)) rests (next_shows answer at viewer.standing viewers c.2 front))
+        All-cons (HasScreen one.view.state.screen) (record viewer { standing = remaining.terminal }) (take (suc at) remaining.viewers) rests
+        (subst (λ (x : Screen). AllShow x (take (suc at) remaining.viewers)) rests (next_shows answer at viewer.standing viewers c.2 prefix))

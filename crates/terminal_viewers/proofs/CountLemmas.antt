@@ -25,8 +25,8 @@ use Rattle.screen_log.specs.Log.{Log, due, first_number, most_due}
 use Rattle.screen_log.specs.LogSteps.{Sized}
 use Rattle.screen_effects.specs.Effect.{cursor_row}
 use Rattle.screen_repaint.specs.Repaint.{cursor_shown, end_cleared, go_with_blanks, in_next_row, pen_left, row_cells, row_painted, rows_painted}
-use Rattle.terminal_viewers.specs.Update.{due_or, last_cell, painted_anew, told, update_changes, written_again}
-use Rattle.terminal_viewers.proofs.PaintLemmas.{due_of, front_of, painted_rows, place_of, told_here, told_is, told_there}
+use Rattle.terminal_viewers.specs.Update.{due_or, last_cell, painted_anew, as_sent, update_changes, written_again}
+use Rattle.terminal_viewers.proofs.PaintLemmas.{due_of, front_of, painted_rows, place_of, sent_here, sent_is, sent_there}
 
 -- ---- runs of cells
 
@@ -56,8 +56,8 @@ runs_count pen [] = omega arith
 runs_count pen (run ∷ runs) =
     let due : List ChangeValue = attributes_due pen run.attributes in
     let own : List ChangeValue = map Text (texts run.cells) in
-    let others : List ChangeValue = runs_written run.attributes runs in
-    let first = length-append (due ++ own) others in
+    let remaining : List ChangeValue = runs_written run.attributes runs in
+    let first = length-append (due ++ own) remaining in
     let second = length-append due own in
     let count : length own ≡ length (texts run.cells) = length-map (texts run.cells) Text in
     let a = due_count pen run.attributes in
@@ -148,11 +148,11 @@ again_count : (s : Screen) (o : Option VisibleCell) → length (written_again s 
 again_count s None = omega arith
 again_count s (Some v) = omega arith
 
-place_count : (s : Screen) → 0 < s.width → length (flat_map (told s) (place_of s)) ≤ 4
+place_count : (s : Screen) → 0 < s.width → length (flat_map (as_sent s) (place_of s)) ≤ 4
 place_count s wide =
     by_test (s.column == s.width)
-    (λ e. subst (λ (cs : List ChangeValue). length cs ≤ 4) (sym (told_there s wide e)) (again_count s (last_cell (cursor_row s))))
-    (λ e. subst (λ (cs : List ChangeValue). length cs ≤ 4) (sym (told_here s e)) (one_place _))
+    (λ e. subst (λ (cs : List ChangeValue). length cs ≤ 4) (sym (sent_there s wide e)) (again_count s (last_cell (cursor_row s))))
+    (λ e. subst (λ (cs : List ChangeValue). length cs ≤ 4) (sym (sent_here s e)) (one_place _))
   where
     one_place : (b : Bool) → length (if b then [] else CursorPosition (Absolute s.column) (Absolute s.row) ∷ []) ≤ 4
     one_place true = omega arith
@@ -167,19 +167,19 @@ bound_of s = 2 * s.width * height s + 2 * height s + 11
 
 pub painted_count : (s : Screen) → IsScreen s → length (painted_anew s) ≤ bound_of s
 painted_count s h =
-    let place : List ChangeValue = flat_map (told s) (place_of s) in
+    let place : List ChangeValue = flat_map (as_sent s) (place_of s) in
     let shown : List ChangeValue = cursor_shown s.visible None in
     let rows : List ChangeValue = painted_rows s in
-    let a : length (painted_anew s) ≡ length (front_of s ++ place ++ due_of s ++ shown) = ap length (told_is s h.wide_enough) in
+    let a : length (painted_anew s) ≡ length (front_of s ++ place ++ due_of s ++ shown) = ap length (sent_is s h.wide_enough) in
     let b = length-append (front_of s ++ place ++ due_of s) shown in
     let c = length-append (front_of s ++ place) (due_of s) in
     let d = length-append (front_of s) place in
-    let front : length (front_of s) ≡ 3 + length rows = omega arith in
+    let prefix : length (front_of s) ≡ 3 + length rows = omega arith in
     let e = rows_count s.width plain s.rows h.even in
     let f = place_count s h.wide_enough in
     let g = due_count (pen_left plain rows) s.pen in
     let k = shown_count s.visible in
-    omega (arith, a, b, c, d, e, f, g, k, front)
+    omega (arith, a, b, c, d, e, f, g, k, prefix)
 
 -- ---- an update
 

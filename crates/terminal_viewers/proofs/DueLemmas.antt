@@ -1,4 +1,4 @@
--- What is due behind steps of a log, from a number that it has reached.
+-- What is due after steps of a log, from a number that it has reached.
 use Rattle.std.proofs.Common.{◌≡◌, ◌⊎◌, inl, inr, ℕ, ◌+◌, ◌-◌, ◌≤◌, ◌<◌, Bool, true, false, List, [], ◌∷◌, ◌++◌, length, drop, map, fold, refl, sym, ap, ◌∙◌, arith, append_assoc, append-nil, length-append, length-drop}
 use Rattle.std.specs.Prelude.{⊤, ◌==◌, ◌||◌, nat_lt, Option, Some, None, if◌then◌else◌}
 use Rattle.std.specs.Option.{option_map}
@@ -68,7 +68,7 @@ goes_nowhere : (due : Option (List ChangeValue)) → GoesOn due due []
 goes_nowhere None = inl refl
 goes_nowhere (Some first) = inr (first, refl, ap (λ (cs : List ChangeValue). Some cs) (sym (append-nil first)))
 
--- one change was put behind what was due, if it still is
+-- one change was put after what was due, if it still is
 put_after : (b : Bool) (before : Option (List ChangeValue)) (change : ChangeValue) (first : List ChangeValue) → (if b then None else option_map (λ (cs : List ChangeValue). cs ++ change ∷ []) before) ≡ Some first
     → (shorter : List ChangeValue) × (before ≡ Some shorter) × (first ≡ shorter ++ change ∷ [])
 put_after true before change first e = cc

@@ -19,7 +19,7 @@ use Rattle.terminal_viewers.specs.Encoding.{actions_or_none, all_encoded, encode
 -- something is sent for one
 pub spelled_some : (width tall : ℕ) (change : ChangeValue) → HasSpelling width tall change → rendering change width tall ≢ None
 spelled_some width tall change h none =
-    all_some width tall (change ∷ []) (h, tt) (ap (λ found. option_and_then (λ first. option_map (λ others. first ++ others) (Some [])) found) none)
+    all_some width tall (change ∷ []) (h, tt) (ap (λ found. option_and_then (λ first. option_map (λ remaining. first ++ remaining) (Some [])) found) none)
 
 or_none : (found : Option (List StreamAction)) → found ≢ None → found ≡ Some (actions_or_none found)
 or_none None h = absurd (h refl)
@@ -32,7 +32,7 @@ one_is_sent width tall change h = or_none (rendering change width tall) (spelled
 pub all_are_sent : (width tall : ℕ) (changes : List ChangeValue) → HaveSpellings width tall changes → all_rendered changes width tall ≡ Some (all_encoded width tall changes)
 all_are_sent width tall [] h = refl
 all_are_sent width tall (change ∷ changes) h =
-    λ i. option_and_then (λ first. option_map (λ others. first ++ others) (all_are_sent width tall changes h.1 i)) (one_is_sent width tall change h.0 i)
+    λ i. option_and_then (λ first. option_map (λ remaining. first ++ remaining) (all_are_sent width tall changes h.1 i)) (one_is_sent width tall change h.0 i)
 
 -- ---- their bytes
 
@@ -83,7 +83,7 @@ module _ {X : Type 0} (width tall : ℕ) (value : X → ChangeValue) where
   spelled_at (y ∷ xs) zero x lt e h = subst (λ (z : X). HasSpelling width tall (value z)) (sym e) h.0
   spelled_at (y ∷ xs) (suc i) x lt e h = spelled_at xs i x (omega (arith, lt)) e h.1
 
-  pub spelled_in : (told : ChangeValue → List ChangeValue) (xs : List X) (i : ℕ) (x : X) → i < length xs → x ≡ get_or xs i x → HaveSpellings width tall (flat_map told (map value xs)) → HaveSpellings width tall (told (value x))
-  spelled_in told [] i x lt e h = absurd (omega (arith, lt))
-  spelled_in told (y ∷ xs) zero x lt e h = subst (λ (z : X). HaveSpellings width tall (told (value z))) (sym e) (spellings_front width tall (told (value y)) (flat_map told (map value xs)) h)
-  spelled_in told (y ∷ xs) (suc i) x lt e h = spelled_in told xs i x (omega (arith, lt)) e (spellings_after width tall (told (value y)) (flat_map told (map value xs)) h)
+  pub spelled_in : (as_sent : ChangeValue → List ChangeValue) (xs : List X) (i : ℕ) (x : X) → i < length xs → x ≡ get_or xs i x → HaveSpellings width tall (flat_map as_sent (map value xs)) → HaveSpellings width tall (as_sent (value x))
+  spelled_in as_sent [] i x lt e h = absurd (omega (arith, lt))
+  spelled_in as_sent (y ∷ xs) zero x lt e h = subst (λ (z : X). HaveSpellings width tall (as_sent (value z))) (sym e) (spellings_front width tall (as_sent (value y)) (flat_map as_sent (map value xs)) h)
+  spelled_in as_sent (y ∷ xs) (suc i) x lt e h = spelled_in as_sent xs i x (omega (arith, lt)) e (spellings_after width tall (as_sent (value y)) (flat_map as_sent (map value xs)) h)

@@ -77,7 +77,7 @@ record IsSmall (screen : Screen) : Type 0 where
 resized_height : (width tall : ℕ) (screen : Screen) → height (resized_screen width tall screen) ≡ tall
 resized_height width tall screen =
     let all = map (resized_row width) screen.rows in
-    let front = length-take tall all in
+    let prefix = length-take tall all in
     let more = length-replicate (tall - length all) (plain_row width) in
     let both = length-append (take tall all) (replicate (tall - length all) (plain_row width)) in
     omega arith
@@ -118,10 +118,10 @@ module _ (cut : AllCut) (width_of : List ℕ → ℕ) where
 
 -- ---- a viewer that waits
 
--- nothing is unfinished behind a view, which has this screen
-pub record Rests (behind : View) (screen : Screen) : Type 0 where
-  pub screen_is : behind.state.screen ≡ screen
-  pub idle : IsIdle behind
+-- nothing is unfinished after a view, which has this screen
+pub record Rests (later : View) (screen : Screen) : Type 0 where
+  pub screen_is : later.state.screen ≡ screen
+  pub idle : IsIdle later
 
 module _ (width_of : List ℕ → ℕ) where
   -- a view that holds nothing
@@ -163,7 +163,7 @@ module _ (width_of : List ℕ → ℕ) where
     idle = record { run = idle.run; stream = subst (λ stream. held_of stream ≡ nothing_held) (sym (append-nil v.stream)) idle.stream };
   }
 
--- ---- one history behind another
+-- ---- one history after another
 
 module _ (width_of : List ℕ → ℕ) where
   pub nothing_after : (s : Standing) → standing_after width_of s [] ≡ s

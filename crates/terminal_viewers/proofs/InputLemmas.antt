@@ -42,10 +42,10 @@ record Reads (viewer : View) : Type 0 where
   ready : IsReady viewer
   idle : IsIdle viewer
 
--- a viewer behind an update shows its screen, and can be sent more
-record HasRead (behind : View) (screen : Screen) : Type 0 where
-  screen_is : behind.state.screen ≡ screen
-  reads : Reads behind
+-- a viewer after an update shows its screen, and can be sent more
+record HasRead (later : View) (screen : Screen) : Type 0 where
+  screen_is : later.state.screen ≡ screen
+  reads : Reads later
 
 -- ---- one piece
 
@@ -64,15 +64,15 @@ module _ (cut : AllCut) (shown : UpdatesAreShown) (idles : UpdatesLeaveIdle) (wi
   can_read : (s : Standing) (piece : List ℕ) (number : ℕ) (viewer : View) → Stands width_of s → Reads viewer → number ≤ s.log.log.number → Shows width_of viewer.state.screen number s.view.state.screen s.log
       → CanRead width_of viewer (standing_after width_of s (looks (piece ∷ []))).view.state.screen (standing_after width_of s (looks (piece ∷ []))).log number
   can_read s piece number viewer h r n p =
-      let behind = next_stands s piece h in
+      let later = next_stands s piece h in
       record {
         narrow = narrow;
         ready = r.ready;
         idle = r.idle;
-        display = display_on_is (standing_after width_of s (looks (piece ∷ []))).view.state behind.lawful.lawful;
-        sound = behind.sound;
-        spelled = behind.spelled.state.screen;
-        spellings = behind.spellings;
+        display = display_on_is (standing_after width_of s (looks (piece ∷ []))).view.state later.lawful.lawful;
+        sound = later.sound;
+        spelled = later.spelled.state.screen;
+        spellings = later.spellings;
         shows = history_shows width_of cut viewer.state.screen number s.view s.log (looks (piece ∷ [])) h.lawful tt (display_on_is viewer.state r.ready.lawful) h.counted n p;
       }
 
@@ -99,20 +99,20 @@ module _ (cut : AllCut) (shown : UpdatesAreShown) (idles : UpdatesLeaveIdle) (wi
   all_shown : PiecesJoin → (piece : List ℕ) (pieces : List (List ℕ)) (s : Standing) (number : ℕ) (viewer : View) → Stands width_of s → Reads viewer → number ≤ s.log.log.number → Shows width_of viewer.state.screen number s.view.state.screen s.log
       → HasRead (after width_of viewer (Piece (updates_after width_of s number (piece ∷ pieces)) ∷ [])) (after width_of s.view (looks (piece ∷ pieces))).state.screen
   all_shown joins piece [] s number viewer h r n p =
-      let behind = standing_after width_of s (looks (piece ∷ [])) in
-      subst (λ (bytes : List ℕ). HasRead (after width_of viewer (Piece bytes ∷ [])) behind.view.state.screen) (sym (nothing_after (update_of behind.view.state.screen behind.log number)))
-      (has_read viewer behind.view.state.screen behind.log number (can_read s piece number viewer h r n p))
+      let later = standing_after width_of s (looks (piece ∷ [])) in
+      subst (λ (bytes : List ℕ). HasRead (after width_of viewer (Piece bytes ∷ [])) later.view.state.screen) (sym (nothing_after (update_of later.view.state.screen later.log number)))
+      (has_read viewer later.view.state.screen later.log number (can_read s piece number viewer h r n p))
   all_shown joins piece (other ∷ pieces) s number viewer h r n p =
-      let behind = standing_after width_of s (looks (piece ∷ [])) in
-      let update = update_of behind.view.state.screen behind.log number in
-      let rest = updates_after width_of behind behind.log.log.number (other ∷ pieces) in
+      let later = standing_after width_of s (looks (piece ∷ [])) in
+      let update = update_of later.view.state.screen later.log number in
+      let rest = updates_after width_of later later.log.log.number (other ∷ pieces) in
       let stands = next_stands s piece h in
-      let read = has_read viewer behind.view.state.screen behind.log number (can_read s piece number viewer h r n p) in
-      let shows = subst (λ (x : Screen). Shows width_of x behind.log.log.number behind.view.state.screen behind.log) (sym read.screen_is) (shows_itself width_of behind.view.state.screen behind.log stands.counted) in
-      let others = all_shown joins other pieces behind behind.log.log.number (after width_of viewer (Piece update ∷ [])) stands read.reads (omega arith) shows in
+      let read = has_read viewer later.view.state.screen later.log number (can_read s piece number viewer h r n p) in
+      let shows = subst (λ (x : Screen). Shows width_of x later.log.log.number later.view.state.screen later.log) (sym read.screen_is) (shows_itself width_of later.view.state.screen later.log stands.counted) in
+      let remaining = all_shown joins other pieces later later.log.log.number (after width_of viewer (Piece update ∷ [])) stands read.reads (omega arith) shows in
       subst (λ (v : View). HasRead v (after width_of s.view (looks (piece ∷ other ∷ pieces))).state.screen)
       (sym (sym (cut_after joins width_of viewer update rest []) ∙ after_joins width_of viewer (Piece update ∷ []) (Piece rest ∷ [])))
-      (subst (λ (v : View). HasRead (after width_of (after width_of viewer (Piece update ∷ [])) (Piece rest ∷ [])) v.state.screen) (sym (after_joins width_of s.view (looks (piece ∷ [])) (looks (other ∷ pieces)))) others)
+      (subst (λ (v : View). HasRead (after width_of (after width_of viewer (Piece update ∷ [])) (Piece rest ∷ [])) v.state.screen) (sym (after_joins width_of s.view (looks (piece ∷ [])) (looks (other ∷ pieces)))) remaining)
 
   -- ---- the input
 

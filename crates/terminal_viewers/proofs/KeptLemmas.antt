@@ -126,7 +126,7 @@ module _ (width_of : List ℕ → ℕ) where
 pub due_itself : (number : ℕ) (s : Sized) → length s.log.entries ≤ s.log.number → SameIsDue number s s
 due_itself number s h = record { most = refl; count = refl; one_counted = h; other_counted = h; same = λ n l. refl }
 
--- What is due behind one more change, by what was due before it: nothing above the new number, no changes at it, and below it what was due, and the change.
+-- What is due after one more change, by what was due before it: nothing above the new number, no changes at it, and below it what was due, and the change.
 abbrev due_next : Bool → Bool → ℕ → ℕ → ChangeValue → ℕ → Option (List ChangeValue) → Option (List ChangeValue)
 due_next is_past is_new most count change n before =
     if is_past then (if is_new then Some [] else None)

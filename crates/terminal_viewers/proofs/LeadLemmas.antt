@@ -44,7 +44,7 @@ seen false = refl
 is_number : (m n : ℕ) → (m == n) ≡ true → m ≡ n
 is_number m n e = grind (arith, nat_tests)
 
--- ---- the display behind each part
+-- ---- the display after each part
 
 module _ (keeps : DifferencesKeepOthers) (places : RegionsHavePlaces) (shows : ScreensAreShown) where
   module _ (width_of : List ℕ → ℕ) (old new : Screen) (narrow : width_of space ≡ 1) (g : IsDisplay (display_on old)) (h : IsDisplay (display_on new)) (sound : IsSoundDisplay width_of (display_on new))

@@ -10,7 +10,6 @@ pub mod PaintLemmas
 pub mod SpellLemmas
 pub mod CountLemmas
 pub mod EncodedLemmas
-pub mod WalkLemmas
 pub mod UpdateLemmas
 pub mod PatchSpellLemmas
 pub mod LeadLemmas

@@ -28,12 +28,12 @@ use Rattle.screen_repaint.specs.Repaint.{are_some, cursor_placed, cursor_shown, 
 use Rattle.screen_repaint.specs.Shown.{shown_on}
 use Rattle.screen_repaint.proofs.WholeLemmas.{titled_is_shown}
 use Rattle.screen_effects.specs.WrittenCells.{IsSoundDisplay, IsSoundRow}
-use Rattle.terminal_viewers.specs.Update.{display_on, last_cell, painted_anew, told, written_again}
+use Rattle.terminal_viewers.specs.Update.{display_on, last_cell, painted_anew, as_sent, written_again}
 use Rattle.terminal_viewers.proofs.PlaceLemmas.{row_is, written_is}
 
 -- ---- the changes of rows
 
--- attributes, texts, clears of what stands behind, and moves to the first column
+-- attributes, texts, clears of what follows, and moves to the first column
 abbrev pub IsOfRow : ChangeValue → Type 0
 IsOfRow (AllAttributes attributes) = ⊤
 IsOfRow (Text text) = ⊤
@@ -104,28 +104,28 @@ pub each_of_row : (f g : ChangeValue → List ChangeValue) → ((change : Change
 each_of_row f g same [] p = refl
 each_of_row f g same (change ∷ changes) p = λ i. same change p.0 i ++ each_of_row f g same changes p.1 i
 
--- ---- the changes that are told otherwise
+-- ---- the changes that are sent otherwise
 
 -- none of a row, as the width isn't 0
-pub told_of_row : (s : Screen) → 0 < s.width → (change : ChangeValue) → IsOfRow change → told s change ≡ change ∷ []
-told_of_row s wide (CursorPosition (Absolute column) y) p =
+pub sent_of_row : (s : Screen) → 0 < s.width → (change : ChangeValue) → IsOfRow change → as_sent s change ≡ change ∷ []
+sent_of_row s wide (CursorPosition (Absolute column) y) p =
     let not_there : (column == s.width) ≡ false = grind (arith, nat_tests) in
     ap (λ b. if b then written_again s (last_cell (cursor_row s)) else CursorPosition (Absolute column) y ∷ []) not_there
-told_of_row s wide change p = refl
+sent_of_row s wide change p = refl
 
 pub all_alone : (changes : List ChangeValue) → flat_map (λ change. change ∷ []) changes ≡ changes
 all_alone changes = flat_map_single (λ (change : ChangeValue). change) changes ∙ map-id changes
 
-due_told : (s : Screen) (pen a : Attributes) → flat_map (told s) (attributes_due pen a) ≡ attributes_due pen a
-due_told s pen a = by_answer (same_attributes a pen)
+due_sent : (s : Screen) (pen a : Attributes) → flat_map (as_sent s) (attributes_due pen a) ≡ attributes_due pen a
+due_sent s pen a = by_answer (same_attributes a pen)
   where
-    by_answer : (b : Bool) → flat_map (told s) (if b then [] else AllAttributes a ∷ []) ≡ (if b then [] else AllAttributes a ∷ [])
+    by_answer : (b : Bool) → flat_map (as_sent s) (if b then [] else AllAttributes a ∷ []) ≡ (if b then [] else AllAttributes a ∷ [])
     by_answer true = refl
     by_answer false = refl
 
-shown_told : (s : Screen) (visible : Bool) → flat_map (told s) (cursor_shown visible None) ≡ cursor_shown visible None
-shown_told s true = refl
-shown_told s false = refl
+shown_sent : (s : Screen) (visible : Bool) → flat_map (as_sent s) (cursor_shown visible None) ≡ cursor_shown visible None
+shown_sent s true = refl
+shown_sent s false = refl
 
 -- the parts of what paints a screen anew
 abbrev pub painted_rows : Screen → List ChangeValue
@@ -140,26 +140,26 @@ place_of s = cursor_placed (are_some (painted_rows s)) s.column s.row
 abbrev pub due_of : Screen → List ChangeValue
 due_of s = attributes_due (pen_left plain (painted_rows s)) s.pen
 
--- only the cursor's place is told otherwise
-pub told_is : (s : Screen) → 0 < s.width → painted_anew s ≡ front_of s ++ flat_map (told s) (place_of s) ++ due_of s ++ cursor_shown s.visible None
-told_is s wide =
-    let f : ChangeValue → List ChangeValue = told s in
+-- only the position of the cursor is sent otherwise
+pub sent_is : (s : Screen) → 0 < s.width → painted_anew s ≡ front_of s ++ flat_map (as_sent s) (place_of s) ++ due_of s ++ cursor_shown s.visible None
+sent_is s wide =
+    let f : ChangeValue → List ChangeValue = as_sent s in
     let begin : List ChangeValue = (CursorVisibility Hidden ∷ ClearScreen attribute.Default ∷ []) ++ (Title s.title ∷ []) in
     let rows : List ChangeValue = painted_rows s in
     let shown : List ChangeValue = cursor_shown s.visible None in
-    let rows_are : flat_map f rows ≡ rows = each_of_row f (λ change. change ∷ []) (told_of_row s wide) rows (rows_of_row plain s.rows) ∙ all_alone rows in
+    let rows_are : flat_map f rows ≡ rows = each_of_row f (λ change. change ∷ []) (sent_of_row s wide) rows (rows_of_row plain s.rows) ∙ all_alone rows in
     flat_map-append f (begin ++ rows ++ place_of s ++ due_of s) shown
-    ∙ (λ i. flat_map-append f (begin ++ rows ++ place_of s) (due_of s) i ++ shown_told s s.visible i)
-    ∙ (λ i. flat_map-append f (begin ++ rows) (place_of s) i ++ due_told s (pen_left plain rows) s.pen i ++ shown)
+    ∙ (λ i. flat_map-append f (begin ++ rows ++ place_of s) (due_of s) i ++ shown_sent s s.visible i)
+    ∙ (λ i. flat_map-append f (begin ++ rows) (place_of s) i ++ due_sent s (pen_left plain rows) s.pen i ++ shown)
     ∙ (λ i. flat_map-append f begin rows i ++ flat_map f (place_of s) ++ due_of s ++ shown)
     ∙ (λ i. begin ++ rows_are i ++ flat_map f (place_of s) ++ due_of s ++ shown)
 
 -- ---- no wrap is pending
 
-pub told_here : (s : Screen) → (s.column == s.width) ≡ false → flat_map (told s) (place_of s) ≡ place_of s
-told_here s e = by_answer (not (are_some (painted_rows s)) && (s.column == 0 && s.row == 0))
+pub sent_here : (s : Screen) → (s.column == s.width) ≡ false → flat_map (as_sent s) (place_of s) ≡ place_of s
+sent_here s e = by_answer (not (are_some (painted_rows s)) && (s.column == 0 && s.row == 0))
   where
-    by_answer : (b : Bool) → flat_map (told s) (if b then [] else CursorPosition (Absolute s.column) (Absolute s.row) ∷ []) ≡ (if b then [] else CursorPosition (Absolute s.column) (Absolute s.row) ∷ [])
+    by_answer : (b : Bool) → flat_map (as_sent s) (if b then [] else CursorPosition (Absolute s.column) (Absolute s.row) ∷ []) ≡ (if b then [] else CursorPosition (Absolute s.column) (Absolute s.row) ∷ [])
     by_answer true = refl
     by_answer false = ap (λ b. (if b then written_again s (last_cell (cursor_row s)) else CursorPosition (Absolute s.column) (Absolute s.row) ∷ []) ++ []) e
 
@@ -175,14 +175,14 @@ placed_there s wide e =
     let test : (not (are_some (painted_rows s)) && (s.column == 0 && s.row == 0)) ≡ false = ap (λ b. not (are_some (painted_rows s)) && (b && s.row == 0)) not_home ∙ and_false (not (are_some (painted_rows s))) in
     ap (λ b. if b then [] else CursorPosition (Absolute s.column) (Absolute s.row) ∷ []) test
 
-pub told_there : (s : Screen) → 0 < s.width → (s.column == s.width) ≡ true → flat_map (told s) (place_of s) ≡ written_again s (last_cell (cursor_row s))
-told_there s wide e =
-    ap (flat_map (told s)) (placed_there s wide e)
+pub sent_there : (s : Screen) → 0 < s.width → (s.column == s.width) ≡ true → flat_map (as_sent s) (place_of s) ≡ written_again s (last_cell (cursor_row s))
+sent_there s wide e =
+    ap (flat_map (as_sent s)) (placed_there s wide e)
     ∙ ap (λ b. (if b then written_again s (last_cell (cursor_row s)) else CursorPosition (Absolute s.column) (Absolute s.row) ∷ []) ++ []) e
     ∙ append-nil (written_again s (last_cell (cursor_row s)))
 
 module _ (width_of : List ℕ → ℕ) where
-  -- attributes and the cursor leave rows and place as they are
+  -- attributes and the cursor leave rows and position as they are
   after_rows : (e : Display) (pen a : Attributes) (visible : Bool) → (replay width_of (replay width_of e (attributes_due pen a)) (cursor_shown visible None)).screen.rows ≡ e.screen.rows
   after_rows e pen a visible = by_answer (same_attributes a pen) visible
     where
@@ -201,7 +201,7 @@ module _ (width_of : List ℕ → ℕ) where
       by_answer false true = refl
       by_answer false false = refl
 
-  -- and where they are replayed behind the pen's attributes, the pen has these
+  -- and where they are replayed after the pen's attributes, the pen has these
   after_pen : (e f : Display) (pen a : Attributes) (visible : Bool) → f.screen ≡ with_pen a e.screen
       → (replay width_of (replay width_of f (attributes_due pen a)) (cursor_shown visible None)).screen ≡ with_pen a (replay width_of (replay width_of e (attributes_due pen a)) (cursor_shown visible None)).screen
   after_pen e f pen a visible same = by_answer (same_attributes a pen) visible
@@ -213,10 +213,10 @@ module _ (width_of : List ℕ → ℕ) where
       by_answer false true = ap (λ (s : Screen). record s { visible = true; pen = a }) same
       by_answer false false = ap (with_pen a) same
 
-  three_parts : (d : Display) (front place due shown : List ChangeValue) → replay width_of d (front ++ place ++ due ++ shown) ≡ replay width_of (replay width_of (replay width_of (replay width_of d front) place) due) shown
-  three_parts d front place due shown =
-      fold-append (effect width_of) d (front ++ place ++ due) shown
-      ∙ ap (λ (e : Display). replay width_of e shown) (fold-append (effect width_of) d (front ++ place) due ∙ ap (λ (e : Display). replay width_of e due) (fold-append (effect width_of) d front place))
+  three_parts : (d : Display) (prefix place due shown : List ChangeValue) → replay width_of d (prefix ++ place ++ due ++ shown) ≡ replay width_of (replay width_of (replay width_of (replay width_of d prefix) place) due) shown
+  three_parts d prefix place due shown =
+      fold-append (effect width_of) d (prefix ++ place ++ due) shown
+      ∙ ap (λ (e : Display). replay width_of e shown) (fold-append (effect width_of) d (prefix ++ place) due ∙ ap (λ (e : Display). replay width_of e due) (fold-append (effect width_of) d prefix place))
 
   module _ (other : Display) (s : Screen) (narrow : width_of space ≡ 1) (h : IsDisplay (display_on s)) (sound : IsSoundDisplay width_of (display_on s)) (g : IsDisplay other)
       (wide : other.screen.width ≡ s.width) (high : length other.screen.rows ≡ length s.rows) where
@@ -231,8 +231,8 @@ module _ (width_of : List ℕ → ℕ) where
 
     here : (s.column == s.width) ≡ false → (replay width_of other (painted_anew s)).screen ≡ s
     here e =
-        let told : painted_anew s ≡ repaint_with (Title s.title ∷ []) (display_on s) = told_is s h.lawful.wide_enough ∙ ap (λ (cs : List ChangeValue). front_of s ++ cs ++ due_of s ++ shown_now) (told_here s e) in
-        ap (λ (cs : List ChangeValue). (replay width_of other cs).screen) told ∙ ap (λ (d : Display). d.screen) law
+        let as_sent : painted_anew s ≡ repaint_with (Title s.title ∷ []) (display_on s) = sent_is s h.lawful.wide_enough ∙ ap (λ (cs : List ChangeValue). front_of s ++ cs ++ due_of s ++ shown_now) (sent_here s e) in
+        ap (λ (cs : List ChangeValue). (replay width_of other cs).screen) as_sent ∙ ap (λ (d : Display). d.screen) law
 
     there : (s.column == s.width) ≡ true → (replay width_of other (painted_anew s)).screen ≡ s
     there e =
@@ -254,7 +254,7 @@ module _ (width_of : List ℕ → ℕ) where
         let test : (s.column == d.screen.width) ≡ true = ap (λ n. s.column == n) width ∙ e in
         let same : on_screen (λ t. record t { column = t.width; row = s.row; pen = s.pen }) d ≡ on_screen (with_pen s.pen) moved =
         λ i. on_screen (λ t. record t { column = at_width d.screen.width d.screen.column test i; row = sym (row_is (length d.screen.rows) d.screen.row s.row tall) i; pen = s.pen }) d in
-        ap (λ (cs : List ChangeValue). (replay width_of other cs).screen) (told_is s h.lawful.wide_enough ∙ ap (λ (cs : List ChangeValue). front_of s ++ cs ++ due_of s ++ shown_now) (told_there s h.lawful.wide_enough e))
+        ap (λ (cs : List ChangeValue). (replay width_of other cs).screen) (sent_is s h.lawful.wide_enough ∙ ap (λ (cs : List ChangeValue). front_of s ++ cs ++ due_of s ++ shown_now) (sent_there s h.lawful.wide_enough e))
         ∙ ap (λ (x : Display). x.screen) (three_parts other (front_of s) again (due_of s) shown_now)
         ∙ after_pen moved (replay width_of d again) pen s.pen s.visible (ap (λ (x : Display). x.screen) (written ∙ same))
         ∙ ap (λ (x : Display). with_pen s.pen x.screen) end

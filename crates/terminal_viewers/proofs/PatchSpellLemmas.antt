@@ -148,8 +148,8 @@ module _ (width : ℕ) (P : ChangeValue → Type 0) (of_text : (text : List ℕ)
   each_of_stretches : (pen : Option Attributes) (ss : List Stretch) → AreSpelledStretches width ss → Each (stretches_written pen ss)
   each_of_stretches pen [] p = tt
   each_of_stretches pen (s ∷ ss) p =
-      each_append (stretch_written pen s) (stretches_written (Some (last_pen s.first.attributes s.others)) ss)
-      (each_stretch pen s p.0) (each_of_stretches (Some (last_pen s.first.attributes s.others)) ss p.1)
+      each_append (stretch_written pen s) (stretches_written (Some (last_pen s.first.attributes s.remaining)) ss)
+      (each_stretch pen s p.0) (each_of_stretches (Some (last_pen s.first.attributes s.remaining)) ss p.1)
 
   each_again : (s : Screen) → IsSpelledPen s.pen → (o : Option VisibleCell) → update.IsSpelledCell width o → Each (written_again s o)
   each_again s p None q = tt

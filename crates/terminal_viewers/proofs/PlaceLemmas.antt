@@ -29,7 +29,7 @@ use Rattle.terminal_viewers.specs.Update.{last_cell, written_again}
 abbrev pub cell_columns : VisibleCell → Row
 cell_columns v = columns_of v.cell.text (nat_le 2 v.cell.width) v.cell.attributes
 
--- a row whose first column has a number ends in a cell: its columns stand behind whole ones
+-- a row whose first column has a number ends in a cell: its columns follow whole ones
 pub record LastCell (width_of : List ℕ → ℕ) (at : ℕ) (row : Row) : Type 0 where
   pub cell : VisibleCell
   pub before : Row
@@ -63,19 +63,19 @@ last_cell_is width_of at (Narrow text attributes ∷ next ∷ row) n w p =
     }
 last_cell_is width_of at (RightHalf attributes ∷ row) n w p = absurd w
 last_cell_is width_of at (LeftHalf text attributes ∷ []) n w p = absurd w
-last_cell_is width_of at (LeftHalf text attributes ∷ Narrow other others ∷ row) n w p = absurd w
-last_cell_is width_of at (LeftHalf text attributes ∷ LeftHalf other others ∷ row) n w p = absurd w
-last_cell_is width_of at (LeftHalf text attributes ∷ RightHalf others ∷ []) n w p =
+last_cell_is width_of at (LeftHalf text attributes ∷ Narrow other remaining ∷ row) n w p = absurd w
+last_cell_is width_of at (LeftHalf text attributes ∷ LeftHalf other remaining ∷ row) n w p = absurd w
+last_cell_is width_of at (LeftHalf text attributes ∷ RightHalf remaining ∷ []) n w p =
     record { cell = visible_at at text 2 attributes; before = []; last = λ start. refl; whole = tt; same = ap (λ (a : Attributes). LeftHalf text attributes ∷ RightHalf a ∷ []) w.0; column = omega arith; sound = p.0; some = omega arith; most = omega arith; fills = refl }
-last_cell_is width_of at (LeftHalf text attributes ∷ RightHalf others ∷ next ∷ row) n w p =
+last_cell_is width_of at (LeftHalf text attributes ∷ RightHalf remaining ∷ next ∷ row) n w p =
     let rest = last_cell_is width_of (at + 1 + 1) (next ∷ row) (omega arith) w.1 p.1 in
     let column = rest.column in
     record {
       cell = rest.cell;
-      before = LeftHalf text attributes ∷ RightHalf others ∷ rest.before;
+      before = LeftHalf text attributes ∷ RightHalf remaining ∷ rest.before;
       last = λ start. rest.last (Some (visible_at at text 2 attributes));
       whole = (w.0, rest.whole);
-      same = ap (λ (r : Row). LeftHalf text attributes ∷ RightHalf others ∷ r) rest.same;
+      same = ap (λ (r : Row). LeftHalf text attributes ∷ RightHalf remaining ∷ r) rest.same;
       column = omega arith;
       sound = rest.sound;
       some = rest.some;
@@ -87,7 +87,7 @@ columns_count : (text : List ℕ) (wide : Bool) (a : Attributes) → 0 < length 
 columns_count text true a = omega arith
 columns_count text false a = omega arith
 
--- columns that are set where they stand, behind whole ones and at the end
+-- columns that are set where they stand, after whole ones and at the end
 pub set_again : (before columns : Row) → IsWhole before → set_columns (before ++ columns) (length before) columns ≡ before ++ columns
 set_again before columns w =
     let row : Row = before ++ columns in
@@ -116,7 +116,7 @@ text_written width_of d text wide h p fits =
     ∙ one_run width_of pen (text ∷ []) d h (p.stands, tt) (subst (λ (r : Row). d.screen.column + length r ≤ d.screen.width) (sym own) fits)
     ∙ ap (λ (r : Row). on_screen (write_columns r) d) own
 
--- ---- places
+-- ---- positions
 
 pub column_is : (width from column : ℕ) → column < width → column_place width from (Absolute column) ≡ column
 column_is width from column h =
@@ -128,7 +128,7 @@ row_is size from row h = omega arith
 
 -- ---- the last cell of the cursor's row, written once more
 
--- on a display with its rows it leaves these, the cursor behind the last column, and the pen
+-- on a display with its rows it leaves these, the cursor after the last column, and the pen
 pub written_is : (width_of : List ℕ → ℕ) (s : Screen) (d : Display) → IsDisplay d → IsSoundDisplay width_of d → d.screen.rows ≡ s.rows → s.row < length s.rows
     → replay width_of d (written_again s (last_cell (cursor_row s))) ≡ on_screen (λ t. record t { column = t.width; row = s.row; pen = s.pen }) d
 written_is width_of s d h sound rows in_rows =

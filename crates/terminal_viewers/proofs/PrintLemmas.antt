@@ -56,7 +56,7 @@ use Rattle.terminal_viewers.proofs.PlaceLemmas.{LastCell, cell_columns, last_cel
 
 -- ---- the kinds of changes of a patch
 
--- texts without controls, attributes, places, titles, and whether the cursor is visible
+-- texts without controls, attributes, positions, titles, and whether the cursor is visible
 abbrev pub IsOfPatch : ChangeValue → Type 0
 IsOfPatch (Text text) = IsPrinted text × IsUtf8 text
 IsOfPatch (AllAttributes pen) = ⊤
@@ -178,15 +178,15 @@ module _ (f : List ℕ → ℕ) where
       let here : Bool = strokes_scroll f d.screen (change_strokes change) in
       let later : Bool = texts_scroll f (effect f d change) changes in
       let found = parts (rendering change v.state.screen.width (height v.state.screen)) (all_rendered changes v.state.screen.width (height v.state.screen)) actions e in
-      let rest : all_rendered changes (effect f d change).screen.width (height (effect f d change).screen) ≡ Some found.others = (λ i. all_rendered changes (width i) (tall i)) ∙ found.rest_is in
+      let rest : all_rendered changes (effect f d change).screen.width (height (effect f d change).screen) ≡ Some found.remaining = (λ i. all_rendered changes (width i) (tall i)) ∙ found.rest_is in
       let calm : strokes_scroll f v.state.screen (change_strokes change) ≡ false = ap (λ s. strokes_scroll f s (change_strokes change)) (sym same) ∙ no_first here later still in
       let own : Sends f v found.first (strokes_print f d.screen (change_strokes change)) =
       subst (λ s. Sends f v found.first (strokes_print f s (change_strokes change))) (sym same) (change_sends v change v.state.screen.width (height v.state.screen) found.first ready.run p.0 calm found.found_is) in
-      let others : Sends f (actions_done f v found.first) found.others (changes_print f (effect f d change) changes) =
-      subst (λ w. Sends f w found.others (changes_print f (effect f d change) changes)) (sym (have_the_effect f v d change found.first ready same found.found_is))
-      (changes_send (with_change f v d change) (effect f d change) changes found.others (ready_after v d change ready h same) (effect_is f d change h) refl p.1 (no_second here later still) rest) in
+      let remaining : Sends f (actions_done f v found.first) found.remaining (changes_print f (effect f d change) changes) =
+      subst (λ w. Sends f w found.remaining (changes_print f (effect f d change) changes)) (sym (have_the_effect f v d change found.first ready same found.found_is))
+      (changes_send (with_change f v d change) (effect f d change) changes found.remaining (ready_after v d change ready h same) (effect_is f d change h) refl p.1 (no_second here later still) rest) in
       subst (λ xs. Sends f v xs (changes_print f d (change ∷ changes))) (sym found.are)
-      (both_send f v found.first found.others (strokes_print f d.screen (change_strokes change)) (changes_print f (effect f d change) changes) own others)
+      (both_send f v found.first found.remaining (strokes_print f d.screen (change_strokes change)) (changes_print f (effect f d change) changes) own remaining)
 
 -- ---- what the changes of a patch print
 
@@ -232,7 +232,7 @@ module _ (keeps : DifferencesKeepOthers) (places : RegionsHavePlaces) (shows : S
     drawn_rows : drawn.screen.rows ≡ new.rows
     drawn_rows = lead.drawn_rows keeps places shows f old new narrow g h sound wide tall
 
-    -- what is printed for the cursor's place
+    -- what is printed for the cursor's position
     record Placed : Type 0 where
       prints : changes_print f drawn (place_and_pen new) ≡ place_prints new
       still : texts_scroll f drawn (place_and_pen new) ≡ false

@@ -94,10 +94,10 @@ module _ (leads : PatchesLead) (spells : PatchesHaveSpellings) (writes : Spelled
       decided : newly_decided_actions viewer.stream (patch_for viewer screen) ≡ read_form s.actions
       decided = ap (newly_decided_actions viewer.stream) s.bytes ∙ reads viewer.stream s.actions (whole viewer.stream can.idle.stream) s.writable
 
-      abbrev behind : View
-      behind = actions_done f viewer (read_form s.actions)
+      abbrev after : View
+      after = actions_done f viewer (read_form s.actions)
 
-      no_run : behind.held ≡ []
+      no_run : after.held ≡ []
       no_run =
           sym (ap (λ (es : List Event). (fold (event_done f) viewer es).held) (append-nil (map Act (newly_decided_actions viewer.stream (patch_for viewer screen))) ∙ ap (map Act) decided))
           ∙ (idles f viewer screen can).run
@@ -106,8 +106,8 @@ module _ (leads : PatchesLead) (spells : PatchesHaveSpellings) (writes : Spelled
       fresh_printed =
           ap (λ (xs : List StreamAction). events_print f viewer (map Act xs ++ Looked ∷ [])) decided
           ∙ events_append f viewer (map Act (read_form s.actions)) (Looked ∷ [])
-          ∙ (λ i. read_back.0 i ++ (strokes_print f behind.state.screen (map Cluster (clusters (no_run i))) ++ []))
-          ∙ (λ i. texts ++ (strokes_print f behind.state.screen (map Cluster (no_clusters i)) ++ []))
+          ∙ (λ i. read_back.0 i ++ (strokes_print f after.state.screen (map Cluster (clusters (no_run i))) ++ []))
+          ∙ (λ i. texts ++ (strokes_print f after.state.screen (map Cluster (no_clusters i)) ++ []))
           ∙ append-nil texts
 
       pub plain_read : ArePlainEvents f viewer (map Act (newly_decided_actions viewer.stream (patch_for viewer screen)) ++ Looked ∷ [])
@@ -117,7 +117,7 @@ module _ (leads : PatchesLead) (spells : PatchesHaveSpellings) (writes : Spelled
             record {
               rows = refl;
               still = refl;
-              run = λ e. (λ i. strokes_scroll f behind.state.screen (map Cluster (clusters (no_run i)))) ∙ ap (λ (ts : List (List ℕ)). strokes_scroll f behind.state.screen (map Cluster ts)) no_clusters;
+              run = λ e. (λ i. strokes_scroll f after.state.screen (map Cluster (clusters (no_run i)))) ∙ ap (λ (ts : List (List ℕ)). strokes_scroll f after.state.screen (map Cluster ts)) no_clusters;
             },
             tt,
           ))

@@ -147,7 +147,7 @@ all_others : (s : Screen) (xs : List ChangeValue) → HaveSpellings s.width (hei
 all_others s [] p = tt
 all_others s (x ∷ xs) p = (inl p.0, all_others s xs p.1)
 
--- what stands before the cursor's place: a clear with the cursor hidden, the title, and the rows
+-- what stands before the cursor's position: a clear with the cursor hidden, the title, and the rows
 abbrev front_of : Display → List ChangeValue
 front_of d = (CursorVisibility Hidden ∷ ClearScreen attribute.Default ∷ []) ++ title_due d.screen.title ++ rows_painted plain d.screen.rows
 

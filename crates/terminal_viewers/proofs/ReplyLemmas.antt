@@ -1,8 +1,8 @@
 -- Replies that are taken from the terminal of a session change nothing else.
-use Rattle.std.proofs.Common.{◌≡◌, ℕ, zero, suc, List, [], ◌∷◌, ◌++◌, fold, refl, ap, ◌∙◌}
-use Rattle.screen_log.specs.LogSteps.{LogStep, step_of_kept}
-use Rattle.terminal_viewers.specs.Sessions.{Answer, Update, Patch, Chain, Viewer, Turn, Goes, Answers, Forgets, answered, answering, behind, readings, session, turned, with_taken}
-use Rattle.terminal_table.specs.History.{Step, History, Look}
+use Rattle.std.proofs.Common.{◌≡◌, ℕ, zero, suc, List, [], ◌∷◌, fold, refl, ap, ◌∙◌}
+use Rattle.screen_log.specs.LogSteps.{step_of_kept}
+use Rattle.terminal_viewers.specs.Sessions.{Answer, Update, Patch, Chain, Viewer, Turn, Goes, Answers, Forgets, answered, answering, lagging, readings, session, turned, with_taken}
+use Rattle.terminal_table.specs.History.{History, Look}
 use Rattle.terminal_table.specs.Replies as view
 use Rattle.terminal_table.proofs.ReplyLemmas.{after_with, logged_with_taken}
 use Rattle.terminal_viewers.specs.Updates.{Standing, standing_after}
@@ -28,15 +28,15 @@ module _ (width_of : List ℕ → ℕ) (taken : List ℕ) where
   answering_with : (answer : Answer) (at : ℕ) (one : Standing) (viewers : List Viewer) → answering width_of answer at (with_front taken one) viewers ≡ with_taken taken (answering width_of answer at one viewers)
   answering_with answer at one [] = refl
   answering_with answer zero one (viewer ∷ viewers) =
-      ap (λ (looked : Standing). record { terminal = looked; viewers = answered width_of answer viewer looked ∷ behind (readings width_of answer viewer looked) viewers }) (standing_with one (Look ∷ []))
+      ap (λ (looked : Standing). record { terminal = looked; viewers = answered width_of answer viewer looked ∷ lagging (readings width_of answer viewer looked) viewers }) (standing_with one (Look ∷ []))
       ∙ (λ i. record {
         terminal = with_front taken (standing_after width_of one (Look ∷ []));
-        viewers = answered_with answer viewer (standing_after width_of one (Look ∷ [])) i ∷ behind (readings_with answer viewer (standing_after width_of one (Look ∷ [])) i) viewers;
+        viewers = answered_with answer viewer (standing_after width_of one (Look ∷ [])) i ∷ lagging (readings_with answer viewer (standing_after width_of one (Look ∷ [])) i) viewers;
       })
   answering_with answer (suc at) one (viewer ∷ viewers) = refl
 
   turned_with : (chain : Chain) (turn : Turn) → turned width_of (with_taken taken chain) turn ≡ with_taken taken (turned width_of chain turn)
-  turned_with chain (Goes step) = ap (λ (s : Standing). record { terminal = s; viewers = behind (step ∷ []) chain.viewers }) (standing_with chain.terminal (step ∷ []))
+  turned_with chain (Goes step) = ap (λ (s : Standing). record { terminal = s; viewers = lagging (step ∷ []) chain.viewers }) (standing_with chain.terminal (step ∷ []))
   turned_with chain (Answers at answer) = answering_with answer at chain.terminal chain.viewers
   turned_with chain (Forgets at number) = refl
 

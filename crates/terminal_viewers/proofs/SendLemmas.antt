@@ -41,14 +41,14 @@ module _ (old new : Screen) (width tall : ℕ) (w : width ≡ new.width) (t : ta
   pub title_has : HasSpelling width tall (Title new.title)
   title_has = here.0
 
-  front : HaveSpellings width tall (cells ++ place_and_pen new)
-  front = spellings_front width tall (cells ++ place_and_pen new) (seen ∷ []) here.1
+  prefix : HaveSpellings width tall (cells ++ place_and_pen new)
+  prefix = spellings_front width tall (cells ++ place_and_pen new) (seen ∷ []) here.1
 
   pub cells_have : HaveSpellings width tall cells
-  cells_have = spellings_front width tall cells (place_and_pen new) front
+  cells_have = spellings_front width tall cells (place_and_pen new) prefix
 
   pub place_has : HaveSpellings width tall (place_and_pen new)
-  place_has = spellings_after width tall cells (place_and_pen new) front
+  place_has = spellings_after width tall cells (place_and_pen new) prefix
 
   pub seen_has : HasSpelling width tall seen
   seen_has = (spellings_after width tall (cells ++ place_and_pen new) (seen ∷ []) here.1).0
@@ -59,7 +59,7 @@ module _ (old new : Screen) (width tall : ℕ) (w : width ≡ new.width) (t : ta
   abbrev sent : List ChangeValue → List ℕ
   sent changes = encoded_texts width tall changes
 
-  -- the bytes behind each part
+  -- the bytes after each part
   pub patch_sent : (start titled drawn placed made : List ℕ) → start ≡ [] → titled ≡ start ++ text (Title new.title) → drawn ≡ titled ++ sent cells → placed ≡ drawn ++ sent (place_and_pen new) → made ≡ placed ++ text seen
       → made ≡ patch_of old new
   patch_sent start titled drawn placed made none a b c d =

@@ -9,7 +9,7 @@ use Rattle.cell_base.specs.Row.{plain_row, space}
 use Rattle.cell_base.specs.Screen.{height}
 use Rattle.escape_framing.specs.Held.{hand_out, held_of, nothing_held}
 use Rattle.terminal_viewers.specs.Reading.{PatchesAreShown, PatchesLeaveIdle}
-use Rattle.terminal_viewers.specs.Sessions.{Answer, Answers, Chain, Forgets, Goes, Turn, Viewer, answered, answering, behind, forgetting, new_chain, new_viewer, readings, round, session, steps_of, turned}
+use Rattle.terminal_viewers.specs.Sessions.{Answer, Answers, Chain, Forgets, Goes, Turn, Viewer, answered, answering, lagging, forgetting, new_chain, new_viewer, readings, round, session, steps_of, turned}
 use Rattle.terminal_viewers.specs.Showing.{AllShow, AnswersAreShown, CanAnswer, IsShown, IsTurn, RoundsAreShown, TerminalsGoTheirWay, ViewersStay}
 use Rattle.terminal_viewers.proofs.ChainLemmas.{IsChain, answering_shows, forgetting_keeps, goes_on, next_shows}
 use Rattle.terminal_viewers.proofs.HistoryLemmas.{nothing_after, standings_join}
@@ -76,7 +76,7 @@ module _ (cut : AllCut) (shown : UpdatesAreShown) (idles : UpdatesLeaveIdle) (pa
     session_keeps [] chain h c = c
     session_keeps (turn ∷ turns) chain h c = session_keeps turns (turned width_of chain turn) (All-tail IsTurn turn turns h) (turn_keeps chain turn (All-head IsTurn turn turns h) c)
 
-    -- where so many viewers show the terminal, those that are answered behind them do as well
+    -- where so many viewers show the terminal, those that are answered after them do as well
     round_shows : (answers : List Answer) (at : ℕ) (chain : Chain) → IsChain width_of chain.terminal chain.viewers → AllShow chain.terminal.view.state.screen (take at chain.viewers)
         → let last = session width_of chain (round at answers) in AllShow last.terminal.view.state.screen (take (at + length answers) last.viewers)
     round_shows [] at chain c h =
@@ -117,14 +117,14 @@ module _ (width_of : List ℕ → ℕ) where
       way turns (standing_after width_of one (step ∷ [])) (record viewer { since = viewer.since ++ step ∷ [] }) viewers ∙ standings_join width_of one (step ∷ []) (steps_of turns)
   way (Answers zero answer ∷ turns) one viewer viewers =
       let looked = standing_after width_of one (Look ∷ []) in
-      way turns looked (answered width_of answer viewer looked) (behind (readings width_of answer viewer looked) viewers) ∙ standings_join width_of one (Look ∷ []) (steps_of turns)
+      way turns looked (answered width_of answer viewer looked) (lagging (readings width_of answer viewer looked) viewers) ∙ standings_join width_of one (Look ∷ []) (steps_of turns)
   way (Answers (suc at) answer ∷ turns) one viewer viewers =
-      let others = answering width_of answer at viewer.standing viewers in
-      way turns one (record viewer { standing = others.terminal }) others.viewers
-  way (Forgets zero number ∷ turns) one viewer viewers = way turns one (record viewer { standing = standing_after width_of viewer.standing (Forget number ∷ []) }) (behind (Forget number ∷ []) viewers)
+      let remaining = answering width_of answer at viewer.standing viewers in
+      way turns one (record viewer { standing = remaining.terminal }) remaining.viewers
+  way (Forgets zero number ∷ turns) one viewer viewers = way turns one (record viewer { standing = standing_after width_of viewer.standing (Forget number ∷ []) }) (lagging (Forget number ∷ []) viewers)
   way (Forgets (suc at) number ∷ turns) one viewer viewers = way turns one viewer (forgetting width_of number at viewers)
 
-  after_count : (history : History) (viewers : List Viewer) → length (behind history viewers) ≡ length viewers
+  after_count : (history : History) (viewers : List Viewer) → length (lagging history viewers) ≡ length viewers
   after_count history [] = refl
   after_count history (viewer ∷ viewers) = refl
 

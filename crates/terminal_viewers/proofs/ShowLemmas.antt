@@ -61,7 +61,7 @@ module _ (width_of : List ℕ → ℕ) where
   abbrev LeadsTo : Screen → Screen → Option (List ChangeValue) → Type 0
   LeadsTo shown screen changes = IfSome changes (λ cs. replayed_on width_of shown cs ≡ screen)
 
-  -- changes of an event, which lead from the screen before it to the one behind it
+  -- changes of an event, which lead from the screen before it to the one after it
   abbrev LeadOn : Screen → Screen → List ChangeValue → Type 0
   LeadOn before after changes = (d : Display) → IsDisplay d → d.screen ≡ before → (replay width_of d changes).screen ≡ after
 

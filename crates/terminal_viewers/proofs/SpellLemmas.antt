@@ -21,8 +21,8 @@ use Rattle.terminal_render.specs.Spelling.{HaveSpellings, IsSpelledPen, IsSpelle
 use Rattle.terminal_render.proofs.ChangeLemmas.{has_spelling, place_some, spellings_append}
 use Rattle.terminal_render.proofs.LogLemmas.{due_has}
 use Rattle.terminal_viewers.proofs.RepaintLemmas.{due_sent, placed_sent, rows_sent, shown_sent}
-use Rattle.terminal_viewers.specs.Update.{display_on, due_or, last_cell, painted_anew, told, update_changes, written_again}
-use Rattle.terminal_viewers.proofs.PaintLemmas.{due_of, front_of, painted_rows, place_of, told_here, told_is, told_there}
+use Rattle.terminal_viewers.specs.Update.{display_on, due_or, last_cell, painted_anew, as_sent, update_changes, written_again}
+use Rattle.terminal_viewers.proofs.PaintLemmas.{due_of, front_of, painted_rows, place_of, sent_here, sent_is, sent_there}
 
 -- ---- the last cell of a row
 
@@ -48,33 +48,33 @@ written_sent s p (Some v) q =
 
 -- ---- the screen painted anew
 
-place_sent : (s : Screen) → IsScreen s → IsSpelledScreen s → HaveSpellings s.width (height s) (flat_map (told s) (place_of s))
+place_sent : (s : Screen) → IsScreen s → IsSpelledScreen s → HaveSpellings s.width (height s) (flat_map (as_sent s) (place_of s))
 place_sent s h p =
     by_test (s.column == s.width)
     (λ e.
     let row : Row = cursor_row s in
     let even : length row ≡ s.width = h.even s.row [] h.row_in in
-    subst (HaveSpellings s.width (height s)) (sym (told_there s h.wide_enough e))
+    subst (HaveSpellings s.width (height s)) (sym (sent_there s h.wide_enough e))
     (written_sent s p (last_cell row) (last_from s.width 0 row None (omega (arith, even)) (p.rows s.row [] h.row_in) tt)))
     (λ e.
     let in_columns = h.column_in in
     let before : s.column < s.width = grind (arith, nat_tests) in
-    subst (HaveSpellings s.width (height s)) (sym (told_here s e)) (placed_sent s.width (height s) (are_some (painted_rows s)) s.column s.row before))
+    subst (HaveSpellings s.width (height s)) (sym (sent_here s e)) (placed_sent s.width (height s) (are_some (painted_rows s)) s.column s.row before))
 
 pub painted_has : (s : Screen) → IsDisplay (display_on s) → IsSpelledScreen s → HaveSpellings s.width (height s) (painted_anew s)
 painted_has s d p =
     let w = s.width in
     let n = height s in
     let h : IsScreen s = d.lawful in
-    let place : List ChangeValue = flat_map (told s) (place_of s) in
+    let place : List ChangeValue = flat_map (as_sent s) (place_of s) in
     let begin : HaveSpellings w n ((CursorVisibility Hidden ∷ ClearScreen attribute.Default ∷ []) ++ (Title s.title ∷ [])) =
     (has_spelling w n (CursorVisibility Hidden) tt tt tt, (has_spelling w n (ClearScreen attribute.Default) tt tt tt, (has_spelling w n (Title s.title) p.title tt tt, tt))) in
-    let front : HaveSpellings w n (front_of s) =
+    let prefix : HaveSpellings w n (front_of s) =
     spellings_append w n ((CursorVisibility Hidden ∷ ClearScreen attribute.Default ∷ []) ++ (Title s.title ∷ [])) (painted_rows s) begin (rows_sent w n h.wide_enough plain s.rows p.rows) in
-    subst (HaveSpellings w n) (sym (told_is s h.wide_enough))
+    subst (HaveSpellings w n) (sym (sent_is s h.wide_enough))
     (spellings_append w n (front_of s ++ place ++ due_of s) (cursor_shown s.visible None)
     (spellings_append w n (front_of s ++ place) (due_of s)
-    (spellings_append w n (front_of s) place front (place_sent s h p))
+    (spellings_append w n (front_of s) place prefix (place_sent s h p))
     (due_sent w n h.wide_enough (pen_left plain (painted_rows s)) s.pen p.pen))
     (shown_sent w n s.visible))
 

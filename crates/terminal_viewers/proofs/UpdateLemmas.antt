@@ -1,77 +1,48 @@
 -- What is sent for the changes that are due, or for a repaint, is the update.
-use Rattle.std.proofs.Common.{◌≡◌, ℕ, ◌++◌, Bor, List, [], map, refl, sym, ap, ◌∙◌, subst}
-use Rattle.std.specs.Prelude.{IfSome, Option, Some, None, Vec}
+use Rattle.std.proofs.Common.{◌≡◌, ℕ, ◌++◌, List, [], ◌∷◌, sym, ap, ◌∙◌, subst}
+use Rattle.std.specs.Prelude.{IfSome, Option, Some, None}
 use Rattle.std.specs.List.{flat_map}
-use Rattle.std.specs.declared.borrow.CowSlice.{CowSlice}
-use Rattle.std.specs.declared.borrow.CowSlice.TheVariants.{Borrowed, Owned}
 use Rattle.std.proofs.lemmas.List.{length-replicate}
+use Rattle.cell_base.specs.declared.attributes.CursorShape.{CursorShape as Shape}
 use Rattle.cell_base.specs.declared.attributes.LineAttribute.TheVariants.{SingleWidthLine}
 use Rattle.cell_base.specs.Screen.{height}
-use Rattle.screen_change.specs.declared.change.Change.{Change}
-use Rattle.screen_change.specs.ChangeValue.{ChangeValue}
-use Rattle.screen_change.specs.ValueOf.{value_of}
-use Rattle.cell_surface.specs.Surface.{Answers}
+use Rattle.screen_change.specs.ChangeValue.{ChangeValue, Title}
 use Rattle.screen_log.specs.Log.{due}
 use Rattle.screen_log.specs.LogSteps.{Sized}
 use Rattle.screen_effects.specs.Display.{Display, IsDisplay}
-use Rattle.screen_repaint.specs.Repaint.{repaint}
+use Rattle.screen_repaint.specs.Repaint.{repaint_with}
 use Rattle.terminal_render.specs.Spelling.{HaveSpellings, IsSpelledScreen}
 use Rattle.terminal_render.proofs.LogLemmas.{due_has}
-use Rattle.terminal_viewers.specs.Encoding.{retold, encoded_texts}
-use Rattle.terminal_viewers.specs.Update.{bytes_of, display_on, due_or, painted_anew, update_changes, update_of}
+use Rattle.terminal_viewers.specs.Encoding.{encoded_texts}
+use Rattle.terminal_viewers.specs.Update.{bytes_of, display_on, due_or, painted_anew, as_sent, update_changes, update_of}
 use Rattle.terminal_viewers.proofs.EncodedLemmas.{all_are_sent, texts_are}
 use Rattle.terminal_viewers.proofs.SpellLemmas.{painted_has}
-use Rattle.terminal_viewers.proofs.WalkLemmas.{retold_is}
 
--- ---- changes that are lent are due, and changes that are made are the repaint
-
-module _ (Z : Type 0) (painted : List ChangeValue) where
-  lent_due : (found : Option (List ChangeValue)) (lent : Bor (List Change)) → Answers {Z = Z} found painted (Borrowed lent) → found ≡ Some (map value_of lent.now)
-  lent_due None lent h = absurd h.1
-  lent_due (Some changes) lent h = ap (λ (cs : List ChangeValue). Some cs) (sym h.0)
-
-  none_due : (found : Option (List ChangeValue)) (made : Vec Change Z) → Answers found painted (Owned made) → found ≡ None
-  none_due None made h = refl
-  none_due (Some changes) made h = absurd (h.1 tt)
-
-  made_painted : (found : Option (List ChangeValue)) (made : Vec Change Z) → Answers found painted (Owned made) → map value_of made.items ≡ painted
-  made_painted None made h = h.0
-  made_painted (Some changes) made h = absurd (h.1 tt)
+-- ---- changes that are due are lent, and where none are the repaint is made
 
 -- a display's screen by itself
 pub on_display : (d : Display) → IsDisplay d → IsDisplay (display_on d.screen)
 on_display d h = record { lawful = h.lawful; whole = h.whole; sized = length-replicate (height d.screen) SingleWidthLine }
 
-module _ (Z : Type 0) (d : Display) (log : Sized) (number : ℕ) (answer : CowSlice Change Z) (given : Answers (due log.most log.log number) (repaint d) answer) where
-  lent_is : (lent : Bor (List Change)) → answer ≡ Borrowed lent → due log.most log.log number ≡ Some (map value_of lent.now)
-  lent_is lent e = lent_due Z (repaint d) (due log.most log.log number) lent (subst (λ (a : CowSlice Change Z). Answers (due log.most log.log number) (repaint d) a) e given)
+module _ (d : Display) (log : Sized) (number : ℕ) (width tall : ℕ) (w : width ≡ d.screen.width) (t : tall ≡ height d.screen) where
+  at_size : (changes : List ChangeValue) → HaveSpellings d.screen.width (height d.screen) changes → HaveSpellings width tall changes
+  at_size changes h = subst (λ n. HaveSpellings n tall changes) (sym w) (subst (λ n. HaveSpellings d.screen.width n changes) (sym t) h)
 
-  pub lent_spelled : (lent : Bor (List Change)) → answer ≡ Borrowed lent → (width tall : ℕ) → width ≡ d.screen.width → tall ≡ height d.screen → HaveSpellings d.screen.width (height d.screen) log.log.entries → HaveSpellings width tall (map value_of lent.now)
-  lent_spelled lent e width tall w t kept =
-      subst (λ n. HaveSpellings n tall (map value_of lent.now)) (sym w)
-      (subst (λ n. HaveSpellings d.screen.width n (map value_of lent.now)) (sym t)
-      (subst (λ o. IfSome o (HaveSpellings d.screen.width (height d.screen))) (lent_is lent e) (due_has d.screen.width (height d.screen) log.most log.log number kept)))
+  pub lent_spelled : (lent : List ChangeValue) → Some lent ≡ due log.most log.log number → HaveSpellings d.screen.width (height d.screen) log.log.entries → HaveSpellings width tall lent
+  lent_spelled lent e kept = at_size lent (subst (λ o. IfSome o (HaveSpellings d.screen.width (height d.screen))) (sym e) (due_has d.screen.width (height d.screen) log.most log.log number kept))
 
-  module _ (h : IsDisplay d) (shapeless : d.shape ≡ None) (made : Vec Change Z) (e : answer ≡ Owned made) where
-    owned : Answers (due log.most log.log number) (repaint d) (Owned made)
-    owned = subst (λ (a : CowSlice Change Z). Answers (due log.most log.log number) (repaint d) a) e given
+  pub lent_sent : (before after : List ℕ) (lent : List ChangeValue) → Some lent ≡ due log.most log.log number → after ≡ before ++ encoded_texts width tall lent → after ≡ before ++ encoded_texts width tall (update_changes d.screen log number)
+  lent_sent before after lent e sent = sent ∙ ap (λ found. before ++ encoded_texts width tall (due_or (painted_anew d.screen) found)) e
 
-    retold_anew : flat_map (retold d.screen) (map value_of made.items) ≡ painted_anew d.screen
-    retold_anew = ap (flat_map (retold d.screen)) (made_painted Z (repaint d) (due log.most log.log number) made owned) ∙ retold_is d h.lawful.wide_enough shapeless
+  module _ (h : IsDisplay d) (shapeless : d.shape ≡ None) (none : None ≡ due log.most log.log number) (made : List ChangeValue) (are : made ≡ repaint_with (Title d.screen.title ∷ []) d) where
+    anew : flat_map (as_sent d.screen) made ≡ painted_anew d.screen
+    anew = ap (flat_map (as_sent d.screen)) (are ∙ ap (λ (shape : Option Shape). repaint_with (Title d.screen.title ∷ []) (record { screen = d.screen; sizes = d.sizes; shape = shape })) shapeless)
 
-    made_update : update_changes d.screen log number ≡ flat_map (retold d.screen) (map value_of made.items)
-    made_update = ap (due_or (painted_anew d.screen)) (none_due Z (repaint d) (due log.most log.log number) made owned) ∙ sym retold_anew
+    pub made_spelled : IsSpelledScreen d.screen → HaveSpellings width tall (flat_map (as_sent d.screen) made)
+    made_spelled p = subst (HaveSpellings width tall) (sym anew) (at_size (painted_anew d.screen) (painted_has d.screen (on_display d h) p))
 
-    pub made_sent : (width tall : ℕ) (before after : List ℕ) (changes : List Change) → changes ≡ made.items → after ≡ before ++ encoded_texts width tall (flat_map (retold d.screen) (map value_of changes))
-        → after ≡ before ++ encoded_texts width tall (update_changes d.screen log number)
-    made_sent width tall before after changes e sent =
-        sent ∙ ap (λ (cs : List ChangeValue). before ++ encoded_texts width tall cs) (ap (λ (l : List Change). flat_map (retold d.screen) (map value_of l)) e ∙ sym made_update)
-
-    pub made_spelled : (width tall : ℕ) → width ≡ d.screen.width → tall ≡ height d.screen → IsSpelledScreen d.screen → HaveSpellings width tall (flat_map (retold d.screen) (map value_of made.items))
-    made_spelled width tall w t p =
-        subst (λ (cs : List ChangeValue). HaveSpellings width tall cs) (sym retold_anew)
-        (subst (λ n. HaveSpellings n tall (painted_anew d.screen)) (sym w)
-        (subst (λ n. HaveSpellings d.screen.width n (painted_anew d.screen)) (sym t) (painted_has d.screen (on_display d h) p)))
+    pub made_sent : (before after : List ℕ) → after ≡ before ++ encoded_texts width tall (flat_map (as_sent d.screen) made) → after ≡ before ++ encoded_texts width tall (update_changes d.screen log number)
+    made_sent before after sent = sent ∙ ap (λ (cs : List ChangeValue). before ++ encoded_texts width tall cs) anew ∙ ap (λ found. before ++ encoded_texts width tall (due_or (painted_anew d.screen) found)) none
 
 -- ---- the bytes
 

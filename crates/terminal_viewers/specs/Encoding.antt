@@ -1,13 +1,11 @@
 -- The actions that are sent for changes, one after another.
-use Rattle.std.specs.Prelude.{ℕ, ◌==◌, Bool, false, List, [], ◌∷◌, Option, Some, None}
+use Rattle.std.specs.Prelude.{ℕ, ◌==◌, Bool, false, List, [], Option, Some, None}
 use Rattle.std.specs.List.{flat_map}
 use Rattle.cell_base.specs.declared.attributes.Position.TheVariants.{Absolute}
-use Rattle.cell_base.specs.Screen.{Screen}
-use Rattle.screen_change.specs.ChangeValue.{ChangeValue, ClearScreen, CursorPosition, Title}
+use Rattle.screen_change.specs.ChangeValue.{ChangeValue, CursorPosition}
 use Rattle.escape_stream.specs.StreamAction.{StreamAction}
 use Rattle.escape_stream.specs.StreamText.{stream_text}
 use Rattle.terminal_render.specs.Rendering.{rendering}
-use Rattle.terminal_viewers.specs.Update.{told}
 
 -- actions, if there are any
 abbrev pub actions_or_none : Option (List StreamAction) → List StreamAction
@@ -32,10 +30,3 @@ encoded_texts width height changes = flat_map (encoded_text width height) change
 abbrev pub is_pending : ℕ → ChangeValue → Bool
 is_pending width (CursorPosition (Absolute column) y) = column == width
 is_pending width _ = false
-
--- a change of a repaint as it is sent: the title comes behind the clear, also an empty one, and the place of a wrap
--- that is pending as `told` has it
-abbrev pub retold : Screen → ChangeValue → List ChangeValue
-retold screen (ClearScreen color) = ClearScreen color ∷ Title screen.title ∷ []
-retold screen (Title title) = []
-retold screen change = told screen change

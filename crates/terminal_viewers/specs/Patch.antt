@@ -12,14 +12,14 @@ use Rattle.terminal_render.specs.Lists.{all_rendered}
 use Rattle.terminal_table.specs.Changes.{visibility}
 use Rattle.terminal_viewers.specs.Update.{bytes_of, last_cell, written_again}
 
--- The cursor's place and the pen. Nothing but a character leads behind the last column: where a wrap is pending the
--- last visible cell of the cursor's row is written once more, and the pen behind it.
+-- The cursor's position and the pen. Nothing but a character leads after the last column: where a wrap is pending the
+-- last visible cell of the cursor's row is written once more, and the pen after it.
 abbrev pub place_and_pen : Screen → List ChangeValue
 place_and_pen screen =
     if screen.column == screen.width then written_again screen (last_cell (cursor_row screen))
     else CursorPosition (Absolute screen.column) (Absolute screen.row) ∷ AllAttributes screen.pen ∷ []
 
--- the title, the cells that the old screen doesn't show, the cursor's place and the pen, and whether the cursor is
+-- the title, the cells that the old screen doesn't show, the cursor's position and the pen, and whether the cursor is
 -- visible
 abbrev pub patch_changes : Screen → Screen → List ChangeValue
 patch_changes old new =

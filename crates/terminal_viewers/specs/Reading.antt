@@ -36,12 +36,12 @@ abbrev pub PatchesAreShown : Type 0
 PatchesAreShown = (width_of : List ℕ → ℕ) (viewer : View) (screen : Screen) → CanReadPatch width_of viewer screen
     → (after width_of viewer (Piece (patch_for viewer screen) ∷ [])).state ≡ record viewer.state { screen = screen }
 
--- and nothing is unfinished or held behind the patch
+-- and nothing is unfinished or held the patch
 abbrev pub PatchesLeaveIdle : Type 0
 PatchesLeaveIdle = (width_of : List ℕ → ℕ) (viewer : View) (screen : Screen) → CanReadPatch width_of viewer screen
     → IsIdle (after width_of viewer (Piece (patch_for viewer screen) ∷ []))
 
--- it prints the cells that the viewer doesn't show, each once and in turn, and behind them, where a wrap is pending,
+-- it prints the cells that the viewer doesn't show, each once and in turn, and after them, where a wrap is pending,
 -- the last cell of the cursor's row
 abbrev pub PatchesPrintFreshCells : Type 0
 PatchesPrintFreshCells = (width_of : List ℕ → ℕ) (viewer : View) (screen : Screen) → CanReadPatch width_of viewer screen

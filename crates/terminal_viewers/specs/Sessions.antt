@@ -70,9 +70,9 @@ new_chain terminal count =
     }
 
 -- one has gone through a history, and the viewer that it answers has not been answered since
-abbrev pub behind : History → List Viewer → List Viewer
-behind history [] = []
-behind history (viewer ∷ viewers) = record viewer { since = viewer.since ++ history } ∷ viewers
+abbrev pub lagging : History → List Viewer → List Viewer
+lagging history [] = []
+lagging history (viewer ∷ viewers) = record viewer { since = viewer.since ++ history } ∷ viewers
 
 -- the viewer is answered that has so many before it, if there is one; the one that answers looks first
 abbrev pub answering : (List ℕ → ℕ) → Answer → ℕ → Standing → List Viewer → Chain
@@ -81,18 +81,18 @@ answering width_of answer zero one (viewer ∷ viewers) =
     let looked = standing_after width_of one (Look ∷ []) in
     record {
       terminal = looked;
-      viewers = answered width_of answer viewer looked ∷ behind (readings width_of answer viewer looked) viewers;
+      viewers = answered width_of answer viewer looked ∷ lagging (readings width_of answer viewer looked) viewers;
     }
 answering width_of answer (suc at) one (viewer ∷ viewers) =
-    let others = answering width_of answer at viewer.standing viewers in
-    record { terminal = one; viewers = record viewer { standing = others.terminal } ∷ others.viewers }
+    let remaining = answering width_of answer at viewer.standing viewers in
+    record { terminal = one; viewers = record viewer { standing = remaining.terminal } ∷ remaining.viewers }
 
 -- the viewer that has so many before it forgets the changes before a number, if there is one
 abbrev pub forgetting : (List ℕ → ℕ) → ℕ → ℕ → List Viewer → List Viewer
 forgetting width_of number at [] = []
 forgetting width_of number zero (viewer ∷ viewers) =
     record viewer { standing = standing_after width_of viewer.standing (Forget number ∷ []) }
-    ∷ behind (Forget number ∷ []) viewers
+    ∷ lagging (Forget number ∷ []) viewers
 forgetting width_of number (suc at) (viewer ∷ viewers) = viewer ∷ forgetting width_of number at viewers
 
 -- ---- sessions
@@ -106,7 +106,10 @@ pub data Turn : Type 0 where
 
 abbrev pub turned : (List ℕ → ℕ) → Chain → Turn → Chain
 turned width_of chain (Goes step) =
-    record { terminal = standing_after width_of chain.terminal (step ∷ []); viewers = behind (step ∷ []) chain.viewers }
+    record {
+      terminal = standing_after width_of chain.terminal (step ∷ []);
+      viewers = lagging (step ∷ []) chain.viewers;
+    }
 turned width_of chain (Answers at answer) = answering width_of answer at chain.terminal chain.viewers
 turned width_of chain (Forgets at number) = record chain { viewers = forgetting width_of number at chain.viewers }
 
@@ -119,7 +122,7 @@ abbrev pub round : ℕ → List Answer → List Turn
 round at [] = []
 round at (answer ∷ answers) = Answers at answer ∷ round (at + 1) answers
 
--- the terminal has replies that were taken too, in front of those that were not
+-- the terminal has replies that were taken too, before those that were not
 abbrev pub with_taken : List ℕ → Chain → Chain
 with_taken taken chain =
     record chain { terminal = record chain.terminal { view = replies.with_taken taken chain.terminal.view } }

@@ -40,7 +40,7 @@ IsShown at one [] = ⊤
 IsShown zero one (viewer ∷ viewers) = viewer.standing.view.state.screen ≡ one.view.state.screen
 IsShown (suc at) one (viewer ∷ viewers) = IsShown at viewer.standing viewers
 
--- in every session, behind each answer
+-- in every session, after each answer
 abbrev pub AnswersAreShown : Type 0
 AnswersAreShown =
     (width_of : List ℕ → ℕ) (terminal : Standing) (count : ℕ) (turns : List Turn) (at : ℕ) (answer : Answer)

@@ -33,19 +33,19 @@ written_again screen (Some v) =
     CursorPosition (Absolute v.column) (Absolute screen.row) ∷ AllAttributes v.cell.attributes ∷ Text v.cell.text
     ∷ AllAttributes screen.pen ∷ []
 
--- A change of a repaint as it can be sent: nothing but a character leads behind the last column, so for the place of a
+-- A change of a repaint as it can be sent: nothing but a character leads after the last column, so for the place of a
 -- wrap that is pending the last visible cell of the cursor's row is written once more.
-abbrev pub told : Screen → ChangeValue → List ChangeValue
-told screen (CursorPosition (Absolute column) y) =
+abbrev pub as_sent : Screen → ChangeValue → List ChangeValue
+as_sent screen (CursorPosition (Absolute column) y) =
     if column == screen.width then written_again screen (last_cell (cursor_row screen))
     else CursorPosition (Absolute column) y ∷ []
-told screen change = change ∷ []
+as_sent screen change = change ∷ []
 
 -- ---- an update
 
 -- the screen painted anew, with its one title, also an empty one
 abbrev pub painted_anew : Screen → List ChangeValue
-painted_anew screen = flat_map (told screen) (repaint_with (Title screen.title ∷ []) (display_on screen))
+painted_anew screen = flat_map (as_sent screen) (repaint_with (Title screen.title ∷ []) (display_on screen))
 
 -- the changes that are due; where none are the screen is painted anew
 abbrev pub due_or : List ChangeValue → Option (List ChangeValue) → List ChangeValue

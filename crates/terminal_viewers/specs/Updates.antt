@@ -1,4 +1,4 @@
--- The updates of an input: a new terminal is looked at behind each of some number of bytes, and once more at the end.
+-- The updates of an input: a new terminal is looked at after each of some number of bytes, and once more at the end.
 use Rattle.std.specs.Prelude.{ℕ, ◌+◌, ◌==◌, List, [], ◌∷◌, ◌++◌, length, if◌then◌else◌}
 use Rattle.std.specs.List.{flat_map}
 use Rattle.screen_log.specs.Log.{most_due, new_log}
@@ -16,7 +16,7 @@ in_pieces every begun (byte ∷ input) =
     if length begun + 1 == every then (begun ++ byte ∷ []) ∷ in_pieces every [] input
     else in_pieces every (begun ++ byte ∷ []) input
 
--- each piece, and a look behind it
+-- each piece, and a look after it
 abbrev pub looks : List (List ℕ) → History
 looks pieces = flat_map (λ piece. Piece piece ∷ Look ∷ []) pieces
 
@@ -34,7 +34,7 @@ abbrev pub standing_after : (List ℕ → ℕ) → Standing → History → Stan
 standing_after width_of s history =
     record { view = after width_of s.view history; log = log_after width_of s.view s.log history }
 
--- behind each piece the update for the number that was given last
+-- after each piece the update for the number that was given last
 abbrev pub updates_after : (List ℕ → ℕ) → Standing → ℕ → List (List ℕ) → List ℕ
 updates_after width_of s number [] = []
 updates_after width_of s number (piece ∷ pieces) =

@@ -87,7 +87,7 @@ UpdatesAreShown =
     → CanRead width_of viewer screen log number
     → (after width_of viewer (Piece (update_of screen log number) ∷ [])).state ≡ record viewer.state { screen = screen }
 
--- and nothing is unfinished or held behind the update
+-- and nothing is unfinished or held the update
 abbrev pub UpdatesLeaveIdle : Type 0
 UpdatesLeaveIdle =
     (width_of : List ℕ → ℕ) (viewer : View) (screen : Screen) (log : Sized) (number : ℕ)

@@ -6,6 +6,7 @@ ghost use Rattle.screen_change.specs.ValueOf.{value_of};
 ghost use Rattle.cell_surface.specs.Surface.{shown_by};
 ghost use Rattle.screen_difference.specs.Difference.{difference};
 ghost use Rattle.screen_difference.specs.FreshCells.{screen_fresh};
+ghost use Rattle.screen_effects.specs.Display.{IsDisplay};
 ghost use Rattle.terminal_viewers.specs.Patch.{patch_of, place_and_pen};
 ghost use Rattle.terminal_render.specs.Spelling.{HasSpelling, HaveSpellings};
 ghost use Rattle.terminal_table.specs.Changes.{visibility};
@@ -15,7 +16,6 @@ ghost use Rattle.terminal_viewers.specs.Encoding.{encoded_text, encoded_texts};
 use crate::update::ViewerEncoder;
 use cell_base::Widths;
 use cell_surface::Surface;
-use cell_surface::laws::surfaces_stay_lawful;
 use screen_change::Change;
 use std::alloc::{AllocError, Global};
 
@@ -24,9 +24,10 @@ fn fresh_cells<W: Widths + Drop>(
     shown: &Surface<W>,
     surface: &Surface<W>,
 ) -> Result<Vec<Change>, AllocError>
-    ensures { IfOk result
+    ensures changes { IfOk result
         (λ changes. map value_of changes.items
         ≡ difference (screen_fresh (shown_by shown.now).screen (shown_by surface.now).screen)) }
+    ensures lawful { shown.now.is_failed ≡ false → IsDisplay (shown_by shown.now) }
 {
     match shown.diff_screens(surface) {
         Ok(changes) => Ok(changes),
@@ -34,52 +35,52 @@ fn fresh_cells<W: Widths + Drop>(
     }
 }
 
-// Encodes the cursor's place and the pen.
+// Encodes the cursor's position and the pen.
 fn encode_place_and_pen<W: Widths + Drop>(
-    receiver: &ViewerEncoder,
+    encoder: &ViewerEncoder,
     bytes: &mut Vec<u8>,
     surface: &Surface<W>,
 ) -> Result<(), AllocError>
     requires stays { surface.now.is_failed ≡ false }
-    requires width { receiver.now.width ≡ (shown_by surface.now).screen.width }
-    requires spelled { HaveSpellings receiver.now.width receiver.now.height
+    requires width { encoder.now.width ≡ (shown_by surface.now).screen.width }
+    requires spelled { HaveSpellings encoder.now.width encoder.now.height
         (place_and_pen (shown_by surface.now).screen) }
     ensures { OnOk result
         (bytes.new.items
         ≡ bytes.old.items
-        ++ encoded_texts receiver.now.width receiver.now.height (place_and_pen (shown_by surface.now).screen)) }
+        ++ encoded_texts encoder.now.width encoder.now.height (place_and_pen (shown_by surface.now).screen)) }
 {
     let (column, row) = surface.cursor_position();
-    if column == receiver.width {
-        receiver.encode_again(bytes, surface)?;
+    if column == encoder.width {
+        encoder.encode_again(bytes, surface)?;
         return Ok(());
     }
-    receiver.encode_place(bytes, column, row)?;
-    receiver.encode_pen(bytes, surface.pen())?;
+    encoder.encode_place(bytes, column, row)?;
+    encoder.encode_pen(bytes, surface.pen())?;
     Ok(())
 }
 
 // Sends whether the cursor is visible.
 fn encode_visibility<W: Widths + Drop>(
-    receiver: &ViewerEncoder,
+    encoder: &ViewerEncoder,
     bytes: &mut Vec<u8>,
     surface: &Surface<W>,
 ) -> Result<(), AllocError>
-    requires { HasSpelling receiver.now.width receiver.now.height
+    requires { HasSpelling encoder.now.width encoder.now.height
         (CursorVisibility (visibility (shown_by surface.now).screen.visible)) }
     ensures { OnOk result
         (bytes.new.items
         ≡ bytes.old.items
-        ++ encoded_text receiver.now.width receiver.now.height
+        ++ encoded_text encoder.now.width encoder.now.height
         (CursorVisibility (visibility (shown_by surface.now).screen.visible))) }
 {
     let visibility = surface.cursor_visibility();
-    receiver.encode(bytes, &Change::CursorVisibility(visibility))
+    encoder.encode(bytes, &Change::CursorVisibility(visibility))
 }
 
 /// The bytes that are sent to a terminal which shows what another surface of the same size shows, so that it
 /// shows what the surface shows: the title, also an empty one; the cells that are not shown, each once, row by row;
-/// the cursor's place, where a wrap is pending by the last cell of its row, which is written once more; the pen; and
+/// the cursor's position, where a wrap is pending by the last cell of its row, which is written once more; the pen; and
 /// whether the cursor is visible.
 ///
 /// Want of memory is the only refusal.
@@ -94,13 +95,12 @@ pub fn patch<W: Widths + Drop>(
     requires height { length shown.now.grid.lines ≡ length surface.now.grid.lines }
     ensures { IfOk result (λ bytes. bytes.items ≡ patch_of (shown_by shown.now).screen (shown_by surface.now).screen) }
 {
-    surfaces_stay_lawful(shown);
     let changes = fresh_cells(shown, surface)?;
-    let receiver = ViewerEncoder::of(alloc, surface);
+    let encoder = ViewerEncoder::of(alloc, surface);
     let mut bytes = Vec::new(alloc);
-    receiver.encode_title(&mut bytes, surface.title())?;
-    receiver.encode_all(&mut bytes, &changes)?;
-    encode_place_and_pen(&receiver, &mut bytes, surface)?;
-    encode_visibility(&receiver, &mut bytes, surface)?;
+    encoder.encode_title(&mut bytes, surface.title())?;
+    encoder.encode_all(&mut bytes, &changes)?;
+    encode_place_and_pen(&encoder, &mut bytes, surface)?;
+    encode_visibility(&encoder, &mut bytes, surface)?;
     Ok(bytes)
 }

@@ -41,7 +41,7 @@ pub fn patches_have_spellings()
 
 /// A viewer of a screen's size that can be sent changes and has nothing unfinished shows the screen once it is
 /// fed the patch from the screen that it shows: its saved cursor and its replies stay, and nothing is unfinished
-/// or held behind. The screen's cells are sound, and they have a spelling.
+/// or held. The screen's cells are sound, and they have a spelling.
 pub fn viewers_read_patches()
     ensures shown { PatchesAreShown }
     ensures idle { PatchesLeaveIdle }
@@ -53,7 +53,7 @@ pub fn viewers_read_patches()
 }
 
 /// A patch that such a viewer reads prints the cells that it doesn't show, each once, in turn and at its place, and
-/// behind them, exactly where a wrap is pending on the screen, the last visible cell of the cursor's row. Nothing
+/// after them, exactly where a wrap is pending on the screen, the last visible cell of the cursor's row. Nothing
 /// else that the viewer reads changes its rows, and nothing scrolls.
 pub fn patches_print_the_fresh_cells()
     ensures prints { PatchesPrintFreshCells }

@@ -8,7 +8,7 @@ ghost use Rattle.terminal_render.specs.Spelling.{HaveOtherSpellings, HaveSpellin
 /// Each change of a repaint of such a display has a spelling at its size, but for the place of a pending
 /// wrap and a shape of the cursor: so all of them where no wrap is pending and no shape was set.
 pub fn repaints_have_spellings()
-    ensures others { (display : Display) → IsDisplay display → IsSpelledScreen display.screen
+    ensures remaining { (display : Display) → IsDisplay display → IsSpelledScreen display.screen
         → HaveOtherSpellings display.screen (repaint display) }
     ensures all { (display : Display) → IsDisplay display → IsSpelledScreen display.screen
         → display.screen.column < display.screen.width → display.shape ≡ None

@@ -7,7 +7,7 @@ use crate::viewers::viewers_read_updates;
 use escape_framing::laws::one_cut;
 
 /// In every session, with updates, patches, other sizes and forgettings in any mix, a viewer that repeats the
-/// sizes and reads each answer to its end shows behind it the screen of the one that answered it: the terminal, or
+/// sizes and reads each answer to its end shows after it the screen of the one that answered it: the terminal, or
 /// another viewer. Where the viewers of a chain are answered one after another, each shows the terminal's screen.
 pub fn sessions_show_the_screen()
     ensures answers { AnswersAreShown }

@@ -8,23 +8,20 @@ ghost use Rattle.cell_base.specs.Screen.{height};
 ghost use Rattle.screen_change.specs.ChangeValue.{AllAttributes, CursorPosition, Text, Title};
 ghost use Rattle.screen_change.specs.ValueOf.{value_of};
 ghost use Rattle.cell_views.specs.CellRefView.{shown_by as cell_shown};
-ghost use Rattle.cell_surface.specs.Surface.{Answers, shown_by};
-ghost use Rattle.screen_log.specs.Log.{due};
+ghost use Rattle.cell_surface.specs.Surface.{shown_by};
 ghost use Rattle.screen_effects.specs.Display.{IsDisplay};
 ghost use Rattle.screen_effects.specs.Effect.{cursor_row};
-ghost use Rattle.screen_repaint.specs.Repaint.{repaint};
 ghost use Rattle.terminal_render.specs.Spelling.{HasSpelling, HaveSpellings};
 ghost use Rattle.terminal_viewers.specs.Encodable.{CanBeEncoded};
-ghost use Rattle.terminal_viewers.specs.Encoding.{is_pending, retold, encoded_text, encoded_texts};
-ghost use Rattle.terminal_viewers.specs.Update.{last_cell, update_changes, update_of, written_again};
+ghost use Rattle.terminal_viewers.specs.Encoding.{is_pending, encoded_text, encoded_texts};
+ghost use Rattle.terminal_viewers.specs.Update.{last_cell, as_sent, update_changes, update_of, written_again};
 
 use cell_base::{CellAttributes, Position, SequenceNo, Widths};
 use cell_line::{CellRef, Line};
 use cell_surface::Surface;
-use cell_surface::laws::surfaces_stay_lawful;
+use cell_surface::for_viewers::{due_changes, repaint_with_title};
 use screen_change::Change;
 use std::alloc::{AllocError, Global};
-use std::borrow::CowSlice;
 use std::slice;
 use terminal_render::append_encodings;
 
@@ -44,7 +41,6 @@ fn cursor_line<W: Widths + Drop>(surface: &Surface<W>) -> &Line
     requires { surface.now.is_failed ≡ false }
     ensures { result.now.columns ≡ cursor_row (shown_by surface.now).screen }
 {
-    surfaces_stay_lawful(surface);
     let (_, row) = surface.cursor_position();
     &surface.screen_lines()[row]
 }
@@ -59,22 +55,6 @@ fn is_pending(change: &Change, width: usize) -> bool
             ..
         } => *column == width,
         _ => false,
-    }
-}
-
-// The changes that are due, or the repaint. A surface that hasn't failed is refused memory alone.
-fn due_changes<W: Widths + Drop>(
-    surface: &Surface<W>,
-    number: SequenceNo,
-) -> Result<CowSlice<'_, Change>, AllocError>
-    requires { surface.now.is_failed ≡ false }
-    ensures { IfOk result
-        (λ changes. Answers (due surface.now.log.most surface.now.log.log number) (repaint (shown_by surface.now))
-        changes) }
-{
-    match surface.get_changes(number) {
-        Ok((_, changes)) => Ok(changes),
-        Err(_) => Err(AllocError),
     }
 }
 
@@ -102,7 +82,6 @@ impl ViewerEncoder {
         ensures height { result.height ≡ height (shown_by surface.now).screen }
         ensures lawful { IsDisplay (shown_by surface.now) }
     {
-        surfaces_stay_lawful(surface);
         let (width, height) = surface.dimensions();
         ViewerEncoder {
             alloc,
@@ -165,7 +144,7 @@ impl ViewerEncoder {
         self.encode(bytes, &Change::AllAttributes(pen))
     }
 
-    /// Encodes a place, whose column and row count from 0.
+    /// Encodes a position, whose column and row count from 0.
     pub fn encode_place(
         &self,
         bytes: &mut Vec<u8>,
@@ -229,7 +208,7 @@ impl ViewerEncoder {
             ++ encoded_texts self.now.width self.now.height
             (written_again (shown_by surface.now).screen
             (last_cell (cursor_row (shown_by surface.now).screen)))) }
-        ensures front { take (length bytes.old.items) bytes.new.items ≡ bytes.old.items }
+        ensures prefix { take (length bytes.old.items) bytes.new.items ≡ bytes.old.items }
     {
         let Some(cell) = last_cell(cursor_line(surface)) else {
             return Ok(());
@@ -252,25 +231,17 @@ impl ViewerEncoder {
         requires stays { surface.now.is_failed ≡ false }
         requires width { self.now.width ≡ (shown_by surface.now).screen.width }
         requires spelled { HaveSpellings self.now.width self.now.height
-            (retold (shown_by surface.now).screen (value_of change.now)) }
+            (as_sent (shown_by surface.now).screen (value_of change.now)) }
         ensures { OnOk result
             (bytes.new.items
             ≡ bytes.old.items
             ++ encoded_texts self.now.width self.now.height
-            (retold (shown_by surface.now).screen (value_of change.now))) }
+            (as_sent (shown_by surface.now).screen (value_of change.now))) }
     {
         if is_pending(change, self.width) {
             return self.encode_again(bytes, surface);
         }
-        match change {
-            Change::Title(_) => {}
-            Change::ClearScreen(_) => {
-                self.encode(bytes, change)?;
-                self.encode_title(bytes, surface.title())?;
-            }
-            _ => self.encode(bytes, change)?,
-        }
-        Ok(())
+        self.encode(bytes, change)
     }
 
     // Encodes the changes of a repaint in turn.
@@ -283,12 +254,12 @@ impl ViewerEncoder {
         requires stays { surface.now.is_failed ≡ false }
         requires width { self.now.width ≡ (shown_by surface.now).screen.width }
         requires spelled { HaveSpellings self.now.width self.now.height
-            (flat_map (retold (shown_by surface.now).screen) (map value_of changes.now)) }
+            (flat_map (as_sent (shown_by surface.now).screen) (map value_of changes.now)) }
         ensures { OnOk result
             (bytes.new.items
             ≡ bytes.old.items
             ++ encoded_texts self.now.width self.now.height
-            (flat_map (retold (shown_by surface.now).screen) (map value_of changes.now))) }
+            (flat_map (as_sent (shown_by surface.now).screen) (map value_of changes.now))) }
     {
         for change in changes {
             self.encode_painted(bytes, surface, change)?;
@@ -313,11 +284,11 @@ impl ViewerEncoder {
             ++ encoded_texts self.now.width self.now.height
             (update_changes (shown_by surface.now).screen surface.now.log number)) }
     {
-        match due_changes(surface, number)? {
-            CowSlice::Borrowed(changes) => self.encode_all(bytes, changes)?,
-            CowSlice::Owned(changes) => self.encode_repaint(bytes, surface, changes.as_slice())?,
+        if let Some(changes) = due_changes(surface, number) {
+            return self.encode_all(bytes, changes);
         }
-        Ok(())
+        let changes = repaint_with_title(surface)?;
+        self.encode_repaint(bytes, surface, changes.as_slice())
     }
 }
 
@@ -337,8 +308,8 @@ pub fn update<W: Widths + Drop>(
     requires { CanBeEncoded surface.now }
     ensures { IfOk result (λ bytes. bytes.items ≡ update_of (shown_by surface.now).screen surface.now.log number) }
 {
-    let receiver = ViewerEncoder::of(alloc, surface);
+    let encoder = ViewerEncoder::of(alloc, surface);
     let mut bytes = Vec::new(alloc);
-    receiver.encode_update(&mut bytes, surface, number)?;
+    encoder.encode_update(&mut bytes, surface, number)?;
     Ok(bytes)
 }

@@ -1,4 +1,5 @@
-//! Changes: conversions, copies and equality; lists of them that write cells with other changes between; and fronts of
+//! Changes: conversions, copies and equality; lists of them that write cells with other changes between; and
+//! prefixes of
 //! texts. か has width 2.
 use cell_base::{
     AttributeChange, CellAttributes, ColorAttribute, Intensity, LineAttribute, Position,

@@ -1,4 +1,4 @@
-//! Commands without parts, what is written behind other bytes, commands that differ, and all selections.
+//! Commands without parts, what is written after other bytes, commands that differ, and all selections.
 use bitflags::Flags;
 use escape_osc::{OperatingSystemCommand, Selection};
 use std::process::Abort;
@@ -23,9 +23,9 @@ fn bytes_after_others(rt: HostRuntime) {
 }
 
 // Two commands differ.
-fn assert_differ<R: Abort + AllocGlobal>(rt: &R, parts: &[&[u8]], others: &[&[u8]]) {
+fn assert_differ<R: Abort + AllocGlobal>(rt: &R, parts: &[&[u8]], remaining: &[&[u8]]) {
     let command = OperatingSystemCommand::parse(rt.alloc(), parts).expect(rt, "memory");
-    let other = OperatingSystemCommand::parse(rt.alloc(), others).expect(rt, "memory");
+    let other = OperatingSystemCommand::parse(rt.alloc(), remaining).expect(rt, "memory");
     assert!(rt; command != other);
 }
 

@@ -1,12 +1,12 @@
-//! Copies of the control sequence at the front of some bytes.
+//! Copies of the control sequence at the start of some bytes.
 use csi_codec::{CsiParam, read_csi};
 
 #[test]
 fn copies_of_fronts(rt: HostRuntime) {
-    let front = read_csi(rt.alloc(), b"\x1b[2;5Hx").expect(&rt, "memory");
-    let front = front.expect(&rt, "a sequence");
-    let copy = front.try_clone().expect(&rt, "memory");
-    assert!(rt; copy == front);
+    let prefix = read_csi(rt.alloc(), b"\x1b[2;5Hx").expect(&rt, "memory");
+    let prefix = prefix.expect(&rt, "a sequence");
+    let copy = prefix.try_clone().expect(&rt, "memory");
+    assert!(rt; copy == prefix);
     assert_eq!(rt; copy.control, 'H');
     assert!(rt; !copy.truncated);
     assert_eq!(rt; copy.rest, b"x".as_slice());

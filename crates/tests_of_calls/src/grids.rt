@@ -1,4 +1,4 @@
-//! Grids: what their lines show behind some changes.
+//! Grids: what their lines show after some changes.
 ghost use Rattle.screen_grid.specs.Grid.{IsDrawn};
 
 use cell_base::{

@@ -39,7 +39,7 @@ fn fed_in_pieces<R: Abort + AllocGlobal>(rt: &R, width: usize, height: usize, by
     terminal
 }
 
-/// The terminal shows these rows, its cursor is in this place, and so many changes led there.
+/// The terminal shows these rows, its cursor is in this position, and so many changes led there.
 pub fn assert_shows<R: Abort + AllocGlobal>(
     rt: &R,
     terminal: &Plain,
@@ -107,7 +107,7 @@ pub fn long_line<R: Abort + AllocGlobal>(rt: &R) -> Vec<u8> {
     line
 }
 
-/// What stands behind such lines on 80 columns and 3 rows.
+/// What follows such lines on 80 columns and 3 rows.
 pub fn rows_of_long_lines<R: Abort + AllocGlobal>(rt: &R) -> String {
     let full = times(rt, b"abcdefghij", 8);
     let last = times(

@@ -7,7 +7,7 @@ use std::process::Abort;
 // What is sent for a letter in row 50 and column 150, to a viewer that has seen all before.
 const LETTER: &[u8] = b"\x1b[50;150Hx\0";
 
-// The patch of that letter: the title, the letter, the cursor's place, the pen and the cursor.
+// The patch of that letter: the title, the letter, the cursor's position, the pen and the cursor.
 const PATCH: &[u8] =
     b"\x1b]2;\x1b\\\x1b[50;150H\x1b[0m\x1b]8;;\x1b\\x\0\x1b[50;151H\x1b[0m\x1b]8;;\x1b\\\x1b[?25h";
 
@@ -17,11 +17,11 @@ fn assert_same<R: Abort + AllocGlobal>(rt: &R, terminal: &Plain, viewer: &Plain)
         .surface()
         .screen_chars_to_string()
         .expect(rt, "memory");
-    let others = viewer
+    let remaining = viewer
         .surface()
         .screen_chars_to_string()
         .expect(rt, "memory");
-    assert!(rt; rows.as_str() == others.as_str());
+    assert!(rt; rows.as_str() == remaining.as_str());
     let place = terminal.surface().cursor_position();
     assert_eq!(rt; viewer.surface().cursor_position(), place);
 }

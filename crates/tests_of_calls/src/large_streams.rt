@@ -28,8 +28,8 @@ fn texts_of_a_megabyte(rt: HostRuntime) {
 }
 
 // A string with a long body is read as so many actions, and written as it was.
-fn assert_read<R: Abort + AllocGlobal>(rt: &R, front: &[u8], count: usize) {
-    let mut bytes = times(rt, front, 1);
+fn assert_read<R: Abort + AllocGlobal>(rt: &R, prefix: &[u8], count: usize) {
+    let mut bytes = times(rt, prefix, 1);
     bytes
         .extend_from_slice(&times(rt, b"long body!", 7_000))
         .expect(rt, "memory");
@@ -50,7 +50,7 @@ fn bodies_of_70_kilobytes(rt: HostRuntime) {
     assert_read(&rt, b"\x1bPq", 70_003);
 }
 
-// So many numbers, each with a semicolon behind it.
+// So many numbers, each with a semicolon after it.
 fn numbers<R: Abort + AllocGlobal>(rt: &R, count: usize) -> Vec<CsiParam> {
     let mut params = Vec::new(rt.alloc());
     for _ in 0..count {
@@ -81,10 +81,10 @@ fn fronts_of_long_lists(rt: HostRuntime) {
         .extend_from_slice(&times(&rt, b"1;", 10_000))
         .expect(&rt, "memory");
     bytes.extend_from_slice(b"mx").expect(&rt, "memory");
-    let front = read_csi(rt.alloc(), &bytes).expect(&rt, "memory");
-    let front = front.expect(&rt, "sequence");
-    assert_eq!(rt; front.params.len(), 256);
-    assert!(rt; front.truncated && front.control == 'm' && front.rest == b"x".as_slice());
+    let prefix = read_csi(rt.alloc(), &bytes).expect(&rt, "memory");
+    let prefix = prefix.expect(&rt, "sequence");
+    assert_eq!(rt; prefix.params.len(), 256);
+    assert!(rt; prefix.truncated && prefix.control == 'm' && prefix.rest == b"x".as_slice());
 }
 
 #[test]
@@ -101,7 +101,7 @@ fn rows_of_a_megabyte(rt: HostRuntime) {
     assert!(rt; writer.into_inner().as_slice() == expected.as_bytes());
 }
 
-// Updates behind each 64 KB and at the end, and what a new terminal shows that reads them.
+// Updates after each 64 KB and at the end, and what a new terminal shows that reads them.
 #[test]
 fn updates_of_a_megabyte(rt: HostRuntime) {
     let bytes = times(&rt, &long_line(&rt), 1024);

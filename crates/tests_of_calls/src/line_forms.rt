@@ -191,14 +191,14 @@ fn lines_of_other_numbers_or_bits_differ(rt: HostRuntime) {
     assert!(rt; differs(&rt, "a\u{304b}", &wrapped));
 }
 
-// Whether the line of a text behind that of another is the same in each form of both.
-fn joins<R: Abort + AllocGlobal>(rt: &R, front: &str, back: &str, whole: &str) -> bool {
+// Whether the line of a text after that of another is the same in each form of both.
+fn joins<R: Abort + AllocGlobal>(rt: &R, prefix: &str, back: &str, whole: &str) -> bool {
     let expected = plain_line(rt, whole);
     let mut does = true;
     for form in &FORMS {
-        let mut line = in_form(rt, &plain_line(rt, front), *form);
-        let behind = in_form(rt, &plain_line(rt, back), *form);
-        line.append_line(behind, 5).expect(rt, "memory");
+        let mut line = in_form(rt, &plain_line(rt, prefix), *form);
+        let after = in_form(rt, &plain_line(rt, back), *form);
+        line.append_line(after, 5).expect(rt, "memory");
         does = does && line == expected;
     }
     does
@@ -218,8 +218,8 @@ fn is_clustered(line: &Line) -> bool {
 
 // Whether the columns in which two lines may differ are those from one on and before another.
 fn differ_in(line: &Line, other: &Line, start: usize, stop: usize) -> bool {
-    let (first, behind) = line.unequal_columns(other);
-    first == start && behind == stop
+    let (first, after) = line.unequal_columns(other);
+    first == start && after == stop
 }
 
 #[test]

@@ -55,7 +55,7 @@ impl Write for Sink {
     }
 }
 
-/// A writer of so many bytes at a time that fails behind so many writes, or behind so many flushes.
+/// A writer of so many bytes at a time that fails after so many writes, or after so many flushes.
 pub fn sink_of(alloc: Global, most: usize, writes_left: usize, flushes_left: usize) -> Sink {
     Sink {
         text: Vec::new(alloc),

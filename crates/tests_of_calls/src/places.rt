@@ -1,4 +1,4 @@
-//! Places in a list of parameters: copied, and taken to another list.
+//! Positions in a list of parameters: copied, and taken to another list.
 use csi_codec::{CsiParam, ParamCursor};
 
 #[test]

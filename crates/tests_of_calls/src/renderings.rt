@@ -7,24 +7,14 @@ use escape_stream::encode;
 use screen_change::Change;
 use std::process::Abort;
 use std::rc::Rc;
-use std::slice;
-use terminal_render::{RenderError, append_renderings, render};
+use terminal_render::{RenderError, has_encoding, render};
 
-// Whether these bytes are appended for a change to a terminal of 4 columns and 3 rows.
-fn appends<R: Abort + AllocGlobal>(rt: &R, change: &Change, bytes: &str) -> bool {
-    let mut written = Vec::new(rt.alloc());
-    match append_renderings(rt.alloc(), slice::from_ref(change), 4, 3, &mut written) {
-        Ok(()) => written.as_slice() == bytes.as_bytes(),
-        Err(_) => false,
-    }
-}
-
-// Whether these bytes are written for a change, and appended.
+// Whether these bytes are written for a change.
 fn writes<R: Abort + AllocGlobal>(rt: &R, change: &Change, bytes: &str) -> bool {
     match render(rt.alloc(), change, 4, 3) {
         Ok(actions) => {
             let written = encode(rt.alloc(), actions.as_slice()).expect(rt, "memory");
-            written.as_slice() == bytes.as_bytes() && appends(rt, change, bytes)
+            written.as_slice() == bytes.as_bytes() && has_encoding(change, 4, 3)
         }
         Err(_) => false,
     }
@@ -32,10 +22,8 @@ fn writes<R: Abort + AllocGlobal>(rt: &R, change: &Change, bytes: &str) -> bool 
 
 // Whether it has no spelling.
 fn is_refused<R: Abort + AllocGlobal>(rt: &R, change: &Change) -> bool {
-    matches!(
-        render(rt.alloc(), change, 4, 3),
-        Err(RenderError::NoSpelling)
-    )
+    let rendered = render(rt.alloc(), change, 4, 3);
+    matches!(rendered, Err(RenderError::NoSpelling)) && !has_encoding(change, 4, 3)
 }
 
 fn text<R: Abort + AllocGlobal>(rt: &R, text: &str) -> String {
@@ -137,21 +125,4 @@ fn links(rt: HostRuntime) {
     let found = Rc::new(rt.alloc(), found).expect(&rt, "memory");
     let implicit = Change::Attribute(AttributeChange::Hyperlink(Some(found)));
     assert!(rt; is_refused(&rt, &implicit));
-}
-
-#[test]
-fn changes_in_turn(rt: HostRuntime) {
-    let mut bytes = Vec::from_slice(rt.alloc(), b"before").expect(&rt, "memory");
-    let words = Change::Text(text(&rt, "a"));
-    let up = scroll(3, 1);
-    let both = [words, up];
-    let done = append_renderings(rt.alloc(), &both, 4, 3, &mut bytes);
-    assert!(rt; done.is_ok());
-    assert!(rt; bytes.as_slice() == b"beforea\0\x1b[S".as_slice());
-    let nothing = append_renderings(rt.alloc(), &[], 4, 3, &mut bytes);
-    assert!(rt; nothing.is_ok());
-    let part = [scroll(2, 1)];
-    let refused = append_renderings(rt.alloc(), &part, 4, 3, &mut bytes);
-    assert!(rt; matches!(refused, Err(RenderError::NoSpelling)));
-    assert!(rt; bytes.as_slice() == b"beforea\0\x1b[S".as_slice());
 }

@@ -265,7 +265,7 @@ impl Random {
     }
 }
 
-// Draws random changes on both, and tells whether they show the same behind each.
+// Draws random changes on both, and tells whether they show the same after each.
 fn are_alike(alloc: Global, seed: u64, count: u32) -> Option<bool> {
     let mut random = Random { state: seed };
     let mut surface = Surface::new(alloc, WIDTH, HEIGHT, ProgramWidth).ok()?;

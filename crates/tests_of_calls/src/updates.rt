@@ -6,7 +6,7 @@ use terminal::{ProgramWidth, RunError, Watched, run};
 
 const INPUT: &[u8] = b"abc";
 
-// The update behind `ab`, and that at the end.
+// The update after `ab`, and that at the end.
 const UPDATES: &[u8] =
     b"\x1b[?25l\x1b[0m\x1b]8;;\x1b\\\x1b[2J\x1b[1;1H\x1b]2;\x1b\\ab\0\x1b[1;3H\x1b[?25hc\0";
 
@@ -21,7 +21,7 @@ fn input_in(most: usize, reads_left: usize) -> Pieces {
     }
 }
 
-/// What `run` answers and writes on 4x1 with a look behind each two bytes.
+/// What `run` answers and writes on 4x1 with a look after each two bytes.
 fn ran(alloc: Global, mut pieces: Pieces, mut sink: Sink) -> (Result<(), RunError>, Vec<u8>) {
     let result = {
         let mut reader = Watched::new(&mut pieces);
@@ -49,7 +49,7 @@ fn is_part(text: &[u8], count: usize) -> bool {
     text.len() == count && UPDATES.starts_with(text)
 }
 
-/// Where a read fails behind so many, the updates of what was read are written, the last one not.
+/// Where a read fails after so many, the updates of what was read are written, the last one not.
 fn assert_unread<R: Abort + AllocGlobal>(rt: &R, pieces: Pieces, count: usize) {
     let (result, text) = ran(rt.alloc(), pieces, sink_of(rt.alloc(), 100, 100, 2));
     assert_eq!(rt; result, Err(RunError::Read));
@@ -70,7 +70,7 @@ fn run_ends_at_a_read_that_fails(rt: HostRuntime) {
     }
 }
 
-/// A write or a flush fails behind so many bytes.
+/// A write or a flush fails after so many bytes.
 fn assert_unwritten<R: Abort + AllocGlobal>(rt: &R, sink: Sink, count: usize) {
     let (result, text) = ran(rt.alloc(), input_in(100, 100), sink);
     assert_eq!(rt; result, Err(RunError::Write));

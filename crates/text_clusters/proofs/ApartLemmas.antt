@@ -220,7 +220,7 @@ apart_first c (d ∷ ds) p q =
     let b = boundary c d ds p q in
     cut_here [] c (d ∷ ds) b ∙ ap (λ (ps : List (List ℕ)). (c ∷ []) ∷ ps) (cut_after d (c ∷ []) (forgets d c [] ds b) ds)
 
--- a text that begins with one, and with another one behind it or nothing
+-- a text that begins with one, and with another one after it or nothing
 pub apart_cut : (text rest : List ℕ) (c : ℕ) → IsUtf8 text → text ≡ encode_utf8 c ++ rest → is_independent c ≡ true → begins_independent rest ≡ true
     → graphemes true text ≡ encode_utf8 c ∷ graphemes true rest
 unfolding segments begins_independent
@@ -229,8 +229,8 @@ apart_cut text rest c u e p q =
     ∙ ap (map encode_utf8_all) (apart_first c (chars rest) p q)
     ∙ ap (λ (g : List ℕ). g ∷ graphemes true rest) (append-nil (encode_utf8 c))
 
--- a text that begins with one, cut behind it
-module _ (text front back : List ℕ) (c n : ℕ) (u : IsUtf8 text) (b : BeginsWith text c n) where
+-- a text that begins with one, cut after it
+module _ (text prefix back : List ℕ) (c n : ℕ) (u : IsUtf8 text) (b : BeginsWith text c n) where
   l : n ≡ length (encode_utf8 c)
   l = b.bytes
 
@@ -240,14 +240,14 @@ module _ (text front back : List ℕ) (c n : ℕ) (u : IsUtf8 text) (b : BeginsW
   pub single_seam : IsCharBoundary text n
   single_seam = subst (IsCharBoundary text) (sym l) (IsCharBoundary-at_seam text (encode_utf8 c) b.rest b.whole rest_utf8)
 
-  module _ (f : front ≡ take n text) (e : back ≡ drop n text) where
+  module _ (f : prefix ≡ take n text) (e : back ≡ drop n text) where
     back_is : back ≡ b.rest
     back_is = e ∙ ap (drop n) b.whole ∙ drop_at (encode_utf8 c) b.rest n (sym l)
 
-    front_is : front ≡ encode_utf8 c
+    front_is : prefix ≡ encode_utf8 c
     front_is = f ∙ ap (take n) b.whole ∙ take_at (encode_utf8 c) b.rest n (sym l)
 
-    pub cut_before : begins_independent back ≡ true → graphemes true text ≡ front ∷ graphemes true back
+    pub cut_before : begins_independent back ≡ true → graphemes true text ≡ prefix ∷ graphemes true back
     cut_before a =
         apart_cut text b.rest c u b.whole b.stands (ap begins_independent (sym back_is) ∙ a)
         ∙ (λ i. sym front_is i ∷ graphemes true (sym back_is i))
@@ -338,7 +338,7 @@ module _ (text : List ℕ) where
   len_least : here - 1 ≤ independent_len text
   len_least = by_test (begins_independent (drop here text)) (λ b. let l = len_whole b in omega arith) (λ b. let l = len_less b in omega arith)
 
-  -- a place behind printable characters
+  -- a position after printable characters
   pub run_boundary : (n : ℕ) → n ≤ here → IsUtf8 text → IsCharBoundary text n
   run_boundary zero h u = IsCharBoundary-start text u
   run_boundary (suc n) h u =
@@ -348,31 +348,31 @@ module _ (text : List ℕ) where
       subst (IsCharBoundary text) on (IsCharBoundary-after_ascii text n u (omega arith) (omega arith))
 
   module _ (most : ℕ) where
-    abbrev front : ℕ
-    front = min most (independent_len text)
+    abbrev prefix : ℕ
+    prefix = min most (independent_len text)
 
-    front_most : front ≤ here
+    front_most : prefix ≤ here
     front_most = let l = len_most in omega arith
 
-    pub apart_front_printable : list_all is_printable (take front text) ≡ true
-    apart_front_printable = printable_front front text front_most
+    pub apart_front_printable : list_all is_printable (take prefix text) ≡ true
+    apart_front_printable = printable_front prefix text front_most
 
-    pub apart_front_boundary : IsUtf8 text → IsCharBoundary text front
-    apart_front_boundary u = run_boundary front front_most u
+    pub apart_front_boundary : IsUtf8 text → IsCharBoundary text prefix
+    apart_front_boundary u = run_boundary prefix front_most u
 
-    front_none : begins_independent (drop front text) ≡ false → 0 ≡ front
-    front_none b = by_test (nat_lt front here)
-        (λ t. absurd (false≢true (sym b ∙ printable_at front text (ltb-true front here t))))
+    front_none : begins_independent (drop prefix text) ≡ false → 0 ≡ prefix
+    front_none b = by_test (nat_lt prefix here)
+        (λ t. absurd (false≢true (sym b ∙ printable_at prefix text (ltb-true prefix here t))))
         (λ t.
-        let ge = ltb-false front here t in
+        let ge = ltb-false prefix here t in
         let m = front_most in
-        let is : front ≡ here = omega arith in
+        let is : prefix ≡ here = omega arith in
         let l = len_less (ap (λ n. begins_independent (drop n text)) (sym is) ∙ b) in
         omega arith)
 
-    pub apart_front_cut : graphemes true text ≡ each (take front text) ++ graphemes true (drop front text)
-    apart_front_cut = by_test (begins_independent (drop front text))
-        (λ b. run_apart front text front_most b)
+    pub apart_front_cut : graphemes true text ≡ each (take prefix text) ++ graphemes true (drop prefix text)
+    apart_front_cut = by_test (begins_independent (drop prefix text))
+        (λ b. run_apart prefix text front_most b)
         (λ b. ap (λ n. each (take n text) ++ graphemes true (drop n text)) (front_none b))
 
     module _ (run : ℕ) (is : run ≡ prefix_len is_printable (take most text)) where
@@ -382,7 +382,7 @@ module _ (text : List ℕ) where
       pub apart_run_boundary : IsUtf8 text → IsCharBoundary text run
       apart_run_boundary u = let r = run_is in run_boundary run (omega arith) u
 
-      pub apart_run_whole : begins_independent (drop run text) ≡ true → run ≡ front
+      pub apart_run_whole : begins_independent (drop run text) ≡ true → run ≡ prefix
       apart_run_whole b =
           let r = run_is in
           let least = len_least in
@@ -395,7 +395,7 @@ module _ (text : List ℕ) where
           let l = len_whole (ap (λ n. begins_independent (drop n text)) (sym all) ∙ b) in
           omega arith)
 
-      pub apart_run_less : begins_independent (drop run text) ≡ false → run - 1 ≡ front
+      pub apart_run_less : begins_independent (drop run text) ≡ false → run - 1 ≡ prefix
       apart_run_less b = by_test (nat_lt run here)
           (λ t. absurd (false≢true (sym b ∙ printable_at run text (ltb-true run here t))))
           (λ t.

@@ -25,7 +25,7 @@ pieces before cs = cut breaks before cs []
 
 -- ---- what the rules remember
 
--- whatever the rules look for before a place, they don't find it behind this character
+-- whatever the rules look for before a position, they don't find it after this character
 pub record Forgets (d : ℕ) (before : List ℕ) : Type 0 where
   pub linker : ends_in_linker (map indic_conjunct_break (d ∷ before)) ≡ ends_in_linker (map indic_conjunct_break (d ∷ []))
   pub pictograph : ends_in_pictograph (d ∷ before) ≡ ends_in_pictograph (d ∷ [])
@@ -83,7 +83,7 @@ module _ (d : ℕ) (before : List ℕ) (forgets : Forgets d before) where
   cut_kept x (c ∷ cs) = λ i.
       if break_kept (c ∷ x) (cs ++ []) i then (c ∷ []) ∷ cut_kept (c ∷ x) cs i else prepend (c ∷ []) (cut_kept (c ∷ x) cs i)
 
-  -- what begins behind a boundary is cut as if nothing were before it
+  -- what begins after a boundary is cut as if nothing were before it
   pub cut_after : (cs : List ℕ) → pieces before (d ∷ cs) ≡ pieces [] (d ∷ cs)
   unfolding cut
   cut_after cs = λ i.
@@ -91,7 +91,7 @@ module _ (d : ℕ) (before : List ℕ) (forgets : Forgets d before) where
 
 -- ---- a boundary
 
--- a character that joins what stands before it breaks only behind a control
+-- a character that joins what stands before it breaks only after a control
 after_extend : (g : GraphemeClusterBreak) (r : Bool) → unwrap_or (break_by_pair true g Extend) r ≡ true → is_control g ≡ true
 after_extend Control r e = refl
 after_extend Cr r e = refl
@@ -275,11 +275,11 @@ module _ (d b : ℕ) (bs cs : List ℕ) (boundary : breaks (b ∷ bs) (d ∷ cs)
 
 -- The first cluster of characters: it is cut off, by itself it is one, and the others are those of what is left.
 pub record First (before : List ℕ) (c : ℕ) (cs : List ℕ) : Type 0 where
-  pub others : List ℕ
+  pub remaining : List ℕ
   pub rest : List ℕ
-  pub whole : cs ≡ others ++ rest
-  pub cut : pieces before (c ∷ cs) ≡ (c ∷ others) ∷ pieces [] rest
-  pub alone : pieces before (c ∷ others) ≡ (c ∷ others) ∷ []
+  pub whole : cs ≡ remaining ++ rest
+  pub cut : pieces before (c ∷ cs) ≡ (c ∷ remaining) ∷ pieces [] rest
+  pub alone : pieces before (c ∷ remaining) ≡ (c ∷ remaining) ∷ []
 
 breaks_at_head : (before : List ℕ) (b d : ℕ) (xs ys : List ℕ) → breaks (b ∷ before) (d ∷ xs) ≡ breaks (b ∷ before) (d ∷ ys)
 unfolding is_grapheme_break
@@ -305,10 +305,10 @@ pub last_alone : (before : List ℕ) (c : ℕ) → pieces before (c ∷ []) ≡ 
 last_alone before c = cut_here before c [] (breaks_at_end before c) ∙ ap (λ (ps : List (List ℕ)). (c ∷ []) ∷ ps) (pieces-nil (c ∷ before))
 
 pub first : (before : List ℕ) (c : ℕ) (cs : List ℕ) → First before c cs
-first before c [] = record { others = []; rest = []; whole = refl; cut = last_alone before c ∙ ap (λ (ps : List (List ℕ)). (c ∷ []) ∷ ps) (sym (pieces-nil [])); alone = last_alone before c }
+first before c [] = record { remaining = []; rest = []; whole = refl; cut = last_alone before c ∙ ap (λ (ps : List (List ℕ)). (c ∷ []) ∷ ps) (sym (pieces-nil [])); alone = last_alone before c }
 first before c (d ∷ ds) = by_test (breaks (c ∷ before) (d ∷ ds))
     (λ e. record {
-      others = [];
+      remaining = [];
       rest = d ∷ ds;
       whole = refl;
       cut = cut_here before c (d ∷ ds) e ∙ ap (λ (ps : List (List ℕ)). (c ∷ []) ∷ ps) (cut_after d (c ∷ before) (forgets d c before ds e) ds);
@@ -317,9 +317,9 @@ first before c (d ∷ ds) = by_test (breaks (c ∷ before) (d ∷ ds))
     (λ e.
     let next = first (c ∷ before) d ds in
     record {
-      others = d ∷ next.others;
+      remaining = d ∷ next.remaining;
       rest = next.rest;
       whole = ap (λ (xs : List ℕ). d ∷ xs) next.whole;
       cut = cut_later before c (d ∷ ds) e ∙ ap (prepend (c ∷ [])) next.cut;
-      alone = cut_later before c (d ∷ next.others) (breaks_at_head before c d next.others ds ∙ e) ∙ ap (prepend (c ∷ [])) next.alone;
+      alone = cut_later before c (d ∷ next.remaining) (breaks_at_head before c d next.remaining ds ∙ e) ∙ ap (prepend (c ∷ [])) next.alone;
     })

@@ -101,7 +101,7 @@ prefix_taken p (suc n) (x ∷ xs) = by_test (p x) refl (prefix_taken p n xs)
     by_test true e h = let a = prefix_cons p x xs e in let b = prefix_cons p x (take n xs) e in omega arith
     by_test false e h = let b = prefix_stop p x (take n xs) e in omega arith
 
--- what passes one test, and behind it what passes another that all of these pass
+-- what passes one test, and after it what passes another that all of these pass
 pub passed : (p q : ℕ → Bool) → ((x : ℕ) → p x ≡ true → q x ≡ true) → (xs : List ℕ) → prefix_len q xs ≡ prefix_len p xs + prefix_len q (drop (prefix_len p xs) xs)
 passed p q h [] = refl
 passed p q h (x ∷ xs) = by_test (p x) refl (passed p q h xs)

@@ -73,7 +73,7 @@ whole_run (c ∷ d ∷ rest) h =
     let q = front_printable d rest (omega arith) in
     apart c d rest p q ∙ ap (λ (gs : List (List ℕ)). (c ∷ []) ∷ gs) (whole_run (d ∷ rest) (omega arith))
 
--- ---- the plain front of a text
+-- ---- the plain prefix of a text
 
 pub printable_front : (n : ℕ) (text : List ℕ) → n ≤ prefix_len is_printable text → list_all is_printable (take n text) ≡ true
 printable_front zero text h = refl
@@ -129,47 +129,47 @@ module _ (text : List ℕ) where
       let start : 0 ≡ here - 1 = omega arith in
       ap (λ n. each (take n text) ++ graphemes true (drop n text)) (start ∙ sym (plain_less e))))
 
-  -- ---- the front of at most so many bytes
+  -- ---- the start of at most so many bytes
 
   module _ (most : ℕ) where
-    abbrev front : ℕ
-    front = min most (plain_len text)
+    abbrev prefix : ℕ
+    prefix = min most (plain_len text)
 
-    front_le : front ≤ here
+    front_le : prefix ≤ here
     front_le = let l = plain_le in omega arith
 
-    pub front_printable_all : list_all is_printable (take front text) ≡ true
-    front_printable_all = printable_front front text front_le
+    pub front_printable_all : list_all is_printable (take prefix text) ≡ true
+    front_printable_all = printable_front prefix text front_le
 
-    pub front_cut : graphemes true text ≡ each (take front text) ++ graphemes true (drop front text)
+    pub front_cut : graphemes true text ≡ each (take prefix text) ++ graphemes true (drop prefix text)
     front_cut = by_test (nat_lt most (plain_len text))
         (λ t.
         let less : most < plain_len text = ltb-true most (plain_len text) t in
         let le = plain_le in
-        run front text (omega arith))
+        run prefix text (omega arith))
         (λ t.
         let all : plain_len text ≤ most = ltb-false most (plain_len text) t in
-        let is : plain_len text ≡ front = omega arith in
+        let is : plain_len text ≡ prefix = omega arith in
         plain_cut ∙ ap (λ n. each (take n text) ++ graphemes true (drop n text)) is)
 
-    pub front_boundary : IsUtf8 text → IsCharBoundary text front
-    front_boundary u = by_test (nat_lt front here)
+    pub front_boundary : IsUtf8 text → IsCharBoundary text prefix
+    front_boundary u = by_test (nat_lt prefix here)
         (λ t.
-        let less : front < here = ltb-true front here t in
+        let less : prefix < here = ltb-true prefix here t in
         let bound = within in
-        let below = printable_below (get_or text front 0) (prefix_len_passes is_printable text front 0 (omega arith)) in
-        IsCharBoundary-before_ascii text front (omega arith) (omega arith))
+        let below = printable_below (get_or text prefix 0) (prefix_len_passes is_printable text prefix 0 (omega arith)) in
+        IsCharBoundary-before_ascii text prefix (omega arith) (omega arith))
         (λ t.
-        let ge : here ≤ front = ltb-false front here t in
+        let ge : here ≤ prefix = ltb-false prefix here t in
         by_test (here == length text)
         (λ e.
         let all : here ≡ length text = eqb-true here (length text) e in
         let le = front_le in
-        let is : length text ≡ front = omega arith in
+        let is : length text ≡ prefix = omega arith in
         subst (IsCharBoundary text) is (IsCharBoundary-end text))
         (λ e.
         let l = plain_less e in
-        let none : 0 ≡ front = omega arith in
+        let none : 0 ≡ prefix = omega arith in
         subst (IsCharBoundary text) none (IsCharBoundary-start text u)))
 
     -- ---- how far the code looks
@@ -177,7 +177,7 @@ module _ (text : List ℕ) where
     run_len : prefix_len is_printable (take most text) ≡ min most here
     run_len = prefix_taken most text
 
-    pub front_less : (run : ℕ) → run ≡ prefix_len is_printable (take most text) → (nat_lt run (length text) && not (is_printable (slice_index text run))) ≡ true → run - 1 ≡ front
+    pub front_less : (run : ℕ) → run ≡ prefix_len is_printable (take most text) → (nat_lt run (length text) && not (is_printable (slice_index text run))) ≡ true → run - 1 ≡ prefix
     front_less run e o =
         let l = run_len in
         let inside : run < length text = ltb-true run (length text) (and_parts (nat_lt run (length text)) _ o).0 in
@@ -187,7 +187,7 @@ module _ (text : List ℕ) where
         let less = plain_less (not_all (here == length text) (λ e. absurd (let is = eqb-true here (length text) e in omega arith))) in
         omega arith
 
-    pub front_all : (run : ℕ) → run ≡ prefix_len is_printable (take most text) → (nat_lt run (length text) && not (is_printable (slice_index text run))) ≡ false → run ≡ front
+    pub front_all : (run : ℕ) → run ≡ prefix_len is_printable (take most text) → (nat_lt run (length text) && not (is_printable (slice_index text run))) ≡ false → run ≡ prefix
     front_all run e o =
         let l = run_len in
         let bound = within in

@@ -1,4 +1,4 @@
--- The clusters of a text behind some of them, and of each by itself.
+-- The clusters of a text after some of them, and of each by itself.
 use Rattle.std.proofs.Common.{◌≡◌, ℕ, zero, suc, ◌≤◌, true, ◌&&◌, List, [], ◌∷◌, ◌++◌, length, map, drop, IsUtf8, refl, sym, ap, ap₂, subst, ◌∙◌, arith, length-append}
 use Rattle.std.specs.Prelude.{encode_utf8_all}
 use Rattle.std.specs.List.{concat}
@@ -26,11 +26,11 @@ module _ (c : ℕ) (cs : List ℕ) (scalars : all_scalars (c ∷ cs) ≡ true) w
   one : First [] c cs
   one = first [] c cs
 
-  parts : (all_scalars (c ∷ one.others) ≡ true) × (all_scalars one.rest ≡ true)
-  parts = scalars_joined (c ∷ one.others) one.rest (ap (λ (xs : List ℕ). all_scalars (c ∷ xs)) (sym one.whole) ∙ scalars)
+  parts : (all_scalars (c ∷ one.remaining) ≡ true) × (all_scalars one.rest ≡ true)
+  parts = scalars_joined (c ∷ one.remaining) one.rest (ap (λ (xs : List ℕ). all_scalars (c ∷ xs)) (sym one.whole) ∙ scalars)
 
   pub first_cluster : List ℕ
-  first_cluster = encode_utf8_all (c ∷ one.others)
+  first_cluster = encode_utf8_all (c ∷ one.remaining)
 
   pub chars_after : List ℕ
   chars_after = one.rest
@@ -41,21 +41,21 @@ module _ (c : ℕ) (cs : List ℕ) (scalars : all_scalars (c ∷ cs) ≡ true) w
 
   pub after_fewer : length chars_after ≤ length cs
   unfolding chars_after
-  after_fewer = omega (arith, ap length one.whole, length-append one.others one.rest)
+  after_fewer = omega (arith, ap length one.whole, length-append one.remaining one.rest)
 
   pub cluster_cut : graphemes true (encode_utf8_all (c ∷ cs)) ≡ first_cluster ∷ graphemes true (encode_utf8_all chars_after)
   unfolding first_cluster chars_after
   cluster_cut =
       graphemes_of (c ∷ cs) scalars ∙ ap (map encode_utf8_all) one.cut
-      ∙ ap (λ (gs : List (List ℕ)). encode_utf8_all (c ∷ one.others) ∷ gs) (sym (graphemes_of one.rest parts.1))
+      ∙ ap (λ (gs : List (List ℕ)). encode_utf8_all (c ∷ one.remaining) ∷ gs) (sym (graphemes_of one.rest parts.1))
 
   pub cluster_alone : graphemes true first_cluster ≡ first_cluster ∷ []
   unfolding first_cluster
-  cluster_alone = graphemes_of (c ∷ one.others) parts.0 ∙ ap (map encode_utf8_all) one.alone
+  cluster_alone = graphemes_of (c ∷ one.remaining) parts.0 ∙ ap (map encode_utf8_all) one.alone
 
   pub cluster_whole : encode_utf8_all (c ∷ cs) ≡ first_cluster ++ encode_utf8_all chars_after
   unfolding first_cluster chars_after
-  cluster_whole = ap (λ (xs : List ℕ). encode_utf8_all (c ∷ xs)) one.whole ∙ encodes-append (c ∷ one.others) one.rest
+  cluster_whole = ap (λ (xs : List ℕ). encode_utf8_all (c ∷ xs)) one.whole ∙ encodes-append (c ∷ one.remaining) one.rest
 
 -- ---- each cluster by itself
 
@@ -74,7 +74,7 @@ module _ {X : Type 0} (f g : List ℕ → X) (same : (p : List ℕ) → grapheme
   pub same_at_clusters : (text : List ℕ) → IsUtf8 text → map f (graphemes true text) ≡ map g (graphemes true text)
   same_at_clusters text u = subst (λ (t : List ℕ). map f (graphemes true t) ≡ map g (graphemes true t)) u.1.1 (same_at_each (length u.0) u.0 u.1.0 (omega arith))
 
--- ---- behind some clusters
+-- ---- after some clusters
 
 joined : (n : ℕ) (cs : List ℕ) → all_scalars cs ≡ true → length cs ≤ n → concat (graphemes true (encode_utf8_all cs)) ≡ encode_utf8_all cs
 joined n [] s h = ap concat graphemes-nil
@@ -100,7 +100,7 @@ cut_again (suc k) (suc n) (c ∷ cs) s h =
     ∙ cut_again k n (chars_after c cs s) (after_scalars c cs s) (omega arith)
     ∙ sym (ap (drop (suc k)) t)
 
--- behind some of its clusters a text has the others
+-- after some of its clusters a text has the others
 pub clusters_after : (k : ℕ) (text : List ℕ) → IsUtf8 text → graphemes true (concat (drop k (graphemes true text))) ≡ drop k (graphemes true text)
 clusters_after k text u = subst (λ (t : List ℕ). graphemes true (concat (drop k (graphemes true t))) ≡ drop k (graphemes true t)) u.1.1 (cut_again k (length u.0) u.0 u.1.0 (omega arith))
 

@@ -48,7 +48,7 @@ abbrev pub is_independent_first : List ℕ → Bool
 is_independent_first [] = true
 is_independent_first (c ∷ cs) = is_independent c || is_flag_half c
 
--- nothing at the front of the text joins a character before it that is independent
+-- nothing at the start of the text joins a character before it that is independent
 unfoldable pub begins_independent : List ℕ → Bool
 begins_independent text = is_independent_first (chars text)
 
@@ -72,7 +72,7 @@ pub record BeginsPrintable (text : List ℕ) : Type 0 where
   pub alone : encode_utf8 character ≡ character ∷ []
   pub begins : BeginsWith text character 1
 
--- how many printable characters stand at the front, less the last one where what is behind it may join it
+-- how many printable characters stand at the start, less the last one where what follows it may join it
 abbrev pub independent_len : List ℕ → ℕ
 independent_len text =
     let run = prefix_len is_printable text in if begins_independent (drop run text) then run else run - 1

@@ -2,7 +2,7 @@
 ghost use Rattle.std.specs.Prelude.{◌≡◌, ◌≤◌, length, take};
 ghost use Rattle.text_clusters.specs.Controls.{is_c1, holds_c1, len_before_ascii_control};
 
-use crate::lanes::{LANES, behind, first_set};
+use crate::lanes::{LANES, after, first_set};
 use std::simd::prelude::*;
 
 // How many of the first sixteen bytes are no controls, up to one that is.
@@ -37,7 +37,7 @@ pub fn len_before_ascii_control(bytes: &[u8]) -> usize
         if run < LANES {
             return bytes.len() - (rest.len() - run);
         }
-        rest = behind(rest, LANES);
+        rest = after(rest, LANES);
     }
     let few = few_len(rest);
     bytes.len() - (rest.len() - few)

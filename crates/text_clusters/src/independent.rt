@@ -120,7 +120,7 @@ pub fn first_character(text: &str) -> Option<(char, usize)>
     Some((first, text.len() - characters.as_str().len()))
 }
 
-// Cuts off a first character that is independent, where what is behind it begins so too.
+// Cuts off a first character that is independent, where what follows it begins so too.
 #[inline(always)]
 pub(crate) fn split_independent(text: &str) -> Option<(&str, &str)>
     ensures whole { IfSome result (λ parts. text.now ≡ parts.0.now ++ parts.1.now) }

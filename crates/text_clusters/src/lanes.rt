@@ -17,9 +17,9 @@ pub(crate) fn first_set(mask: u64, lanes: usize) -> usize
     }
 }
 
-/// What stands behind so many bytes.
+/// What follows so many bytes.
 #[inline(always)]
-pub(crate) fn behind(bytes: &[u8], count: usize) -> &[u8]
+pub(crate) fn after(bytes: &[u8], count: usize) -> &[u8]
     requires { count ≤ length bytes.now }
     ensures { result.now ≡ drop count bytes.now }
 {

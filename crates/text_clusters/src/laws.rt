@@ -12,11 +12,11 @@ pub fn clusters_stand_alone(text: &str)
     let _text = text;
 }
 
-/// The clusters of a text, joined, are the text; and what stands behind some of them has the others
+/// The clusters of a text, joined, are the text; and what follows some of them has the others
 /// as its clusters.
 pub fn clusters_after_clusters(text: &str)
     ensures joined { concat (graphemes true text.now) ≡ text.now }
-    ensures behind { (count : ℕ)
+    ensures after { (count : ℕ)
         → graphemes true (concat (drop count (graphemes true text.now))) ≡ drop count (graphemes true text.now) }
 {
     let _text = text;
@@ -31,7 +31,7 @@ pub fn plain_clusters()
 {}
 
 /// Letters, ideographs, syllables and signs are independent: such a character is a cluster by itself
-/// where the text ends behind it, or another one follows.
+/// where the text ends after it, or another one follows.
 pub fn clusters_apart(text: &str)
     ensures { (first : ℕ) (rest : List ℕ) → text.now ≡ encode_utf8 first ++ rest → is_independent first ≡ true
         → begins_independent rest ≡ true → graphemes true text.now ≡ encode_utf8 first ∷ graphemes true rest }

@@ -1,4 +1,4 @@
-//! The front of a text, cut off so that the clusters of the text are those of both parts.
+//! The start of a text, cut off so that the clusters of the text are those of both parts.
 ghost use Rattle.std.specs.Prelude.{◌≡◌, ◌↔◌, ◌++◌, ◌∷◌, ◌&&◌, ◌==◌, [], true, not, nat_lt, min, length, take, drop};
 ghost use Rattle.std.specs.Prelude.{slice_index, IfSome, IsNone, IsTrue};
 ghost use Rattle.std.specs.List.{list_all, prefix_len};
@@ -19,14 +19,14 @@ fn first_bytes(text: &str, most: usize) -> &[u8]
     &bytes[..most.min(bytes.len())]
 }
 
-// How many of the first `most` bytes stand in printable characters at the front.
+// How many of the first `most` bytes stand in printable characters at the start.
 fn printable_run(text: &str, most: usize) -> usize
     ensures { result ≡ prefix_len is_printable (take most text.now) }
 {
     printable_len(first_bytes(text, most))
 }
 
-// Whether a byte stands at a place that isn't a printable character.
+// Whether a byte stands at a position that isn't a printable character.
 fn is_other_at(text: &str, place: usize) -> bool
     ensures { result ≡ (nat_lt place (length text.now) && not (is_printable (slice_index text.now place))) }
 {
@@ -36,7 +36,7 @@ fn is_other_at(text: &str, place: usize) -> bool
     }
 }
 
-/// Whether a printable ASCII character (20h to 7Eh) stands at the front.
+/// Whether a printable ASCII character (20h to 7Eh) stands at the start.
 #[inline(always)]
 pub fn begins_printable(text: &str) -> bool
     ensures value { result ≡ nat_lt 0 (prefix_len is_printable text.now) }
@@ -48,19 +48,7 @@ pub fn begins_printable(text: &str) -> bool
     }
 }
 
-// So many plain characters at the front of a text are worth taking together.
-const RUN: usize = 8;
-
-/// Whether at least eight printable ASCII characters (20h to 7Eh) stand at the front; then a run of them is worth
-/// cutting off.
-#[inline(always)]
-pub fn begins_plainly(text: &str) -> bool
-    ensures { result ≡ (prefix_len is_printable (take RUN text.now) == RUN) }
-{
-    printable_run(text, RUN) == RUN
-}
-
-// How many bytes of plain text stand at the front, of `most` at the most.
+// How many bytes of plain text stand at the start, of `most` at the most.
 fn plain_len(text: &str, most: usize) -> usize
     ensures { result ≡ min most (plain_len text.now) }
 {
@@ -75,11 +63,11 @@ fn plain_len(text: &str, most: usize) -> usize
     }
 }
 
-/// Cuts a text behind its plain front, or behind `most` bytes of it: printable ASCII characters (20h
+/// Cuts a text after its plain prefix, or after `most` bytes of it: printable ASCII characters (20h
 /// to 7Eh), each of which is a cluster by itself. The last of them goes to the rest where another
 /// character follows it, which may join it. No more than `most` bytes and one are looked at.
 pub fn split_plain(text: &str, most: usize) -> (&str, &str)
-    ensures front { result.0.now ≡ take (min most (plain_len text.now)) text.now }
+    ensures prefix { result.0.now ≡ take (min most (plain_len text.now)) text.now }
     ensures rest { result.1.now ≡ drop (min most (plain_len text.now)) text.now }
     ensures printable { list_all is_printable result.0.now ≡ true }
     ensures clusters { graphemes true text.now ≡ each result.0.now ++ graphemes true result.1.now }
@@ -87,7 +75,7 @@ pub fn split_plain(text: &str, most: usize) -> (&str, &str)
     text.split_at(plain_len(text, most))
 }
 
-// How many bytes of printable characters that nothing joins stand at the front, of `most` at the
+// How many bytes of printable characters that nothing joins stand at the start, of `most` at the
 // most.
 #[inline(always)]
 fn independent_len(text: &str, most: usize) -> usize
@@ -102,11 +90,11 @@ fn independent_len(text: &str, most: usize) -> usize
     }
 }
 
-/// Cuts a text behind the printable ASCII characters (20h to 7Eh) at its front, or behind `most`
+/// Cuts a text after the printable ASCII characters (20h to 7Eh) at its start, or after `most`
 /// bytes of them: each is a cluster by itself. The last of them goes to the rest where a character
 /// follows it that may join it; letters, ideographs, syllables and signs that are independent don't.
 pub fn split_printable(text: &str, most: usize) -> (&str, &str)
-    ensures front { result.0.now ≡ take (min most (independent_len text.now)) text.now }
+    ensures prefix { result.0.now ≡ take (min most (independent_len text.now)) text.now }
     ensures rest { result.1.now ≡ drop (min most (independent_len text.now)) text.now }
     ensures printable { list_all is_printable result.0.now ≡ true }
     ensures clusters { graphemes true text.now ≡ each result.0.now ++ graphemes true result.1.now }

@@ -1,9 +1,9 @@
-//! Printable characters at the front of some bytes, sixteen bytes at a time, or eight or four of fewer.
+//! Printable characters at the start of some bytes, sixteen bytes at a time, or eight or four of fewer.
 ghost use Rattle.std.specs.Prelude.{◌≡◌, ◌≤◌, length, take};
 ghost use Rattle.std.specs.List.{list_all, prefix_len};
 ghost use Rattle.text_clusters.specs.Plain.{is_printable};
 
-use crate::lanes::{LANES, behind, first_set};
+use crate::lanes::{LANES, after, first_set};
 use std::simd::prelude::*;
 
 /// Whether a byte is a printable ASCII character (20h to 7Eh).
@@ -47,7 +47,7 @@ fn quarter_block_len(bytes: &[u8]) -> usize
     first_set(stops.to_bitmask(), 4)
 }
 
-// How many printable characters stand at the front of a few bytes, one looked at after another.
+// How many printable characters stand at the start of a few bytes, one looked at after another.
 #[inline(always)]
 fn short_len(bytes: &[u8]) -> usize
     ensures { result ≡ prefix_len is_printable bytes.now }
@@ -55,7 +55,7 @@ fn short_len(bytes: &[u8]) -> usize
     bytes.iter().take_while(|byte| is_printable(**byte)).count()
 }
 
-// How many stand at the front of at most eight bytes: of four or more the first four are looked at, and then the last.
+// How many stand at the start of at most eight bytes: of four or more the first four are looked at, and then the last.
 #[inline(always)]
 fn fewer_len(bytes: &[u8]) -> usize
     requires { length bytes.now ≤ 8 }
@@ -69,10 +69,10 @@ fn fewer_len(bytes: &[u8]) -> usize
         return run;
     }
     let last = bytes.len() - 4;
-    last + quarter_block_len(behind(bytes, last))
+    last + quarter_block_len(after(bytes, last))
 }
 
-// How many stand at the front of at most sixteen bytes: of eight or more the first eight are looked at, and then the
+// How many stand at the start of at most sixteen bytes: of eight or more the first eight are looked at, and then the
 // last.
 #[inline(always)]
 fn few_len(bytes: &[u8]) -> usize
@@ -87,10 +87,10 @@ fn few_len(bytes: &[u8]) -> usize
         return run;
     }
     let last = bytes.len() - 8;
-    last + half_block_len(behind(bytes, last))
+    last + half_block_len(after(bytes, last))
 }
 
-/// How many printable ASCII characters (20h to 7Eh) stand at the front.
+/// How many printable ASCII characters (20h to 7Eh) stand at the start.
 pub fn printable_len(bytes: &[u8]) -> usize
     ensures { result ≡ prefix_len is_printable bytes.now }
 {
@@ -103,11 +103,11 @@ pub fn printable_len(bytes: &[u8]) -> usize
         if run < LANES {
             return bytes.len() - (rest.len() - run);
         }
-        rest = behind(rest, LANES);
+        rest = after(rest, LANES);
     }
     // The last block, which may overlap the one before it.
     let last = bytes.len() - LANES;
-    last + block_len(behind(bytes, last))
+    last + block_len(after(bytes, last))
 }
 
 // Whether at most eight bytes are printable: of four or more the first four are looked at, and then the last.
@@ -119,7 +119,7 @@ fn fewer_are_printable(bytes: &[u8]) -> bool
     if bytes.len() < 4 {
         return short_len(bytes) == bytes.len();
     }
-    let last = behind(bytes, bytes.len() - 4);
+    let last = after(bytes, bytes.len() - 4);
     (quarter_block_len(bytes) == 4) & (quarter_block_len(last) == 4)
 }
 
@@ -132,7 +132,7 @@ fn few_are_printable(bytes: &[u8]) -> bool
     if bytes.len() < 8 {
         return fewer_are_printable(bytes);
     }
-    let last = behind(bytes, bytes.len() - 8);
+    let last = after(bytes, bytes.len() - 8);
     (half_block_len(bytes) == 8) & (half_block_len(last) == 8)
 }
 

@@ -33,7 +33,7 @@ begun_is_no_text t (d, more, s, e, n, m) u =
 no_text : (t : List ℕ) → IsBegun t → is_utf8 t ≡ false
 no_text t g = false_from_ne_true (is_utf8 t) (λ e. begun_is_no_text t g (IsUtf8-from_is_utf8 t e))
 
--- the front of a character that a text holds is whole
+-- the start of a character that a text holds is whole
 whole_text : (t : List ℕ) (b : ℕ) → IsUnfinished (Begun t) → is_utf8 (t ++ b ∷ []) ≡ true → (c : ℕ) × IsScalar c × (encode c ≡ t ++ b ∷ [])
 whole_text t b g e =
     let f = first_of_text (t ++ b ∷ []) (IsUtf8-from_is_utf8 _ e) (some_last t b) in

@@ -63,44 +63,44 @@ adds_escape : (body : List ℕ) (b : ℕ) → IsUnfinished (OpenEscape body) →
 unfolding next_byte
 adds_escape body b g =
     cond_both (in_escape b) _ _ (Adds _) (λ e. adds_open _ (OpenEscape (body ++ b ∷ [])) refl (all_push in_escape body b g e)) (λ e.
-    cond_both (is_cut b) _ _ (Adds _) (λ f. adds_before (0x1B ∷ body) (CutOff (OpenEscape body)) b refl (λ others. (g, refl, f)) (adds_first b)) (λ f. adds_after_escape body b g e f))
+    cond_both (is_cut b) _ _ (Adds _) (λ f. adds_before (0x1B ∷ body) (CutOff (OpenEscape body)) b refl (λ remaining. (g, refl, f)) (adds_first b)) (λ f. adds_after_escape body b g e f))
 
 adds_control_sequence : (opening body : List ℕ) (b : ℕ) → IsUnfinished (OpenControlSequence opening body) → Adds ((0x1B ∷ opening ++ 0x5B ∷ body) ++ b ∷ []) (next_byte (OpenControlSequence opening body) b)
 unfolding next_byte
 adds_control_sequence opening body b g =
     cond_both (in_parameters b) _ _ (Adds _) (λ e. adds_open _ (OpenControlSequence opening (body ++ b ∷ [])) (sym (append_assoc (0x1B ∷ opening) (0x5B ∷ body) (b ∷ []))) (g.0, all_push in_parameters body b g.1 e)) (λ e.
-    cond_both (is_cut b) _ _ (Adds _) (λ f. adds_before (0x1B ∷ opening ++ 0x5B ∷ body) (CutOff (OpenControlSequence opening body)) b refl (λ others. (g, refl, f)) (adds_first b))
+    cond_both (is_cut b) _ _ (Adds _) (λ f. adds_before (0x1B ∷ opening ++ 0x5B ∷ body) (CutOff (OpenControlSequence opening body)) b refl (λ remaining. (g, refl, f)) (adds_first b))
     (λ f. adds_end _ (ControlSequence opening body b) refl (λ p l. (g.0, g.1, parameters_final b e f))))
 
 adds_command : (opening body : List ℕ) (b : ℕ) → IsUnfinished (OpenCommand opening body) → Adds ((0x1B ∷ opening ++ 0x5D ∷ body) ++ b ∷ []) (next_byte (OpenCommand opening body) b)
 unfolding next_byte
 adds_command opening body b g =
     cond_both (b == 0x07) _ _ (Adds _) (λ e. adds_end _ (OperatingSystemCommand opening body b) (rw e refl) (λ p l. (g.0, g.1, rw e refl, rw e refl))) (λ e.
-    cond_both (is_stop b) _ _ (Adds _) (λ f. adds_before (0x1B ∷ opening ++ 0x5D ∷ body) (OperatingSystemCommand opening body b) b (rw e (append_nil _)) (λ others. (g.0, g.1, rw (e, f) refl, rw (e, eq-eqb b b refl) refl)) (adds_first b))
+    cond_both (is_stop b) _ _ (Adds _) (λ f. adds_before (0x1B ∷ opening ++ 0x5D ∷ body) (OperatingSystemCommand opening body b) b (rw e (append_nil _)) (λ remaining. (g.0, g.1, rw (e, f) refl, rw (e, eq-eqb b b refl) refl)) (adds_first b))
     (λ f. adds_open _ (OpenCommand opening (body ++ b ∷ [])) (sym (append_assoc (0x1B ∷ opening) (0x5D ∷ body) (b ∷ []))) (g.0, all_push (λ x. not (ends_command x)) body b g.1 (rw (e, f) refl))))
 
 adds_header : (opening header : List ℕ) (b : ℕ) → IsUnfinished (OpenHeader opening header) → Adds ((0x1B ∷ opening ++ 0x50 ∷ header) ++ b ∷ []) (next_byte (OpenHeader opening header) b)
 unfolding next_byte
 adds_header opening header b g =
     cond_both (in_parameters b) _ _ (Adds _) (λ e. adds_open _ (OpenHeader opening (header ++ b ∷ [])) (sym (append_assoc (0x1B ∷ opening) (0x50 ∷ header) (b ∷ []))) (g.0, all_push in_parameters header b g.1 e)) (λ e.
-    cond_both (is_cut b) _ _ (Adds _) (λ f. adds_before (0x1B ∷ opening ++ 0x50 ∷ header) (CutOff (OpenHeader opening header)) b refl (λ others. (g, refl, f)) (adds_first b))
+    cond_both (is_cut b) _ _ (Adds _) (λ f. adds_before (0x1B ∷ opening ++ 0x50 ∷ header) (CutOff (OpenHeader opening header)) b refl (λ remaining. (g, refl, f)) (adds_first b))
     (λ f. adds_open _ (OpenDevice opening header b []) refl (g.0, g.1, parameters_final b e f, refl)))
 
 adds_device : (opening header : List ℕ) (final : ℕ) (body : List ℕ) (b : ℕ) → IsUnfinished (OpenDevice opening header final body)
     → Adds (((0x1B ∷ opening ++ 0x50 ∷ header) ++ final ∷ body) ++ b ∷ []) (next_byte (OpenDevice opening header final body) b)
 unfolding next_byte
 adds_device opening header final body b g =
-    cond_both (is_stop b) _ _ (Adds _) (λ f. adds_before ((0x1B ∷ opening ++ 0x50 ∷ header) ++ final ∷ body) (DeviceControl opening header final body) b refl (λ others. (g.0, g.1, g.2, g.3, f)) (adds_first b))
+    cond_both (is_stop b) _ _ (Adds _) (λ f. adds_before ((0x1B ∷ opening ++ 0x50 ∷ header) ++ final ∷ body) (DeviceControl opening header final body) b refl (λ remaining. (g.0, g.1, g.2, g.3, f)) (adds_first b))
     (λ f. adds_open _ (OpenDevice opening header final (body ++ b ∷ [])) (sym (append_assoc (0x1B ∷ opening ++ 0x50 ∷ header) (final ∷ body) (b ∷ []))) (g.0, g.1, g.2, all_push (λ x. not (is_stop x)) body b g.3 (rw f refl)))
 
 adds_string : (opening : List ℕ) (opener : ℕ) (body : List ℕ) (b : ℕ) → IsUnfinished (OpenString opening opener body)
     → Adds ((0x1B ∷ opening ++ opener ∷ body) ++ b ∷ []) (next_byte (OpenString opening opener body) b)
 unfolding next_byte
 adds_string opening opener body b g =
-    cond_both (is_stop b) _ _ (Adds _) (λ f. adds_before (0x1B ∷ opening ++ opener ∷ body) (String opening opener body) b refl (λ others. (g.0, g.1, g.2, f)) (adds_first b))
+    cond_both (is_stop b) _ _ (Adds _) (λ f. adds_before (0x1B ∷ opening ++ opener ∷ body) (String opening opener body) b refl (λ remaining. (g.0, g.1, g.2, f)) (adds_first b))
     (λ f. adds_open _ (OpenString opening opener (body ++ b ∷ [])) (sym (append_assoc (0x1B ∷ opening) (opener ∷ body) (b ∷ []))) (g.0, g.1, all_push (λ x. not (is_stop x)) body b g.2 (rw f refl)))
 
--- a byte behind anything that is open
+-- a byte after anything that is open
 pub adds_next : (t : Tail) (b : ℕ) → IsUnfinished t → Adds (bytes_of_tail t ++ b ∷ []) (next_byte t b)
 unfolding next_byte
 adds_next (Begun t) b g = adds_in_character t b g

@@ -64,20 +64,20 @@ seven_bit_plain (x ∷ y ∷ s) b h =
     ⊎_elim (λ e. rw e (ap (λ l. 0x1B ∷ (y - 0x40) ∷ l) (seven_bit_plain s b (rw e at h)))) (λ e. rw e (ap (λ l. x ∷ l) (seven_bit_plain (y ∷ s) b (rw e at h)))) (cases_Bool (is_c1 x y))
 
 pub record Pairs (s : List ℕ) (b : ℕ) : Type 0 where
-  pub front : List ℕ
-  pub before : seven_bit s ≡ front ++ 0xC2 ∷ []
-  pub after : seven_bit (s ++ b ∷ []) ≡ front ++ 0x1B ∷ (b - 0x40) ∷ []
+  pub prefix : List ℕ
+  pub before : seven_bit s ≡ prefix ++ 0xC2 ∷ []
+  pub after : seven_bit (s ++ b ∷ []) ≡ prefix ++ 0x1B ∷ (b - 0x40) ∷ []
 
 is_c2 : (x b : ℕ) → is_c1 x b ≡ true → x ≡ 0xC2
 is_c2 x b h = grind (arith, nat_tests)
 
 pub seven_bit_pair : (s : List ℕ) (b : ℕ) → pairs s b ≡ true → Pairs s b
 seven_bit_pair [] b h = cc
-seven_bit_pair (x ∷ []) b h = record { front = []; before = ap (λ y. y ∷ []) (is_c2 x b h); after = rw h refl }
+seven_bit_pair (x ∷ []) b h = record { prefix = []; before = ap (λ y. y ∷ []) (is_c2 x b h); after = rw h refl }
 seven_bit_pair (x ∷ y ∷ s) b h = ⊎_elim
     (λ e. let p = seven_bit_pair s b (rw e at h) in
-    record { front = 0x1B ∷ (y - 0x40) ∷ p.front; before = rw e (ap (λ l. 0x1B ∷ (y - 0x40) ∷ l) p.before); after = rw e (ap (λ l. 0x1B ∷ (y - 0x40) ∷ l) p.after) })
-    (λ e. let p = seven_bit_pair (y ∷ s) b (rw e at h) in record { front = x ∷ p.front; before = rw e (ap (λ l. x ∷ l) p.before); after = rw e (ap (λ l. x ∷ l) p.after) })
+    record { prefix = 0x1B ∷ (y - 0x40) ∷ p.prefix; before = rw e (ap (λ l. 0x1B ∷ (y - 0x40) ∷ l) p.before); after = rw e (ap (λ l. 0x1B ∷ (y - 0x40) ∷ l) p.after) })
+    (λ e. let p = seven_bit_pair (y ∷ s) b (rw e at h) in record { prefix = x ∷ p.prefix; before = rw e (ap (λ l. x ∷ l) p.before); after = rw e (ap (λ l. x ∷ l) p.after) })
     (cases_Bool (is_c1 x y))
 
 pub opens_more : (s : List ℕ) (b : ℕ) → opens (s ++ b ∷ []) ≡ (if pairs s b then false else b == 0xC2)

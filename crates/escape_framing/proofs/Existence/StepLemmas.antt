@@ -1,4 +1,4 @@
--- What one byte adds behind what is open.
+-- What one byte adds after what is open.
 use Rattle.std.proofs.Common.{◌≡◌, ◌≢◌, ℕ, ◌/◌, ◌+◌, ◌<◌, ◌≤◌, inl, inr, ⊎_elim, true, false, List, [], ◌∷◌, ◌++◌, refl, sym, ap, subst, ◌∙◌, arith, append_assoc}
 use Rattle.std.specs.Prelude.{◌==◌, slice_index}
 use Rattle.std.specs.Char.{IsScalar, is_ascii_control}
@@ -15,7 +15,7 @@ use Rattle.escape_framing.proofs.Existence.OutcomeLemmas.{Outcome, whole, begun,
 use Rattle.escape_framing.proofs.Existence.SevenBitLemmas.{no_pair}
 use Rattle.std.proofs.lemmas.Bool.{cond_both, eqb-true}
 
--- What a reading adds behind others: the bytes and no others, what is unfinished, and segments that may stand before it
+-- What a reading adds after others: the bytes and no others, what is unfinished, and segments that may stand before it
 -- whatever follows.
 pub record Adds (bytes : List ℕ) (r : Reading) : Type 0 where
   pub joined : flat_map bytes_of r.segments ++ bytes_of_tail r.tail ≡ bytes
@@ -28,8 +28,8 @@ adds_open bytes t e g = record { joined = e; unfinished = g; each = λ p more. t
 pub adds_end : (bytes : List ℕ) (s : Segment) → bytes_of s ≡ bytes → (no_pair bytes ≡ true → (f : List ℕ) → IsSegment s f) → Adds bytes (ends s)
 adds_end bytes s e h = record { joined = append_nil _ ∙ append_nil _ ∙ e; unfinished = inl refl; each = λ p more. (h p _, tt) }
 
-pub adds_before : (front : List ℕ) (s : Segment) (b : ℕ) → bytes_of s ≡ front → ((others : List ℕ) → IsSegment s (b ∷ others)) → Adds (b ∷ []) (first_byte b) → Adds (front ++ b ∷ []) (ends_before s (first_byte b))
-adds_before front s b e h f = record {
+pub adds_before : (prefix : List ℕ) (s : Segment) (b : ℕ) → bytes_of s ≡ prefix → ((remaining : List ℕ) → IsSegment s (b ∷ remaining)) → Adds (b ∷ []) (first_byte b) → Adds (prefix ++ b ∷ []) (ends_before s (first_byte b))
+adds_before prefix s b e h f = record {
   joined = append_assoc (bytes_of s) (flat_map bytes_of (first_byte b).segments) (bytes_of_tail (first_byte b).tail) ∙ ap (λ l. bytes_of s ++ l) f.joined ∙ ap (λ l. l ++ b ∷ []) e;
   unfinished = f.unfinished;
   each = λ p more. (subst (IsSegment s) (sym (ap (λ l. l ++ more) f.joined) ∙ append_assoc (flat_map bytes_of (first_byte b).segments) (bytes_of_tail (first_byte b).tail) more) (h more), f.each refl more);
@@ -85,7 +85,7 @@ adds_first b =
     by_outcome h (begun g u n) = rw (u, n) (adds_open (b ∷ []) (Begun (b ∷ [])) refl (inr g))
     by_outcome h (broken f u n) = rw (u, n) (adds_end (b ∷ []) (IllFormed (b ∷ [])) refl (λ p l. inl (b, refl, f)))
 
--- a byte behind the first ones of a character
+-- a byte after the first ones of a character
 pub adds_in_character : (t : List ℕ) (b : ℕ) → IsUnfinished (Begun t) → Adds (t ++ b ∷ []) (in_character t b)
 unfolding in_character
 adds_in_character [] b g = adds_first b
@@ -99,4 +99,4 @@ adds_in_character (x ∷ t) b g = by_outcome g (outcome (x ∷ t) b g)
     by_outcome g (whole c s e u) = rw (u, char_of c (x ∷ t ++ b ∷ []) s e) (adds_character (x ∷ t ++ b ∷ []) c s e (λ k. one c t (sym (encode_ascii c (omega arith)) ∙ e)))
     by_outcome g (begun h u m) = rw (u, m) (adds_open (x ∷ t ++ b ∷ []) (Begun (x ∷ t ++ b ∷ [])) refl (inr h))
     by_outcome (inl h) (broken f u m) = cc
-    by_outcome (inr h) (broken f u m) = rw (u, m) (adds_before (x ∷ t) (IllFormed (x ∷ t)) b refl (λ others. inr (h, (b, others, refl, f))) (adds_first b))
+    by_outcome (inr h) (broken f u m) = rw (u, m) (adds_before (x ∷ t) (IllFormed (x ∷ t)) b refl (λ remaining. inr (h, (b, remaining, refl, f))) (adds_first b))

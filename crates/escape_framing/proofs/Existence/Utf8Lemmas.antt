@@ -38,7 +38,7 @@ spelled c s = ⊎_elim (λ l. in_one l (encode_ascii c l))
     (λ g'. ⊎_elim (λ l. in_three g' l (⊎_elim (λ p. inl p) (λ p. inr p.0) (scalar_cases c s)) (three c g' l))
     (λ g''. in_four g'' (⊎_elim (λ p. absurd (omega arith)) (λ p. p.1) (scalar_cases c s)) (four c g'')) (order c 65536)) (order c 2048)) (order c 128)
 
--- nothing behind a list leaves it
+-- nothing after a list leaves it
 pub append_nil : (xs : List ℕ) → xs ++ [] ≡ xs
 append_nil [] = refl
 append_nil (x ∷ xs) = ap (λ ys. x ∷ ys) (append_nil xs)
@@ -76,7 +76,7 @@ triple_wants : (x y z : ℕ) → 194 ≤ x → x ≤ 244 → is_in_range (second
 unfolding utf8_error_len
 triple_wants x y z l h e m n = rw (in_range 194 244 x l h, e, in_range 0x80 0xBF z m n) refl
 
--- a front of a list, at the places where it can end
+-- a prefix of a list, at the positions where it can end
 module _ {X : Type 0} where
   pub front_of_one : (a : X) (bs more : List X) → a ∷ [] ≡ bs ++ more → bs ≢ [] → more ≢ [] → ⊥
   front_of_one a [] more e n m = n refl
@@ -227,7 +227,7 @@ no_fifth x y z w e =
 
 -- ---- lists
 
--- what the front is followed by decides where a last byte falls
+-- what the prefix is followed by decides where a last byte falls
 pub last_falls : (e r t : List ℕ) (b : ℕ) → e ++ r ≡ t ++ b ∷ [] → ((r ≡ []) × (e ≡ t ++ b ∷ [])) ⊎ ((rest : List ℕ) × (t ≡ e ++ rest))
 last_falls [] r t b h = inr (t, refl)
 last_falls (x ∷ e) r [] b h = last e r (let k : e ++ r ≡ [] = cc in k) (let k : x ≡ b = cc in k)
@@ -238,7 +238,7 @@ last_falls (x ∷ e) r [] b h = last e r (let k : e ++ r ≡ [] = cc in k) (let 
 last_falls (x ∷ e) r (y ∷ t) b h =
     ⊎_elim (λ k. let f = k.1 in inl (k.0, cc)) (λ k. let f = k.1 in inr (k.0, cc)) (last_falls e r t b (let k : e ++ r ≡ t ++ b ∷ [] = cc in k))
 
--- a whole character is no proper front of another
+-- a whole character is no proper prefix of another
 pub not_shorter : (c d : ℕ) (rest more : List ℕ) → encode d ≡ (encode c ++ rest) ++ more → more ≢ [] → ⊥
 not_shorter c d rest more e n = n (nothing rest more (let h = encode_same d c [] (rest ++ more) (append_nil (encode d) ∙ e ∙ append_assoc (encode c) rest more) in sym h.1))
   where

@@ -1,4 +1,4 @@
-//! Control sequences that stand whole at the front, whose parameters are read at once.
+//! Control sequences that stand whole at the start, whose parameters are read at once.
 ghost use Rattle.std.specs.Prelude.{◌≡◌, ◌≤◌, length, IfSome};
 ghost use Rattle.escape_framing.specs.Bytes.{is_final as in_finals};
 ghost use Rattle.escape_framing.specs.Prefixes.{IsLastAt};
@@ -6,7 +6,7 @@ ghost use Rattle.escape_framing.specs.Read.{whole_sequence, ReadsEvent};
 
 use crate::fast::after_introducer;
 use crate::framer::Framer;
-use crate::texts::behind;
+use crate::texts::after;
 
 // The final byte of a control sequence.
 #[inline(always)]
@@ -17,29 +17,29 @@ fn is_final(byte: u8) -> bool
     matches!(byte, 0x40..=0x7e)
 }
 
-// The final byte of a control sequence behind so many bytes, if it stands there.
+// The final byte of a control sequence after so many bytes, if it stands there.
 #[inline(always)]
 fn last_at(bytes: &[u8], count: usize) -> Option<u8>
     requires { count ≤ length bytes.now }
     ensures { IsLastAt bytes.now count result }
 {
-    let (byte, _) = behind(bytes, count).split_first()?;
+    let (byte, _) = after(bytes, count).split_first()?;
     if is_final(*byte) { Some(*byte) } else { None }
 }
 
 impl Framer {
-    // Reads the control sequence at the front, where nothing is unfinished and all its bytes stand there: its final
+    // Reads the control sequence at the start, where nothing is unfinished and all its bytes stand there: its final
     // byte, and how many bytes it has. `None`: take the general way.
     pub(crate) fn read_sequence(&mut self, bytes: &[u8]) -> Option<(u8, usize)>
         ensures some { IfSome result (λ s. ReadsEvent self.old.held bytes.now (whole_sequence s.0 s.1) self.new) }
         ensures held { self.new.held ≡ self.old.held }
     {
-        let others = after_introducer(bytes, b'[')?;
+        let remaining = after_introducer(bytes, b'[')?;
         if !self.is_idle() {
             return None;
         }
-        let count = self.parameters.read(others);
-        let control = last_at(others, count)?;
+        let count = self.parameters.read(remaining);
+        let control = last_at(remaining, count)?;
         Some((control, count + 3))
     }
 }

@@ -1,4 +1,4 @@
-//! Operating system commands that stand whole at the front, whose body is lent from the bytes of the call.
+//! Operating system commands that stand whole at the start, whose body is lent from the bytes of the call.
 ghost use Rattle.std.specs.Prelude.{◌≡◌, ◌≢◌, None, length};
 ghost use Rattle.escape_stream.specs.PiecesView.{IsGoing};
 ghost use Rattle.escape_stream.specs.Walking.{FindsWhole};
@@ -8,7 +8,7 @@ use crate::pieces::Reading;
 use std::alloc::AllocError;
 
 impl<'p, 'a> Reading<'p, 'a> {
-    // Reads the operating system command at the front of what is left, where it stands there whole. `None`: take the
+    // Reads the operating system command at the start of what is left, where it stands there whole. `None`: take the
     // general way.
     #[inline(always)]
     pub(crate) fn read_command(&mut self) -> Option<Result<Action, AllocError>>

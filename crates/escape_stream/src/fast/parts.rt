@@ -16,14 +16,14 @@ fn first_len(body: &[u8]) -> usize
     body.iter().take_while(|byte| **byte != b';').count()
 }
 
-// What stands before the first `;` of a body, and behind it.
+// What stands before the first `;` of a body, and after it.
 fn cut(body: &[u8]) -> Option<(&[u8], &[u8])>
     ensures some { IfSome result (λ c. parts_of body.now ≡ c.0.now ∷ parts_of c.1.now) }
     ensures none { result ≡ None → parts_of body.now ≡ body.now ∷ [] }
 {
     let len = first_len(body);
-    let (first, others) = body.split_at(len);
-    let (_, rest) = others.split_first()?;
+    let (first, remaining) = body.split_at(len);
+    let (_, rest) = remaining.split_first()?;
     Some((first, rest))
 }
 
@@ -34,9 +34,9 @@ pub(crate) fn command_of_few(
 ) -> Option<Result<OperatingSystemCommand, AllocError>>
     ensures { IfSome result (λ read. IfOk read (λ c. command_of c ≡ osc_reading (parts_of body.now))) }
 {
-    let (first, others) = cut(body)?;
-    let Some((second, third)) = cut(others) else {
-        return Some(OperatingSystemCommand::parse(alloc, &[first, others]));
+    let (first, remaining) = cut(body)?;
+    let Some((second, third)) = cut(remaining) else {
+        return Some(OperatingSystemCommand::parse(alloc, &[first, remaining]));
     };
     if cut(third).is_some() {
         return None;

@@ -17,12 +17,12 @@ returns-in_ok-split_cell-clause-before c =
     let halved : ends_split (take c.args.at cells) ≡ true = ap (λ xs. ends_split (take c.args.at xs)) (sym c.deref.ensures.value) ∙ sym c.is_split.ensures ∙ c.if-is_split.true in
     cut_before cells c.split_cell.new.cells.items (c.args.at - 1) c.args.at (omega arith) halved (omega arith) c.in_ok-split_cell.ensures.before
 
-pub returns-in_ok-split_cell-clause-behind : goal.returns-in_ok-split_cell-clause-behind
-returns-in_ok-split_cell-clause-behind c =
+pub returns-in_ok-split_cell-clause-after : goal.returns-in_ok-split_cell-clause-after
+returns-in_ok-split_cell-clause-after c =
     let cells = c.args.cells.now.items in
     let halved : ends_split (take c.args.at cells) ≡ true = ap (λ xs. ends_split (take c.args.at xs)) (sym c.deref.ensures.value) ∙ sym c.is_split.ensures ∙ c.if-is_split.true in
     cut_after cells c.split_cell.new.cells.items (c.args.at - 1) c.args.at (omega arith) halved (omega arith) (omega arith)
-    (λ l. c.in_ok-split_cell.ensures.behind (omega arith))
+    (λ l. c.in_ok-split_cell.ensures.after (omega arith))
 
 pub returns-in_ok-split_cell-clause-earlier : goal.returns-in_ok-split_cell-clause-earlier
 returns-in_ok-split_cell-clause-earlier c = cut_earlier c.args.cells.now.items c.split_cell.new.cells.items (c.args.at - 1) _ (omega arith) c.in_ok-split_cell.ensures.before
@@ -35,8 +35,8 @@ returns-else-at-gt0-clause-before c =
       | else-at-gt0-via-else-at-gt0 w ↦ let none : c.args.at ≡ zero = omega arith in before_clean cells c.args.at (ap (λ n. ends_split (take n cells)) none)
     ]
 
-pub returns-else-at-gt0-clause-behind : goal.returns-else-at-gt0-clause-behind
-returns-else-at-gt0-clause-behind c =
+pub returns-else-at-gt0-clause-after : goal.returns-else-at-gt0-clause-after
+returns-else-at-gt0-clause-after c =
     let cells = c.args.cells.now.items in
     elim c.else-at-gt0.branch [
       | else-at-gt0-via-then-at-gt0+else-is_split w ↦ after_clean cells c.args.at (ap (λ xs. ends_split (take c.args.at xs)) (sym w.deref.ensures.value) ∙ sym w.is_split.ensures ∙ w.if-is_split.false)

@@ -13,8 +13,8 @@ returns c =
     elim c.if-column_count-eq2.branch [
       | then-column_count-eq2+in_ok-insert w ↦
           ap row_of_cells (c.in_ok-insert-2.ensures.items ∙ ap (λ l. insert l c.args.at c.args.cell) (ap (λ (v : Vec Cell). v.items) w.cells-is ∙ w.in_ok-insert.ensures.items) ∙ insert_two x c.args.at c.args.cell w.blank.result (omega arith))
-          ∙ between_wide (take c.args.at x) (drop c.args.at x) c.args.cell w.blank.result _ _ c.in_ok-open.ensures.whole c.in_ok-open.ensures.before c.in_ok-open.ensures.behind (count_wide c.args.cell (sym c.column_count.ensures ∙ w.if-column_count-eq2.true))
+          ∙ between_wide (take c.args.at x) (drop c.args.at x) c.args.cell w.blank.result _ _ c.in_ok-open.ensures.whole c.in_ok-open.ensures.before c.in_ok-open.ensures.after (count_wide c.args.cell (sym c.column_count.ensures ∙ w.if-column_count-eq2.true))
       | else-column_count-eq2 w ↦
           ap row_of_cells (c.in_ok-insert-2.ensures.items ∙ ap (λ l. insert l c.args.at c.args.cell) (ap (λ (v : Vec Cell). v.items) w.cells-is))
-          ∙ between_narrow (take c.args.at x) (drop c.args.at x) c.args.cell _ _ c.in_ok-open.ensures.whole c.in_ok-open.ensures.before c.in_ok-open.ensures.behind (count_narrow c.args.cell (λ e. w.if-column_count-eq2.false (c.column_count.ensures ∙ e)))
+          ∙ between_narrow (take c.args.at x) (drop c.args.at x) c.args.cell _ _ c.in_ok-open.ensures.whole c.in_ok-open.ensures.before c.in_ok-open.ensures.after (count_narrow c.args.cell (λ e. w.if-column_count-eq2.false (c.column_count.ensures ∙ e)))
     ]

@@ -4,11 +4,11 @@ use Rattle.cell_edits.specs.CellList.{ends_split}
 use Rattle.cell_edits.proofs.row.is_split.Given as goal
 
 -- each wide cell that was passed turns the answer round
-abbrev pub invariant-loop-place : goal.invariant-loop-place
-invariant-loop-place l = record {
-  within : l.place ≤ l.at;
-  turned : (if l.halved then not (ends_split (take l.place l.cells)) else ends_split (take l.place l.cells)) ≡ ends_split (take l.at l.cells);
+abbrev pub invariant-loop-position : goal.invariant-loop-position
+invariant-loop-position l = record {
+  within : l.position ≤ l.at;
+  turned : (if l.halved then not (ends_split (take l.position l.cells)) else ends_split (take l.position l.cells)) ≡ ends_split (take l.at l.cells);
 }
 
-abbrev pub decreases-loop-place : goal.decreases-loop-place
-decreases-loop-place l = l.place
+abbrev pub decreases-loop-position : goal.decreases-loop-position
+decreases-loop-position l = l.position

@@ -13,8 +13,8 @@ pub returns-in_ok-cut_at-2-clause-before : goal.returns-in_ok-cut_at-2-clause-be
 returns-in_ok-cut_at-2-clause-before c =
     ap row_of_cells (still_before c.cut_at.new.cells.items c.cut_at-then-start-end.new.cells.items c.args.start c.args.end (omega arith) c.in_ok-cut_at-2.ensures.earlier) ∙ c.in_ok-cut_at.ensures.before
 
-pub returns-in_ok-cut_at-2-clause-behind : goal.returns-in_ok-cut_at-2-clause-behind
-returns-in_ok-cut_at-2-clause-behind c =
+pub returns-in_ok-cut_at-2-clause-after : goal.returns-in_ok-cut_at-2-clause-after
+returns-in_ok-cut_at-2-clause-after c =
     let n = length-row c.args.cells.now.items in
     second_cut c.cut_at.new.cells.items c.cut_at-then-start-end.new.cells.items (row_of_cells c.args.cells.now.items) c.args.start c.args.end (omega arith) (omega arith)
-    c.in_ok-cut_at.ensures.whole c.in_ok-cut_at.ensures.before c.in_ok-cut_at.ensures.behind c.in_ok-cut_at-2.ensures.behind
+    c.in_ok-cut_at.ensures.whole c.in_ok-cut_at.ensures.before c.in_ok-cut_at.ensures.after c.in_ok-cut_at-2.ensures.after

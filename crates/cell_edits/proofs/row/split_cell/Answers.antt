@@ -26,8 +26,8 @@ returns-clause-before c =
           ∙ ap (λ (x : CellContent). take c.args.at cells ++ x ∷ []) left
     ]
 
-pub returns-clause-behind : goal.returns-clause-behind
-returns-clause-behind c inside =
+pub returns-clause-after : goal.returns-clause-after
+returns-clause-after c inside =
     let cells = c.args.cells.now.items in
     elim c.if-at-len.branch [
       | then-at-len+in_ok-try_clone-2 w ↦

@@ -11,5 +11,5 @@ returns-clause-row c =
     let some : 0 < length text = search rules in
     let v = c.args.cells.now.ok.0 in
     plain_set cells opened c.write_plain.new.cells.items c.args.at text c.args.attrs.now some (omega arith)
-    c.in_ok-open.ensures.whole c.in_ok-open.ensures.before c.in_ok-open.ensures.behind
+    c.in_ok-open.ensures.whole c.in_ok-open.ensures.before c.in_ok-open.ensures.after
     (c.in_ok-write_plain.ensures.items ∙ ap (λ (bytes : List ℕ). take c.args.at opened ++ plain_cells bytes c.args.attrs.now ++ drop (c.args.at + length bytes) opened) c.as_bytes.ensures.value)

@@ -2,7 +2,7 @@ use Rattle.std.proofs.Common.{◌≡◌, ◌-◌, ◌++◌, take, drop, replicat
 use Rattle.cell_base.specs.CellContent.{blank_cell}
 use Rattle.cell_edits.proofs.runs.write_blanks.Given as goal
 
--- the places before `at` are written
+-- the positions before `at` are written
 abbrev pub invariant-loop-at : goal.invariant-loop-at
 invariant-loop-at l = record {
   len : length l.cells.items ≡ length l.initial.cells.items;

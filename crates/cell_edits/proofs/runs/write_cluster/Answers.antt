@@ -21,13 +21,13 @@ returns-clause-row c =
       | then-count-eq2+in_ok-put_blank w ↦
           ap row_of_cells (put ∙ ap (λ l. set l at cell) (ap (λ (v : Vec Cell). v.items) w.cells-is ∙ w.in_ok-put_blank.ensures.items) ∙ set_two x at cell blank (omega arith))
           ∙ between_wide (take at x) (drop (at + 2) x) cell blank _ _ c.in_ok-open.ensures.whole c.in_ok-open.ensures.before
-          (ap (λ n. row_of_cells (drop (at + n) x)) (sym w.if-count-eq2.true) ∙ c.in_ok-open.ensures.behind ∙ ap (λ n. cut_prefix (at + n) r) count)
+          (ap (λ n. row_of_cells (drop (at + n) x)) (sym w.if-count-eq2.true) ∙ c.in_ok-open.ensures.after ∙ ap (λ n. cut_prefix (at + n) r) count)
           (count_wide cell (sym count ∙ w.if-count-eq2.true))
       | else-count-eq2 w ↦
           let narrow = count_narrow cell (λ e. w.if-count-eq2.false (count ∙ e)) in
           let one : c.cluster_columns-count.result ≡ 1 = count ∙ ap length (columns_narrow cell narrow) in
           ap row_of_cells (put ∙ ap (λ l. set l at cell) (ap (λ (v : Vec Cell). v.items) w.cells-is) ∙ set_one x at cell (omega arith))
           ∙ between_narrow (take at x) (drop (at + 1) x) cell _ _ c.in_ok-open.ensures.whole c.in_ok-open.ensures.before
-          (ap (λ n. row_of_cells (drop (at + n) x)) (sym one) ∙ c.in_ok-open.ensures.behind ∙ ap (λ n. cut_prefix (at + n) r) count)
+          (ap (λ n. row_of_cells (drop (at + n) x)) (sym one) ∙ c.in_ok-open.ensures.after ∙ ap (λ n. cut_prefix (at + n) r) count)
           narrow
     ]

@@ -10,6 +10,6 @@ use Rattle.change_sequence.proofs.moves.after_run.Given as goal
 -- what is left leads to where the whole leads
 abbrev pub invariant-loop-cluster : goal.invariant-loop-cluster
 invariant-loop-cluster g l =
-    (fold (stroke_moved (g.W.Widths.width_of l.widths) l.columns) (place_of l.place) (map Cluster (graphemes_left l.cluster-iterator))
-    ≡ fold (stroke_moved (g.W.Widths.width_of l.widths) l.columns) (place_of l.initial.place) (map Cluster (clusters l.text)))
-    × (l.place.0 ≤ l.columns)
+    (fold (stroke_moved (g.W.Widths.width_of l.widths) l.columns) (place_of l.position) (map Cluster (graphemes_left l.cluster-iterator))
+    ≡ fold (stroke_moved (g.W.Widths.width_of l.widths) l.columns) (place_of l.initial.position) (map Cluster (clusters l.text)))
+    × (l.position.0 ≤ l.columns)

@@ -6,8 +6,8 @@ use Rattle.change_sequence.proofs.moves.after_text.Goals as goal
 
 pub loop-control-init : goal.loop-control-init
 loop-control-init g c = record {
-  leads = front_leads (stroke_moved (g.W.Widths.width_of c.args.widths.now) c.args.columns) (place_of c.args.place) (place_of c.after_run-place.result) c.args.text.now c.split_at_control.result.0.now c.split_at_control.result.1.now c.after_run-place.ensures.moved c.split_at_control.ensures.parts;
-  within = c.after_run-place.ensures.within;
+  leads = front_leads (stroke_moved (g.W.Widths.width_of c.args.widths.now) c.args.columns) (place_of c.args.position) (place_of c.after_run-position.result) c.args.text.now c.split_at_control.result.0.now c.split_at_control.result.1.now c.after_run-position.ensures.moved c.split_at_control.ensures.parts;
+  within = c.after_run-position.ensures.within;
   control = c.split_at_control.ensures.control;
   text = c.split_at_control.ensures.utf8;
 }
@@ -18,12 +18,12 @@ loop-control-smaller g c = let a = ap length c.in-Some.ensures.len in let b = c.
 pub loop-control-preserved : goal.loop-control-preserved
 loop-control-preserved g c =
     let step = stroke_moved (g.W.Widths.width_of c.args.widths.now) c.args.columns in
-    let control = place_of c.after_control-place.result in record {
+    let control = place_of c.after_control-position.result in record {
       leads =
-          front_leads step control (place_of c.after_run-place-in-Some.result) c.in-Some.behind.now c.split_at_control-in-Some.result.0.now c.split_at_control-in-Some.result.1.now c.after_run-place-in-Some.ensures.moved c.split_at_control-in-Some.ensures.parts
-          ∙ control_leads step (place_of c.loop-control.place) control c.loop-control.rest.now c.in-Some.behind.now c.in-Some.control c.after_control-place.ensures.moved c.in-Some.ensures.parts
+          front_leads step control (place_of c.after_run-position-in-Some.result) c.in-Some.after.now c.split_at_control-in-Some.result.0.now c.split_at_control-in-Some.result.1.now c.after_run-position-in-Some.ensures.moved c.split_at_control-in-Some.ensures.parts
+          ∙ control_leads step (place_of c.loop-control.position) control c.loop-control.rest.now c.in-Some.after.now c.in-Some.control c.after_control-position.ensures.moved c.in-Some.ensures.parts
           ∙ c.loop-control.invariant.leads;
-      within = c.after_run-place-in-Some.ensures.within;
+      within = c.after_run-position-in-Some.ensures.within;
       control = c.split_at_control-in-Some.ensures.control;
       text = c.split_at_control-in-Some.ensures.utf8;
     }

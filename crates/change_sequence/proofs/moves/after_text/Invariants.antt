@@ -10,8 +10,8 @@ use Rattle.change_sequence.proofs.moves.after_text.Given as goal
 -- what is left leads to where the whole leads
 abbrev pub invariant-loop-control : goal.invariant-loop-control
 invariant-loop-control g l = record {
-  leads : parts_moved (g.W.Widths.width_of l.widths) l.columns (place_of l.place) (text_parts l.rest) ≡ parts_moved (g.W.Widths.width_of l.widths) l.columns (place_of l.fn.place) (text_parts l.text);
-  within : l.place.0 ≤ l.columns;
+  leads : parts_moved (g.W.Widths.width_of l.widths) l.columns (place_of l.position) (text_parts l.rest) ≡ parts_moved (g.W.Widths.width_of l.widths) l.columns (place_of l.fn.position) (text_parts l.text);
+  within : l.position.0 ≤ l.columns;
   control : IsAtControl l.rest;
   text : shadow (Utf8 l.rest);
 }

@@ -3,4 +3,4 @@ use Rattle.clustered_row.proofs.equal_columns.equal_bytes.Given as goal
 
 -- those so far are the same
 abbrev pub invariant-loop-at : goal.invariant-loop-at
-invariant-loop-at l = take l.at l.bytes ≡ take l.at l.others
+invariant-loop-at l = take l.at l.bytes ≡ take l.at l.remaining

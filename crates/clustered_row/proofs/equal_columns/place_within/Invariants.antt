@@ -1,15 +1,15 @@
 use Rattle.std.proofs.Common.{◌≤◌, ◌-◌}
-use Rattle.clustered_row.specs.Place.{IsPlace}
+use Rattle.clustered_row.specs.Position.{IsPosition}
 use Rattle.clustered_row.proofs.equal_columns.place_within.Given as goal
 
--- a place that is near enough
-abbrev pub invariant-loop-place : goal.invariant-loop-place
-invariant-loop-place l = record {
-  place : IsPlace l.sizes l.place;
-  index : l.place.index ≤ l.count;
-  bytes : l.place.bytes ≤ l.bytes;
-  columns : l.place.columns ≤ l.columns;
+-- a position that is near enough
+abbrev pub invariant-loop-position : goal.invariant-loop-position
+invariant-loop-position l = record {
+  position : IsPosition l.sizes l.position;
+  index : l.position.index ≤ l.count;
+  bytes : l.position.bytes ≤ l.bytes;
+  columns : l.position.columns ≤ l.columns;
 }
 
-abbrev pub decreases-loop-place : goal.decreases-loop-place
-decreases-loop-place l = l.count - l.place.index
+abbrev pub decreases-loop-position : goal.decreases-loop-position
+decreases-loop-position l = l.count - l.position.index

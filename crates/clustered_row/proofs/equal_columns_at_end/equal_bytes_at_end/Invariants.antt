@@ -3,4 +3,4 @@ use Rattle.clustered_row.proofs.equal_columns_at_end.equal_bytes_at_end.Given as
 
 -- the last so many are the same
 abbrev pub invariant-loop-count : goal.invariant-loop-count
-invariant-loop-count l = drop (length l.bytes - l.count) l.bytes ≡ drop (length l.others - l.count) l.others
+invariant-loop-count l = drop (length l.bytes - l.count) l.bytes ≡ drop (length l.remaining - l.count) l.remaining

@@ -5,6 +5,6 @@ use Rattle.clustered_row.proofs.equal_columns_at_end.equal_runs_at_end.Given as 
 -- the last runs so far are the same, and their columns are counted
 abbrev pub invariant-loop-count : goal.invariant-loop-count
 invariant-loop-count l = record {
-  same : drop (length l.runs - l.count) l.runs ≡ drop (length l.others - l.count) l.others;
+  same : drop (length l.runs - l.count) l.runs ≡ drop (length l.remaining - l.count) l.remaining;
   counted : l.columns ≡ length (spread (drop (length l.runs - l.count) l.runs));
 }

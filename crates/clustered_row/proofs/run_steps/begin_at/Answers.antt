@@ -9,11 +9,11 @@ use Rattle.clustered_row.proofs.run_steps.begin_at.Goals as goal
 pub returns-clause-columns : goal.returns-clause-columns
 returns-clause-columns c =
     let runs = c.args.runs.now.items in
-    let at = c.args.place.index in
-    let k = c.args.place.offset in
+    let at = c.args.position.index in
+    let k = c.args.position.offset in
     let run = c.index.result.now in
     let is : run ≡ slice_index_or runs at run = c.index.ensures in
-    let within = below at (length runs) (λ past. absurd (c.if-place-eq0.false (c.requires.place.behind past))) in
-    let less : k < run.count = c.requires.place.inside run within is in
+    let within = below at (length runs) (λ past. absurd (c.if-position-eq0.false (c.requires.position.after past))) in
+    let less : k < run.count = c.requires.position.inside run within is in
     let e : c.set_count.new.runs.items ≡ slice_set runs at (counted run (run.count - k)) = c.set_count.ensures.items run ∙ ap (λ (r : Run). slice_set runs at (counted r (run.count - k))) (sym is) in
     ap (λ ys. spread (drop at ys)) e ∙ ap spread (drop-set runs at (counted run (run.count - k)) within) ∙ rest_columns runs at k run within is (omega arith)

@@ -10,7 +10,7 @@ returns-then-to-from c = λ t.
     let runs = c.args.runs.now in
     let run = c.index-runs-to.result in
     let here : c.args.to.index ≡ c.args.from.index = c.if-to-from.true in
-    let within = below c.args.to.index (length runs) (λ past. let none = c.requires.to.behind past in omega arith) in
+    let within = below c.args.to.index (length runs) (λ past. let none = c.requires.to.after past in omega arith) in
     let is : run ≡ slice_index_or runs c.args.from.index run = c.index-runs-to.is ∙ ap (λ n. slice_index_or runs n run) here in
     let less : c.args.to.offset < run.count = c.requires.to.inside run within c.index-runs-to.is in
     let more = length_next runs c.args.from.index run (omega arith) is in

@@ -15,9 +15,9 @@ loop-next-init g c = record {
   walked = subst (λ (s : List CellSize). IsWalked (g.W.Widths.width_of c.args.w.now) c.args.room c.args.text.now s 0 c.args.text.now) (sym c.clear.ensures.items)
       (walk_none (g.W.Widths.width_of c.args.w.now) c.args.room c.args.text.now c.utf8.text);
   text = c.utf8.text;
-  behind = c.behind-rest.utf8;
-  rest = c.behind-rest.ensures;
-  first = c.in-Some.ensures.lone;
+  after = c.after-rest.utf8;
+  rest = c.after-rest.ensures;
+  first = c.in-Some.ensures.single;
 }
 
 pub size_of-requires : goal.size_of-requires
@@ -36,10 +36,10 @@ loop-next-preserved g c =
           (subst (IsWalked f c.args.room c.args.text.now _ (c.loop-next.columns + width)) (sym rest)
           (walk_more f c.args.room c.args.text.now c.loop-next.sizes.items c.loop-next.columns c.loop-next.left.now n width c.size_of.result walked c.loop-next.invariant.first c.loop-next.invariant.text
           c.size_of.ensures.len c.size_of.ensures.wide (ap begins_independent (sym rest) ∙ c.in-Some-first_single.ensures.apart) (omega (arith, within, c.if-room-columns.false))));
-      text = c.loop-next.invariant.behind;
-      behind = c.behind-rest-in-Some-first_single.utf8;
-      rest = c.behind-rest-in-Some-first_single.ensures;
-      first = c.in-Some-first_single.ensures.lone;
+      text = c.loop-next.invariant.after;
+      after = c.after-rest-in-Some-first_single.utf8;
+      rest = c.after-rest-in-Some-first_single.ensures;
+      first = c.in-Some-first_single.ensures.single;
     }
 
 pub size_of-requires-2 : goal.size_of-requires-2

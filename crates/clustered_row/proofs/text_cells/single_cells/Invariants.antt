@@ -10,7 +10,7 @@ abbrev pub invariant-loop-next : goal.invariant-loop-next
 invariant-loop-next g l = record {
   walked : IsWalked (g.W.Widths.width_of l.w) l.room l.text l.sizes.items l.columns l.left;
   text : shadow (Utf8 l.left);
-  behind : shadow (Utf8 l.rest);
+  after : shadow (Utf8 l.rest);
   rest : l.rest ≡ drop l.first.0 l.left;
   first : BeginsSingle (g.W.Widths.width_of l.w) l.left l.first.0 l.first.1;
 }

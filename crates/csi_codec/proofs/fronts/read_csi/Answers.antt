@@ -6,12 +6,12 @@ use Rattle.csi_codec.proofs.fronts.read_csi.Goals as goal
 
 pub returns-in_default-split_first-clause-none : goal.returns-in_default-split_first-clause-none
 returns-in_default-split_first-clause-none c =
-    no_final c.args.bytes.now c.in-Some.behind.now c.push_all-len.result c.in-Some.ensures.some c.push_all-len.ensures.count c.in_default-split_first.ensures.cases
+    no_final c.args.bytes.now c.in-Some.after.now c.push_all-len.result c.in-Some.ensures.some c.push_all-len.ensures.count c.in_default-split_first.ensures.cases
 
 pub returns-then-not-is_final-clause-none : goal.returns-then-not-is_final-clause-none
 returns-then-not-is_final-clause-none c =
     let other : c.is_final.result ≡ false = search rules in
-    other_final c.args.bytes.now c.in-Some.behind.now c.push_all-len.result c.in-Some.ensures.some c.push_all-len.ensures.count c.in-Some-split_first.control.now c.in-Some-split_first.rest.now
+    other_final c.args.bytes.now c.in-Some.after.now c.push_all-len.result c.in-Some.ensures.some c.push_all-len.ensures.count c.in-Some-split_first.control.now c.in-Some-split_first.rest.now
     c.in-Some-split_first.ensures.cases.0 (λ low high. absurd (false≢true (sym other ∙ c.is_final.ensures.1 (low, high))))
 
 pub returns-in_err-params-clause-refused : goal.returns-in_err-params-clause-refused
@@ -20,7 +20,7 @@ returns-in_err-params-clause-refused c =
     let final : c.is_final.result ≡ true = search rules in
     rw p.1 (
       _,
-      read_front c.args.bytes.now c.in-Some.behind.now c.push_all-len.result c.in-Some.ensures.some c.push_all-len.ensures.count c.push_all-len.new.self c.new-parameters.result
+      read_front c.args.bytes.now c.in-Some.after.now c.push_all-len.result c.in-Some.ensures.some c.push_all-len.ensures.count c.push_all-len.new.self c.new-parameters.result
           c.in-Some-split_first.control.now c.in-Some-split_first.rest.now c.in-Some-split_first.ensures.cases.0 (c.is_final.ensures.0 final) c.new-parameters.ensures c.push_all-len.ensures.tokens,
     )
 
@@ -28,5 +28,5 @@ pub returns-clause-some : goal.returns-clause-some
 returns-clause-some c =
     let final : c.is_final.result ≡ true = search rules in
     rw (c.in_ok-params.ensures.items ∙ c.tokens.ensures, c.is_truncated.ensures, c.from.ensures)
-    (read_front c.args.bytes.now c.in-Some.behind.now c.push_all-len.result c.in-Some.ensures.some c.push_all-len.ensures.count c.push_all-len.new.self c.new-parameters.result
+    (read_front c.args.bytes.now c.in-Some.after.now c.push_all-len.result c.in-Some.ensures.some c.push_all-len.ensures.count c.push_all-len.new.self c.new-parameters.result
     c.in-Some-split_first.control.now c.in-Some-split_first.rest.now c.in-Some-split_first.ensures.cases.0 (c.is_final.ensures.0 final) c.new-parameters.ensures c.push_all-len.ensures.tokens)

@@ -15,7 +15,7 @@ pub returns-in_err-value-clause-none : goal.returns-in_err-value-clause-none
 returns-in_err-value-clause-none c =
     let some : 0 < length c.args.params.now = search rules in
     let none : HasNoSetting c.args.read c.args.params.now = record {
-      rest = λ truncated. none_next c.args.read c.args.params.now c.behind.result.now truncated (omega arith) c.behind.ensures (sym c.sgr_group.ensures ∙ c.in_err-value.was);
+      rest = λ truncated. none_next c.args.read c.args.params.now c.after.result.now truncated (omega arith) c.after.ensures (sym c.sgr_group.ensures ∙ c.in_err-value.was);
       within = omega arith;
     } in
     search rules
@@ -23,25 +23,25 @@ returns-in_err-value-clause-none c =
 pub overflow_add-end : goal.overflow_add-end
 overflow_add-end c =
     let some : 0 < length c.args.params.now = search rules in
-    let fits = rendition_fits c.behind.result.now _ _ (sym c.sgr_group.ensures ∙ c.in_ok-value.was) in
-    let within : c.args.read + c.in_ok-value.len ≤ length c.args.params.now = omega (arith, some, c.requires, fits.1, ap length c.behind.ensures, length-drop c.args.read c.args.params.now) in
+    let fits = rendition_fits c.after.result.now _ _ (sym c.sgr_group.ensures ∙ c.in_ok-value.was) in
+    let within : c.args.read + c.in_ok-value.len ≤ length c.args.params.now = omega (arith, some, c.requires, fits.1, ap length c.after.ensures, length-drop c.args.read c.args.params.now) in
     search rules
 
-pub behind-requires-else-read-gt0 : goal.behind-requires-else-read-gt0
-behind-requires-else-read-gt0 c =
+pub after-requires-else-read-gt0 : goal.after-requires-else-read-gt0
+after-requires-else-read-gt0 c =
     let some : 0 < length c.args.params.now = search rules in
-    let fits = rendition_fits c.behind.result.now _ _ (sym c.sgr_group.ensures ∙ c.in_ok-value.was) in
-    omega (arith, some, c.requires, fits.1, ap length c.behind.ensures, length-drop c.args.read c.args.params.now)
+    let fits = rendition_fits c.after.result.now _ _ (sym c.sgr_group.ensures ∙ c.in_ok-value.was) in
+    omega (arith, some, c.requires, fits.1, ap length c.after.ensures, length-drop c.args.read c.args.params.now)
 
 pub returns-then-all_sgr_tokens-clause-found : goal.returns-then-all_sgr_tokens-clause-found
 returns-then-all_sgr_tokens-clause-found c =
     let some : 0 < length c.args.params.now = search rules in
     let group = sym c.sgr_group.ensures ∙ c.in_ok-value.was in
     elim c.if-read-gt0.branch [
-      | then-read-gt0 w ↦ record { actions = λ truncated. further_next c.args.read c.in_ok-value.len c.args.params.now c.behind.result.now c.in_ok-value.value truncated w.if-read-gt0.true c.behind.ensures group }
+      | then-read-gt0 w ↦ record { actions = λ truncated. further_next c.args.read c.in_ok-value.len c.args.params.now c.after.result.now c.in_ok-value.value truncated w.if-read-gt0.true c.after.ensures group }
       | else-read-gt0 w ↦
           let tokens : all_sgr_tokens (drop (c.args.read + c.in_ok-value.len) c.args.params.now) ≡ true = search rules in
-          record { actions = λ truncated. first_next c.args.read c.in_ok-value.len c.args.params.now c.behind.result.now c.in_ok-value.value truncated w.if-read-gt0.false some c.behind.ensures group tokens }
+          record { actions = λ truncated. first_next c.args.read c.in_ok-value.len c.args.params.now c.after.result.now c.in_ok-value.value truncated w.if-read-gt0.false some c.after.ensures group tokens }
     ]
 
 pub returns-else-all_sgr_tokens-clause-none : goal.returns-else-all_sgr_tokens-clause-none
@@ -53,7 +53,7 @@ returns-else-all_sgr_tokens-clause-none c =
           let tokens : all_sgr_tokens (drop (c.args.read + c.in_ok-value.len) c.args.params.now) ≡ false = search rules in
           record {
             rest = λ truncated.
-                first_lost c.args.read c.in_ok-value.len c.args.params.now c.behind.result.now c.in_ok-value.value truncated w.if-read-gt0.false some c.behind.ensures (sym c.sgr_group.ensures ∙ c.in_ok-value.was) tokens;
+                first_lost c.args.read c.in_ok-value.len c.args.params.now c.after.result.now c.in_ok-value.value truncated w.if-read-gt0.false some c.after.ensures (sym c.sgr_group.ensures ∙ c.in_ok-value.was) tokens;
             within = omega arith;
           }
     ]

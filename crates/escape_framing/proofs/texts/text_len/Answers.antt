@@ -10,4 +10,4 @@ pub loop-rest-preserved : goal.loop-rest-preserved
 loop-rest-preserved c =
     let i = c.loop-rest.invariant in
     let t = longer_text c.args.bytes.now c.loop-rest.rest.now c.loop-rest.len c.run_len-count.result i.within i.rest i.text c.run_len-count.ensures in
-    record { within = t.1; text = t.0; rest = c.behind-rest.ensures ∙ t.2 }
+    record { within = t.1; text = t.0; rest = c.after-rest.ensures ∙ t.2 }

@@ -11,7 +11,7 @@ use Rattle.escape_stream.proofs.encoding_laws.read_sequences_are_writable.Goals 
 each_back : (ts : List CsiParam) (final : ℕ) (actions : List Action) → AllByRecursion (λ a. is_exempt ts final a ≡ false → ReadsBack false a) actions
     → AllByRecursion (λ a. HasFront (csi_text a) (whole_front (spelling_of a))) actions → EachIsReadBack ts final actions
 each_back ts final [] r f = tt
-each_back ts final (a ∷ others) r f = (λ e. record { front = whole_front (spelling_of a); stands = f.0; whole = refl; action = r.0 e }, each_back ts final others r.1 f.1)
+each_back ts final (a ∷ remaining) r f = (λ e. record { prefix = whole_front (spelling_of a); stands = f.0; whole = refl; action = r.0 e }, each_back ts final remaining r.1 f.1)
 
 pub returns : goal.returns
 returns c = λ ts final spelled few low high. each_back ts final (csi_reading ts false final) (c.actions_read_back.ensures ts false final) (c.texts_are_fronts.ensures ts false final spelled few low high)

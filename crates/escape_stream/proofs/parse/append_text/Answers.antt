@@ -10,4 +10,4 @@ returns-then-is_empty c = ap (λ l. fold appended (map value_of c.args.actions.n
 pub returns-in_ok-copy-in-None : goal.returns-in_ok-copy-in-None
 returns-in_ok-copy-in-None c =
     let n : c.args.text.now ≢ [] = search rules in
-    rw (appended_text (map value_of c.args.actions.now.items) c.args.text.now c.utf8.text n (c.in-None.ensures.others refl), ← c.in_ok-copy-in-None.ensures.ok) c.append_to-in-None.ensures.ok
+    rw (appended_text (map value_of c.args.actions.now.items) c.args.text.now c.utf8.text n (c.in-None.ensures.remaining refl), ← c.in_ok-copy-in-None.ensures.ok) c.append_to-in-None.ensures.ok

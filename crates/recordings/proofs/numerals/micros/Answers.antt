@@ -15,12 +15,12 @@ returns c =
     let point = c.args.point in
     let whole = c.whole-whole.result.now in
     let fraction = c.fraction-fraction.result.now in
-    let behind : c.saturating_sub-behind.result ≡ point - length whole = c.saturating_sub-behind.ensures in
+    let after : c.saturating_sub-after.result ≡ point - length whole = c.saturating_sub-after.ensures in
     let last : c.saturating_sub.result ≡ point - length whole - length fraction =
-    c.saturating_sub.ensures ∙ ap (λ k. k - length fraction) behind in
+    c.saturating_sub.ensures ∙ ap (λ k. k - length fraction) after in
     let in_turn = joined_stopped greatest point whole fraction zeros c.with_digits-value.result c.with_digits-value-2.result c.with_digits.result
     (step 0 c.first.result.now whole point point c.with_digits-value.result c.first.ensures refl c.with_digits-value.ensures)
-    (step c.with_digits-value.result c.first-2.result.now fraction c.saturating_sub-behind.result (point - length whole) c.with_digits-value-2.result c.first-2.ensures behind c.with_digits-value-2.ensures)
+    (step c.with_digits-value.result c.first-2.result.now fraction c.saturating_sub-after.result (point - length whole) c.with_digits-value-2.result c.first-2.ensures after c.with_digits-value-2.ensures)
     (step c.with_digits-value-2.result c.first-3.result.now zeros c.saturating_sub.result (point - length whole - length fraction) c.with_digits.result c.first-3.ensures last c.with_digits.ensures) in
     in_turn
     ∙ (λ i. min (number_after 0 (take (c.requires.point i) (c.whole-whole.ensures.value i ++ (c.fraction-fraction.ensures.value i ++ zeros)))) greatest)

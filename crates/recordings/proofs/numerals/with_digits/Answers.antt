@@ -6,10 +6,10 @@ use Rattle.recordings.proofs.numerals.with_digits.Goals as goal
 
 pub returns : goal.returns
 returns c =
-    let behind : length c.args.digits.now ≤ c.loop-digit.digit-index = omega (arith, c.loop-digit-test.false) in
+    let after : length c.args.digits.now ≤ c.loop-digit.digit-index = omega (arith, c.loop-digit-test.false) in
     let is : c.loop-digit.value ≡ min c.loop-digit.value greatest = omega (arith, c.loop-digit.invariant.fits) in
     is
-    ∙ sym (at_drop_all (λ digits. min (number_after c.loop-digit.value digits) greatest) c.args.digits.now c.loop-digit.digit-index behind)
+    ∙ sym (at_drop_all (λ digits. min (number_after c.loop-digit.value digits) greatest) c.args.digits.now c.loop-digit.digit-index after)
     ∙ c.loop-digit.invariant.read
 
 pub loop-digit-preserved : goal.loop-digit-preserved

@@ -9,25 +9,25 @@ pub split_at-requires : goal.split_at-requires
 split_at-requires c =
     let lens = c.args.lens.now in
     let few = ones_few lens c.first_few.result.now c.ones.result 32 c.first_few.ensures c.ones.ensures in
-    let front = plain_count c.args.text.now c.split_plain.result.0.now c.ones.result c.split_plain.ensures.front in
-    omega (arith, front.0, few, prefix_len-le-length (λ n. n == 1) lens)
+    let prefix = plain_count c.args.text.now c.split_plain.result.0.now c.ones.result c.split_plain.ensures.prefix in
+    omega (arith, prefix.0, few, prefix_len-le-length (λ n. n == 1) lens)
 
 pub returns-clause-within : goal.returns-clause-within
 returns-clause-within c =
     let lens = c.args.lens.now in
     let few = ones_few lens c.first_few.result.now c.ones.result 32 c.first_few.ensures c.ones.ensures in
-    let front = c.split_plain.result.0.now in
-    let counts = plain_count c.args.text.now front c.ones.result c.split_plain.ensures.front in
-    let left = bytes_front (length front) lens (omega (arith, counts.0, few)) in
-    let rest = ap length (plain_rest c.args.text.now front c.split_plain.result.1.now c.ones.result c.split_plain.ensures.front c.split_plain.ensures.rest) in
-    omega (arith, left, counts.1.0, ap bytes_of c.split_at.ensures.back, rest, length-drop (length front) c.args.text.now, c.requires)
+    let prefix = c.split_plain.result.0.now in
+    let counts = plain_count c.args.text.now prefix c.ones.result c.split_plain.ensures.prefix in
+    let left = bytes_front (length prefix) lens (omega (arith, counts.0, few)) in
+    let rest = ap length (plain_rest c.args.text.now prefix c.split_plain.result.1.now c.ones.result c.split_plain.ensures.prefix c.split_plain.ensures.rest) in
+    omega (arith, left, counts.1.0, ap bytes_of c.split_at.ensures.back, rest, length-drop (length prefix) c.args.text.now, c.requires)
 
 pub returns-clause-same : goal.returns-clause-same
 returns-clause-same c =
     let lens = c.args.lens.now in
     let few = ones_few lens c.first_few.result.now c.ones.result 32 c.first_few.ensures c.ones.ensures in
-    let front = c.split_plain.result.0.now in
+    let prefix = c.split_plain.result.0.now in
     let rest = c.split_plain.result.1.now in
-    let counts = plain_count c.args.text.now front c.ones.result c.split_plain.ensures.front in
-    cells_after lens c.args.text.now front rest c.split_at.result.1.now (length front) (omega (arith, counts.0, few)) counts.1.0 counts.1.1
-    (plain_rest c.args.text.now front rest c.ones.result c.split_plain.ensures.front c.split_plain.ensures.rest) c.split_at.ensures.back c.split_plain.ensures.clusters
+    let counts = plain_count c.args.text.now prefix c.ones.result c.split_plain.ensures.prefix in
+    cells_after lens c.args.text.now prefix rest c.split_at.result.1.now (length prefix) (omega (arith, counts.0, few)) counts.1.0 counts.1.1
+    (plain_rest c.args.text.now prefix rest c.ones.result c.split_plain.ensures.prefix c.split_plain.ensures.rest) c.split_at.ensures.back c.split_plain.ensures.clusters

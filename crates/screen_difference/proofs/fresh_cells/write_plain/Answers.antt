@@ -12,16 +12,16 @@ loop-at-preserved c =
     let n = c.in_ok-count.count in
     let to = c.args.column + length text in
     let olds : List VisibleCell = shown_left c.loop-at.olds in
-    let part = c.behind.ensures.part in
+    let part = c.after.ensures.part in
     let some = c.in_ok-count.ensures.some in
     let left = ap length part in
-    let behind = length-drop at text in
+    let after = length-drop at text in
     record {
       within = omega arith;
       fits = c.write_stretch.ensures.fits;
       passed = ap (from_column to) c.in_ok-count.ensures.passed ∙ from_twice (c.args.column + at + n) to olds (omega arith) ∙ c.loop-at.invariant.passed;
       written =
-          next_written c.loop-at.writer c.write_stretch.new.writer c.args.row olds (shown_left c.write_stretch.new.olds) c.args.column at n text c.behind.result.now c.args.attrs.now part (omega arith)
+          next_written c.loop-at.writer c.write_stretch.new.writer c.args.row olds (shown_left c.write_stretch.new.olds) c.args.column at n text c.after.result.now c.args.attrs.now part (omega arith)
           c.in_ok-count.ensures.written c.in_ok-count.ensures.passed
           ∙ c.loop-at.invariant.written;
     }

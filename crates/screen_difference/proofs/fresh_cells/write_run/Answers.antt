@@ -9,19 +9,19 @@ use Rattle.screen_difference.proofs.SideLemmas.{text_on_other, text_on_text}
 use Rattle.screen_difference.proofs.fresh_cells.write_run.Goals as goal
 
 pub returns-then-eq : goal.returns-then-eq
-returns-then-eq c = λ others.
+returns-then-eq c = λ remaining.
     let at = c.args.column in
     let old = c.args.old.0.now in
     let text = c.args.text.now in
     let attrs = c.args.attrs.now in
     c.in_ok-write_differing.ensures
     ∙ sym (ap (λ (cells : List VisibleCell). with_all c.args.writer.now (placed c.args.row cells)) (
-    ap (λ (a : Attributes). passed_fresh (visible_each at old a ++ others) (visible_each at text attrs)) (c.eq.ensures.by_value.0 c.if-eq.true)
-    ∙ text_on_text at old text attrs others c.requires.same))
+    ap (λ (a : Attributes). passed_fresh (visible_each at old a ++ remaining) (visible_each at text attrs)) (c.eq.ensures.by_value.0 c.if-eq.true)
+    ∙ text_on_text at old text attrs remaining c.requires.same))
 
 pub returns : goal.returns
-returns c = λ others.
+returns c = λ remaining.
     let other : c.args.old.1.now ≡ c.args.attrs.now → ⊥ = λ e. false≢true (sym c.if-eq.false ∙ c.eq.ensures.by_value.1 e) in
     c.in_ok-push_plain.ensures
     ∙ sym (ap (λ (cells : List VisibleCell). with_all c.args.writer.now (placed c.args.row cells)) (
-    text_on_other c.args.column c.args.old.0.now c.args.text.now c.args.old.1.now c.args.attrs.now others c.requires.same other))
+    text_on_other c.args.column c.args.old.0.now c.args.text.now c.args.old.1.now c.args.attrs.now remaining c.requires.same other))

@@ -21,7 +21,7 @@ returns-then-count-gt0-clause-written c =
     let count = length-take-le n c.args.text.now within in
     c.in_ok-push_plain.ensures
     ∙ ap (λ (cells : List VisibleCell). with_all c.args.writer.now (placed c.args.row cells)) (
-    ap (λ (text : List ℕ). visible_each at text attrs) c.front.ensures.part
+    ap (λ (text : List ℕ). visible_each at text attrs) c.prefix.ensures.part
     ∙ sym (gap_fresh at left.column (shown_left c.args.olds.now) (region_left left.cells) (take n c.args.text.now) attrs c.pass.ensures.left (omega arith)))
 
 pub returns-then-count-gt0-clause-passed : goal.returns-then-count-gt0-clause-passed

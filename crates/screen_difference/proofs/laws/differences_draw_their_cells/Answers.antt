@@ -6,8 +6,8 @@ use Rattle.screen_difference.proofs.laws.differences_draw_their_cells.Goals as g
 pub returns-clause-drawn : goal.returns-clause-drawn
 returns-clause-drawn c = difference_is_drawn
 
-pub returns-clause-others : goal.returns-clause-others
-returns-clause-others c = others_stay
+pub returns-clause-remaining : goal.returns-clause-remaining
+returns-clause-remaining c = others_stay
 
 pub returns-clause-region : goal.returns-clause-region
 returns-clause-region c = λ width_of s x y width rows news other_x other_y e. region_places width_of s x y width rows news other_x other_y (sound_space width_of e)

@@ -7,10 +7,10 @@ returns-clause-fresh c =
     let start = c.unequal_columns-start.result.0 in
     let stop = c.unequal_columns-start.result.1 in
     let passed = c.min-passed.ensures in
-    let behind = c.min-behind.ensures in
+    let after = c.min-after.ensures in
     let one = c.saturating_sub.ensures in
     let two = c.saturating_sub-2.ensures in
     let order = c.unequal_columns-start.ensures.order in
-    let n = c.min-behind.result - c.min-passed.result in
+    let n = c.min-after.result - c.min-passed.result in
     part_is_fresh c.args.x c.args.other_x c.args.count start stop c.min-passed.result n c.args.old.now.columns c.args.new.now.columns
     (omega arith) c.unequal_columns-start.ensures c.requires.within c.requires.other_within (omega arith) (omega arith)

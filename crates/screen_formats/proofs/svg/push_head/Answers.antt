@@ -10,5 +10,5 @@ use Rattle.screen_formats.proofs.svg.push_head.Goals as goal
 pub returns : goal.returns
 returns c =
     let fill = c.deref.ensures ∙ c.in_ok-fill.ensures in
-    let behind = c.in_ok-push_rectangle.ensures ∙ ap (λ (t : List ℕ). string_bytes c.push_element.new.out ++ pieces_text Xml (rectangle (codes "0") (codes "0") c.args.width.now c.args.height.now t [])) fill in
-    written_more Xml _ _ _ _ _ c.in_ok-push_svg_opening.ensures (written_more Xml _ _ _ _ _ c.in_ok-push_element.ensures behind)
+    let after = c.in_ok-push_rectangle.ensures ∙ ap (λ (t : List ℕ). string_bytes c.push_element.new.out ++ pieces_text Xml (rectangle (codes "0") (codes "0") c.args.width.now c.args.height.now t [])) fill in
+    written_more Xml _ _ _ _ _ c.in_ok-push_svg_opening.ensures (written_more Xml _ _ _ _ _ c.in_ok-push_element.ensures after)

@@ -15,7 +15,7 @@ returns g c =
     let width = c.deref.ensures ∙ c.in_ok-width.ensures ∙ ap column_units c.dimensions-width.ensures.width in
     let count = c.dimensions-width.ensures.height ∙ sym (length-columns c.args.surface.now.grid.lines) in
     let height = c.deref-2.ensures ∙ c.in_ok-height.ensures ∙ ap row_units count in
-    let front = c.in_ok-push_head.ensures ∙ (λ i. string_bytes c.args.out.now ++ pieces_text Xml (svg_head (width i) (height i) (c.title.ensures i))) in
+    let prefix = c.in_ok-push_head.ensures ∙ (λ i. string_bytes c.args.out.now ++ pieces_text Xml (svg_head (width i) (height i) (c.title.ensures i))) in
     let rows = c.in_ok-push_rows.ensures ∙ ap (λ (rows : List Row). string_bytes c.push_head.new.out ++ pieces_text Xml (svg_rows 0 rows)) c.screen_lines.ensures.rows in
     let closed = written_more Xml _ _ _ _ _ c.in_ok-push_cursor.ensures c.in_ok-push_end.ensures in
-    written_more Xml _ _ _ _ _ front (written_more Xml _ _ _ _ _ rows closed)
+    written_more Xml _ _ _ _ _ prefix (written_more Xml _ _ _ _ _ rows closed)

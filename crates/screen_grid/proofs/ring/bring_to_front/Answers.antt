@@ -9,5 +9,5 @@ loop-at-preserved g c =
     let more = c.loop-at-test.true in
     let inv = c.loop-at.invariant in
     let there : c.args.start + c.loop-at.at < length c.args.items.now = omega arith in
-    let step = brought c.args.items.now now c.swap.new.self c.args.start c.loop-at.at c.requires.some there inv.len inv.front inv.rest c.swap.ensures.after in
-    record { len = c.swap.auto.self ∙ inv.len; front = step.0; rest = step.1 }
+    let step = brought c.args.items.now now c.swap.new.self c.args.start c.loop-at.at c.requires.some there inv.len inv.prefix inv.rest c.swap.ensures.after in
+    record { len = c.swap.auto.self ∙ inv.len; prefix = step.0; rest = step.1 }

@@ -7,13 +7,13 @@ use Rattle.screen_grid.proofs.RingLemmas.{refilled}
 use Rattle.screen_grid.proofs.rows.scroll_down.Goals as goal
 
 abbrev moved : {X : Type 0} → ℕ → ℕ → ℕ → List X → List X
-moved first behind count l = take first l ++ (drop (behind - first - count) (take (behind - first) (drop first l)) ++ take (behind - first - count) (take (behind - first) (drop first l))) ++ drop behind l
+moved first after count l = take first l ++ (drop (after - first - count) (take (after - first) (drop first l)) ++ take (after - first - count) (take (after - first) (drop first l))) ++ drop after l
 
 pub returns : goal.returns
 returns c =
     let now = c.args.rows.now in
     let same : length c.rotate_down.new.items ≡ length now = c.rotate_down.auto.items ∙ ap length c.as_mut_slice.ensures.value in
     let new = refilled now c.rotate_down.new.items same in
-    let rotated = c.rotate_down.ensures ∙ ap (moved c.args.first c.args.behind c.args.count) c.as_mut_slice.ensures.value in
+    let rotated = c.rotate_down.ensures ∙ ap (moved c.args.first c.args.after c.args.count) c.as_mut_slice.ensures.value in
     c.in_ok-clear_rows.ensures ∙ ap (λ (l : List LineContent). take c.args.first l ++ map cleared (take (c.args.first + c.args.count - c.args.first) (drop c.args.first l)) ++ drop (c.args.first + c.args.count) l) new
-    ∙ moved_down cleared now c.rotate_down.new.items c.args.first c.args.behind c.args.count c.requires.order c.requires.within c.requires.fits rotated
+    ∙ moved_down cleared now c.rotate_down.new.items c.args.first c.args.after c.args.count c.requires.order c.requires.within c.requires.fits rotated

@@ -9,10 +9,10 @@ loop-at-preserved c =
     let now = c.loop-at in
     let within = c.requires.within in
     let more = c.loop-at-test.true in
-    let place = c.replace.ensures.after ∙ c.nothing.ensures in
+    let position = c.replace.ensures.after ∙ c.nothing.ensures in
     let there : now.at < length now.changes = let l = now.auto.changes in omega arith in
     record {
-      dropped = ap (λ (change : Change). take (now.at + 1) (slice_set now.changes now.at change)) place ∙ one_dropped now.changes now.at there now.invariant.dropped;
-      rest = ap (λ (change : Change). drop (now.at + 1) (slice_set now.changes now.at change)) place ∙ rest_stays now.changes c.args.changes.now now.at now.invariant.rest;
+      dropped = ap (λ (change : Change). take (now.at + 1) (slice_set now.changes now.at change)) position ∙ one_dropped now.changes now.at there now.invariant.dropped;
+      rest = ap (λ (change : Change). drop (now.at + 1) (slice_set now.changes now.at change)) position ∙ rest_stays now.changes c.args.changes.now now.at now.invariant.rest;
       spare = c.drop_change.ensures;
     }

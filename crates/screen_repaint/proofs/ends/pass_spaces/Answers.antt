@@ -18,7 +18,7 @@ returns-then-is_spaces c =
 pub returns-else-is_spaces : goal.returns-else-is_spaces
 returns-else-is_spaces c =
     let spaces : c.is_spaces.result ≡ false = search rules in
-    let others : list_all (λ byte. byte == 32) c.in-Some.text.now ≡ false = search rules in
+    let remaining : list_all (λ byte. byte == 32) c.in-Some.text.now ≡ false = search rules in
     stretch_spaces (first_column (cells_left c.args.cells.now)) c.in-Some.text.now c.in-Some.own.now c.args.attrs.now (cells_left c.args.cells.now) (cells_left c.pass_plain.new.self) c.is_spaces.result
     c.in-Some.ensures.left c.in-Some.ensures.some.0
-    (spaces ∙ ap (λ b. b && same_attributes c.in-Some.own.now c.args.attrs.now) (sym others))
+    (spaces ∙ ap (λ b. b && same_attributes c.in-Some.own.now c.args.attrs.now) (sym remaining))

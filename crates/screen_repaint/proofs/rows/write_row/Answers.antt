@@ -17,8 +17,8 @@ write_clear-requires c attributes e =
 pub returns : goal.returns
 returns c =
     let cells : List CellContent = row_cells c.args.line.now.columns in
-    let front : c.kept.result ≡ (end_of cells).kept = c.kept.ensures ∙ ap (λ (e : End). e.kept) c.requires.end in
+    let prefix : c.kept.result ≡ (end_of cells).kept = c.kept.ensures ∙ ap (λ (e : End). e.kept) c.requires.end in
     row_written c.args.writer.now c.write_clear.new.writer cells c.args.below_too (option_map (λ a. a.now.background) c.blanks.result) c.requires.ended
     (background_now c.blanks.result (end_of cells).blanks (c.blanks.ensures ∙ ap (λ (e : End). e.blanks) c.requires.end) ∙ sym (ends cells).background)
     (c.in_ok-write_clear.ensures
-    ∙ ap (λ (w : Written). with_changes (end_cleared (option_map (λ a. a.now.background) c.blanks.result) c.args.below_too) (ended w)) (c.in_ok-write_cells.ensures ∙ ap (λ (n : ℕ). with_cells c.args.writer.now (take n cells)) front))
+    ∙ ap (λ (w : Written). with_changes (end_cleared (option_map (λ a. a.now.background) c.blanks.result) c.args.below_too) (ended w)) (c.in_ok-write_cells.ensures ∙ ap (λ (n : ℕ). with_cells c.args.writer.now (take n cells)) prefix))

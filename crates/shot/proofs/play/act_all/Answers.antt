@@ -8,9 +8,9 @@ pub returns : goal.returns
 returns c =
     let events = c.args.events.now in
     let at = c.loop-event.event-index in
-    let behind : length events ≤ at = omega (arith, c.loop-event-test.false) in
+    let events_after : length events ≤ at = omega (arith, c.loop-event-test.false) in
     led_all c.args.terminal.now c.loop-event.terminal (map event_of events)
-    (subst (λ left. LeadsOn c.args.terminal.now c.loop-event.terminal (map event_of left) (map event_of events)) (drop_all at events behind) c.loop-event.invariant)
+    (subst (λ left. LeadsOn c.args.terminal.now c.loop-event.terminal (map event_of left) (map event_of events)) (drop_all at events events_after) c.loop-event.invariant)
 
 pub loop-event-preserved : goal.loop-event-preserved
 loop-event-preserved c =

@@ -21,10 +21,10 @@ never true h = absurd (h refl)
 never false h = refl
 
 -- the first elements of a list whose end was left as it was
-front : {A : Type 0} (n : ℕ) (xs ys : List A) → n ≤ length xs → take n (xs ++ ys) ≡ take n xs
-front zero xs ys h = refl
-front (suc n) [] ys h = absurd (omega (arith, h))
-front (suc n) (x ∷ xs) ys h = ap (λ zs. x ∷ zs) (front n xs ys (omega (arith, h)))
+prefix : {A : Type 0} (n : ℕ) (xs ys : List A) → n ≤ length xs → take n (xs ++ ys) ≡ take n xs
+prefix zero xs ys h = refl
+prefix (suc n) [] ys h = absurd (omega (arith, h))
+prefix (suc n) (x ∷ xs) ys h = ap (λ zs. x ∷ zs) (prefix n xs ys (omega (arith, h)))
 
 pub loop-init : goal.loop-init
 loop-init g c = record {
@@ -92,7 +92,7 @@ returns-in_err-feed-clause-number g c =
     rw (p.1, p.2) (λ e.
     let refused : ◌≡◌ {A = Result (Unit {0}) TerminalError} (Err c.in_err-feed.field-0.0) (Err Number) = cc in
     on_feed_past (λ w. g.W.Widths.width_of w) c.args.every c.args.terminal.now (g.T.Write.contents c.args.writer.now.inner) (g.T.Write.contents c.loop.writer.inner) c.loop.terminal c.loop.number c.loop.left c.loop.invariant.widths (g.R.Read.remaining c.args.reader.now.inner) (g.R.Read.remaining c.loop.reader.inner) (g.R.Read.remaining c.read.new.self.inner) (take c.in-Ok.count c.read.new.buffer) c.loop.invariant.sends c.in-Ok.ensures.bytes.0 count
-    (subst (λ bytes. NeedsNumber (λ w. g.W.Widths.width_of w) c.loop.terminal (Piece bytes ∷ [])) (front c.in-Ok.count c.read.new.buffer (drop c.min-most.result c.loop.buffer) (omega (arith, within))) (c.in_err-feed.ensures.number refused)))
+    (subst (λ bytes. NeedsNumber (λ w. g.W.Widths.width_of w) c.loop.terminal (Piece bytes ∷ [])) (prefix c.in-Ok.count c.read.new.buffer (drop c.min-most.result c.loop.buffer) (omega (arith, within))) (c.in_err-feed.ensures.number refused)))
 
 pub returns-in_err-number-clause-err : goal.returns-in_err-number-clause-err
 returns-in_err-number-clause-err g c =
@@ -100,7 +100,7 @@ returns-in_err-number-clause-err g c =
     let within = c.in-Ok.ensures.bound in
     let full : length (take c.in-Ok.count c.read.new.buffer) ≡ c.loop.left = omega (arith, within, c.if-left-eq0.true, c.read.auto.buffer, c.min-most.ensures, length-take c.min-most.result c.loop.buffer, length-take c.in-Ok.count c.read.new.buffer) in
     rw p.1 (on_some (λ w. g.W.Widths.width_of w) c.args.every c.args.terminal.now (g.T.Write.contents c.args.writer.now.inner) (g.T.Write.contents c.loop.writer.inner) c.loop.terminal c.loop.number c.loop.left c.loop.invariant.widths (g.R.Read.remaining c.args.reader.now.inner) (g.R.Read.remaining c.loop.reader.inner) (g.R.Read.remaining c.read.new.self.inner) (take c.in-Ok.count c.read.new.buffer) c.feed.new.self _ c.loop.invariant.sends c.in-Ok.ensures.bytes.0
-    (subst (λ bytes. GoesBy (λ w. g.W.Widths.width_of w) c.loop.terminal c.feed.new.self (Piece bytes ∷ [])) (front c.in-Ok.count c.read.new.buffer (drop c.min-most.result c.loop.buffer) (omega (arith, within))) c.in_ok-feed.ensures.done)
+    (subst (λ bytes. GoesBy (λ w. g.W.Widths.width_of w) c.loop.terminal c.feed.new.self (Piece bytes ∷ [])) (prefix c.in-Ok.count c.read.new.buffer (drop c.min-most.result c.loop.buffer) (omega (arith, within))) c.in_ok-feed.ensures.done)
     full c.loop.invariant.some c.in_err-number.ensures.err)
 
 pub returns-in_err-number-clause-number : goal.returns-in_err-number-clause-number
@@ -111,13 +111,13 @@ returns-in_err-number-clause-number g c =
     rw (p.1, p.2) (λ e.
     let refused : ◌≡◌ {A = Result ℕ RunError} (Err c.in_err-number.field-0.0) (Err (Terminal Number)) = cc in
     on_look_past (λ w. g.W.Widths.width_of w) c.args.every c.args.terminal.now (g.T.Write.contents c.args.writer.now.inner) (g.T.Write.contents c.loop.writer.inner) c.loop.terminal c.loop.number c.loop.left c.loop.invariant.widths (g.R.Read.remaining c.args.reader.now.inner) (g.R.Read.remaining c.loop.reader.inner) (g.R.Read.remaining c.read.new.self.inner) (take c.in-Ok.count c.read.new.buffer) c.feed.new.self c.loop.invariant.sends c.in-Ok.ensures.bytes.0
-    (subst (λ bytes. GoesBy (λ w. g.W.Widths.width_of w) c.loop.terminal c.feed.new.self (Piece bytes ∷ [])) (front c.in-Ok.count c.read.new.buffer (drop c.min-most.result c.loop.buffer) (omega (arith, within))) c.in_ok-feed.ensures.done)
+    (subst (λ bytes. GoesBy (λ w. g.W.Widths.width_of w) c.loop.terminal c.feed.new.self (Piece bytes ∷ [])) (prefix c.in-Ok.count c.read.new.buffer (drop c.min-most.result c.loop.buffer) (omega (arith, within))) c.in_ok-feed.ensures.done)
     full c.loop.invariant.some (c.in_err-number.ensures.number refused))
 
 pub loop-preserved : goal.loop-preserved
 loop-preserved g c =
     let within = c.in-Ok.ensures.bound in
-    let fed = subst (λ bytes. GoesBy (λ w. g.W.Widths.width_of w) c.loop.terminal c.feed.new.self (Piece bytes ∷ [])) (front c.in-Ok.count c.read.new.buffer (drop c.min-most.result c.loop.buffer) (omega (arith, within))) c.in_ok-feed.ensures.done in
+    let fed = subst (λ bytes. GoesBy (λ w. g.W.Widths.width_of w) c.loop.terminal c.feed.new.self (Piece bytes ∷ [])) (prefix c.in-Ok.count c.read.new.buffer (drop c.min-most.result c.loop.buffer) (omega (arith, within))) c.in_ok-feed.ensures.done in
     let reads = c.in-Ok.ensures.reads in
     let counted : c.read.new.self.reads ≡ c.loop.counter + 1 = omega (arith, reads, c.loop.invariant.reads, c.loop-test.true) in
     let room : length (c.read.new.buffer ++ drop c.min-most.result c.loop.buffer) ≡ 4096 = omega (arith, c.read.auto.buffer, c.loop.invariant.room, length-take c.min-most.result c.loop.buffer, length-drop c.min-most.result c.loop.buffer, length-append c.read.new.buffer (drop c.min-most.result c.loop.buffer)) in

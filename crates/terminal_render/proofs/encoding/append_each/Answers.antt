@@ -11,5 +11,5 @@ loop-change-preserved c = (
   next_of_changes c.args.bytes.now.items c.loop-change.bytes.items c.append_to.new.bytes.items c.args.changes.now c.loop-change.change-index c.change-item.result c.args.width c.args.height
       c.loop-change.actions c.push_change.new.actions (omega arith) c.change-item.is c.loop-change.invariant.0 c.loop-change.invariant.1 c.in_ok-push_change.ensures c.in_ok-append_to.ensures.ok,
   c.clear.ensures,
-  still_front c.args.bytes.now.items c.loop-change.bytes.items c.append_to.new.bytes.items c.loop-change.invariant.2 c.append_to.ensures.front,
+  still_front c.args.bytes.now.items c.loop-change.bytes.items c.append_to.new.bytes.items c.loop-change.invariant.2 c.append_to.ensures.prefix,
 )

@@ -2,4 +2,4 @@ use Rattle.terminal_render.proofs.EncodedSizeLemmas.{each_short}
 use Rattle.terminal_render.proofs.sizes.encoded_changes_are_short.Goals as goal
 
 pub returns : goal.returns
-returns c = each_short c.renderings_are_short.ensures.others c.renderings_are_short.ensures.texts c.renderings_are_short.ensures.runs
+returns c = each_short c.renderings_are_short.ensures.remaining c.renderings_are_short.ensures.texts c.renderings_are_short.ensures.runs

@@ -13,52 +13,52 @@ pub encode_title-requires : goal.encode_title-requires
 encode_title-requires g c =
     let old = (shown_by c.args.shown.now).screen in
     let new = (shown_by c.args.surface.now).screen in
-    let width = c.of-receiver.result.width in
-    let tall = c.of-receiver.result.height in
-    let has = spelled (shown_by c.args.shown.now) (shown_by c.args.surface.now) (c.surfaces_stay_lawful.ensures.lawful c.requires.shown) c.of-receiver.ensures.lawful c.requires.width
+    let width = c.of-encoder.result.width in
+    let tall = c.of-encoder.result.height in
+    let has = spelled (shown_by c.args.shown.now) (shown_by c.args.surface.now) (c.fresh_cells.ensures.lawful c.requires.shown) c.of-encoder.ensures.lawful c.requires.width
     (length-map c.args.shown.now.grid.lines (λ l. l.columns) ∙ c.requires.height ∙ sym (length-map c.args.surface.now.grid.lines (λ l. l.columns))) c.requires.sendable.spelled in
-    subst (λ title. HasSpelling width tall (Title title)) (sym c.title.ensures) (title_has old new width tall c.of-receiver.ensures.width c.of-receiver.ensures.height has)
+    subst (λ title. HasSpelling width tall (Title title)) (sym c.title.ensures) (title_has old new width tall c.of-encoder.ensures.width c.of-encoder.ensures.height has)
 
 pub encode_all-requires : goal.encode_all-requires
 encode_all-requires g c =
     let old = (shown_by c.args.shown.now).screen in
     let new = (shown_by c.args.surface.now).screen in
-    let width = c.of-receiver.result.width in
-    let tall = c.of-receiver.result.height in
-    let has = spelled (shown_by c.args.shown.now) (shown_by c.args.surface.now) (c.surfaces_stay_lawful.ensures.lawful c.requires.shown) c.of-receiver.ensures.lawful c.requires.width
+    let width = c.of-encoder.result.width in
+    let tall = c.of-encoder.result.height in
+    let has = spelled (shown_by c.args.shown.now) (shown_by c.args.surface.now) (c.fresh_cells.ensures.lawful c.requires.shown) c.of-encoder.ensures.lawful c.requires.width
     (length-map c.args.shown.now.grid.lines (λ l. l.columns) ∙ c.requires.height ∙ sym (length-map c.args.surface.now.grid.lines (λ l. l.columns))) c.requires.sendable.spelled in
-    subst (HaveSpellings width tall) (sym (ap (map value_of) c.deref.ensures.value ∙ c.in_ok-changes.ensures)) (cells_have old new width tall c.of-receiver.ensures.width c.of-receiver.ensures.height has)
+    subst (HaveSpellings width tall) (sym (ap (map value_of) c.deref.ensures.value ∙ c.in_ok-changes.ensures.changes)) (cells_have old new width tall c.of-encoder.ensures.width c.of-encoder.ensures.height has)
 
 pub encode_place_and_pen-requires-clause-spelled : goal.encode_place_and_pen-requires-clause-spelled
 encode_place_and_pen-requires-clause-spelled g c =
     let old = (shown_by c.args.shown.now).screen in
     let new = (shown_by c.args.surface.now).screen in
-    let width = c.of-receiver.result.width in
-    let tall = c.of-receiver.result.height in
-    let has = spelled (shown_by c.args.shown.now) (shown_by c.args.surface.now) (c.surfaces_stay_lawful.ensures.lawful c.requires.shown) c.of-receiver.ensures.lawful c.requires.width
+    let width = c.of-encoder.result.width in
+    let tall = c.of-encoder.result.height in
+    let has = spelled (shown_by c.args.shown.now) (shown_by c.args.surface.now) (c.fresh_cells.ensures.lawful c.requires.shown) c.of-encoder.ensures.lawful c.requires.width
     (length-map c.args.shown.now.grid.lines (λ l. l.columns) ∙ c.requires.height ∙ sym (length-map c.args.surface.now.grid.lines (λ l. l.columns))) c.requires.sendable.spelled in
-    place_has old new width tall c.of-receiver.ensures.width c.of-receiver.ensures.height has
+    place_has old new width tall c.of-encoder.ensures.width c.of-encoder.ensures.height has
 
 pub encode_visibility-requires : goal.encode_visibility-requires
 encode_visibility-requires g c =
     let old = (shown_by c.args.shown.now).screen in
     let new = (shown_by c.args.surface.now).screen in
-    let width = c.of-receiver.result.width in
-    let tall = c.of-receiver.result.height in
-    let has = spelled (shown_by c.args.shown.now) (shown_by c.args.surface.now) (c.surfaces_stay_lawful.ensures.lawful c.requires.shown) c.of-receiver.ensures.lawful c.requires.width
+    let width = c.of-encoder.result.width in
+    let tall = c.of-encoder.result.height in
+    let has = spelled (shown_by c.args.shown.now) (shown_by c.args.surface.now) (c.fresh_cells.ensures.lawful c.requires.shown) c.of-encoder.ensures.lawful c.requires.width
     (length-map c.args.shown.now.grid.lines (λ l. l.columns) ∙ c.requires.height ∙ sym (length-map c.args.surface.now.grid.lines (λ l. l.columns))) c.requires.sendable.spelled in
-    seen_has old new width tall c.of-receiver.ensures.width c.of-receiver.ensures.height has
+    seen_has old new width tall c.of-encoder.ensures.width c.of-encoder.ensures.height has
 
 pub returns : goal.returns
 returns g c =
     let old = (shown_by c.args.shown.now).screen in
     let new = (shown_by c.args.surface.now).screen in
-    let width = c.of-receiver.result.width in
-    let tall = c.of-receiver.result.height in
-    let has = spelled (shown_by c.args.shown.now) (shown_by c.args.surface.now) (c.surfaces_stay_lawful.ensures.lawful c.requires.shown) c.of-receiver.ensures.lawful c.requires.width
+    let width = c.of-encoder.result.width in
+    let tall = c.of-encoder.result.height in
+    let has = spelled (shown_by c.args.shown.now) (shown_by c.args.surface.now) (c.fresh_cells.ensures.lawful c.requires.shown) c.of-encoder.ensures.lawful c.requires.width
     (length-map c.args.shown.now.grid.lines (λ l. l.columns) ∙ c.requires.height ∙ sym (length-map c.args.surface.now.grid.lines (λ l. l.columns))) c.requires.sendable.spelled in
-    patch_sent old new width tall c.of-receiver.ensures.width c.of-receiver.ensures.height has c.new-bytes.result.items c.encode_title.new.bytes.items c.encode_all.new.bytes.items c.encode_place_and_pen.new.bytes.items c.encode_visibility.new.bytes.items
+    patch_sent old new width tall c.of-encoder.ensures.width c.of-encoder.ensures.height has c.new-bytes.result.items c.encode_title.new.bytes.items c.encode_all.new.bytes.items c.encode_place_and_pen.new.bytes.items c.encode_visibility.new.bytes.items
     c.new-bytes.ensures.items
     (c.in_ok-encode_title.ensures.ok ∙ ap (λ title. c.new-bytes.result.items ++ encoded_text width tall (Title title)) c.title.ensures)
-    (c.in_ok-encode_all.ensures.ok ∙ ap (λ changes. c.encode_title.new.bytes.items ++ encoded_texts width tall changes) (ap (map value_of) c.deref.ensures.value ∙ c.in_ok-changes.ensures))
+    (c.in_ok-encode_all.ensures.ok ∙ ap (λ changes. c.encode_title.new.bytes.items ++ encoded_texts width tall changes) (ap (map value_of) c.deref.ensures.value ∙ c.in_ok-changes.ensures.changes))
     c.in_ok-encode_place_and_pen.ensures c.in_ok-encode_visibility.ensures

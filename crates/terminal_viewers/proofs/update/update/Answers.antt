@@ -7,7 +7,7 @@ pub returns : goal.returns
 returns g c =
     let d = shown_by c.args.surface.now in
     let log = c.args.surface.now.log in
-    sent_bytes d log c.args.number c.encode_update.new.bytes.items c.new-bytes.result.items c.of-receiver.result.width c.of-receiver.result.height
-    c.of-receiver.ensures.width c.of-receiver.ensures.height
-    (update_has d.screen log c.args.number (on_display d c.of-receiver.ensures.lawful) c.requires.spelled c.requires.kept)
+    sent_bytes d log c.args.number c.encode_update.new.bytes.items c.new-bytes.result.items c.of-encoder.result.width c.of-encoder.result.height
+    c.of-encoder.ensures.width c.of-encoder.ensures.height
+    (update_has d.screen log c.args.number (on_display d c.of-encoder.ensures.lawful) c.requires.spelled c.requires.kept)
     c.new-bytes.ensures.items c.in_ok-encode_update.ensures

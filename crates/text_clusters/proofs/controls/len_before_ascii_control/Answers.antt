@@ -11,11 +11,11 @@ returns-then-run-lt-LANES c = omega (arith, c.loop-rest.invariant.within, c.loop
 
 pub loop-rest-preserved : goal.loop-rest-preserved
 loop-rest-preserved c =
-    let l = ap length c.behind-rest.ensures in
+    let l = ap length c.after-rest.ensures in
     let d = length-drop 16 c.loop-rest.rest.now in
     record {
       within = omega (arith, c.loop-rest.invariant.within, l, d);
-      counted = omega (arith, l, d, c.loop-rest.invariant.counted, c.block_len-run.ensures, ap (prefix_len (λ byte. not (is_ascii_control byte))) c.behind-rest.ensures, block_goes (λ byte. not (is_ascii_control byte)) 16 c.loop-rest.rest.now (omega (arith, c.block_len-run.ensures)));
+      counted = omega (arith, l, d, c.loop-rest.invariant.counted, c.block_len-run.ensures, ap (prefix_len (λ byte. not (is_ascii_control byte))) c.after-rest.ensures, block_goes (λ byte. not (is_ascii_control byte)) 16 c.loop-rest.rest.now (omega (arith, c.block_len-run.ensures)));
     }
 
 pub returns : goal.returns

@@ -22,8 +22,8 @@ returns-clause-clusters c =
     let text = c.args.text.now in
     let step : graphemes_left c.graphemes-clusters.result ≡ c.in_ok-first.first.now ∷ graphemes_left c.next.new.self = c.in_ok-first.ensures.steps in
     let all : graphemes true text ≡ c.in_ok-first.first.now ∷ graphemes_left c.next.new.self = sym c.graphemes-clusters.ensures.left ∙ step in
-    let behind : drop 1 (graphemes true text) ≡ graphemes_left c.next.new.self = ap (drop 1) all in
-    all ∙ ap (λ (gs : List (List ℕ)). c.in_ok-first.first.now ∷ gs) (sym behind ∙ sym (clusters_after 1 text c.utf8.text) ∙ ap (λ gs. graphemes true (concat gs)) behind ∙ ap (graphemes true) (sym c.as_str.ensures))
+    let after : drop 1 (graphemes true text) ≡ graphemes_left c.next.new.self = ap (drop 1) all in
+    all ∙ ap (λ (gs : List (List ℕ)). c.in_ok-first.first.now ∷ gs) (sym after ∙ sym (clusters_after 1 text c.utf8.text) ∙ ap (λ gs. graphemes true (concat gs)) after ∙ ap (graphemes true) (sym c.as_str.ensures))
 
 pub returns-clause-alone : goal.returns-clause-alone
 returns-clause-alone c =

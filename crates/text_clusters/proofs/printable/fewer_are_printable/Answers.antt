@@ -11,4 +11,4 @@ pub returns : goal.returns
 returns c =
     let xs = c.args.bytes.now in
     (λ i. c.quarter_block_len.ensures i == 4 && c.quarter_block_len-2.ensures i == 4)
-    ∙ both_blocks is_printable 4 xs c.behind-last.result.now (omega (arith, c.if-bytes-lt4.false)) (omega (arith, c.requires)) c.behind-last.ensures
+    ∙ both_blocks is_printable 4 xs c.after-last.result.now (omega (arith, c.if-bytes-lt4.false)) (omega (arith, c.requires)) c.after-last.ensures

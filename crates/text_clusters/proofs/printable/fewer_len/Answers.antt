@@ -9,5 +9,5 @@ returns c =
     let xs = c.args.bytes.now in
     let first = block_goes is_printable 4 xs (omega (arith, c.quarter_block_len-run.ensures, c.if-run-lt4.false)) in
     let passed : length xs - 4 ≤ prefix_len is_printable xs = omega (arith, first, c.requires) in
-    let whole = last_block is_printable 4 (length xs - 4) xs c.behind.result.now (omega (arith, c.if-bytes-lt4.false)) (omega arith) c.behind.ensures passed in
+    let whole = last_block is_printable 4 (length xs - 4) xs c.after.result.now (omega (arith, c.if-bytes-lt4.false)) (omega arith) c.after.ensures passed in
     omega (arith, whole, c.quarter_block_len.ensures)

@@ -10,19 +10,19 @@ use Rattle.cell_views.proofs.places.Places.column.Goals as goal
 pub index-requires : goal.index-requires
 index-requires c =
     let p = c.args.self.now in
-    let front = range_with_len p.first p.counted in
-    omega (arith, c.requires, c.if-byte-self.false, length-append front (map (λ b. b.column) p.behind.items), length-range_with_len p.first p.counted, length-map p.behind.items (λ b. b.column), p.behind.ok.0)
+    let prefix = range_with_len p.first p.counted in
+    omega (arith, c.requires, c.if-byte-self.false, length-append prefix (map (λ b. b.column) p.after.items), length-range_with_len p.first p.counted, length-map p.after.items (λ b. b.column), p.after.ok.0)
 
 pub returns-then-byte-self : goal.returns-then-byte-self
 returns-then-byte-self c =
     let p = c.args.self.now in
     let h = c.if-byte-self.true in
-    sym (at_counted (range_with_len p.first p.counted) (map (λ b. b.column) p.behind.items) c.args.byte (omega (arith, h, length-range_with_len p.first p.counted)) ∙ get_or-range_with_len p.first p.counted c.args.byte 0 h)
+    sym (at_counted (range_with_len p.first p.counted) (map (λ b. b.column) p.after.items) c.args.byte (omega (arith, h, length-range_with_len p.first p.counted)) ∙ get_or-range_with_len p.first p.counted c.args.byte 0 h)
 
 pub returns-else-byte-self : goal.returns-else-byte-self
 returns-else-byte-self c =
     let p = c.args.self.now in
-    let front = range_with_len p.first p.counted in
+    let prefix = range_with_len p.first p.counted in
     let n = length-range_with_len p.first p.counted in
-    let within : c.args.byte - p.counted < length p.behind.items = omega (arith, c.requires, c.if-byte-self.false, length-append front (map (λ b. b.column) p.behind.items), n, length-map p.behind.items (λ b. b.column)) in
-    ap (λ (b : Place). b.column) c.index.ensures ∙ sym (at_after (λ b. b.column) front p.behind.items c.args.byte p.counted c.index.result.now n c.if-byte-self.false within)
+    let within : c.args.byte - p.counted < length p.after.items = omega (arith, c.requires, c.if-byte-self.false, length-append prefix (map (λ b. b.column) p.after.items), n, length-map p.after.items (λ b. b.column)) in
+    ap (λ (b : Place). b.column) c.index.ensures ∙ sym (at_after (λ b. b.column) prefix p.after.items c.args.byte p.counted c.index.result.now n c.if-byte-self.false within)

@@ -8,7 +8,7 @@ invariant_of-result c =
     let first = c.place_before-first in
     let last = c.place_before-last in
     let are = between_places t.text.items c.deref.result.now t.sizes.items c.deref-2.result.now t.sized_bytes t.sized_columns first.result last.result c.args.from c.args.to (sized_of t)
-    c.deref.ensures.value c.deref-2.ensures.value first.ensures.place last.ensures.place last.ensures.index last.ensures.bytes first.ensures.column last.ensures.column in
+    c.deref.ensures.value c.deref-2.ensures.value first.ensures.position last.ensures.position last.ensures.index last.ensures.bytes first.ensures.column last.ensures.column in
     record { bytes = are.bytes; parts = are.parts }
 
 pub returns : goal.returns
@@ -17,4 +17,4 @@ returns c =
     let first = c.place_before-first in
     let last = c.place_before-last in
     (between_places t.text.items c.deref.result.now t.sizes.items c.deref-2.result.now t.sized_bytes t.sized_columns first.result last.result c.args.from c.args.to (sized_of t)
-    c.deref.ensures.value c.deref-2.ensures.value first.ensures.place last.ensures.place last.ensures.index last.ensures.bytes first.ensures.column last.ensures.column).shown
+    c.deref.ensures.value c.deref-2.ensures.value first.ensures.position last.ensures.position last.ensures.index last.ensures.bytes first.ensures.column last.ensures.column).shown

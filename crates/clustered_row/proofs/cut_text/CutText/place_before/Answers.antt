@@ -6,20 +6,20 @@ use Rattle.clustered_row.proofs.cut_text.CutText.place_before.Goals as goal
 pub returns-then-self-at-clause-bytes : goal.returns-then-self-at-clause-bytes
 returns-then-self-at-clause-bytes c =
     let t = c.args.self.now in
-    bytes_before t.text.items t.sizes.items t.sized_bytes t.sized_columns c.args.from c.plain_byte.result c.args.at (sized_of t) c.requires.from c.requires.order c.plain_byte.ensures.behind c.plain_byte.ensures.column
+    bytes_before t.text.items t.sizes.items t.sized_bytes t.sized_columns c.args.from c.plain_byte.result c.args.at (sized_of t) c.requires.from c.requires.order c.plain_byte.ensures.after c.plain_byte.ensures.column
 
-pub returns-clause-place : goal.returns-clause-place
-returns-clause-place c =
+pub returns-clause-position : goal.returns-clause-position
+returns-clause-position c =
     let t = c.args.self.now in
-    before_sized t.text.items t.sizes.items t.sized_bytes t.sized_columns c.place.result (sized_of t) c.place.ensures.place
+    before_sized t.text.items t.sizes.items t.sized_bytes t.sized_columns c.position.result (sized_of t) c.position.ensures.position
 
 pub returns-clause-column : goal.returns-clause-column
 returns-clause-column c =
     let t = c.args.self.now in
-    found_whole t.text.items t.sizes.items t.sized_bytes t.sized_columns c.place.result c.args.at (sized_of t) c.place.ensures.place c.place.ensures.columns (omega arith) c.place.ensures.cell c.requires.whole
+    found_whole t.text.items t.sizes.items t.sized_bytes t.sized_columns c.position.result c.args.at (sized_of t) c.position.ensures.position c.position.ensures.columns (omega arith) c.position.ensures.cell c.requires.whole
 
 pub returns-clause-bytes : goal.returns-clause-bytes
 returns-clause-bytes c =
     let t = c.args.self.now in
     let from = place_of_before t.text.items t.sizes.items t.sized_bytes t.sized_columns c.args.from (sized_of t) c.requires.from (omega arith) in
-    place_order t.sizes.items c.args.from c.place.result from c.place.ensures.place c.place.ensures.order
+    place_order t.sizes.items c.args.from c.position.result from c.position.ensures.position c.position.ensures.order

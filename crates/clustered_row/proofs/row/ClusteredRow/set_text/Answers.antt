@@ -20,7 +20,7 @@ returns-clause-left g c =
     let leads = c.loop-at.invariant.leads in
     sym (stops_full (g.W.Widths.width_of c.args.w.now) c.args.attrs.now c.loop-at.self c.loop-at.at c.args.end c.loop-at.left.now leads.whole c.loop-at-test.false).left ∙ leads.left
 
-pub returns-clause-behind : goal.returns-clause-behind
-returns-clause-behind g c =
+pub returns-clause-after : goal.returns-clause-after
+returns-clause-after g c =
     let leads = c.loop-at.invariant.leads in
-    sym (stops_full (g.W.Widths.width_of c.args.w.now) c.args.attrs.now c.loop-at.self c.loop-at.at c.args.end c.loop-at.left.now leads.whole c.loop-at-test.false).behind ∙ leads.behind
+    sym (stops_full (g.W.Widths.width_of c.args.w.now) c.args.attrs.now c.loop-at.self c.loop-at.at c.args.end c.loop-at.left.now leads.whole c.loop-at-test.false).after ∙ leads.after

@@ -14,13 +14,13 @@ loop-run-preserved c =
     let a = run.attributes in
     let part = c.min-part.result in
     let skipped = c.min-skipped.result in
-    let behind = drop (i + 1) runs in
-    let rest = take (c.loop-run.count - part) (drop (c.loop-run.skip - skipped) (spread behind)) in
+    let after = drop (i + 1) runs in
+    let rest = take (c.loop-run.count - part) (drop (c.loop-run.skip - skipped) (spread after)) in
     let e : c.push.new.self ≡ now ++ replicate part a = c.in_ok-push.ensures.done in
     let more = ap length e in
     let both = length-append now (replicate part a) in
     let some = length-replicate part a in (
       ap (λ ys. ys ++ rest) e ∙ append_assoc now (replicate part a) rest ∙
-          ap (λ ys. now ++ ys) (sym (next_part run behind c.loop-run.skip c.loop-run.count skipped part c.min-skipped.ensures c.min-part.ensures) ∙ ap (λ ys. take c.loop-run.count (drop c.loop-run.skip (spread ys))) (sym (drop_next runs i run c.loop-run-test.true c.run-item.is))) ∙ c.loop-run.invariant.0,
+          ap (λ ys. now ++ ys) (sym (next_part run after c.loop-run.skip c.loop-run.count skipped part c.min-skipped.ensures c.min-part.ensures) ∙ ap (λ ys. take c.loop-run.count (drop c.loop-run.skip (spread ys))) (sym (drop_next runs i run c.loop-run-test.true c.run-item.is))) ∙ c.loop-run.invariant.0,
       omega arith,
     )

@@ -11,13 +11,13 @@ loop-left-preserved c =
     let left = c.loop-left.left in
     let e : c.push_some.new.self ≡ now ++ replicate part a = c.in_default.ensures.done in
     let sums : part + (left - part) ≡ left = omega arith in
-    let front = c.loop-left.invariant.1 in
-    let long = ap length front in
+    let prefix = c.loop-left.invariant.1 in
+    let long = ap length prefix in
     let few = length-take (length first) now in
     let more = ap length e in
     let both = length-append now (replicate part a) in
     let some = length-replicate part a in (
       ap (λ ys. ys ++ replicate (left - part) a) e ∙ append_assoc now (replicate part a) (replicate (left - part) a) ∙ ap (λ ys. now ++ ys) (replicate-append-replicate part (left - part) a ∙ ap (λ n. replicate n a) sums) ∙ c.loop-left.invariant.0,
-      ap (λ ys. take (length first) ys) e ∙ take-append-le (length first) now (replicate part a) (omega arith) ∙ front,
+      ap (λ ys. take (length first) ys) e ∙ take-append-le (length first) now (replicate part a) (omega arith) ∙ prefix,
       omega arith,
     )

@@ -6,12 +6,12 @@ returns-clause-equal c =
     let cut = c.args.self.now.cut in
     let other = c.args.other.now.cut in
     let found = c.equal_place.ensures in
-    same_faces cut.text.items other.text.items cut.sizes.items other.sizes.items c.equal_place.result (text_of_cut cut) (text_of_cut other) found.place found.other_place found.text found.sizes
+    same_faces cut.text.items other.text.items cut.sizes.items other.sizes.items c.equal_place.result (text_of_cut cut) (text_of_cut other) found.position found.other_place found.text found.sizes
 
 pub returns-clause-whole : goal.returns-clause-whole
 returns-clause-whole c =
     let cut = c.args.self.now.cut in
-    whole_place cut.text.items cut.sizes.items c.equal_place.result (text_of_cut cut) c.equal_place.ensures.place
+    whole_place cut.text.items cut.sizes.items c.equal_place.result (text_of_cut cut) c.equal_place.ensures.position
 
 pub returns-clause-other_whole : goal.returns-clause-other_whole
 returns-clause-other_whole c =

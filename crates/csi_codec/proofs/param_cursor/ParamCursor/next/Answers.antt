@@ -22,6 +22,6 @@ mode-requires-in_default-2-clause-modes c =
 pub returns-in_default-3 : goal.returns-in_default-3
 returns-in_default-3 c =
     let question : begins_with_question c.args.params.now ≡ false = search rules in
-    let lone : (nat_lt 0 c.args.self.now.index || (c.args.control == 104 || c.args.control == 108)) ≡ false = search rules in
-    last_step c.max-self.result c.args.params.now c.args.parameters_truncated c.args.control _ _ c.lone.result c.max-self.ensures
-    (single_first c.args.self.now.index c.args.params.now c.args.parameters_truncated c.args.control c.if-control-eq109.false question lone) c.lone.ensures
+    let single : (nat_lt 0 c.args.self.now.index || (c.args.control == 104 || c.args.control == 108)) ≡ false = search rules in
+    last_step c.max-self.result c.args.params.now c.args.parameters_truncated c.args.control _ _ c.single.result c.max-self.ensures
+    (single_first c.args.self.now.index c.args.params.now c.args.parameters_truncated c.args.control c.if-control-eq109.false question single) c.single.ensures

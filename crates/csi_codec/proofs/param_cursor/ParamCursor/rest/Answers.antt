@@ -6,6 +6,6 @@ use Rattle.csi_codec.proofs.param_cursor.ParamCursor.rest.Goals as goal
 
 pub returns : goal.returns
 returns c =
-    let left : HandsOut (unspecified c.behind-left.result.now c.args.truncated c.args.control ∷ []) (Some c.unspecified.result) [] = search rules in
+    let left : HandsOut (unspecified c.after-left.result.now c.args.truncated c.args.control ∷ []) (Some c.unspecified.result) [] = search rules in
     last_step c.max-self.result c.args.params.now c.args.truncated c.args.control _ _ (Some c.unspecified.result) c.max-self.ensures
-    (c.requires.last ∙ ap (λ us. unspecified us c.args.truncated c.args.control ∷ []) (sym c.behind-left.ensures)) left
+    (c.requires.last ∙ ap (λ us. unspecified us c.args.truncated c.args.control ∷ []) (sym c.after-left.ensures)) left

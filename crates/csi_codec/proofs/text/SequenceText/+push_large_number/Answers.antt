@@ -8,7 +8,7 @@ push_small_number-requires t c = has_small_room _ c.args.number (decimal_nonempt
 
 pub push_large_number-requires : goal.push_large_number-requires
 push_large_number-requires t c =
-    let front = after_front c.args.number (omega arith) (omega arith) in
+    let prefix = after_front c.args.number (omega arith) (omega arith) in
     (omega arith, omega arith)
 
 pub push_sign-requires-clause-room : goal.push_sign-requires-clause-room

@@ -1,4 +1,4 @@
--- What was pushed, and then the parameter bytes behind it, is the whole.
+-- What was pushed, and then the parameter bytes after it, is the whole.
 use Rattle.std.proofs.Common.{◌≡◌, ◌+◌, drop, fold, take}
 use Rattle.std.specs.List.{prefix_len}
 use Rattle.csi_codec.specs.Tokens.{is_parameter, with_byte}

@@ -8,7 +8,7 @@ pub returns-then-stepped-clause-reads : goal.returns-then-stepped-clause-reads
 returns-then-stepped-clause-reads c =
     let same : c.read_run.new.self.held ≡ c.args.self.now.held = search rules in
     let r : c.in_ok-stepped.stepped.is_read ≡ true = search rules in
-    reads_one c.args.self.now.held c.args.byte c.requires.front.0 c.args.bytes.now c.advance.new.self c.in_ok-stepped.stepped.event c.requires.front.1
+    reads_one c.args.self.now.held c.args.byte c.requires.prefix.0 c.args.bytes.now c.advance.new.self c.in_ok-stepped.stepped.event c.requires.prefix.1
     (ap (λ (h : Held). held_step h c.args.byte) (sym same) ∙ c.in_ok-stepped.ensures.steps
     ∙ ap (λ (x : Bool). held_resumed (handed_out c.advance.new.self c.in_ok-stepped.stepped.event) c.advance.new.self.held x c.args.byte) r)
     c.requires.none
@@ -17,7 +17,7 @@ pub returns-else-stepped-clause-reads : goal.returns-else-stepped-clause-reads
 returns-else-stepped-clause-reads c =
     let same : c.read_run.new.self.held ≡ c.args.self.now.held = search rules in
     let r : c.in_ok-stepped.stepped.is_read ≡ false = search rules in
-    reads_left c.args.self.now.held c.args.byte c.requires.front.0 c.args.bytes.now c.advance.new.self c.in_ok-stepped.stepped.event c.requires.front.1
+    reads_left c.args.self.now.held c.args.byte c.requires.prefix.0 c.args.bytes.now c.advance.new.self c.in_ok-stepped.stepped.event c.requires.prefix.1
     (ap (λ (h : Held). held_step h c.args.byte) (sym same) ∙ c.in_ok-stepped.ensures.steps
     ∙ ap (λ (x : Bool). held_resumed (handed_out c.advance.new.self c.in_ok-stepped.stepped.event) c.advance.new.self.held x c.args.byte) r)
     (subst (λ (h : Held). IsHeldLeft h c.args.byte c.in_ok-stepped.stepped.event c.advance.new.self.held) same (c.in_ok-stepped.ensures.left r))

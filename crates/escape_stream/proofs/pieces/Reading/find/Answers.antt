@@ -12,10 +12,10 @@ returns-in-Some c =
     let i = c.loop-action.invariant in
     let p = c.loop-action.self.parser.now.parameters in
     record {
-      same = n.others.same ∙ i.same;
-      stage = n.others.stage ∙ i.stage;
-      failed = ap (λ (x : Parsing). x.failed) n.others.parser ∙ i.failed;
-      gives = gives_action c.args.self.now c.loop-action.self c.next_of_sequence.new.self c.in-Some.action i.goes n.others
+      same = n.remaining.same ∙ i.same;
+      stage = n.remaining.stage ∙ i.stage;
+      failed = ap (λ (x : Parsing). x.failed) n.remaining.parser ∙ i.failed;
+      gives = gives_action c.args.self.now c.loop-action.self c.next_of_sequence.new.self c.in-Some.action i.goes n.remaining
           (subst (λ (x : Option Action). Gives (actions_left p c.loop-action.self.sequence) x (actions_left p c.next_of_sequence.new.self.sequence)) c.in-Some.is n.gives);
       memory = tt;
     }
@@ -27,10 +27,10 @@ returns-then-self c =
     let p = c.loop-action.self.parser.now.parameters in
     let none = subst (λ (x : Option Action). Gives (actions_left p c.loop-action.self.sequence) x (actions_left p c.next_of_sequence.new.self.sequence)) c.in_default.is n.gives in
     record {
-      same = n.others.same ∙ i.same;
-      stage = n.others.stage ∙ i.stage;
-      failed = ap (λ (x : Parsing). x.failed) n.others.parser ∙ i.failed;
-      gives = gives_none c.args.self.now c.next_of_sequence.new.self (sequence_over c.args.self.now c.loop-action.self c.next_of_sequence.new.self i.goes n.others none (n.over c.in_default.is)) (n.over c.in_default.is) c.if-self.true;
+      same = n.remaining.same ∙ i.same;
+      stage = n.remaining.stage ∙ i.stage;
+      failed = ap (λ (x : Parsing). x.failed) n.remaining.parser ∙ i.failed;
+      gives = gives_none c.args.self.now c.next_of_sequence.new.self (sequence_over c.args.self.now c.loop-action.self c.next_of_sequence.new.self i.goes n.remaining none (n.over c.in_default.is)) (n.over c.in_default.is) c.if-self.true;
       memory = tt;
     }
 
@@ -41,10 +41,10 @@ returns-then-is_some c =
     let r = c.in_ok-piece.ensures in
     let p = c.loop-action.self.parser.now.parameters in
     let none = subst (λ (x : Option Action). Gives (actions_left p c.loop-action.self.sequence) x (actions_left p c.next_of_sequence.new.self.sequence)) c.in_default.is n.gives in
-    let over = sequence_over c.args.self.now c.loop-action.self c.next_of_sequence.new.self i.goes n.others none (n.over c.in_default.is) in
+    let over = sequence_over c.args.self.now c.loop-action.self c.next_of_sequence.new.self i.goes n.remaining none (n.over c.in_default.is) in
     record {
-      same = r.same ∙ n.others.same ∙ i.same;
-      stage = r.stage ∙ n.others.stage ∙ i.stage;
+      same = r.same ∙ n.remaining.same ∙ i.same;
+      stage = r.stage ∙ n.remaining.stage ∙ i.stage;
       failed = r.failed;
       gives = found_after c.args.self.now c.next_of_sequence.new.self c.read.new.self c.in_ok-piece.piece over r.finds (sym c.is_some.ensures ∙ c.if-is_some.true);
       memory = tt;

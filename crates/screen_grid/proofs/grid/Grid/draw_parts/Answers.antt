@@ -25,7 +25,7 @@ loop-control-preserved g c =
     let s = subst (λ (w : g.row.W.Denot). Shows now ctl (parts_done (g.W.Widths.width_of w) (display_of now) (Control c.in-Some.control ∷ []))) leads.widths c.in_ok-control.ensures in
     let t = subst (λ (w : g.row.W.Denot). Shows ctl new (clusters_done (g.W.Widths.width_of w) (display_of ctl) (clusters c.split_at_control-in-Some.result.0.now))) (s.widths ∙ leads.widths) c.in_ok-put_run-2.ensures in
     record {
-      leads = control_leads width_of c.args.self.now now ctl new c.args.text.now c.loop-control.rest.now c.in-Some.behind.now c.split_at_control-in-Some.result.1.now c.in-Some.control leads c.in-Some.ensures.parts s
-          (front_leads width_of ctl new c.in-Some.behind.now c.split_at_control-in-Some.result.0.now c.split_at_control-in-Some.result.1.now t c.split_at_control-in-Some.ensures.parts c.split_at_control-in-Some.ensures.control);
+      leads = control_leads width_of c.args.self.now now ctl new c.args.text.now c.loop-control.rest.now c.in-Some.after.now c.split_at_control-in-Some.result.1.now c.in-Some.control leads c.in-Some.ensures.parts s
+          (front_leads width_of ctl new c.in-Some.after.now c.split_at_control-in-Some.result.0.now c.split_at_control-in-Some.result.1.now t c.split_at_control-in-Some.ensures.parts c.split_at_control-in-Some.ensures.control);
       text = c.split_at_control-in-Some.ensures.utf8;
     }

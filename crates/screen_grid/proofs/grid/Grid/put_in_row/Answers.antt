@@ -25,7 +25,7 @@ returns g c =
     let left : clusters c.in_ok-column.left.now ≡ drop (length (fitting_here width_of old gs)) gs =
     c.in_ok-column.ensures.rest ∙ ap (λ w. drop (set_clusters old.column w c.args.text.now old.pen width_of) gs) wide in
     let lines = c.in_ok-column.ensures.lines ∙ ap (λ w. set old.lines old.row (text_set (line_at old.lines old.row) old.column w c.args.text.now old.pen width_of)) wide in
-    let column = c.in_ok-column.ensures.behind ∙ ap (λ w. set_text_end old.column w c.args.text.now old.pen width_of) wide in
+    let column = c.in_ok-column.ensures.after ∙ ap (λ w. set_text_end old.column w c.args.text.now old.pen width_of) wide in
     let new = record old { lines = c.set_text.new.rows; column = c.in_ok-column.column } in
     let same : new ≡ grid_on width_of old (fitting_here width_of old gs) = λ i. record old { lines = lines i; column = column i } in
     subst (λ (x : Grid g.row.W.Denot). LeadsOn (g.W.Widths.width_of x.widths) x new gs (clusters c.in_ok-column.left.now)) c.self.view_is

@@ -10,8 +10,8 @@ returns-then-self-len-clause-len g c =
     let t = c.if-self-len.true in
     as_many inside.items.items inside.items.items c.args.self.now inside.start (inside.start + 1) inside.len c.self.view_is (omega arith) refl (omega arith)
 
-pub returns-then-self-len-clause-front : goal.returns-then-self-len-clause-front
-returns-then-self-len-clause-front g c =
+pub returns-then-self-len-clause-prefix : goal.returns-then-self-len-clause-prefix
+returns-then-self-len-clause-prefix g c =
     let inside = c.self.inside in
     let n = inside.items.ok.0 in
     let v = c.self.invariant in

@@ -12,8 +12,8 @@ returns-then-self-eq0-clause-len g c =
     ap (λ (l : List g.row.T.Denot). length (take inside.len (drop inside.start l))) (refilled_by inside.items.len xs c.rotate.new.items n same)
     ∙ as_many xs c.rotate.new.items c.args.self.now inside.start inside.start inside.len c.self.view_is (omega arith) same (omega arith)
 
-pub returns-then-self-eq0-clause-front : goal.returns-then-self-eq0-clause-front
-returns-then-self-eq0-clause-front g c =
+pub returns-then-self-eq0-clause-prefix : goal.returns-then-self-eq0-clause-prefix
+returns-then-self-eq0-clause-prefix g c =
     let old = c.args.self.now in
     let inside = c.self.inside in
     let xs = inside.items.items in
@@ -34,8 +34,8 @@ returns-clause-len g c =
     ap (λ (l : List g.row.T.Denot). length (take inside.len (drop 1 l))) (refilled_by inside.items.len xs c.bring_to_front.new.items n same)
     ∙ as_many xs c.bring_to_front.new.items c.args.self.now inside.start 1 inside.len c.self.view_is (omega arith) same (omega arith)
 
-pub returns-clause-front : goal.returns-clause-front
-returns-clause-front g c =
+pub returns-clause-prefix : goal.returns-clause-prefix
+returns-clause-prefix g c =
     let inside = c.self.inside in
     let xs = inside.items.items in
     let n = inside.items.ok.0 in
@@ -44,4 +44,4 @@ returns-clause-front g c =
     let same : length new ≡ length xs = c.bring_to_front.ensures.len ∙ ap length c.deref_mut-2.ensures.value in
     let value = ap (λ (l : List g.row.T.Denot). take inside.len (drop inside.start l)) c.deref_mut-2.ensures.value ∙ c.self.view_is in
     ap (λ (l : List g.row.T.Denot). take (length c.args.self.now - 1) (take inside.len (drop 1 l))) (refilled_by inside.items.len xs new n same)
-    ∙ turned_on new c.args.self.now 0 inside.len (c.bring_to_front.ensures.front ∙ value) c.requires.some (omega arith)
+    ∙ turned_on new c.args.self.now 0 inside.len (c.bring_to_front.ensures.prefix ∙ value) c.requires.some (omega arith)

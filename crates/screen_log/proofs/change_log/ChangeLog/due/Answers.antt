@@ -11,7 +11,7 @@ use Rattle.screen_log.specs.LogView.{log_of}
 use Rattle.screen_log.proofs.StoredLemmas.{count, due_here, from_number}
 use Rattle.screen_log.proofs.change_log.ChangeLog.due.Goals as goal
 
--- what stands from a place on
+-- what stands from a position on
 to_end : (at : ℕ) (changes : List Change) → take (length changes - at) (drop at changes) ≡ drop at changes
 to_end at changes = take_all (length changes - at) (drop at changes) (let n = length-drop at changes in omega arith)
 
@@ -26,11 +26,11 @@ returns c =
     let at = a.start + (number - (a.number - (length items - a.start))) in
     let at_len = a.start + (number - (a.number - (c.len.result - a.start))) in
     let many : c.len.result ≡ length items = omega arith in
-    let place : at_len ≡ at = ap (λ n. a.start + (number - (a.number - (n - a.start)))) many in
+    let position : at_len ≡ at = ap (λ n. a.start + (number - (a.number - (n - a.start)))) many in
     let n = count items a.start a.most within in
     let last = c.if-self-number.false in
     let first = c.if-number-first.false in
-    let shown = ap (map value_of) (to_end at_len lent ∙ ap (drop at_len) c.deref.ensures.value ∙ ap (λ m. drop m items) place) ∙ from_number items a.start a.most within a.number number numbered in
+    let shown = ap (map value_of) (to_end at_len lent ∙ ap (drop at_len) c.deref.ensures.value ∙ ap (λ m. drop m items) position) ∙ from_number items a.start a.most within a.number number numbered in
     let nonzero : (number == 0) ≡ false = let z = c.if-number-eq0.false in grind (arith, nat_tests) in
     subst (λ (s : Sized). Some (map value_of (take (length lent - at_len) (drop at_len lent))) ≡ due s.most s.log number) c.self.view_is
     (ap (λ (es : List ChangeValue). Some es) shown ∙ sym (due_here a.most (log_of a).log number nonzero (omega arith) c.if-self-number.false c.if-self-number-2.false))

@@ -14,8 +14,8 @@ returns-then-number-self c =
     let within : a.start ≤ length items = let g = c.self.invariant.gone in omega arith in
     let numbered = c.self.invariant.numbered in
     let many : c.len.result ≡ length items = omega arith in
-    let place = a.start + c.saturating_sub.result in
-    let at : place ≡ a.start + (number - (a.number - (length items - a.start))) = ap (λ m. a.start + m) (c.saturating_sub.ensures ∙ ap (λ m. number - (a.number - (m - a.start))) many) in
+    let position = a.start + c.saturating_sub.result in
+    let at : position ≡ a.start + (number - (a.number - (length items - a.start))) = ap (λ m. a.start + m) (c.saturating_sub.ensures ∙ ap (λ m. number - (a.number - (m - a.start))) many) in
     let shown = drop c.drop_before.new.start c.drop_before.new.changes.items in
     let entries = ap (map value_of) (c.drop_before.ensures.left ∙ ap (λ m. drop m items) at) ∙ from_number items a.start a.most within a.number number numbered in
     subst (λ (s : Sized). record { most = a.most; log = record { number = a.number; entries = map value_of shown } } ≡ record { most = s.most; log = forgotten number s.log }) c.self.view_is

@@ -10,5 +10,5 @@ loop-sent-preserved c =
       ap (λ (bytes : List ℕ). bytes ++ stream_text (borrowed_values (drop (c.loop-sent.sent-index + 1) items))) c.in_ok-append_to.ensures.ok
           ∙ text_next c.loop-sent.bytes.items items c.loop-sent.sent-index c.sent-item.result (omega arith) c.sent-item.is
           ∙ c.loop-sent.invariant.0,
-      still_front c.args.bytes.now.items c.loop-sent.bytes.items c.append_to.new.bytes.items c.loop-sent.invariant.1 c.append_to.ensures.front,
+      still_front c.args.bytes.now.items c.loop-sent.bytes.items c.append_to.new.bytes.items c.loop-sent.invariant.1 c.append_to.ensures.prefix,
     )

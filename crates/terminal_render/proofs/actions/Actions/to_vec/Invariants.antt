@@ -1,4 +1,4 @@
--- the actions so far are those of the front
+-- the actions so far are those of the prefix
 use Rattle.std.proofs.Common.{◌≡◌, map, take}
 use Rattle.escape_stream.specs.StreamActionView.{value_of}
 use Rattle.terminal_render.specs.BorrowedActionView.{borrowed_values}

@@ -3,7 +3,7 @@ use Rattle.std.specs.List.{list_all}
 use Rattle.std.proofs.lemmas.Grind.{common_steps}
 use Rattle.text_clusters.specs.Plain.{is_printable}
 use Rattle.screen_difference.proofs.TextLemmas.{plain_taken}
-use Rattle.screen_difference.proofs.plain_text.front.Goals as goal
+use Rattle.screen_difference.proofs.plain_text.prefix.Goals as goal
 
 pub returns-clause-printable : goal.returns-clause-printable
 returns-clause-printable c =

@@ -1,30 +1,30 @@
-//! Places between cells.
+//! Positions between cells.
 ghost use Rattle.std.specs.Prelude.{◌≡◌, ◌+◌, ◌<◌, ◌≤◌, ◌^◌};
 ghost use Rattle.clustered_row.specs.declared.cell_size.CellSize.{CellSize};
-ghost use Rattle.clustered_row.specs.Place.{IsPlace, IsSplit};
+ghost use Rattle.clustered_row.specs.Position.{IsPosition, IsSplit};
 ghost use Rattle.clustered_row.specs.Sizes.{bytes_of, columns_of, width_of};
 
 use crate::cell_size::CellSize;
 
 // So many cells stand before it, with so many bytes, in so many columns.
 #[derive(Clone, Copy)]
-pub(crate) struct Place {
+pub(crate) struct Position {
     pub(crate) index: usize,
     pub(crate) bytes: usize,
     pub(crate) columns: usize,
 }
 
-// The place before all cells.
-pub(crate) const START: Place = Place {
+// The position before all cells.
+pub(crate) const START: Position = Position {
     index: 0,
     bytes: 0,
     columns: 0,
 };
 
-impl Place {
-    // The place behind the cell that stands there.
+impl Position {
+    // The position after the cell that stands there.
     #[inline(always)]
-    pub(crate) fn behind(self, size: CellSize) -> Place
+    pub(crate) fn after(self, size: CellSize) -> Position
         requires index { self.index + 1 < 2 ^ 64 }
         requires bytes { self.bytes + size.len < 2 ^ 64 }
         requires columns { self.columns + width_of size.is_wide < 2 ^ 64 }
@@ -32,16 +32,16 @@ impl Place {
         ensures bytes { result.bytes ≡ self.bytes + size.len }
         ensures columns { result.columns ≡ self.columns + width_of size.is_wide }
     {
-        Place {
+        Position {
             index: self.index + 1,
             bytes: self.bytes + size.len,
             columns: self.columns + size.columns(),
         }
     }
 
-    // The place before the cell that stands before it.
+    // The position before the cell that stands before it.
     #[inline(always)]
-    pub(crate) fn before(self, size: CellSize) -> Place
+    pub(crate) fn before(self, size: CellSize) -> Position
         requires index { 1 ≤ self.index }
         requires bytes { size.len ≤ self.bytes }
         requires columns { width_of size.is_wide ≤ self.columns }
@@ -49,7 +49,7 @@ impl Place {
         ensures bytes { result.bytes + size.len ≡ self.bytes }
         ensures columns { result.columns + width_of size.is_wide ≡ self.columns }
     {
-        Place {
+        Position {
             index: self.index - 1,
             bytes: self.bytes - size.len,
             columns: self.columns - size.columns(),
@@ -57,15 +57,15 @@ impl Place {
     }
 }
 
-// The cell that takes a column begins there, looked for from another place on; the place behind all cells where none
+// The cell that takes a column begins there, looked for from another place on; the place after all cells where none
 // does.
-pub(crate) fn find(sizes: &[CellSize], from: Place, at: usize) -> Place
-    requires place { IsPlace sizes.now from }
+pub(crate) fn find(sizes: &[CellSize], from: Position, at: usize) -> Position
+    requires position { IsPosition sizes.now from }
     requires order { from.columns ≤ at }
     requires within { at ≤ columns_of sizes.now }
     requires bytes { bytes_of sizes.now < 2 ^ 64 }
     requires columns { columns_of sizes.now < 2 ^ 64 }
-    ensures place { IsPlace sizes.now result }
+    ensures position { IsPosition sizes.now result }
     ensures order { from.index ≤ result.index }
     ensures columns { result.columns ≤ at }
     ensures cell { (d : CellSize) → result.columns < at → IsSplit sizes.now result at d }
@@ -82,27 +82,27 @@ pub(crate) fn find(sizes: &[CellSize], from: Place, at: usize) -> Place
         bytes += size.len;
         index += 1;
     }
-    Place {
+    Position {
         index,
         bytes,
         columns: at - left,
     }
 }
 
-// The cell that takes a column begins there, looked for from the place behind all cells; that place where none does.
-pub(crate) fn find_back(sizes: &[CellSize], end: Place, from: Place, at: usize) -> Place
-    requires end { IsPlace sizes.now end }
+// The cell that takes a column begins there, looked for from the place after all cells; that place where none does.
+pub(crate) fn find_back(sizes: &[CellSize], end: Position, from: Position, at: usize) -> Position
+    requires end { IsPosition sizes.now end }
     requires last { at ≤ end.columns }
-    requires place { IsPlace sizes.now from }
+    requires position { IsPosition sizes.now from }
     requires order { from.columns ≤ at }
-    ensures place { IsPlace sizes.now result }
+    ensures position { IsPosition sizes.now result }
     ensures order { from.index ≤ result.index }
     ensures columns { result.columns ≤ at }
     ensures cell { (d : CellSize) → result.columns < at → IsSplit sizes.now result at d }
 {
-    let mut place = end;
-    while at < place.columns {
-        place = place.before(sizes[place.index - 1]);
+    let mut position = end;
+    while at < position.columns {
+        position = position.before(sizes[position.index - 1]);
     }
-    place
+    position
 }

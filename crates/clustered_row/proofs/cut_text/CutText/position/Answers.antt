@@ -2,9 +2,9 @@ use Rattle.std.proofs.Common.{arith, ap}
 use Rattle.std.proofs.Common.{subst, List}
 use Rattle.clustered_row.specs.declared.cell_size.CellSize.{CellSize}
 use Rattle.clustered_row.specs.Sizes.{columns_of}
-use Rattle.clustered_row.specs.Place.{IsSplit}
+use Rattle.clustered_row.specs.Position.{IsSplit}
 use Rattle.clustered_row.proofs.SizeLemmas.{columns_few}
-use Rattle.clustered_row.proofs.cut_text.CutText.place.Goals as goal
+use Rattle.clustered_row.proofs.cut_text.CutText.position.Goals as goal
 
 pub find-requires-clause-columns : goal.find-requires-clause-columns
 find-requires-clause-columns c =
